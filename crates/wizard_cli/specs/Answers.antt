@@ -1,0 +1,57 @@
+-- What a run says of its outcome, and with which status it ends.
+use Rattle.std.specs.Prelude.{ℕ, ◌+◌, ◌/◌, ◌%◌, ◌==◌, if◌then◌else◌, List, [], ◌∷◌, ◌++◌, codes, Option, IfSome}
+use Rattle.std.specs.Fmt.{decimal}
+use Rattle.up_base.specs.declared.place.Fault.{Fault}
+use Rattle.up_base.specs.Outside.{Files}
+use Rattle.wizard_cli.specs.Held.{ReadingOrder, ReadsUpTo}
+use Rattle.wizard_cli.specs.Faults.{FirstFault}
+use Rattle.wizard_cli.specs.declared.answer.Answer.{Answer}
+use Rattle.wizard_cli.specs.declared.answer.Answer.TheVariants.{Done, BadWords, Refused, ReadFault, WriteFault, OutOfMemory}
+use Rattle.wizard_cli.specs.declared.answer.Status.{Status}
+use Rattle.wizard_cli.specs.declared.answer.Status.TheVariants as status
+
+-- what is wrong, by the number of a fault
+abbrev pub fault_text : ℕ → List ℕ
+fault_text kind =
+    if kind == 1 then codes "project file not found"
+    else (if kind == 2 then codes "module file not found"
+    else (if kind == 3 then codes "size limit passed" else codes "form not built yet"))
+
+-- a number below 100 in two digits
+abbrev pub two_digits : ℕ → List ℕ
+two_digits n = (48 + n / 10) ∷ (48 + n % 10) ∷ []
+
+-- the fault in the file of this name
+abbrev pub fault_line : List ℕ → Fault → List ℕ
+fault_line name fault = name ++ codes "(" ++ decimal fault.place.line ++ codes "): F" ++ two_digits fault.kind ++ codes " " ++ fault_text fault.kind
+
+-- what is said of an outcome, without the line feed that ends it
+abbrev pub answer_line : Answer → List ℕ
+answer_line Done = codes "issues: 0"
+answer_line BadWords = codes "usage: vbup upgrade FILE.vbp, check FILE.vbp, make N, rules"
+answer_line (Refused name fault) = fault_line name fault
+answer_line (ReadFault name) = codes "cannot read " ++ name
+answer_line (WriteFault name) = codes "cannot write " ++ name
+answer_line OutOfMemory = codes "out of memory"
+
+abbrev pub answer_text : Answer → List ℕ
+answer_text answer = answer_line answer ++ 10 ∷ []
+
+abbrev pub status_of : Answer → Status
+status_of Done = status.Done
+status_of BadWords = status.BadWords
+status_of (Refused name fault) = status.Refused
+status_of (ReadFault name) = status.ReadFault
+status_of (WriteFault name) = status.WriteFault
+status_of OutOfMemory = status.OutOfMemory
+
+-- Where the loading of the project under a name stops with an answer, what is known: the first fault and the file that it is
+-- said of, or the file at which the folder failed. Files are what the folder holds, where it tells that, and the counts
+-- those of its calls before and after.
+abbrev pub StopsLoading : Option Files → Option ℕ → Option ℕ → List ℕ → Answer → Type 0
+StopsLoading files before after name Done = ⊥
+StopsLoading files before after name BadWords = ⊥
+StopsLoading files before after name (Refused said fault) = IfSome files (λ f. FirstFault f name said fault)
+StopsLoading files before after name (ReadFault said) = (order : List (List ℕ)) × ReadingOrder files name order × ReadsUpTo before after order said
+StopsLoading files before after name (WriteFault said) = ⊥
+StopsLoading files before after name OutOfMemory = Unit {0}

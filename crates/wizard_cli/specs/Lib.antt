@@ -1,0 +1,17 @@
+pub mod Lines
+pub mod ProjectForm
+pub mod ModuleForm
+pub mod Bodies
+pub mod Written
+pub mod Occurrences
+pub mod SameRun
+pub mod Report
+pub mod Held
+pub mod ModuleScan
+pub mod NotBuilt
+pub mod Faults
+pub mod Answers
+pub mod Headline
+pub mod Runs
+pub mod Reading
+pub mod Loading

@@ -1,0 +1,41 @@
+-- How often a variable stands in a line of a body, and in a written line. Names are compared without case.
+use Rattle.std.specs.Prelude.{ℕ, ◌+◌, cond, List, [], ◌∷◌}
+use Rattle.up_base.specs.Names.{is_same_name}
+use Rattle.vb_tree.specs.Tree.{Exp, lit, word, binary, Form, sub_head, dim, assign, debug_print, end_sub}
+use Rattle.net_tree.specs.Tree as net
+
+-- 1 where two names are one, else 0
+abbrev pub once : List ℕ → List ℕ → ℕ
+once other name = cond (is_same_name other name) 1 0
+
+abbrev pub occurs : List ℕ → Exp → ℕ
+occurs name (lit l) = 0
+occurs name (word other) = once other name
+occurs name (binary op a b) = occurs name a + occurs name b
+
+-- a declaration of a variable is no use of it
+abbrev pub line_occurs : List ℕ → Form → ℕ
+line_occurs name (sub_head other) = 0
+line_occurs name (dim other) = 0
+line_occurs name (assign target value) = occurs name target + occurs name value
+line_occurs name (debug_print e) = occurs name e
+line_occurs name end_sub = 0
+
+-- a path of one name stands for a variable, and no other
+abbrev pub path_occurs : List ℕ → List (List ℕ) → ℕ
+path_occurs name [] = 0
+path_occurs name (other ∷ []) = once other name
+path_occurs name (other ∷ member ∷ members) = 0
+
+abbrev pub written_occurs : List ℕ → net.Exp → ℕ
+written_occurs name (net.lit l) = 0
+written_occurs name (net.path names) = path_occurs name names
+written_occurs name (net.binary op a b) = written_occurs name a + written_occurs name b
+
+abbrev pub all_occur : List ℕ → List net.Exp → ℕ
+all_occur name [] = 0
+all_occur name (e ∷ es) = written_occurs name e + all_occur name es
+
+abbrev pub written_line_occurs : List ℕ → net.Line → ℕ
+written_line_occurs name (net.call callee arguments) = all_occur name arguments
+written_line_occurs name (net.assign target value) = written_occurs name target + written_occurs name value

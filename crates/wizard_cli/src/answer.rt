@@ -1,0 +1,139 @@
+//! How a run ends, and what is said of it.
+ghost use Rattle.std.specs.Prelude.{◌≡◌, ◌+◌, ◌<◌, ◌≤◌, ◌^◌, [], ◌∷◌, ◌++◌, length};
+ghost use Rattle.std.specs.Fmt.{decimal};
+ghost use Rattle.wizard_cli.specs.declared.answer.Answer.TheVariants.{OutOfMemory};
+ghost use Rattle.wizard_cli.specs.Answers.{fault_text, two_digits, fault_line, answer_line, answer_text, status_of};
+
+use crate::message::{Message, push_number, push_text};
+use up_base::{Fault, Mem, Name};
+
+/// How a run ended. The numbers of the statuses are 0 to 8, in this order.
+#[derive(Clone, Copy, Debug, PartialEq, Eq)]
+pub enum Status {
+    /// All was done, and there is no issue.
+    Done,
+    /// All was done, and there are issues.
+    DoneWithIssues,
+    /// The command words are of no form.
+    BadWords,
+    /// The project has a fault.
+    Refused,
+    /// The folder failed.
+    ReadFault,
+    /// The outlet failed.
+    WriteFault,
+    /// The console failed.
+    ConsoleFault,
+    /// Memory was wanted.
+    OutOfMemory,
+    /// A file differs from what would be written.
+    Differs,
+}
+
+/// The outcome of a run before it is said.
+#[derive(Drop)]
+pub enum Answer {
+    Done,
+    BadWords,
+    /// A fault, and the name of the file that it is said of.
+    Refused(Name, Fault),
+    /// The file that could not be read.
+    ReadFault(Name),
+    /// The file that could not be written.
+    WriteFault(Name),
+    OutOfMemory,
+}
+
+impl From<Mem> for Answer {
+    ghost from_gives = { λ _ answer. answer ≡ OutOfMemory };
+
+    fn from(_: Mem) -> Answer {
+        Answer::OutOfMemory
+    }
+}
+
+impl Answer {
+    ghost use Rattle.wizard_cli.specs.Answers.{answer_text, status_of};
+
+    /// The status of the outcome.
+    pub(crate) fn status(&self) -> Status
+        ensures { result ≡ status_of self.now }
+    {
+        match self {
+            Answer::Done => Status::Done,
+            Answer::BadWords => Status::BadWords,
+            Answer::Refused(_, _) => Status::Refused,
+            Answer::ReadFault(_) => Status::ReadFault,
+            Answer::WriteFault(_) => Status::WriteFault,
+            Answer::OutOfMemory => Status::OutOfMemory,
+        }
+    }
+
+    /// What is said of the outcome. It takes no memory.
+    pub(crate) fn message(&self) -> Message
+        ensures { result ≡ answer_text self.now }
+    {
+        let mut message = Message::new();
+        push_answer(&mut message, self);
+        message.push(b'\n');
+        message
+    }
+}
+
+// The line that is said of an outcome.
+fn push_answer(message: &mut Message, answer: &Answer)
+    requires { message.old ≡ [] }
+    ensures line { message.new ≡ answer_line answer.now }
+    ensures short { length message.new < 640 }
+{
+    match answer {
+        Answer::Done => push_text(message, b"issues: 0"),
+        Answer::BadWords => push_text(
+            message,
+            b"usage: vbup upgrade FILE.vbp, check FILE.vbp, make N, rules",
+        ),
+        Answer::Refused(name, fault) => push_fault(message, name, *fault),
+        Answer::ReadFault(name) => push_named(message, b"cannot read ", name),
+        Answer::WriteFault(name) => push_named(message, b"cannot write ", name),
+        Answer::OutOfMemory => push_text(message, b"out of memory"),
+    }
+}
+
+fn push_named(message: &mut Message, text: &[u8], name: &Name)
+    requires empty { message.old ≡ [] }
+    requires short_text { length text.now ≤ 13 }
+    ensures line { message.new ≡ text.now ++ name.now }
+    ensures short { length message.new < 640 }
+{
+    push_text(message, text);
+    push_text(message, name.as_bytes());
+}
+
+// The fault in the file of this name.
+fn push_fault(message: &mut Message, name: &Name, fault: Fault)
+    requires { message.old ≡ [] }
+    ensures line { message.new ≡ fault_line name.now fault }
+    ensures short { length message.new < 640 }
+{
+    push_text(message, name.as_bytes());
+    push_text(message, b"(");
+    push_number(message, fault.place.line);
+    push_text(message, b"): F");
+    message.push(48 + fault.kind / 10);
+    message.push(48 + fault.kind % 10);
+    push_text(message, b" ");
+    push_text(message, fault_name(fault.kind));
+}
+
+// What is wrong, by the number of a fault.
+fn fault_name(kind: u8) -> &'static [u8]
+    ensures text { result.now ≡ fault_text kind }
+    ensures short { length result.now ≤ 22 }
+{
+    match kind {
+        1 => b"project file not found",
+        2 => b"module file not found",
+        3 => b"size limit passed",
+        _ => b"form not built yet",
+    }
+}
