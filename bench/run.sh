@@ -1,0 +1,94 @@
+#!/usr/bin/env bash
+# Measures the upgrade wizard on a small project and on two with a module of the largest size, one of printed texts and
+# one of sums, beside a plain reading of the same files. It prints seconds, megabytes (10^6 bytes of input) a second and
+# peak memory, with the targets beside them, and judges nothing: it ends with status 0 whatever the figures.
+set -euo pipefail
+export LC_ALL=C
+
+root="$(dirname "$(dirname "$(readlink -f "${BASH_SOURCE[0]}")")")"
+program="$root/crates/vbup/out/vbup"
+runs=3
+module_limit=1048576
+
+work="$(mktemp -d)"
+trap 'rm -rf "$work"' EXIT
+
+# Builds the program where need be. Without command words it does nothing, and 100 is the status of a failed build.
+build() {
+    local status=0
+    "$root/vbup" >/dev/null </dev/null || status=$?
+    [ "$status" -ne 100 ]
+}
+
+# Writes a project of a name with one module of at most the limit: one procedure that begins with some lines and has as
+# many further lines of one format as fit, which takes the line's number.
+write_project() {
+    printf 'Type=Exe\r\nModule=Main1; Main1.bas\r\nStartup="Sub Main"\r\nName="%s"\r\n' "$2" >"$1/$2.vbp"
+    awk -v limit="$module_limit" -v first="$3" -v format="$4" 'BEGIN {
+        head = "Sub Main()\r\n" first
+        foot = "End Sub\r\n"
+        left = limit - length(head) - length(foot)
+        printf "%s", head
+        for (n = 1; ; n++) {
+            line = sprintf(format, n)
+            if (length(line) > left) break
+            left -= length(line)
+            printf "%s", line
+        }
+        printf "%s", foot
+    }' >"$1/Main1.bas"
+}
+
+# Runs a command with no output, and sets seconds, peak (KiB) and status.
+measure() {
+    local start end
+    status=0
+    start="$EPOCHREALTIME"
+    if [ -x /usr/bin/time ]; then
+        /usr/bin/time -q -f %M -o "$work/peak" "$@" >/dev/null 2>&1 || status=$?
+    else
+        # The peak is then no less than that of the measuring Python.
+        python3 -c 'import resource, subprocess, sys
+status = subprocess.call(sys.argv[2:])
+print(resource.getrusage(resource.RUSAGE_CHILDREN).ru_maxrss, file=open(sys.argv[1], "w"))
+sys.exit(status)' "$work/peak" "$@" >/dev/null 2>&1 || status=$?
+    fi
+    end="$EPOCHREALTIME"
+    peak="$(cat "$work/peak")"
+    seconds="$(awk -v a="$start" -v b="$end" 'BEGIN { printf "%.4f", b - a }')"
+}
+
+# Prints the figures of one command: its label, the bytes that it read, and the targets.
+print_figures() {
+    awk -v label="$1" -v bytes="$2" -v target="$3" -v s="$seconds" -v peak="$peak" -v status="$status" 'BEGIN {
+        printf "%-16s %9d %8.4f %9.2f %10d %9.2f %7d   %s\n", label, bytes, s, bytes / 1e6 / s, peak, peak * 1024 / bytes, status, target
+    }'
+}
+
+# Measures the upgrade of a project in a folder, and a plain reading of its files, each several times.
+measure_project() {
+    local folder="$1" project="$2" target="$3" bytes
+    bytes="$(cat "$folder/$project" "$folder/Main1.bas" | wc -c)"
+    cd "$folder"
+    for ((run = 1; run <= runs; run++)); do
+        rm -rf upgraded
+        measure "$program" upgrade "$project"
+        print_figures "vbup ${project%.vbp}" "$bytes" "$target"
+    done
+    for ((run = 1; run <= runs; run++)); do
+        measure cat "$project" Main1.bas
+        print_figures "cat ${project%.vbp}" "$bytes" ""
+    done
+    cd "$root"
+}
+
+build
+mkdir "$work/hello" "$work/large" "$work/sums"
+cp "$root"/examples/hello/{Hello.vbp,Main1.bas} "$work/hello/"
+write_project "$work/large" Large '' '    Debug.Print "line %06d of a generated module"\r\n'
+write_project "$work/sums" Sums '    Dim a1 As Long\r\n    Dim a2 As Long\r\n' '    a1 = a2 + %d - a1 + 1 - A2\r\n'
+
+printf '%-16s %9s %8s %9s %10s %9s %7s   %s\n' command bytes seconds MB/s 'peak KiB' peak/read status target
+measure_project "$work/hello" Hello.vbp "under 0.05 s"
+measure_project "$work/large" Large.vbp "under 1 s, and peak/read under 16"
+measure_project "$work/sums" Sums.vbp "under 1 s"
