@@ -1,4 +1,5 @@
 pub mod FileStore
+pub mod Issues
 pub mod Limits
 pub mod MemoryTwins
 pub mod Names
@@ -6,3 +7,4 @@ pub mod Outside
 pub mod Running
 pub mod Paths
 pub mod SureTwins
+pub mod Windows1252

@@ -1,5 +1,5 @@
 -- Names: lists of printable ASCII characters, equal where their lower-case lists are.
-use Rattle.std.specs.Prelude.{ℕ, Bool, ◌&&◌, nat_le, nat_eq, List, map, length}
+use Rattle.std.specs.Prelude.{ℕ, ◌/◌, Bool, ◌&&◌, nat_le, nat_eq, List, map, length, take}
 use Rattle.std.specs.List.{list_all}
 use Rattle.std.specs.Char.{to_ascii_lowercase}
 use Rattle.std.specs.Cmp.Lexicographic.{pointwise}
@@ -18,3 +18,7 @@ is_name bytes = nat_le 1 (length bytes) && nat_le (length bytes) 512 && list_all
 -- whether two names of a program are one
 abbrev pub is_same_name : List ℕ → List ℕ → Bool
 is_same_name a b = pointwise nat_eq (lower_case a) (lower_case b)
+
+-- the first half of a list
+abbrev pub front_half : List ℕ → List ℕ
+front_half bytes = take (length bytes / 2) bytes

@@ -10,6 +10,7 @@ mod dir_outlet;
 mod file_path;
 mod file_store;
 mod folder;
+mod issue;
 mod memory_console;
 mod memory_folder;
 mod memory_outlet;
@@ -24,12 +25,14 @@ mod sure_folder;
 mod sure_outlet;
 #[cfg(test)]
 mod tests;
+mod windows_1252;
 
 pub use allocation::Mem;
 pub use console::Console;
 pub use dir_folder::DirFolder;
 pub use dir_outlet::DirOutlet;
 pub use folder::{Folder, FolderFail, Found};
+pub use issue::{Issue, Issues};
 pub use memory_console::MemoryConsole;
 pub use memory_folder::MemoryFolder;
 pub use memory_outlet::MemoryOutlet;
@@ -41,12 +44,16 @@ pub use sequence::Sequence;
 pub use sure_console::SureConsole;
 pub use sure_folder::SureFolder;
 pub use sure_outlet::SureOutlet;
+pub use windows_1252::{DecodeFail, decode_1252};
 
 /// A list of bytes.
 pub type Bytes = Sequence<u8>;
 
 /// A text as a list of UTF-16 units.
 pub type Wide = Sequence<u16>;
+
+/// The names of a project's files by file number: 0 is the project file, k the k-th module or class entry.
+pub type Names = Sequence<Name>;
 
 /// A call of the folder, the outlet or the console failed.
 #[derive(Clone, Copy, Debug, PartialEq, Eq)]

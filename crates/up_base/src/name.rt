@@ -1,5 +1,5 @@
 //! Names of files and of what a program declares.
-ghost use Rattle.std.specs.Prelude.{◌≡◌, ◌==◌, true, false, IfOk, OnOk, IsErrOf};
+ghost use Rattle.std.specs.Prelude.{◌≡◌, ◌==◌, ◌≤◌, ◌++◌, true, false, length, IfOk, OnOk, IsErrOf};
 ghost use Rattle.std.specs.List.{list_all};
 ghost use Rattle.std.specs.Cmp.Lexicographic.{pointwise};
 ghost use Rattle.std.specs.Ordering.{on};
@@ -15,19 +15,19 @@ use thiserror::Error;
 /// A list of 1 to 512 printable ASCII characters (20 to 7E hex). Contracts see it as the list of its bytes.
 #[derive(Drop)]
 pub struct Name {
-    bytes: Vec<u8>,
-    lower: Vec<u8>,
+    // The bytes, and behind them the same with small letters for capital ones: one allocation for a name.
+    both: Vec<u8>,
 }
 
 impl Model for Name {
-    ghost use Rattle.std.specs.Prelude.{◌≡◌, true, List, ℕ};
-    ghost use Rattle.up_base.specs.Names.{is_name, lower_case};
+    ghost use Rattle.std.specs.Prelude.{◌≡◌, ◌++◌, true, List, ℕ};
+    ghost use Rattle.up_base.specs.Names.{is_name, lower_case, front_half};
 
     ghost Value = { List ℕ };
 
-    ghost view = { λ n. n.bytes.items };
+    ghost view = { λ n. front_half n.both.items };
 
-    ghost invariant = { λ n. (is_name n.bytes.items ≡ true) × (n.lower.items ≡ lower_case n.bytes.items) };
+    ghost invariant = { λ n. (is_name (front_half n.both.items) ≡ true) × (n.both.items ≡ front_half n.both.items ++ lower_case (front_half n.both.items)) };
 }
 
 /// Why bytes make no name.
@@ -41,6 +41,7 @@ pub enum NameFail {
 
 impl Name {
     /// The name of these bytes.
+    #[tactic(auto, using(crate::proofs::Halves::front_of_both))]
     pub fn make(alloc: Global, bytes: &[u8]) -> Result<Name, NameFail>
         ensures bytes { IfOk result (λ name. name ≡ bytes.now) }
         ensures name { OnOk result (is_name bytes.now ≡ true) }
@@ -49,13 +50,10 @@ impl Name {
         if !Name::is_name(bytes) {
             return Err(NameFail::NotName);
         }
-        let Ok(lower) = bytes.iter().map(|c| c.to_ascii_lowercase()).collect(alloc) else {
+        let Ok(both) = with_small_letters(alloc, bytes) else {
             return Err(NameFail::Mem);
         };
-        let Ok(bytes) = Vec::from_slice(alloc, bytes) else {
-            return Err(NameFail::Mem);
-        };
-        Ok(Name { bytes, lower })
+        Ok(Name { both })
     }
 
     /// The name of bytes that are known to make one.
@@ -75,8 +73,7 @@ impl Name {
         ensures { IfOk result (λ name. name ≡ self.now) }
     {
         Ok(Name {
-            bytes: Vec::from_slice(alloc, &self.bytes)?,
-            lower: Vec::from_slice(alloc, &self.lower)?,
+            both: Vec::from_slice(alloc, &self.both)?,
         })
     }
 
@@ -95,15 +92,29 @@ impl Name {
         ensures bytes { result.now ≡ self.now }
         ensures name { is_name self.now ≡ true }
     {
-        &self.bytes
+        &self.both[..self.both.len() / 2]
     }
 
     /// The name's bytes with its capital letters made small.
+    #[tactic(auto, using(crate::proofs::Halves::back_of_both))]
     pub fn lower_bytes(&self) -> &[u8]
         ensures { result.now ≡ lower_case self.now }
     {
-        &self.lower
+        &self.both[self.both.len() / 2..]
     }
+}
+
+// The bytes, and behind them the same with small letters for capital ones.
+fn with_small_letters(alloc: Global, bytes: &[u8]) -> Result<Vec<u8>, Mem>
+    requires { length bytes.now ≤ 512 }
+    ensures { IfOk result (λ both. both.items ≡ bytes.now ++ lower_case bytes.now) }
+{
+    let mut both = Vec::with_capacity(alloc, 2 * bytes.len())?;
+    both.extend_from_slice(bytes)?;
+    for c in bytes {
+        both.push(c.to_ascii_lowercase())?;
+    }
+    Ok(both)
 }
 
 // Whether each byte is an ASCII character from 20 to 7E hex.
@@ -119,7 +130,7 @@ impl PartialEq for Name {
     ghost laws = { Prim.search (comparing, rules) };
 
     fn eq(&self, other: &Name) -> bool {
-        self.lower == other.lower
+        self.lower_bytes() == other.lower_bytes()
     }
 }
 

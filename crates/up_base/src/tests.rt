@@ -1,9 +1,9 @@
 ghost use Rattle.std.specs.Prelude.{◌≡◌, IfOk};
 
 use crate::{
-    Bytes, Console, DirFolder, DirOutlet, Failed, Folder, FolderFail, Found, MemoryConsole,
-    MemoryFolder, MemoryOutlet, Name, NameFail, OutConsole, Outlet, SureConsole, SureFolder,
-    SureOutlet,
+    Bytes, Console, DecodeFail, DirFolder, DirOutlet, Failed, Folder, FolderFail, Found, Issue,
+    Issues, MemoryConsole, MemoryFolder, MemoryOutlet, Name, NameFail, OutConsole, Outlet, Place,
+    SureConsole, SureFolder, SureOutlet, decode_1252,
 };
 use std::alloc::Global;
 use std::rt::{Env, Files};
@@ -36,6 +36,95 @@ fn makes_names(rt: HostRuntime) -> Result<(), Fail> {
     }
     let (upper, lower) = (name(rt.alloc(), b"MAIN1")?, name(rt.alloc(), b"main1")?);
     assert!(rt; upper == lower);
+    Ok(())
+}
+
+#[test]
+fn decodes_texts(rt: HostRuntime) -> Result<(), Fail> {
+    let alloc = rt.alloc();
+    let table: [(&[u8], &[u16]); 3] = [
+        (b"A\x80\x92", &[0x0041, 0x20AC, 0x2019]),
+        (b"\x00\t\r\n\x7f\xff", &[0, 9, 13, 10, 0x7F, 0xFF]),
+        (b"", &[]),
+    ];
+    for (bytes, units) in table {
+        let text = decode_1252(alloc, bytes)?;
+        assert_eq!(rt; text.as_slice(), units);
+    }
+    let table: [(&[u8], u32); 3] = [(b"AB\x81", 2), (b"\x8d\x90A\x9d", 0), (b"\x80\x8f\x8f", 1)];
+    for (bytes, place) in table {
+        let Err(DecodeFail::Undefined(at)) = decode_1252(alloc, bytes) else {
+            return Err(Fail::new("a byte has no character"));
+        };
+        assert_eq!(rt; at, place);
+    }
+    Ok(())
+}
+
+#[test]
+fn decodes_each_byte(rt: HostRuntime) -> Result<(), Fail> {
+    let characters = [
+        '€', '\u{FFFD}', '‚', 'ƒ', '„', '…', '†', '‡', 'ˆ', '‰', 'Š', '‹', 'Œ', '\u{FFFD}', 'Ž',
+        '\u{FFFD}', '\u{FFFD}', '‘', '’', '“', '”', '•', '–', '—', '˜', '™', 'š', '›', 'œ',
+        '\u{FFFD}', 'ž', 'Ÿ',
+    ];
+    for byte in 0..=255u8 {
+        let character = match byte {
+            0x80..=0x9F => characters[usize::from(byte - 0x80)],
+            _ => char::from(byte),
+        };
+        match decode_1252(rt.alloc(), &[byte]) {
+            Ok(text) => assert!(rt;
+                matches!(text.as_slice(), [unit] if u32::from(*unit) == u32::from(character)),
+                "{byte}"
+            ),
+            Err(fail) => assert!(rt;
+                matches!(fail, DecodeFail::Undefined(0)) && character == '\u{FFFD}',
+                "{byte}"
+            ),
+        }
+    }
+    Ok(())
+}
+
+#[test]
+fn keeps_issues_in_order(rt: HostRuntime) -> Result<(), Fail> {
+    let mut issues = Issues::new(rt.alloc());
+    assert!(rt; issues.is_empty() && issues.get(0).is_none());
+    let table: [(u32, u32, u8, bool); 8] = [
+        (0, 7, 3, true),
+        (0, 7, 3, false),
+        (0, 7, 2, false),
+        (0, 7, 99, true),
+        (0, 8, 1, true),
+        (0, 7, 99, false),
+        (1, 0, 1, true),
+        (0, 9, 26, false),
+    ];
+    let mut len = 0;
+    for (file, line, rule, comes_after) in table {
+        let issue = Issue {
+            place: Place { file, line },
+            rule,
+        };
+        assert_eq!(rt; issues.is_last_before(issue), comes_after);
+        if issues.is_last_before(issue) {
+            issues.push(issue)?;
+            assert_eq!(rt; issues.get(len).copied(), Some(issue));
+            len = issues.len();
+        }
+    }
+    assert_eq!(rt; issues.as_slice().len(), 4);
+    let first = Issue {
+        place: Place { file: 0, line: 9 },
+        rule: 2,
+    };
+    let second = Issue {
+        place: Place { file: 1, line: 0 },
+        rule: 1,
+    };
+    let issues = Issues::from_vec(vec![in rt.alloc(); first, second]?);
+    assert_eq!(rt; issues.as_slice(), [first, second].as_slice());
     Ok(())
 }
 
