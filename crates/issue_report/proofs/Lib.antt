@@ -1,0 +1,4 @@
+pub mod Ascii
+pub mod Decimals
+mod Examples
+pub mod Pieces
