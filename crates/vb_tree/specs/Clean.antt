@@ -1,15 +1,11 @@
 -- Which lines break a rule, and which procedures neither have nor reach such a line.
 use Rattle.std.specs.Prelude.{◌≡◌, ◌⊎◌, ℕ, Some, slice_get}
-use Rattle.vb_tree.specs.Tree.{Exp, lit, word, binary, Form, sub_head, dim, assign, debug_print, end_sub, Line, Project}
+use Rattle.vb_tree.specs.Tree.{Form, Line, Project}
 use Rattle.vb_tree.specs.FlatLines.{Procedure, procedures_of}
 
 -- the line breaks the rule of a number; no form that can be read so far breaks any
 abbrev pub Breaks : Form → ℕ → Type 0
-Breaks (sub_head name) rule = ⊥
-Breaks (dim name) rule = ⊥
-Breaks (assign target value) rule = ⊥
-Breaks (debug_print e) rule = ⊥
-Breaks end_sub rule = ⊥
+Breaks form rule = ⊥
 
 -- the code line stands in the procedure p, its head and its closing line included
 abbrev pub HasLine : Project → ℕ → Line → Type 0
@@ -17,18 +13,9 @@ HasLine P p l =
     (procedure : Procedure) × (slice_get (procedures_of P) p ≡ Some procedure)
     × ((procedure.head ≡ l) ⊎ ((n : ℕ) × (slice_get procedure.lines n ≡ Some l)) ⊎ (procedure.close ≡ l))
 
--- the procedure q is called in the expression; so far no name stands for a procedure
-abbrev pub ExpCalls : ℕ → Exp → Type 0
-ExpCalls q (lit l) = ⊥
-ExpCalls q (word name) = ⊥
-ExpCalls q (binary op a b) = ExpCalls q a ⊎ ExpCalls q b
-
+-- the procedure q is called in the line; in the forms that can be read so far no name stands for a procedure
 abbrev pub LineCalls : ℕ → Form → Type 0
-LineCalls q (sub_head name) = ⊥
-LineCalls q (dim name) = ⊥
-LineCalls q (assign target value) = ExpCalls q target ⊎ ExpCalls q value
-LineCalls q (debug_print e) = ExpCalls q e
-LineCalls q end_sub = ⊥
+LineCalls q form = ⊥
 
 -- a chain of calls leads from one procedure to another
 pub data Reaches (P : Project) : ℕ → ℕ → Type 0 where

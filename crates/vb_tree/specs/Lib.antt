@@ -1,5 +1,8 @@
 pub mod Tree
 pub mod View
+pub mod BoundTree
+pub mod BoundView
+pub mod Blocks
 pub mod FlatLines
 pub mod ModuleTree
 pub mod Run

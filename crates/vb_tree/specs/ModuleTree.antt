@@ -1,33 +1,45 @@
--- Which trees are nested: each opener has its closer, and between them stands what may stand there.
-use Rattle.std.specs.Prelude.{◌≡◌, Bool, true, false, ◌&&◌, not, All}
-use Rattle.std.specs.List.{list_all}
-use Rattle.vb_tree.specs.Tree.{Form, sub_head, dim, assign, debug_print, end_sub, Line, Member, proc, Project}
-use Rattle.vb_tree.specs.FlatLines.{flat_lines}
+-- Which trees are nested: each block has its opener and its closing line, and what parts it is of its kind.
+use Rattle.std.specs.Prelude.{◌≡◌, true, false, List, All}
+use Rattle.vb_tree.specs.declared.block.BlockKind.{BlockKind}
+use Rattle.vb_tree.specs.declared.block.Role.TheVariants.{Plain, Opens, Parts, Closes}
+use Rattle.vb_tree.specs.Tree.{Line, Node, line, block, Nodes, no_nodes, next_node, Middles, no_middles, next_middle, Member, alone, group, proc, Module, Project}
+use Rattle.vb_tree.specs.Blocks.{role_of, is_procedure, is_group}
+use Rattle.vb_tree.specs.FlatLines.{module_lines}
 
--- the head of a procedure
-abbrev pub opens : Form → Bool
-opens (sub_head name) = true
-opens (dim name) = false
-opens (assign target value) = false
-opens (debug_print e) = false
-opens end_sub = false
+abbrev pub IsPlain : Line → Type 0
+IsPlain l = role_of l.form ≡ Plain
 
--- the closing line of a procedure
-abbrev pub closes : Form → Bool
-closes (sub_head name) = false
-closes (dim name) = false
-closes (assign target value) = false
-closes (debug_print e) = false
-closes end_sub = true
+-- a block stands in a procedure: it is neither a procedure nor a group of declarations
+abbrev pub IsInnerBlock : BlockKind → Type 0
+IsInnerBlock k = (is_procedure k ≡ false) × (is_group k ≡ false)
 
--- neither a head nor a closing line
-abbrev pub is_inner : Line → Bool
-is_inner l = not (opens l.form) && not (closes l.form)
+abbrev mutual
+  pub AreNested : Nodes → Type 0
+  AreNested no_nodes = Unit {0}
+  AreNested (next_node a rest) = IsNestedNode a × AreNested rest
 
--- a head, lines that are neither heads nor closing lines, and a closing line
+  pub IsNestedNode : Node → Type 0
+  IsNestedNode (line l) = IsPlain l
+  IsNestedNode (block head body middles close) =
+      (k : BlockKind) × (role_of head.form ≡ Opens k) × IsInnerBlock k
+      × AreNested body × ArePartsOf k middles × (role_of close.form ≡ Closes k)
+
+  pub ArePartsOf : BlockKind → Middles → Type 0
+  ArePartsOf k no_middles = Unit {0}
+  ArePartsOf k (next_middle l body more) = (role_of l.form ≡ Parts k) × AreNested body × ArePartsOf k more
+
 abbrev pub IsNested : Member → Type 0
-IsNested (proc head body close) = (opens head.form ≡ true) × (list_all is_inner (flat_lines body) ≡ true) × (closes close.form ≡ true)
+IsNested (alone l) = IsPlain l
+IsNested (group head lines close) =
+    (k : BlockKind) × (role_of head.form ≡ Opens k) × (is_group k ≡ true) × All IsPlain lines × (role_of close.form ≡ Closes k)
+IsNested (proc head body close) =
+    (k : BlockKind) × (role_of head.form ≡ Opens k) × (is_procedure k ≡ true) × AreNested body × (role_of close.form ≡ Closes k)
 
 -- each member of each module is nested
 abbrev pub IsNestedProject : Project → Type 0
 IsNestedProject P = All (λ m. All IsNested m.members) P.modules
+
+-- the module is a tree of these lines, read in order
+pub record IsTreeOf (m : Module) (lines : List Line) : Type 0 where
+  pub in_order : module_lines m ≡ lines
+  pub nested : All IsNested m.members

@@ -1,6 +1,6 @@
-//! Projects, their files, and the modules that the files hold.
+//! Projects and their files.
 
-use crate::CodeLine;
+use crate::Module6;
 use up_base::{Name, Sequence, Wide};
 
 /// What a project is compiled to.
@@ -8,6 +8,8 @@ use up_base::{Name, Sequence, Wide};
 pub enum ProjectKind {
     /// A program.
     Exe,
+    /// A library, and whatever else isn't a program.
+    OleDll,
 }
 
 /// A module that a project file names.
@@ -26,32 +28,11 @@ pub struct Entry {
 #[derive(Drop)]
 pub struct ProjectFile {
     pub kind: ProjectKind,
-    /// What the program starts with, and the line that says so.
+    /// `Sub Main` where the program starts with it, and the line that says so.
     pub startup: Option<(u32, Wide)>,
     pub entries: Sequence<Entry>,
-}
-
-/// A line in the body of a procedure.
-#[derive(Drop)]
-pub enum Node6 {
-    Line(CodeLine),
-}
-
-/// What stands in a module outside of procedures.
-#[derive(Drop)]
-pub enum Member6 {
-    /// A procedure: its head, its body and its closing line.
-    Proc(CodeLine, Vec<Node6>, CodeLine),
-}
-
-/// A module.
-#[derive(Drop)]
-pub struct Module6 {
-    /// The number of its file: that of its entry, from 1.
-    pub file: u32,
-    pub name: Name,
-    pub class: bool,
-    pub members: Sequence<Member6>,
+    /// The lines that aren't carried over, in order.
+    pub dropped: Sequence<u32>,
 }
 
 /// A project: its file, and for each entry its module.

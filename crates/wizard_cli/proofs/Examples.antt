@@ -3,33 +3,35 @@ use Rattle.std.proofs.Common.{◌≡◌, ℕ, pos, false, List, [], ◌∷◌, m
 use Rattle.std.specs.Fmt.{digits}
 use Rattle.std.specs.List.{flat_map}
 use Rattle.up_base.specs.Running.{Outcome, raises, spent, run}
-use Rattle.vb_tree.specs.declared.expression.BinOp.TheVariants.{Add, Sub}
+use Rattle.wizard_cli.specs.declared.reader.readable.ReadableOperator.TheVariants.{Add, Sub}
 use Rattle.vb_tree.specs.declared.project.ProjectKind.TheVariants.{Exe}
-use Rattle.vb_tree.specs.Tree.{long, str, Exp, lit, word, binary, Form, sub_head, dim, assign, debug_print, end_sub, Line, Node, line, proc, Project}
+use Rattle.vb_tree.specs.Tree.{Line, Nodes, no_nodes, next_node, line, proc, Project}
 use Rattle.vb_tree.specs.Run.{Value, Memory, blank, machine_of}
 use Rattle.net_tree.specs.FlatLines as net_flat
 use Rattle.net_tree.specs.Run as net_run
 use Rattle.net_tree.specs.Text.{line_text, dim_text}
+use Rattle.wizard_cli.specs.Readable.{long, str, Exp, lit, word, binary, Form, sub_head, dim, assign, debug_print, end_sub}
+use Rattle.wizard_cli.specs.ModuleForm.{code_line}
 use Rattle.wizard_cli.specs.Written.{written}
 
 abbrev at : ℕ → Form → Line
-at n form = record { place = record { file = 1; line = n }; form = form }
+at n form = code_line 1 (n, form)
 
 abbrev number : ℕ → Exp
-number n = lit (long (pos n) false)
+number n = lit (long (pos n))
 
 -- a is the largest Long, and a + 1 - a is the sum (a + 1) and then the difference
-abbrev body : List Node
+abbrev body : Nodes
 body =
-    line (at 2 (dim (codes "a")))
-    ∷ line (at 3 (assign (word (codes "a")) (number 2147483647)))
-    ∷ line (at 4 (assign (word (codes "a")) (binary Sub (binary Add (word (codes "A")) (number 1)) (word (codes "a")))))
-    ∷ line (at 5 (debug_print (lit (str (codes "never"))))) ∷ []
+    next_node (line (at 2 (dim (codes "a"))))
+    (next_node (line (at 3 (assign (word (codes "a")) (number 2147483647))))
+    (next_node (line (at 4 (assign (word (codes "a")) (binary Sub (binary Add (word (codes "A")) (number 1)) (word (codes "a"))))))
+    (next_node (line (at 5 (debug_print (lit (str (codes "never")))))) no_nodes)))
 
 abbrev project : Project
 project = record {
-  file = record { kind = Exe; startup = Some (2, codes "Sub Main"); entries = [] };
-  modules = record { file = 1; name = codes "Main1"; class = false; members = proc (at 1 (sub_head (codes "Main"))) body (at 6 end_sub) ∷ [] } ∷ [];
+  file = record { kind = Exe; startup = Some (2, codes "Sub Main"); entries = []; dropped = [] };
+  modules = record { file = 1; name = codes "Main1"; class = false; members = proc (at 1 (sub_head (codes "Main"))) body (at 6 end_sub) ∷ []; comments = [] } ∷ [];
 }
 
 abbrev memory : Memory

@@ -2,7 +2,8 @@
 use Rattle.std.proofs.Common.{◌≡◌, ◌⊎◌, ℕ, suc, ◌+◌, List, [], ◌∷◌, ◌++◌, length, map, true, not, Some, refl, sym, ap, ◌∙◌, subst, inl, inr, arith}
 use Rattle.std.specs.List.{list_all}
 use Rattle.up_base.specs.Outside.{Files}
-use Rattle.vb_tree.specs.Tree.{Form, Line}
+use Rattle.vb_tree.specs.Tree.{Line}
+use Rattle.wizard_cli.specs.Readable.{Form}
 use Rattle.vb_tree.specs.declared.project.Entry.{Entry}
 use Rattle.up_base.specs.declared.place.Fault.{Fault}
 use Rattle.wizard_cli.specs.Faults.{fault_at, IsTooLong, ProjectFault, no_project, long_project, project_form, EntryFault, no_module, long_module, module_form, FirstFault, in_project, in_entry, file_at_fault}

@@ -11,14 +11,17 @@ use Rattle.std.proofs.lemmas.List.Folds.{list_all-append, list_all-map}
 use Rattle.up_base.specs.Names.{is_name, is_printable, is_same_name, lower_case}
 use Rattle.up_base.specs.declared.place.Place.{Place}
 use Rattle.vb_tree.specs.declared.project.Entry.{Entry}
-use Rattle.vb_tree.specs.Tree.{long, str, Exp, lit, word, binary, Form, sub_head, dim, assign, debug_print, end_sub, Line, Member, proc, Module, Project}
-use Rattle.vb_tree.specs.FlatLines.{declared_by, locals_in, code_lines, flat_lines, member_lines, module_lines, name_of}
-use Rattle.vb_tree.specs.ModuleTree.{opens, closes, is_inner, IsNested, IsNestedProject}
+use Rattle.vb_tree.specs.declared.token.Literal6.TheVariants.{Long, Str}
+use Rattle.vb_tree.specs.Tree as vb
+use Rattle.vb_tree.specs.Tree.{Line, Member, proc, Module, Project}
+use Rattle.vb_tree.specs.FlatLines.{declared_by, locals_in, code_lines, flat_lines, procedure_of, procedures_in, member_lines, module_lines, name_of}
+use Rattle.wizard_cli.specs.Readable.{long, str, Exp, lit, word, binary, Form, sub_head, dim, assign, debug_print, end_sub, whole_exp, whole_form}
+use Rattle.net_tree.specs.Tree as net
 use Rattle.net_tree.specs.Text.{is_word_part, is_identifier, is_path, is_writable_exp, is_writable_line, is_writable_dim, is_writable_member, is_writable_module, is_main, file_name, module_text, response_text, files_of, IsWritable}
 use Rattle.wizard_cli.specs.Lines.{FormLines, no_lines, blank_line, form_line, is_text_unit}
 use Rattle.wizard_cli.specs.ProjectForm.{Setting, type_exe, startup_main, project_name, module_entry, setting_text, IsSetting, is_digit, AreDigits, IsModuleName, entry_at}
-use Rattle.wizard_cli.specs.ModuleForm.{form_text, is_letter, is_variable, IsNumber, IsVariable, IsSum, IsValue, IsText, IsForm, code_line, HeldModule}
-use Rattle.wizard_cli.specs.Written.{spelling, written_exp, written_local, written_line, written_member, written_module, support_module, declares_main, main_of, only, is_library, uses_print_line, written}
+use Rattle.wizard_cli.specs.ModuleForm.{form_text, is_letter, is_variable, IsNumber, IsVariable, IsSum, IsValue, IsText, IsForm, opens, closes, is_inner, IsSub, AreSubs, code_line, HeldModule}
+use Rattle.wizard_cli.specs.Written.{spelling, written_exp, written_local, written_line, written_procedure, written_module, support_module, declares_main, main_of, only, is_library, uses_print_line, written}
 use Rattle.wizard_cli.specs.Held.{IsOfForm}
 use Rattle.wizard_cli.specs.Headline.{in_folder}
 
@@ -74,20 +77,21 @@ entry_name k lines settings e es (form_line _ line more (project_name name) form
 entry_name k lines settings e es (form_line _ line more (module_entry name) forms is holds rest) h = subst IsModuleName (ap first_name h) is
 
 -- whether an expression's names are identifiers and its literals such as can be written
-abbrev is_fine_exp : Exp → Bool
-is_fine_exp (lit (long (pos n) hexadecimal)) = not hexadecimal
-is_fine_exp (lit (long (negsuc n) hexadecimal)) = false
-is_fine_exp (lit (str units)) = list_all is_printable units
-is_fine_exp (word name) = is_identifier name
-is_fine_exp (binary op a b) = is_fine_exp a && is_fine_exp b
+abbrev is_fine_exp : vb.Exp → Bool
+is_fine_exp (vb.lit (Long (pos n) hexadecimal)) = not hexadecimal
+is_fine_exp (vb.lit (Str units)) = list_all is_printable units
+is_fine_exp (vb.word name suffix) = is_identifier name
+is_fine_exp (vb.binary op a b) = is_fine_exp a && is_fine_exp b
+is_fine_exp _ = false
 
 -- whether what a form declares and uses can be written
-abbrev is_fine_form : Form → Bool
-is_fine_form (sub_head name) = is_identifier name
-is_fine_form (dim name) = is_identifier name
-is_fine_form (assign target value) = is_fine_exp target && is_fine_exp value
-is_fine_form (debug_print e) = is_fine_exp e
-is_fine_form end_sub = true
+abbrev is_fine_form : vb.Form → Bool
+is_fine_form (vb.sub_head s) = is_identifier s.name
+is_fine_form (vb.variables w (d ∷ [])) = is_identifier d.name
+is_fine_form (vb.assign target value) = is_fine_exp target && is_fine_exp value
+is_fine_form (vb.debug_print (e ∷ []) ended) = is_fine_exp e
+is_fine_form vb.end_sub = true
+is_fine_form _ = false
 
 abbrev is_small : ℕ → Bool
 is_small c = nat_le 97 c && nat_le c 122
@@ -129,43 +133,42 @@ sub_name_is_identifier : (name : List ℕ) (b : Bool) → is_same_name name (cod
 sub_name_is_identifier name true is h = main_is_identifier name is
 sub_name_is_identifier name false is h = variable_is_identifier name h
 
-variable_is_fine : (e : Exp) → IsVariable e → is_fine_exp e ≡ true
+variable_is_fine : (e : Exp) → IsVariable e → is_fine_exp (whole_exp e) ≡ true
 variable_is_fine (lit l) is = absurd is
 variable_is_fine (word name) is = variable_is_identifier name is
 variable_is_fine (binary op a b) is = absurd is
 
-number_is_fine : (e : Exp) → IsNumber e → is_fine_exp e ≡ true
-number_is_fine (lit (long (pos n) true)) is = absurd is
-number_is_fine (lit (long (pos n) false)) is = refl
-number_is_fine (lit (long (negsuc n) hexadecimal)) is = absurd is
+number_is_fine : (e : Exp) → IsNumber e → is_fine_exp (whole_exp e) ≡ true
+number_is_fine (lit (long (pos n))) is = refl
+number_is_fine (lit (long (negsuc n))) is = absurd is
 number_is_fine (lit (str units)) is = absurd is
 number_is_fine (word name) is = absurd is
 number_is_fine (binary op a b) is = absurd is
 
-part_is_fine : (e : Exp) → IsVariable e ⊎ IsNumber e → is_fine_exp e ≡ true
+part_is_fine : (e : Exp) → IsVariable e ⊎ IsNumber e → is_fine_exp (whole_exp e) ≡ true
 part_is_fine e (inl is) = variable_is_fine e is
 part_is_fine e (inr is) = number_is_fine e is
 
-sum_is_fine : (n : ℕ) (e : Exp) → IsSum n e → is_fine_exp e ≡ true
+sum_is_fine : (n : ℕ) (e : Exp) → IsSum n e → is_fine_exp (whole_exp e) ≡ true
 sum_is_fine n (lit l) is = absurd is
 sum_is_fine n (word name) is = variable_is_identifier name is
 sum_is_fine zero (binary op a b) is = absurd is
-sum_is_fine (suc n) (binary op a b) is = and_both (is_fine_exp a) (is_fine_exp b) (sum_is_fine n a is.0) (part_is_fine b is.1)
+sum_is_fine (suc n) (binary op a b) is = and_both (is_fine_exp (whole_exp a)) (is_fine_exp (whole_exp b)) (sum_is_fine n a is.0) (part_is_fine b is.1)
 
-value_is_fine : (e : Exp) → IsValue e → is_fine_exp e ≡ true
+value_is_fine : (e : Exp) → IsValue e → is_fine_exp (whole_exp e) ≡ true
 value_is_fine e (inl is) = number_is_fine e is
 value_is_fine e (inr is) = sum_is_fine 8 e is
 
-text_is_fine : (e : Exp) → IsText e → is_fine_exp e ≡ true
-text_is_fine (lit (long z hexadecimal)) is = absurd is
+text_is_fine : (e : Exp) → IsText e → is_fine_exp (whole_exp e) ≡ true
+text_is_fine (lit (long z)) is = absurd is
 text_is_fine (lit (str units)) is = all_follow is_text_unit is_printable text_unit_is_printable units is
 text_is_fine (word name) is = absurd is
 text_is_fine (binary op a b) is = absurd is
 
-form_is_fine : (f : Form) → IsForm f → is_fine_form f ≡ true
+form_is_fine : (f : Form) → IsForm f → is_fine_form (whole_form f) ≡ true
 form_is_fine (sub_head name) is = sub_name_is_identifier name (is_same_name name (codes "Main")) refl is
 form_is_fine (dim name) is = variable_is_identifier name is
-form_is_fine (assign target value) is = and_both (is_fine_exp target) (is_fine_exp value) (variable_is_fine target is.0) (value_is_fine value is.1)
+form_is_fine (assign target value) is = and_both (is_fine_exp (whole_exp target)) (is_fine_exp (whole_exp value)) (variable_is_fine target is.0) (value_is_fine value is.1)
 form_is_fine (debug_print e) is = text_is_fine e is
 form_is_fine end_sub is = refl
 
@@ -174,7 +177,7 @@ forms_are_fine : (file k : ℕ) (lines : List (List ℕ)) (forms : List (ℕ × 
 forms_are_fine file k lines forms (no_lines _) = refl
 forms_are_fine file k lines forms (blank_line _ line more _ blank rest) = forms_are_fine file (k + 1) more forms rest
 forms_are_fine file k lines forms (form_line _ line more form others is holds rest) =
-    and_both (is_fine_form form) _ (form_is_fine form is) (forms_are_fine file (k + 1) more others rest)
+    and_both (is_fine_form (whole_form form)) _ (form_is_fine form is) (forms_are_fine file (k + 1) more others rest)
 
 spelling_is_identifier : (locals : List (List ℕ)) (name : List ℕ) → list_all is_identifier locals ≡ true → is_identifier name ≡ true → is_identifier (spelling locals name) ≡ true
 spelling_is_identifier [] name all fine = fine
@@ -191,82 +194,83 @@ one_name_path name h = and_both (is_identifier name && true) _ (and_both (is_ide
   never_both true = refl
   never_both false = refl
 
-exp_is_writable : (locals : List (List ℕ)) (e : Exp) → list_all is_identifier locals ≡ true → is_fine_exp e ≡ true → is_writable_exp (written_exp locals e) ≡ true
-exp_is_writable locals (lit (long (pos n) hexadecimal)) all fine = and_both (not hexadecimal) true fine refl
-exp_is_writable locals (lit (long (negsuc n) hexadecimal)) all fine = cc
-exp_is_writable locals (lit (str units)) all fine = fine
-exp_is_writable locals (word name) all fine = one_name_path (spelling locals name) (spelling_is_identifier locals name all fine)
-exp_is_writable locals (binary op a b) all fine =
+exp_is_writable : (locals : List (List ℕ)) (e : vb.Exp) → list_all is_identifier locals ≡ true → is_fine_exp e ≡ true → is_writable_exp (written_exp locals e) ≡ true
+exp_is_writable locals (vb.lit (Long (pos n) hexadecimal)) all fine = and_both (not hexadecimal) true fine refl
+exp_is_writable locals (vb.lit (Long (negsuc n) hexadecimal)) all fine = cc
+exp_is_writable locals (vb.lit (Str units)) all fine = fine
+exp_is_writable locals (vb.word name suffix) all fine = one_name_path (spelling locals name) (spelling_is_identifier locals name all fine)
+exp_is_writable locals (vb.binary op a b) all fine =
     and_both (is_writable_exp (written_exp locals a)) (is_writable_exp (written_exp locals b)) (exp_is_writable locals a all (and_left (is_fine_exp a) (is_fine_exp b) fine)) (exp_is_writable locals b all (and_right (is_fine_exp a) (is_fine_exp b) fine))
+exp_is_writable locals _ all fine = cc
 
 -- the lines of a body that are code can be written, and the names of its locals are identifiers
-named_more : (f : Form) (names : List (List ℕ)) → is_fine_form f ≡ true → list_all is_identifier names ≡ true → list_all is_identifier (declared_by f ++ names) ≡ true
-named_more (sub_head name) names fine rest = rest
-named_more (dim name) names fine rest = and_both (is_identifier name) _ fine rest
-named_more (assign target value) names fine rest = rest
-named_more (debug_print e) names fine rest = rest
-named_more end_sub names fine rest = rest
+named_more : (f : vb.Form) (names : List (List ℕ)) → is_fine_form f ≡ true → list_all is_identifier names ≡ true → list_all is_identifier (declared_by f ++ names) ≡ true
+named_more (vb.variables w []) names fine rest = cc
+named_more (vb.variables w (d ∷ [])) names fine rest = and_both (is_identifier d.name) _ fine rest
+named_more (vb.variables w (d ∷ e ∷ more)) names fine rest = cc
+named_more _ names fine rest = rest
 
 locals_are_identifiers : (ls : List Line) → list_all (λ l. is_fine_form l.form) ls ≡ true → list_all is_identifier (locals_in ls) ≡ true
 locals_are_identifiers [] all = refl
 locals_are_identifiers (l ∷ ls) all =
     named_more l.form (locals_in ls) (and_left (is_fine_form l.form) _ all) (locals_are_identifiers ls (and_right (is_fine_form l.form) _ all))
 
-line_more : (locals : List (List ℕ)) (place : Place) (f : Form) (ls : List Line) → list_all is_identifier locals ≡ true → (not (opens f) && not (closes f)) ≡ true → is_fine_form f ≡ true → list_all is_writable_line (map (written_line locals) (code_lines ls)) ≡ true → list_all is_writable_line (map (written_line locals) (code_lines (record { place = place; form = f } ∷ ls))) ≡ true
-line_more locals place (sub_head name) ls named inner fine rest = cc
-line_more locals place (dim name) ls named inner fine rest = rest
-line_more locals place (assign target value) ls named inner fine rest =
+line_more : (locals : List (List ℕ)) (place : Place) (text : List ℕ) (f : vb.Form) (ls : List Line) → list_all is_identifier locals ≡ true → (not (opens f) && not (closes f)) ≡ true → is_fine_form f ≡ true → list_all is_writable_line (map (written_line locals) (code_lines ls)) ≡ true → list_all is_writable_line (map (written_line locals) (code_lines (record { place = place; text = text; form = f } ∷ ls))) ≡ true
+line_more locals place text (vb.variables w declarators) ls named inner fine rest = rest
+line_more locals place text (vb.assign target value) ls named inner fine rest =
     and_both (is_writable_exp (written_exp locals target) && is_writable_exp (written_exp locals value)) _
     (and_both (is_writable_exp (written_exp locals target)) (is_writable_exp (written_exp locals value)) (exp_is_writable locals target named (and_left (is_fine_exp target) (is_fine_exp value) fine)) (exp_is_writable locals value named (and_right (is_fine_exp target) (is_fine_exp value) fine))) rest
-line_more locals place (debug_print e) ls named inner fine rest =
+line_more locals place text (vb.debug_print (e ∷ []) ended) ls named inner fine rest =
     and_both (is_writable_exp (written_exp locals e) && true) _ (and_both (is_writable_exp (written_exp locals e)) true (exp_is_writable locals e named fine) refl) rest
-line_more locals place end_sub ls named inner fine rest = cc
+line_more locals place text (vb.debug_print [] ended) ls named inner fine rest = cc
+line_more locals place text (vb.debug_print (e ∷ d ∷ items) ended) ls named inner fine rest = cc
+line_more locals place text _ ls named inner fine rest = cc
 
 lines_are_writable : (locals : List (List ℕ)) (ls : List Line) → list_all is_identifier locals ≡ true → list_all is_inner ls ≡ true → list_all (λ l. is_fine_form l.form) ls ≡ true → list_all is_writable_line (map (written_line locals) (code_lines ls)) ≡ true
 lines_are_writable locals [] named inner all = refl
 lines_are_writable locals (l ∷ ls) named inner all =
-    line_more locals l.place l.form ls named (and_left (is_inner l) _ inner) (and_left (is_fine_form l.form) _ all)
+    line_more locals l.place l.text l.form ls named (and_left (is_inner l) _ inner) (and_left (is_fine_form l.form) _ all)
     (lines_are_writable locals ls named (and_right (is_inner l) _ inner) (and_right (is_fine_form l.form) _ all))
 
 -- the head of a nested member declares its name
-head_is_identifier : (f : Form) → opens f ≡ true → is_fine_form f ≡ true → is_identifier (name_of f) ≡ true
-head_is_identifier (sub_head name) o h = h
-head_is_identifier (dim name) o h = cc
-head_is_identifier (assign target value) o h = cc
-head_is_identifier (debug_print e) o h = cc
-head_is_identifier end_sub o h = cc
+head_is_identifier : (f : vb.Form) → opens f ≡ true → is_fine_form f ≡ true → is_identifier (name_of f) ≡ true
+head_is_identifier (vb.sub_head s) o h = h
+head_is_identifier _ o h = cc
 
 dims_are_writable : (names : List (List ℕ)) → list_all is_identifier names ≡ true → list_all is_writable_dim (map written_local names) ≡ true
 dims_are_writable [] all = refl
 dims_are_writable (name ∷ names) all =
     and_both (is_identifier name) _ (and_left (is_identifier name) (list_all is_identifier names) all) (dims_are_writable names (and_right (is_identifier name) (list_all is_identifier names) all))
 
-member_is_writable : (member : Member) → IsNested member → list_all (λ l. is_fine_form l.form) (member_lines member) ≡ true → is_writable_member (written_member member) ≡ true
-member_is_writable (proc head body close) nested all =
+-- what is written for a Sub
+sub_is_writable : (head : Line) (body : vb.Nodes) (close : Line) → IsSub (proc head body close) → list_all (λ l. is_fine_form l.form) (member_lines (proc head body close)) ≡ true → is_writable_member (net.proc (written_procedure (procedure_of head body close))) ≡ true
+sub_is_writable head body close is all =
     let inside = and_right (is_fine_form head.form) _ all in
     let fine : list_all (λ l. is_fine_form l.form) (flat_lines body) ≡ true = and_left (list_all (λ l. is_fine_form l.form) (flat_lines body)) _ (sym (list_all-append (λ l. is_fine_form l.form) (flat_lines body) (close ∷ [])) ∙ inside) in
     let named = locals_are_identifiers (flat_lines body) fine in
     let locals = locals_in (flat_lines body) in
     and_both ((is_identifier (name_of head.form) && true) && list_all is_writable_dim (map written_local locals)) (list_all is_writable_line (map (written_line locals) (code_lines (flat_lines body))))
     (and_both (is_identifier (name_of head.form) && true) (list_all is_writable_dim (map written_local locals))
-    (and_both (is_identifier (name_of head.form)) true (head_is_identifier head.form nested.0 (and_left (is_fine_form head.form) _ all)) refl)
+    (and_both (is_identifier (name_of head.form)) true (head_is_identifier head.form is.0 (and_left (is_fine_form head.form) _ all)) refl)
     (dims_are_writable locals named))
-    (lines_are_writable locals (flat_lines body) named nested.1 fine)
+    (lines_are_writable locals (flat_lines body) named is.1 fine)
 
-members_are_writable : (members : List Member) → All IsNested members → list_all (λ l. is_fine_form l.form) (flat_map member_lines members) ≡ true → list_all is_writable_member (map written_member members) ≡ true
-members_are_writable [] nested all = refl
-members_are_writable (member ∷ members) nested all =
+members_are_writable : (members : List Member) → All IsSub members → list_all (λ l. is_fine_form l.form) (flat_map member_lines members) ≡ true → list_all is_writable_member (map (λ p. net.proc (written_procedure p)) (flat_map procedures_in members)) ≡ true
+members_are_writable [] subs all = refl
+members_are_writable (proc head body close ∷ members) subs all =
+    let member = proc head body close in
     let both = sym (list_all-append (λ l. is_fine_form l.form) (member_lines member) (flat_map member_lines members)) ∙ all in
-    and_both (is_writable_member (written_member member)) _
-    (member_is_writable member (All-head IsNested member members nested) (and_left (list_all (λ l. is_fine_form l.form) (member_lines member)) _ both))
-    (members_are_writable members (All-tail IsNested member members nested) (and_right (list_all (λ l. is_fine_form l.form) (member_lines member)) _ both))
+    and_both (is_writable_member (net.proc (written_procedure (procedure_of head body close)))) _
+    (sub_is_writable head body close (All-head IsSub member members subs) (and_left (list_all (λ l. is_fine_form l.form) (member_lines member)) _ both))
+    (members_are_writable members (All-tail IsSub member members subs) (and_right (list_all (λ l. is_fine_form l.form) (member_lines member)) _ both))
+members_are_writable (member ∷ members) subs all = absurd (All-head IsSub member members subs)
 
 -- the module that is written for one of the form
 module_is_writable : (entry : Entry) (file : ℕ) (text : List ℕ) (m : Module) → HeldModule entry file text m → IsModuleName entry.name → is_writable_module (written_module m) ≡ true
 module_is_writable entry file text m held named =
     let all : list_all (λ l. is_fine_form l.form) (module_lines m) ≡ true = ap (list_all (λ l. is_fine_form l.form)) held.in_order ∙ forms_are_fine file 1 _ held.forms held.lines in
     and_both (is_identifier m.name) _ (subst (λ n. is_identifier n ≡ true) (sym held.name) (module_name_is_identifier entry.name named))
-    (members_are_writable m.members held.nested all)
+    (members_are_writable m.members held.subs all)
 
 support_is_writable : (used : Bool) → is_writable_module (support_module used) ≡ true
 support_is_writable true = refl
@@ -321,9 +325,9 @@ module_is_named P form =
 entry_is_named : (P : Project) (form : IsOfForm P) → IsModuleName form.entry.name
 entry_is_named P form = subst IsModuleName form.content.name (module_is_named P form)
 
-pub is_nested_project : (P : Project) → IsOfForm P → IsNestedProject P
-is_nested_project P form =
-    subst (λ ms. All (λ m. All IsNested m.members) ms) (sym form.modules) (All-cons (λ m. All IsNested m.members) form.m [] form.content.nested (All-nil (λ m. All IsNested m.members)))
+pub are_subs : (P : Project) → IsOfForm P → AreSubs P
+are_subs P form =
+    subst (λ ms. All (λ m. All IsSub m.members) ms) (sym form.modules) (All-cons (λ m. All IsSub m.members) form.m [] form.content.subs (All-nil (λ m. All IsSub m.members)))
 
 same_target : (main : Option (List ℕ)) → is_library main ≡ is_none main
 same_target None = refl

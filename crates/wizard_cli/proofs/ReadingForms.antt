@@ -10,9 +10,8 @@ use Rattle.std.proofs.lemmas.Bool.Decides.{nat_tests}
 use Rattle.std.proofs.lemmas.Slice.Eq.{bytes_eq-Decides}
 use Rattle.up_base.specs.Names.{is_name, is_printable, lower_case, is_same_name}
 use Rattle.up_base.specs.Running.{line_end}
-use Rattle.vb_tree.specs.declared.line.Form6.{Form6}
-use Rattle.vb_tree.specs.View.{form_of}
-use Rattle.vb_tree.specs.Tree.{long, str, Exp, lit, word, binary, Form, sub_head, dim, assign, debug_print, end_sub}
+use Rattle.wizard_cli.specs.declared.reader.readable.ReadableForm.{ReadableForm}
+use Rattle.wizard_cli.specs.Readable.{long, str, Exp, lit, word, binary, Form, sub_head, dim, assign, debug_print, end_sub, form_of}
 use Rattle.wizard_cli.specs.Lines.{is_text_unit}
 use Rattle.wizard_cli.specs.ProjectForm.{is_digit}
 use Rattle.wizard_cli.specs.ModuleForm.{IsForm, form_text, exp_text, is_variable, is_sub_name, IsVariable, IsValue, IsText}
@@ -65,7 +64,7 @@ seconds : (a b : List ℕ) (m n : ℕ) → a ≡ b → second a ≡ m → second
 seconds a b m n e p q = sym p ∙ ap second e ∙ q
 
 text_is : (e : Exp) → IsText e → (units : List ℕ) × (e ≡ lit (str units)) × (list_all is_text_unit units ≡ true)
-text_is (lit (long z hexadecimal)) h = elim h [ ]
+text_is (lit (long z)) h = elim h [ ]
 text_is (lit (str units)) h = (units, refl, h)
 text_is (word name) h = elim h [ ]
 text_is (binary op a b) h = elim h [ ]
@@ -234,7 +233,7 @@ assignment_is_form end_sub is = elim is [ ]
 
 -- a text that is spelt as no other form is read as an assignment
 pub assignment_alone : (content : List ℕ) → content ≢ codes "End Sub" → ((m : List ℕ) → content ≢ codes "Sub " ++ m ++ codes "()") → ((m : List ℕ) → content ≢ codes "Dim " ++ m ++ codes " As Long") → ((m : List ℕ) → content ≢ codes "Debug.Print \"" ++ m ++ codes "\"")
-    → (o : Option Form6) → IsRead form_text IsAssignment form_of content o → IsRead form_text IsForm form_of content o
+    → (o : Option ReadableForm) → IsRead form_text IsAssignment form_of content o → IsRead form_text IsForm form_of content o
 assignment_alone content end head declares print None h = by
   where
     by : (f : Form) → IsForm f → form_text f ≢ content

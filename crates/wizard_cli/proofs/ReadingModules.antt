@@ -9,11 +9,13 @@ use Rattle.up_base.specs.Names.{lower_case, is_same_name}
 use Rattle.up_base.specs.declared.place.Place.{Place}
 use Rattle.up_base.specs.declared.place.Fault.{Fault}
 use Rattle.vb_tree.specs.declared.project.Entry.{Entry}
-use Rattle.vb_tree.specs.Tree.{Form, sub_head, dim, assign, debug_print, end_sub, Line, Member, proc, Module}
-use Rattle.vb_tree.specs.View.{line_of, node_of, member_of, module_of}
+use Rattle.vb_tree.specs.Tree as vb
+use Rattle.vb_tree.specs.Tree.{Line, Member, proc, Module}
+use Rattle.vb_tree.specs.View.{line_of, nodes_of, member_of, module_of}
+use Rattle.wizard_cli.specs.Readable.{Form, whole_form}
 use Rattle.vb_tree.specs.FlatLines.{flat_lines, member_lines, module_lines}
 use Rattle.wizard_cli.specs.Lines.{lines_of, FormLines}
-use Rattle.wizard_cli.specs.ModuleForm.{opens, closes, is_inner, IsForm, form_text, code_line, IsNested, is_among, keeps_declared, declared_after, are_declared, is_declared_member, member_name, are_apart, HeldModule}
+use Rattle.wizard_cli.specs.ModuleForm.{opens, closes, is_inner, IsForm, form_text, code_line, IsSub, is_among, keeps_declared, declared_after, are_declared, is_declared_member, member_name, are_apart, HeldModule}
 use Rattle.wizard_cli.specs.declared.reader.module.Stage.{Stage}
 use Rattle.wizard_cli.specs.declared.reader.module.OpenSub.{OpenSub}
 use Rattle.wizard_cli.specs.Faults.{fault_at}
@@ -47,21 +49,15 @@ body_scan (l ∷ lines) subs names h =
     ap (λ o. scan o lines) (step_inner subs names l.form p.0)
     ∙ by_keeps (keeps_declared names l.form) (are_declared (declared_after names l.form) lines) _ _ lines (body_scan lines subs (declared_after names l.form) p.1)
 
-opens_is : (f : Form) → opens f ≡ true → (name : List ℕ) × (f ≡ sub_head name)
-opens_is (sub_head name) h = (name, refl)
-opens_is (dim name) h = cc
-opens_is (assign target value) h = cc
-opens_is (debug_print e) h = cc
-opens_is end_sub h = cc
+opens_is : (f : vb.Form) → opens f ≡ true → (s : vb.Signature) × (f ≡ vb.sub_head s)
+opens_is (vb.sub_head s) h = (s, refl)
+opens_is _ h = cc
 
-closes_is : (f : Form) → closes f ≡ true → f ≡ end_sub
-closes_is (sub_head name) h = cc
-closes_is (dim name) h = cc
-closes_is (assign target value) h = cc
-closes_is (debug_print e) h = cc
-closes_is end_sub h = refl
+closes_is : (f : vb.Form) → closes f ≡ true → f ≡ vb.end_sub
+closes_is vb.end_sub h = refl
+closes_is _ h = cc
 
-by_end : (d : Bool) (subs names : List (List ℕ)) (close : Line) → close.form ≡ end_sub
+by_end : (d : Bool) (subs names : List (List ℕ)) (close : Line) → close.form ≡ vb.end_sub
     → scan (cond d (Some (record { subs = subs; variables = Some names })) None) (close ∷ []) ≡ cond d (Some (record { subs = subs; variables = None })) None
 by_end true subs names close e = rw e refl
 by_end false subs names close e = refl
@@ -70,14 +66,17 @@ by_head : (among d : Bool) (s e : Scan) (lines : List Line) → scan (Some s) li
 by_head true d s e lines h = refl
 by_head false d s e lines h = h
 
-member_scan : (m : Member) → IsNested m → (subs : List (List ℕ))
+member_scan : (m : Member) → IsSub m → (subs : List (List ℕ))
     → scan (Some (record { subs = subs; variables = None })) (member_lines m) ≡ cond (not (is_among (member_name m) subs) && is_declared_member m) (Some (record { subs = member_name m ∷ subs; variables = None })) None
 member_scan (proc head body close) h subs =
     let p = opens_is head.form h.0 in
-    let inside = scan_append (Some (record { subs = p.0 ∷ subs; variables = Some [] })) (flat_lines body) (close ∷ [])
-    ∙ ap (λ o. scan o (close ∷ [])) (body_scan (flat_lines body) (p.0 ∷ subs) [] h.1)
-    ∙ by_end (are_declared [] (flat_lines body)) (p.0 ∷ subs) _ close (closes_is close.form h.2) in
-    rw p.1 (by_head (is_among p.0 subs) (are_declared [] (flat_lines body)) _ _ (flat_lines body ++ close ∷ []) inside)
+    let name = p.0.name in
+    let inside = scan_append (Some (record { subs = name ∷ subs; variables = Some [] })) (flat_lines body) (close ∷ [])
+    ∙ ap (λ o. scan o (close ∷ [])) (body_scan (flat_lines body) (name ∷ subs) [] h.1)
+    ∙ by_end (are_declared [] (flat_lines body)) (name ∷ subs) _ close (closes_is close.form h.2) in
+    rw p.1 (by_head (is_among name subs) (are_declared [] (flat_lines body)) _ _ (flat_lines body ++ close ∷ []) inside)
+member_scan (vb.alone l) h subs = elim h [ ]
+member_scan (vb.group head lines close) h subs = elim h [ ]
 
 -- whether, after Subs of these names, each name is new and each variable declared
 are_new : List (List ℕ) → List Member → Bool
@@ -88,14 +87,14 @@ names_onto : List (List ℕ) → List Member → List (List ℕ)
 names_onto subs [] = subs
 names_onto subs (m ∷ ms) = names_onto (member_name m ∷ subs) ms
 
-members_scan : (ms : List Member) → All IsNested ms → (subs : List (List ℕ))
+members_scan : (ms : List Member) → All IsSub ms → (subs : List (List ℕ))
     → scan (Some (record { subs = subs; variables = None })) (flat_map member_lines ms) ≡ cond (are_new subs ms) (Some (record { subs = names_onto subs ms; variables = None })) None
 unfolding are_new names_onto
 members_scan [] h subs = refl
 members_scan (m ∷ ms) h subs =
     scan_append (Some (record { subs = subs; variables = None })) (member_lines m) (flat_map member_lines ms)
-    ∙ ap (λ o. scan o (flat_map member_lines ms)) (member_scan m (All-head IsNested m ms h) subs)
-    ∙ by_keeps (not (is_among (member_name m) subs) && is_declared_member m) (are_new (member_name m ∷ subs) ms) _ _ (flat_map member_lines ms) (members_scan ms (All-tail IsNested m ms h) (member_name m ∷ subs))
+    ∙ ap (λ o. scan o (flat_map member_lines ms)) (member_scan m (All-head IsSub m ms h) subs)
+    ∙ by_keeps (not (is_among (member_name m) subs) && is_declared_member m) (are_new (member_name m ∷ subs) ms) _ _ (flat_map member_lines ms) (members_scan ms (All-tail IsSub m ms h) (member_name m ∷ subs))
 
 same_name_swapped : (a b : List ℕ) → is_same_name a b ≡ is_same_name b a
 same_name_swapped a b =
@@ -158,7 +157,7 @@ or_none true = refl
 or_none false = refl
 
 -- the lines of a whole module lead to its end
-whole_scan : (m : Module) → All IsNested m.members → list_all is_declared_member m.members ≡ true → are_apart (map member_name m.members) ≡ true → is_among (codes "Main") (map member_name m.members) ≡ true
+whole_scan : (m : Module) → All IsSub m.members → list_all is_declared_member m.members ≡ true → are_apart (map member_name m.members) ≡ true → is_among (codes "Main") (map member_name m.members) ≡ true
     → IsWhole (scan (Some first_scan) (module_lines m))
 whole_scan m nested declared apart main =
     let new : are_new [] m.members ≡ true = new_is m.members [] ∙ rw (none_before m.members, declared, apart) refl in
@@ -189,7 +188,7 @@ module _ (place : Place) (line content : List ℕ) (holds : IsContent content li
       read = λ more. form_read form_text IsForm form_spelling line place.line more content f is.0 is.1 holds;
     }
 
-    pub line_ends : step (scan_of stage) f ≡ None → EndsScan place line stage
+    pub line_ends : step (scan_of stage) (whole_form f) ≡ None → EndsScan place line stage
     line_ends none more forms h =
         let p = (form_read form_text IsForm form_spelling line place.line more content f is.0 is.1 holds).only forms h in
         ap (λ x. scan (Some (scan_of stage)) (map (code_line place.file) x)) p.1 ∙ ap (λ o. scan o (map (code_line place.file) p.0)) none
@@ -197,7 +196,7 @@ module _ (place : Place) (line content : List ℕ) (holds : IsContent content li
 -- no line is read of a text yet
 pub no_stage : (file : ℕ) (text : List ℕ) (stage : Stage) → stage.members ≡ [] → stage.subs ≡ [] → stage.inside ≡ None → HasStage file text stage 1 (lines_of text)
 no_stage file text stage members subs inside = record {
-  nested = record { members = rw members (All-nil IsNested); inside = rw inside tt };
+  nested = record { members = rw members (All-nil IsSub); inside = rw inside tt };
   front = [];
   parts = refl;
   counted = refl;
@@ -264,7 +263,7 @@ module _ (file : ℕ) (text : List ℕ) (n : ℕ) (stage : Stage) (reads : HasSt
         open_sub sub.variables (ap variables_of e) (record {
           before = flat_map member_lines (map member_of stage.members);
           head = line_of sub.head;
-          inner = flat_lines (map node_of sub.body.items);
+          inner = flat_lines (nodes_of sub.body.items);
           parts = sym reads.lines ∙ ap (λ x. flat_map member_lines (map member_of stage.members) ++ inside_lines x) e;
           is_head = is.0;
           is_inside = is.1;
@@ -276,9 +275,9 @@ module _ (file : ℕ) (text : List ℕ) (n : ℕ) (stage : Stage) (reads : HasSt
   pub without_main : stage.inside ≡ None → is_among (codes "Main") stage.subs ≡ false → ModuleNotBuilt file text 0
   without_main e none = inr (reads.forms, all_forms, scan_of stage, reads.scanned, no_main (ap variables_of e) none refl)
 
-  pub module_held : (entry : Entry) (name : List ℕ) → stage.inside ≡ None → is_among (codes "Main") stage.subs ≡ true → name ≡ entry.name
-      → HeldModule entry file text (module_of (record { file = file; name = name; class = false; members = stage.members }))
-  module_held entry name out main same =
+  pub module_held : (entry : Entry) (name : List ℕ) (comments : List (ℕ × List ℕ)) → stage.inside ≡ None → is_among (codes "Main") stage.subs ≡ true → name ≡ entry.name → comments ≡ []
+      → HeldModule entry file text (module_of (record { file = file; name = name; class = false; members = stage.members; comments = comments }))
+  module_held entry name comments out main same none =
       let ms = map member_of stage.members in
       let order : flat_map member_lines ms ≡ map (code_line file) reads.forms = sym (append-nil (flat_map member_lines ms)) ∙ rw out at reads.lines in
       let scanned = sym (members_scan ms reads.nested.members []) ∙ ap (scan (Some first_scan)) order ∙ reads.scanned in
@@ -289,15 +288,16 @@ module _ (file : ℕ) (text : List ℕ) (n : ℕ) (stage : Stage) (reads : HasSt
         forms = reads.forms;
         lines = all_forms;
         in_order = order;
-        nested = reads.nested.members;
+        subs = reads.nested.members;
         declared = good.0;
         apart = good.1;
         main = sym (or_none _) ∙ sym (among_onto (codes "Main") ms []) ∙ ap (λ (s : Scan). is_among (codes "Main") s.subs) p.1 ∙ main;
         file = refl;
         name = same;
         class = refl;
+        comments = none;
       }
 
 -- the lines of a module come to the whole of one
 pub held_scan : (entry : Entry) (file : ℕ) (text : List ℕ) (m : Module) (h : HeldModule entry file text m) → IsWhole (scan (Some first_scan) (map (code_line file) h.forms))
-held_scan entry file text m h = rw h.in_order at (whole_scan m h.nested h.declared h.apart h.main)
+held_scan entry file text m h = rw h.in_order at (whole_scan m h.subs h.declared h.apart h.main)

@@ -116,14 +116,15 @@ module _ (text : List ℕ) (s : Settings) (n : ℕ) (reads : HasSettings text s 
   no_entry none = settings_short (λ file h e. let a = sym h.entry.1 ∙ ap (filter_map entry_at) e ∙ reads.comes.entries ∙ ap option_to_list none in cc)
 
 -- the project file that the settings come to
-pub project_held : (text : List ℕ) (s : Settings) (n line : ℕ) (entry : Entry) (startup : List ℕ) (entries : List Entry) → HasSettings text s n [] → s.has_type ≡ true → s.startup ≡ Some line → s.entry ≡ Some entry
-    → startup ≡ codes "Sub Main" → entries ≡ entry ∷ [] → HeldProjectFile text (record { kind = Exe; startup = Some (line, startup); entries = entries })
-project_held text s n line entry startup entries reads type at has start one = record {
+pub project_held : (text : List ℕ) (s : Settings) (n line : ℕ) (entry : Entry) (startup : List ℕ) (entries : List Entry) (dropped : List ℕ) → HasSettings text s n [] → s.has_type ≡ true → s.startup ≡ Some line → s.entry ≡ Some entry
+    → startup ≡ codes "Sub Main" → entries ≡ entry ∷ [] → dropped ≡ [] → HeldProjectFile text (record { kind = Exe; startup = Some (line, startup); entries = entries; dropped = dropped })
+project_held text s n line entry startup entries dropped reads type at has start one none = record {
   settings = reads.settings;
   lines = (all_settings text s n reads).0;
   one_type = reads.comes.types ∙ ap (λ b. cond b 1 0) type;
   names = rw reads.comes.names (at_most_one s.has_name);
   kind = refl;
   startup = ((line, codes "Sub Main"), reads.comes.startups ∙ ap (λ o. option_to_list (option_map (λ n. (n, codes "Sub Main")) o)) at, ap (λ x. Some (line, x)) start);
+  dropped = none;
   entry = (entry, reads.comes.entries ∙ ap option_to_list has, one);
 }

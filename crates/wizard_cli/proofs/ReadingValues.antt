@@ -8,11 +8,10 @@ use Rattle.std.proofs.lemmas.List.Folds.{list_all-append}
 use Rattle.std.proofs.Math.Nat.{pow-suc}
 use Rattle.std.proofs.lemmas.Bool.Decides.{nat_tests}
 use Rattle.up_base.specs.Names.{is_name, is_printable}
-use Rattle.vb_tree.specs.declared.expression.BinOp.{BinOp}
-use Rattle.vb_tree.specs.declared.expression.BinOp.TheVariants.{Add, Sub}
-use Rattle.vb_tree.specs.declared.expression.Expr6.{Expr6}
-use Rattle.vb_tree.specs.View.{exp_of}
-use Rattle.vb_tree.specs.Tree.{long, str, Exp, lit, word, binary}
+use Rattle.wizard_cli.specs.declared.reader.readable.ReadableExpr.{ReadableExpr}
+use Rattle.wizard_cli.specs.declared.reader.readable.ReadableOperator.{ReadableOperator}
+use Rattle.wizard_cli.specs.declared.reader.readable.ReadableOperator.TheVariants.{Add, Sub}
+use Rattle.wizard_cli.specs.Readable.{long, str, Exp, lit, word, binary, exp_of}
 use Rattle.wizard_cli.specs.ProjectForm.{is_digit}
 use Rattle.wizard_cli.specs.ModuleForm.{operator_text, exp_text, is_letter, is_variable, IsNumber, IsVariable, IsSum, IsValue}
 use Rattle.wizard_cli.specs.Reading.{is_no_blank, EndsInBlank, IsPart, IsRead}
@@ -96,16 +95,16 @@ first_blank (x ∷ a) (y ∷ b) p q f g e =
     let r = first_blank a b p q (both (is_no_blank x) (list_all is_no_blank a) f).1 (both (is_no_blank y) (list_all is_no_blank b) g).1 k in (rw (l, r.0), r.1)
 
 -- the byte between a text and its operator's last blank
-operator_byte : BinOp → ℕ
+operator_byte : ReadableOperator → ℕ
 operator_byte Add = 43
 operator_byte Sub = 45
 
-operator_cut : (op : BinOp) (l p : List ℕ) → l ++ operator_text op ++ p ≡ (l ++ 32 ∷ operator_byte op ∷ []) ++ 32 ∷ p
+operator_cut : (op : ReadableOperator) (l p : List ℕ) → l ++ operator_text op ++ p ≡ (l ++ 32 ∷ operator_byte op ∷ []) ++ 32 ∷ p
 unfolding operator_byte
 operator_cut Add l p = append_assoc l (codes " + ") p ∙ sym (append_assoc l (32 ∷ 43 ∷ []) (32 ∷ p))
 operator_cut Sub l p = append_assoc l (codes " - ") p ∙ sym (append_assoc l (32 ∷ 45 ∷ []) (32 ∷ p))
 
-same_operator : (o r : BinOp) → operator_byte o ≡ operator_byte r → o ≡ r
+same_operator : (o r : ReadableOperator) → operator_byte o ≡ operator_byte r → o ≡ r
 unfolding operator_byte
 same_operator Add Add e = refl
 same_operator Add Sub e = absurd (omega arith)
@@ -113,7 +112,7 @@ same_operator Sub Add e = absurd (omega arith)
 same_operator Sub Sub e = refl
 
 -- a sum is cut at its last operator in one way
-pub sum_cut : (o r : BinOp) (l m p q : List ℕ) → list_all is_no_blank p ≡ true → list_all is_no_blank q ≡ true → l ++ operator_text o ++ p ≡ m ++ operator_text r ++ q → (l ≡ m) × (o ≡ r) × (p ≡ q)
+pub sum_cut : (o r : ReadableOperator) (l m p q : List ℕ) → list_all is_no_blank p ≡ true → list_all is_no_blank q ≡ true → l ++ operator_text o ++ p ≡ m ++ operator_text r ++ q → (l ≡ m) × (o ≡ r) × (p ≡ q)
 sum_cut o r l m p q f g e =
     let k = last_blank (l ++ 32 ∷ operator_byte o ∷ []) (m ++ 32 ∷ operator_byte r ∷ []) p q f g (sym (operator_cut o l p) ∙ e ∙ operator_cut r m q) in
     let s = same_from_push (l ++ 32 ∷ []) (m ++ 32 ∷ []) (operator_byte o) (operator_byte r) (append_assoc l (32 ∷ []) (operator_byte o ∷ []) ∙ k.0 ∙ sym (append_assoc m (32 ∷ []) (operator_byte r ∷ []))) in
@@ -123,7 +122,7 @@ sum_cut o r l m p q f g e =
 below_or : (n k : ℕ) → (n < k) ⊎ (k ≤ n)
 below_or n k = by_test (nat_lt n k) (λ b. (n < k) ⊎ (k ≤ n)) (λ t. inl (grind (arith, nat_tests))) (λ t. inr (grind (arith, nat_tests)))
 
-pub no_operator : (text : List ℕ) → ((left : List ℕ) → text ≢ left ++ codes " + ") → ((left : List ℕ) → text ≢ left ++ codes " - ") → (left : List ℕ) (op : BinOp) → text ≢ left ++ operator_text op
+pub no_operator : (text : List ℕ) → ((left : List ℕ) → text ≢ left ++ codes " + ") → ((left : List ℕ) → text ≢ left ++ codes " - ") → (left : List ℕ) (op : ReadableOperator) → text ≢ left ++ operator_text op
 no_operator text plus minus left Add e = plus left e
 no_operator text plus minus left Sub e = minus left e
 
@@ -187,10 +186,9 @@ decimal_short (suc k) n h small = elim (below_or n 10) [
 pub value_too_long : (text : List ℕ) → 10 < length text → (n : ℕ) → n < 2 ^ 31 → decimal n ≢ text
 value_too_long text more n small e = let k = decimal_short 9 n (omega arith) (omega arith) in let l : length (decimal n) ≡ length text = ap length e in omega arith
 
-pub number_is : (e : Exp) → IsNumber e → (n : ℕ) × (e ≡ lit (long (pos n) false)) × (n < 2 ^ 31)
-number_is (lit (long (pos n) true)) h = elim h [ ]
-number_is (lit (long (pos n) false)) h = (n, refl, h)
-number_is (lit (long (negsuc n) hexadecimal)) h = elim h [ ]
+pub number_is : (e : Exp) → IsNumber e → (n : ℕ) × (e ≡ lit (long (pos n))) × (n < 2 ^ 31)
+number_is (lit (long (pos n))) h = (n, refl, h)
+number_is (lit (long (negsuc n))) h = elim h [ ]
 number_is (lit (str units)) h = elim h [ ]
 number_is (word name) h = elim h [ ]
 number_is (binary op a b) h = elim h [ ]
@@ -226,20 +224,20 @@ pub part_filled : (e : Exp) → IsPart e → list_all is_no_blank (exp_text e) �
 part_filled e (inl h) = let p = variable_is e h in rw p.1 (variable_filled p.0 p.2)
 part_filled e (inr h) = let p = number_is e h in rw p.1 (each is_digit is_no_blank filled_digit (decimal p.0) (number_digits p.0 p.2))
 
-closing : (l : List ℕ) (op : BinOp) → (l ++ 32 ∷ operator_byte op ∷ []) ++ 32 ∷ [] ≡ l ++ operator_text op
+closing : (l : List ℕ) (op : ReadableOperator) → (l ++ 32 ∷ operator_byte op ∷ []) ++ 32 ∷ [] ≡ l ++ operator_text op
 unfolding operator_byte
 closing l Add = append_assoc l (32 ∷ 43 ∷ []) (32 ∷ [])
 closing l Sub = append_assoc l (32 ∷ 45 ∷ []) (32 ∷ [])
 
 -- a text that ends in a blank or is empty, before a word, is what stands before the last part of a sum
-front_cut : (front end l : List ℕ) (op : BinOp) (p : List ℕ) → EndsInBlank front → list_all is_no_blank end ≡ true → list_all is_no_blank p ≡ true → front ++ end ≡ l ++ operator_text op ++ p → front ≡ l ++ operator_text op
+front_cut : (front end l : List ℕ) (op : ReadableOperator) (p : List ℕ) → EndsInBlank front → list_all is_no_blank end ≡ true → list_all is_no_blank p ≡ true → front ++ end ≡ l ++ operator_text op ++ p → front ≡ l ++ operator_text op
 front_cut front end l op p (inl k) f g e = absurd (not_filled (l ++ 32 ∷ operator_byte op ∷ []) p (ap (list_all is_no_blank) (sym (operator_cut op l p) ∙ sym e ∙ ap (λ x. x ++ end) k) ∙ f))
 front_cut front end l op p (inr (before, k)) f g e =
     let r = last_blank before (l ++ 32 ∷ operator_byte op ∷ []) end p f g (sym (append_assoc before (32 ∷ []) end) ∙ sym (ap (λ x. x ++ end) k) ∙ e ∙ operator_cut op l p) in
     k ∙ ap (λ x. x ++ 32 ∷ []) r.0 ∙ closing l op
 
 -- the last part of a sum, and the sum before it
-pub record LastPart (n : ℕ) (op : BinOp) (left end : List ℕ) (f : Exp) : Type 0 where
+pub record LastPart (n : ℕ) (op : ReadableOperator) (left end : List ℕ) (f : Exp) : Type 0 where
   pub less : ℕ
   pub some : n ≡ suc less
   pub before : Exp
@@ -251,7 +249,7 @@ pub record LastPart (n : ℕ) (op : BinOp) (left end : List ℕ) (f : Exp) : Typ
   pub part_text : exp_text part ≡ end
 
 -- a text with an operator before its last word is that of a sum with that operator alone
-pub last_part : (n : ℕ) (op : BinOp) (left end : List ℕ) (f : Exp) → IsSum n f → list_all is_no_blank end ≡ true → exp_text f ≡ left ++ operator_text op ++ end → LastPart n op left end f
+pub last_part : (n : ℕ) (op : ReadableOperator) (left end : List ℕ) (f : Exp) → IsSum n f → list_all is_no_blank end ≡ true → exp_text f ≡ left ++ operator_text op ++ end → LastPart n op left end f
 last_part n op left end (lit l) h w e = elim h [ ]
 last_part n op left end (word name) h w e = absurd (not_filled (left ++ 32 ∷ operator_byte op ∷ []) end (ap (list_all is_no_blank) (sym (operator_cut op left end) ∙ sym e) ∙ variable_filled name h))
 last_part zero op left end (binary o a b) h w e = elim h [ ]
@@ -261,7 +259,7 @@ last_part (suc n) op left end (binary o a b) h w e =
 
 module _ (n : ℕ) (text front end : List ℕ) (cut : text ≡ front ++ end) (filled : list_all is_no_blank end ≡ true) where
   -- a text with no operator before its last word is that of a variable, if it is one of a sum
-  pub sum_alone : EndsInBlank front → ((left : List ℕ) (op : BinOp) → front ≢ left ++ operator_text op) → (o : Option Expr6) → IsRead exp_text IsVariable exp_of text o → IsRead exp_text (IsSum n) exp_of text o
+  pub sum_alone : EndsInBlank front → ((left : List ℕ) (op : ReadableOperator) → front ≢ left ++ operator_text op) → (o : Option ReadableExpr) → IsRead exp_text IsVariable exp_of text o → IsRead exp_text (IsSum n) exp_of text o
   sum_alone ends none None h = by n
     where
       by : (n : ℕ) (f : Exp) → IsSum n f → exp_text f ≡ text → ⊥
@@ -271,7 +269,7 @@ module _ (n : ℕ) (text front end : List ℕ) (cut : text ≡ front ++ end) (fi
       by (suc n) (binary o a b) is e = none (exp_text a) o (front_cut front end (exp_text a) o (exp_text b) ends filled (part_filled b is.1) (sym cut ∙ sym e))
   sum_alone ends none (Some x) h = (variable_sum n (exp_of x) h.0, h.1)
 
-  module _ (left : List ℕ) (op : BinOp) (front_is : front ≡ left ++ operator_text op) where
+  module _ (left : List ℕ) (op : ReadableOperator) (front_is : front ≡ left ++ operator_text op) where
     last : (f : Exp) → IsSum n f → exp_text f ≡ text → LastPart n op left end f
     last f is e = last_part n op left end f is filled (e ∙ cut ∙ ap (λ x. x ++ end) front_is)
 
@@ -294,16 +292,16 @@ module _ (n : ℕ) (text front end : List ℕ) (cut : text ≡ front ++ end) (fi
         (subst S (sym k) (p.0, q.0), ap (λ x. x ++ operator_text op ++ exp_text b) p.1 ∙ ap (λ x. left ++ operator_text op ++ x) q.1 ∙ sym (ap (λ x. x ++ end) front_is) ∙ sym cut)
 
 -- a number is read as a part
-pub number_part : (text : List ℕ) (n : ℕ) (e : Exp) → (n < 2 ^ 31) × (decimal n ≡ text) → e ≡ lit (long (pos n) false) → IsNumber e × (exp_text e ≡ text)
+pub number_part : (text : List ℕ) (n : ℕ) (e : Exp) → (n < 2 ^ 31) × (decimal n ≡ text) → e ≡ lit (long (pos n)) → IsNumber e × (exp_text e ≡ text)
 number_part text n e h k = rw k h
 
 -- where no number is read, a variable is
-pub part_alone : (text : List ℕ) → ((n : ℕ) → n < 2 ^ 31 → decimal n ≢ text) → (o : Option Expr6) → IsRead exp_text IsVariable exp_of text o → IsRead exp_text IsPart exp_of text o
+pub part_alone : (text : List ℕ) → ((n : ℕ) → n < 2 ^ 31 → decimal n ≢ text) → (o : Option ReadableExpr) → IsRead exp_text IsVariable exp_of text o → IsRead exp_text IsPart exp_of text o
 part_alone text none None h = λ f is e. elim is [ inl k ↦ h f k e | inr k ↦ let p = number_is f k in none p.0 p.2 (sym (ap exp_text p.1) ∙ e) ]
 part_alone text none (Some x) h = (inl h.0, h.1)
 
 -- and a sum
-pub value_alone : (text : List ℕ) → ((n : ℕ) → n < 2 ^ 31 → decimal n ≢ text) → (o : Option Expr6) → IsRead exp_text (IsSum 8) exp_of text o → IsRead exp_text IsValue exp_of text o
+pub value_alone : (text : List ℕ) → ((n : ℕ) → n < 2 ^ 31 → decimal n ≢ text) → (o : Option ReadableExpr) → IsRead exp_text (IsSum 8) exp_of text o → IsRead exp_text IsValue exp_of text o
 value_alone text none None h = λ f is e. elim is [ inr k ↦ h f k e | inl k ↦ let p = number_is f k in none p.0 p.2 (sym (ap exp_text p.1) ∙ e) ]
 value_alone text none (Some x) h = (inr h.0, h.1)
 
@@ -333,7 +331,7 @@ one_part e f (inr h) (inl k) same = let q = number_is e h in absurd (number_no_s
 one_part e f (inr h) (inr k) same =
     let p = number_is e h in let q = number_is f k in
     let n = one_number p.0 q.0 p.2 q.2 (sym (ap exp_text p.1) ∙ same ∙ ap exp_text q.1) in
-    p.1 ∙ ap (λ x. lit (long (pos x) false)) n ∙ sym q.1
+    p.1 ∙ ap (λ x. lit (long (pos x))) n ∙ sym q.1
 
 one_sum : (n m : ℕ) (e f : Exp) → IsSum n e → IsSum m f → exp_text e ≡ exp_text f → e ≡ f
 one_sum n m (lit l) f h k same = elim h [ ]
@@ -384,7 +382,7 @@ part_feedless : (e : Exp) → IsPart e → list_all is_no_feed (exp_text e) ≡ 
 part_feedless e (inl h) = let p = variable_is e h in rw p.1 (variable_feedless p.0 p.2)
 part_feedless e (inr h) = let p = number_is e h in rw p.1 (each is_digit is_no_feed feedless_digit (decimal p.0) (number_digits p.0 p.2))
 
-operator_feedless : (op : BinOp) → list_all is_no_feed (operator_text op) ≡ true
+operator_feedless : (op : ReadableOperator) → list_all is_no_feed (operator_text op) ≡ true
 operator_feedless Add = refl
 operator_feedless Sub = refl
 

@@ -1,19 +1,19 @@
 -- Each clean procedure of a project does the same as what is written for it: one induction on the number of turns, over
 -- what one line does.
-use Rattle.std.proofs.Common.{◌≡◌, ℕ, zero, suc, List, [], ◌∷◌, ◌++◌, map, Option, Some, None, refl, sym, ap, ◌∙◌, subst}
+use Rattle.std.proofs.Common.{◌≡◌, ℕ, zero, suc, true, false, List, [], ◌∷◌, ◌++◌, map, Option, Some, None, refl, sym, ap, ◌∙◌, subst}
 use Rattle.std.specs.Prelude.{slice_get, option_map}
 use Rattle.std.specs.List.{flat_map}
 use Rattle.std.proofs.lemmas.Option.{slice_get-map}
 use Rattle.std.proofs.lemmas.List.{map-append}
 use Rattle.up_base.specs.Running.{printed, Outcome, then, each_made, Frame, first_frame, on_to, Next, goes_on, leaves, line_end, Job, enters, runs, Calls, stepped, follow, line_turn, body_turn, entry, turn, go}
-use Rattle.vb_tree.specs.Tree.{Form, sub_head, dim, assign, debug_print, end_sub, Line, Member, Module, Project}
-use Rattle.vb_tree.specs.FlatLines.{Procedure, procedure_of, procedures_of_module, procedures_of}
+use Rattle.vb_tree.specs.Tree.{Exp, Form, assign, debug_print, Line, Module, Project}
+use Rattle.vb_tree.specs.FlatLines.{Procedure, procedures_of_module, procedures_of}
 use Rattle.vb_tree.specs.Run.{Value, long, text, Memory, make_local, value_of, print_line, line_does, locals_of, locals_at, machine_of}
 use Rattle.vb_tree.specs.Clean.{IsClean}
 use Rattle.net_tree.specs.Tree as net
 use Rattle.net_tree.specs.FlatLines as net_flat
 use Rattle.net_tree.specs.Run as net_run
-use Rattle.wizard_cli.specs.Written.{written_exp, written_form, written_line, written_local, written_procedure, written_member, written_module, written}
+use Rattle.wizard_cli.specs.Written.{written_exp, written_form, written_line, written_local, written_procedure, written_module, written}
 use Rattle.wizard_cli.specs.SameRun.{ValueMatch, ResultMatch, StoreMatch, MemoryMatch, FrameMatch, NextMatch, Agrees, SameRun}
 use Rattle.wizard_cli.proofs.Agreeing.{outside_agrees, then_agrees, mapped_agrees}
 use Rattle.wizard_cli.proofs.SameNames.{local_names}
@@ -41,18 +41,23 @@ module _ (m : ℕ → ℕ) where
   on_agrees : (f : Frame) (r : Outcome Memory Unit) (r' : Outcome net_run.Memory Unit) → Agrees m (λ a b. Unit {0}) r r' → Agrees m (NextMatch m) (on_to f r) (on_to (frame_moved m f) r')
   on_agrees f r r' h = then_agrees m (λ a b. Unit {0}) (NextMatch m) r r' _ _ h (λ a b s t e h. (refl, record { same_line = refl; cells = refl }, h))
 
+  -- a print of one item
+  item_agrees : (locals : List (List ℕ)) (f : Frame) (e : Exp) (s : Memory) (t : net_run.Memory) → MemoryMatch m s t → Agrees m (λ a b. Unit {0}) (then (value_of locals f.vars e s) print_line) (then (net_run.values_of locals (map m f.vars) (written_exp locals e ∷ []) t) (net_run.called net_run.print_line_path))
+  item_agrees locals f e s t h =
+      then_agrees m (λ v us. (u : net_run.Value) × (us ≡ u ∷ []) × ValueMatch v u) (λ a b. Unit {0}) (value_of locals f.vars e s) (net_run.values_of locals (map m f.vars) (written_exp locals e ∷ []) t) _ _
+      (mapped_agrees m ValueMatch (λ v us. (u : net_run.Value) × (us ≡ u ∷ []) × ValueMatch v u) (λ u. u ∷ []) (value_of locals f.vars e s) (net_run.value_of locals (map m f.vars) (written_exp locals e) t) (λ v u e. (u, refl, e)) (value_agrees m locals f.vars e s t h))
+      (λ v us s t e h. print_agrees v us s t e h)
+
   -- one line and what is written for it
   line_agrees : (locals : List (List ℕ)) (f : Frame) (l : Form) (s : Memory) (t : net_run.Memory) → MemoryMatch m s t → Agrees m (NextMatch m) (line_does locals f l s) (net_run.line_does locals (frame_moved m f) (written_form locals l) t)
-  line_agrees locals f (sub_head name) s t h = ([], refl)
-  line_agrees locals f (dim name) s t h = ([], refl)
   line_agrees locals f (assign target e) s t h =
       on_agrees f _ _ (then_agrees m ValueMatch (λ a b. Unit {0}) (value_of locals f.vars e s) (net_run.value_of locals (map m f.vars) (written_exp locals e) t) _ _ (value_agrees m locals f.vars e s t h)
       (λ v u s t e h. target_agrees m locals f.vars target v u s t e h))
-  line_agrees locals f (debug_print e) s t h =
-      on_agrees f _ _ (then_agrees m (λ v us. (u : net_run.Value) × (us ≡ u ∷ []) × ValueMatch v u) (λ a b. Unit {0}) (value_of locals f.vars e s) (net_run.values_of locals (map m f.vars) (written_exp locals e ∷ []) t) _ _
-      (mapped_agrees m ValueMatch (λ v us. (u : net_run.Value) × (us ≡ u ∷ []) × ValueMatch v u) (λ u. u ∷ []) (value_of locals f.vars e s) (net_run.value_of locals (map m f.vars) (written_exp locals e) t) (λ v u e. (u, refl, e)) (value_agrees m locals f.vars e s t h))
-      (λ v us s t e h. print_agrees v us s t e h))
-  line_agrees locals f end_sub s t h = ([], refl)
+  line_agrees locals f (debug_print (e ∷ []) false) s t h = on_agrees f _ _ (item_agrees locals f e s t h)
+  line_agrees locals f (debug_print (e ∷ []) true) s t h = outside_agrees m (NextMatch m) (net_run.line_does locals (frame_moved m f) (written_form locals (debug_print (e ∷ []) true)) t)
+  line_agrees locals f (debug_print [] ended) s t h = outside_agrees m (NextMatch m) (net_run.line_does locals (frame_moved m f) (written_form locals (debug_print [] ended)) t)
+  line_agrees locals f (debug_print (e ∷ d ∷ items) ended) s t h = outside_agrees m (NextMatch m) (net_run.line_does locals (frame_moved m f) (written_form locals (debug_print (e ∷ d ∷ items) ended)) t)
+  line_agrees locals f l s t h = outside_agrees m (NextMatch m) (net_run.line_does locals (frame_moved m f) (written_form locals l) t)
 
   -- one line and what is written for it, at frames that match
   pub line_same : (locals : List (List ℕ)) (f g : Frame) (l : Form) (s : Memory) (t : net_run.Memory) → FrameMatch m f g → MemoryMatch m s t → Agrees m (NextMatch m) (line_does locals f l s) (net_run.line_does locals g (written_form locals l) t)
@@ -71,14 +76,14 @@ step_agrees m P N R go_on go_on' s t h agree (suc n) = agree (record s { left = 
 abbrev written_lines : List (List ℕ) → List Line → List net.Line
 written_lines locals ls = map (written_line locals) ls
 
-members_written : (members : List Member) → map net_flat.procedure_in (map written_member members) ≡ map written_procedure (map procedure_of members)
+members_written : (ps : List Procedure) → map net_flat.procedure_in (map (λ p. net.proc (written_procedure p)) ps) ≡ map written_procedure ps
 members_written [] = refl
-members_written (member ∷ members) = ap (λ rest. written_procedure (procedure_of member) ∷ rest) (members_written members)
+members_written (p ∷ ps) = ap (λ rest. written_procedure p ∷ rest) (members_written ps)
 
 -- what is written for a project has the procedures of the project in order
 procedures_written : (modules : List Module) → flat_map net_flat.procedures_of_module (map written_module modules) ≡ map written_procedure (flat_map procedures_of_module modules)
 procedures_written [] = refl
-procedures_written (m ∷ modules) = simp map-append (cc (members_written m.members, procedures_written modules))
+procedures_written (m ∷ modules) = simp map-append (cc (members_written (procedures_of_module m), procedures_written modules))
 
 body_of_written : (o : Option Procedure) → option_map (λ p. p.lines) (option_map written_procedure o) ≡ option_map (written_lines (locals_of o)) (option_map (λ p. p.lines) o)
 body_of_written None = refl

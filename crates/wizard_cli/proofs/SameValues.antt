@@ -1,5 +1,5 @@
 -- Reads, writes and expressions do the same in both meanings.
-use Rattle.std.proofs.Common.{◌≡◌, ℕ, suc, ◌+◌, ℤ, pos, Bool, true, false, cond, List, [], ◌∷◌, map, Option, Some, None, refl, sym, ap, ◌∙◌, subst, ⊎_elim, arith}
+use Rattle.std.proofs.Common.{◌≡◌, ℕ, suc, ◌+◌, ℤ, pos, ◌+ℤ◌, ◌-ℤ◌, Bool, true, false, cond, List, [], ◌∷◌, map, Option, Some, None, refl, sym, ap, ◌∙◌, subst, ⊎_elim, arith}
 use Rattle.std.specs.Prelude.{nat_eq, option_map}
 use Rattle.std.proofs.lemmas.Bool.{eq-eqb}
 use Rattle.std.proofs.lemmas.Bool.Decides.{eqb_tells}
@@ -7,9 +7,10 @@ use Rattle.up_base.specs.Names.{is_same_name}
 use Rattle.up_base.specs.Running.{gives, raises, then, fits, updated, place_of, at_place, each_made}
 use Rattle.vb_tree.specs.declared.expression.BinOp.{BinOp}
 use Rattle.vb_tree.specs.declared.expression.BinOp.TheVariants.{Add, Sub}
-use Rattle.vb_tree.specs.Tree as vb
+use Rattle.vb_tree.specs.declared.token.Literal6.{Literal6}
+use Rattle.vb_tree.specs.declared.token.Literal6.TheVariants.{Long, Str}
 use Rattle.vb_tree.specs.Tree.{Exp, lit, word, binary}
-use Rattle.vb_tree.specs.Run.{Value, long, text, Held, blank, single, Memory, Does, make_local, held_value, read_place, put, write_place, checked, operate, operated, literal_value, value_of, write_target}
+use Rattle.vb_tree.specs.Run.{Value, long, text, Held, blank, single, Memory, Does, make_local, held_value, read_place, put, write_place, checked, operate, operated, literal_does, value_of, write_target}
 use Rattle.net_tree.specs.Run as net_run
 use Rattle.wizard_cli.specs.Written.{written_literal, written_operator, spelling, written_exp, written_local}
 use Rattle.wizard_cli.specs.SameRun.{ValueMatch, HeldMatch, StoreMatch, MemoryMatch, Agrees}
@@ -113,37 +114,37 @@ module _ (m : ℕ → ℕ) where
   checked_agrees z s t h =
       by_test (fits z) (λ b. Agrees m ValueMatch (cond b (gives [] (long z) s) (raises [] 6 s)) (cond b (gives [] (net_run.integer z) t) (raises [] 6 t))) (λ y. (refl, refl, h)) (λ n. (refl, refl, h))
 
-  operator_same : (op : BinOp) (x y : ℤ) → net_run.operate (written_operator op) x y ≡ operate op x y
-  operator_same Add x y = refl
-  operator_same Sub x y = refl
-
-  numbers_agree : (op : BinOp) (x y x' y' : ℤ) (s : Memory) (t : net_run.Memory) → x' ≡ x → y' ≡ y → MemoryMatch m s t → Agrees m ValueMatch (checked (operate op x y) s) (net_run.checked (net_run.operate (written_operator op) x' y') t)
-  numbers_agree op x y x' y' s t e f h =
-      subst (λ z. Agrees m ValueMatch (checked (operate op x y) s) (net_run.checked z t)) (sym (ap (λ a. net_run.operate (written_operator op) a y') e ∙ ap (net_run.operate (written_operator op) x) f ∙ operator_same op x y))
-      (checked_agrees (operate op x y) s t h)
+  -- a sum or a difference of two numbers
+  numbers_agree : (op : BinOp) (x y : ℤ) (s : Memory) (t : net_run.Memory) → MemoryMatch m s t → Agrees m ValueMatch (operate op x y s) (net_run.operated (written_operator op) (net_run.integer x) (net_run.integer y) t)
+  numbers_agree Add x y s t h = checked_agrees (x +ℤ y) s t h
+  numbers_agree Sub x y s t h = checked_agrees (x -ℤ y) s t h
+  numbers_agree op x y s t h = outside_agrees m ValueMatch (net_run.operated (written_operator op) (net_run.integer x) (net_run.integer y) t)
 
   operated_agrees : (op : BinOp) (x y : Value) (x' y' : net_run.Value) (s : Memory) (t : net_run.Memory) → ValueMatch x x' → ValueMatch y y' → MemoryMatch m s t → Agrees m ValueMatch (operated op x y s) (net_run.operated (written_operator op) x' y' t)
   operated_agrees op (text units) y x' y' s t e f h = outside_agrees m ValueMatch (net_run.operated (written_operator op) x' y' t)
   operated_agrees op (long x) (text units) x' y' s t e f h = outside_agrees m ValueMatch (net_run.operated (written_operator op) x' y' t)
   operated_agrees op (long x) (long y) (net_run.text units) y' s t e f h = absurd e
   operated_agrees op (long x) (long y) (net_run.integer x') (net_run.text units) s t e f h = absurd f
-  operated_agrees op (long x) (long y) (net_run.integer x') (net_run.integer y') s t e f h = numbers_agree op x y x' y' s t e f h
+  operated_agrees op (long x) (long y) (net_run.integer x') (net_run.integer y') s t e f h =
+      subst (λ u. Agrees m ValueMatch (operate op x y s) (net_run.operated (written_operator op) u (net_run.integer y') t)) (ap net_run.integer (sym e))
+      (subst (λ u. Agrees m ValueMatch (operate op x y s) (net_run.operated (written_operator op) (net_run.integer x) u t)) (ap net_run.integer (sym f)) (numbers_agree op x y s t h))
 
-  literal_agrees : (l : vb.Literal) (s : Memory) (t : net_run.Memory) → MemoryMatch m s t → Agrees m ValueMatch (gives [] (literal_value l) s) (gives [] (net_run.literal_value (written_literal l)) t)
-  literal_agrees (vb.long z hexadecimal) s t h = (refl, refl, h)
-  literal_agrees (vb.str units) s t h = (refl, refl, h)
+  literal_agrees : (l : Literal6) (s : Memory) (t : net_run.Memory) → MemoryMatch m s t → Agrees m ValueMatch (literal_does l s) (gives [] (net_run.literal_value (written_literal l)) t)
+  literal_agrees (Long z hexadecimal) s t h = (refl, refl, h)
+  literal_agrees (Str units) s t h = (refl, refl, h)
+  literal_agrees l s t h = outside_agrees m ValueMatch (gives [] (net_run.literal_value (written_literal l)) t)
 
   -- one expression and what is written for it
   pub value_agrees : (locals : List (List ℕ)) (places : List ℕ) (e : Exp) (s : Memory) (t : net_run.Memory) → MemoryMatch m s t → Agrees m ValueMatch (value_of locals places e s) (net_run.value_of locals (map m places) (written_exp locals e) t)
   value_agrees locals places (lit l) s t h = literal_agrees l s t h
-  value_agrees locals places (word name) s t h = name_agrees ValueMatch locals places name read_place net_run.read_cell s t (λ p. read_agrees p s t h)
+  value_agrees locals places (word name suffix) s t h = name_agrees ValueMatch locals places name read_place net_run.read_cell s t (λ p. read_agrees p s t h)
   value_agrees locals places (binary op a b) s t h =
       then_agrees m ValueMatch ValueMatch (value_of locals places a s) (net_run.value_of locals (map m places) (written_exp locals a) t) _ _ (value_agrees locals places a s t h) (λ x x' s t e h.
       then_agrees m ValueMatch ValueMatch (value_of locals places b s) (net_run.value_of locals (map m places) (written_exp locals b) t) _ _ (value_agrees locals places b s t h) (λ y y' s t f h.
       operated_agrees op x y x' y' s t e f h))
+  value_agrees locals places e s t h = outside_agrees m ValueMatch (net_run.value_of locals (map m places) (written_exp locals e) t)
 
   -- a target takes values that match
   pub target_agrees : (locals : List (List ℕ)) (places : List ℕ) (target : Exp) (v : Value) (u : net_run.Value) (s : Memory) (t : net_run.Memory) → ValueMatch v u → MemoryMatch m s t → Agrees m (λ a b. Unit {0}) (write_target locals places target v s) (net_run.write_target locals (map m places) (written_exp locals target) u t)
-  target_agrees locals places (lit l) v u s t e h = ([], refl)
-  target_agrees locals places (word name) v u s t e h = name_agrees (λ a b. Unit {0}) locals places name (write_place v) (net_run.write_cell u) s t (λ p. write_agrees p v u s t e h)
-  target_agrees locals places (binary op a b) v u s t e h = ([], refl)
+  target_agrees locals places (word name suffix) v u s t e h = name_agrees (λ a b. Unit {0}) locals places name (write_place v) (net_run.write_cell u) s t (λ p. write_agrees p v u s t e h)
+  target_agrees locals places target v u s t e h = outside_agrees {A = Unit {0}} m (λ a b. Unit {0}) (net_run.write_target locals (map m places) (written_exp locals target) u t)

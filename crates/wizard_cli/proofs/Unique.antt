@@ -7,7 +7,8 @@ use Rattle.up_base.specs.Outside.{Files}
 use Rattle.up_base.specs.declared.place.Fault.{Fault}
 use Rattle.vb_tree.specs.declared.project.Entry.{Entry}
 use Rattle.vb_tree.specs.declared.project.ProjectFile.{ProjectFile}
-use Rattle.vb_tree.specs.Tree.{Form, Module, Project}
+use Rattle.vb_tree.specs.Tree.{Module, Project}
+use Rattle.wizard_cli.specs.Readable.{Form}
 use Rattle.wizard_cli.specs.Lines.{Holds, FormLines, no_lines, blank_line, form_line, lines_of}
 use Rattle.wizard_cli.specs.Reading.{IsPlain}
 use Rattle.wizard_cli.specs.ProjectForm.{setting_text, IsSetting, is_type, startup_at, entry_at, HeldProjectFile}
@@ -67,7 +68,8 @@ same_project_file text a b p q =
     let startup : a.startup ≡ b.startup = p.startup.2 ∙ ap Some start ∙ sym q.startup.2 in
     let entries : a.entries ≡ b.entries = p.entry.2 ∙ sym p.entry.1 ∙ ap (filter_map entry_at) settings ∙ q.entry.1 ∙ sym q.entry.2 in
     let kind : a.kind ≡ b.kind = p.kind ∙ sym q.kind in
-    λ i. record { kind = kind i; startup = startup i; entries = entries i }
+    let dropped : a.dropped ≡ b.dropped = p.dropped ∙ sym q.dropped in
+    λ i. record { kind = kind i; startup = startup i; entries = entries i; dropped = dropped i }
 
 apart_of_once : (n : ℕ) → n ≡ 1 → n ≤ 1
 apart_of_once n e = omega (arith, e)

@@ -16,13 +16,13 @@ use Rattle.wizard_cli.specs.Answers.{status_of}
 use Rattle.wizard_cli.specs.Runs.{Told, IsAnswer, PutAnswer}
 use Rattle.wizard_cli.specs.Headline.{moved, in_folder, report_file, put_order, PutAll, HoldsAll, IsTranslation, IsUpgraded}
 use Rattle.wizard_cli.proofs.SameRuns.{same_run_written}
-use Rattle.wizard_cli.proofs.Forms.{is_nested_project, module_is_named, is_writable}
+use Rattle.wizard_cli.proofs.Forms.{module_is_named, is_writable}
 use Rattle.wizard_cli.proofs.Corresponding.{correspond_written}
 
 -- what is written for a held project is a translation of it
 pub translates : (files : Files) (name : List ℕ) (P : Project) → HeldProject files name P → IsOfForm P → IsTranslation files name (written P)
 translates files name P held form =
-    record { project = P; held = held; correspond = correspond_written P (is_nested_project P form); same_runs = same_run_written P }
+    record { project = P; held = held; correspond = correspond_written P form; same_runs = same_run_written P }
 
 abbrev NotAmong : List ℕ → List (List ℕ × List ℕ) → Type 0
 NotAmong name [] = Unit {0}

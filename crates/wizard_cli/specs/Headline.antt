@@ -1,7 +1,8 @@
 -- What is written for a project.
 use Rattle.std.specs.Prelude.{◌≡◌, ◌-◌, ℕ, List, [], ◌∷◌, ◌++◌, map, insert, take, length, codes, All, Some, None, slice_get}
 use Rattle.up_base.specs.Outside.{Files, ChangesOnly, LeavesPrefix}
-use Rattle.vb_tree.specs.Tree.{str, Exp, lit, Form, sub_head, dim, assign, debug_print, end_sub, Module, Project}
+use Rattle.vb_tree.specs.declared.token.Literal6.TheVariants.{Str}
+use Rattle.vb_tree.specs.Tree.{Exp, lit, Form, assign, debug_print, Module, Project}
 use Rattle.vb_tree.specs.FlatLines.{Procedure, procedures_of_module, name_of}
 use Rattle.vb_tree.specs.Clean.{IsClean}
 use Rattle.net_tree.specs.declared.expression.NetType.TheVariants.{Integer}
@@ -24,16 +25,14 @@ Pairs R (x ∷ xs) (y ∷ ys) = R x y × Pairs R xs ys
 
 -- the written variant of a printed expression: a text is the same text
 abbrev pub PrintWritten : Exp → net.Exp → Type 0
-PrintWritten (lit (str units)) x = x ≡ net.lit (net.str units)
+PrintWritten (lit (Str units)) x = x ≡ net.lit (net.str units)
 PrintWritten _ x = Unit {0}
 
--- the written variant of a code line's form
+-- the written variant of a code line's form; so far there are assignments and prints of one item
 abbrev pub FormWritten : Form → net.Line → Type 0
-FormWritten (sub_head name) k = ⊥
-FormWritten (dim name) k = ⊥
 FormWritten (assign target value) k = (t x : net.Exp) × (k ≡ net.assign t x)
-FormWritten (debug_print e) k = (x : net.Exp) × (k ≡ net.call print_line_path (x ∷ [])) × PrintWritten e x
-FormWritten end_sub k = ⊥
+FormWritten (debug_print (e ∷ []) ended) k = (x : net.Exp) × (k ≡ net.call print_line_path (x ∷ [])) × PrintWritten e x
+FormWritten _ k = ⊥
 
 -- the line has the written variant, and in it each variable occurs as often
 pub record LineWritten (l : Form) (k : net.Line) : Type 0 where

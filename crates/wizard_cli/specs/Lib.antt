@@ -1,7 +1,7 @@
 pub mod Lines
 pub mod ProjectForm
+pub mod Readable
 pub mod ModuleForm
-pub mod Bodies
 pub mod Written
 pub mod Occurrences
 pub mod SameRun

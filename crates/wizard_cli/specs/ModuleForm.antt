@@ -3,23 +3,23 @@ use Rattle.std.specs.Prelude.{◌≡◌, ◌⊎◌, ℕ, zero, suc, ◌^◌, ◌
 use Rattle.std.specs.List.{list_all, list_any}
 use Rattle.std.specs.Fmt.{decimal}
 use Rattle.up_base.specs.Names.{is_same_name}
-use Rattle.vb_tree.specs.declared.expression.BinOp.{BinOp}
-use Rattle.vb_tree.specs.declared.expression.BinOp.TheVariants.{Add, Sub}
 use Rattle.vb_tree.specs.declared.project.Entry.{Entry}
-use Rattle.vb_tree.specs.Tree.{long, str, Exp, lit, word, binary, Form, sub_head, dim, assign, debug_print, end_sub, Line, Member, proc, Module}
+use Rattle.vb_tree.specs.Tree as vb
+use Rattle.vb_tree.specs.Tree.{Line, Node, line, block, Nodes, no_nodes, next_node, Member, proc, Module, Project}
 use Rattle.vb_tree.specs.FlatLines.{flat_lines, module_lines, name_of}
-use Rattle.vb_tree.specs.ModuleTree.{IsNested}
-pub use Rattle.vb_tree.specs.ModuleTree.{opens, closes, is_inner, IsNested}
+use Rattle.wizard_cli.specs.declared.reader.readable.ReadableOperator.{ReadableOperator}
+use Rattle.wizard_cli.specs.declared.reader.readable.ReadableOperator.TheVariants.{Add, Sub}
+use Rattle.wizard_cli.specs.Readable.{long, str, Exp, lit, word, binary, Form, sub_head, dim, assign, debug_print, end_sub, whole_form}
 use Rattle.wizard_cli.specs.Lines.{lines_of, FormLines, is_text_unit}
 use Rattle.wizard_cli.specs.ProjectForm.{is_digit}
 
-abbrev pub operator_text : BinOp → List ℕ
+abbrev pub operator_text : ReadableOperator → List ℕ
 operator_text Add = codes " + "
 operator_text Sub = codes " - "
 
 abbrev pub exp_text : Exp → List ℕ
-exp_text (lit (long (pos n) hexadecimal)) = decimal n
-exp_text (lit (long (negsuc n) hexadecimal)) = []
+exp_text (lit (long (pos n))) = decimal n
+exp_text (lit (long (negsuc n))) = []
 exp_text (lit (str units)) = codes "\"" ++ units ++ codes "\""
 exp_text (word name) = name
 exp_text (binary op a b) = exp_text a ++ operator_text op ++ exp_text b
@@ -45,9 +45,8 @@ is_sub_name name = is_same_name name (codes "Main") || is_variable name
 
 -- a whole number to 2147483647, in decimal
 abbrev pub IsNumber : Exp → Type 0
-IsNumber (lit (long (pos n) true)) = ⊥
-IsNumber (lit (long (pos n) false)) = n < 2 ^ 31
-IsNumber (lit (long (negsuc n) hexadecimal)) = ⊥
+IsNumber (lit (long (pos n))) = n < 2 ^ 31
+IsNumber (lit (long (negsuc n))) = ⊥
 IsNumber (lit (str units)) = ⊥
 IsNumber (word name) = ⊥
 IsNumber (binary op a b) = ⊥
@@ -70,7 +69,7 @@ IsValue e = IsNumber e ⊎ IsSum 8 e
 
 -- a text free of quotes
 abbrev pub IsText : Exp → Type 0
-IsText (lit (long z hexadecimal)) = ⊥
+IsText (lit (long z)) = ⊥
 IsText (lit (str units)) = list_all is_text_unit units ≡ true
 IsText (word name) = ⊥
 IsText (binary op a b) = ⊥
@@ -82,34 +81,30 @@ IsForm (assign target value) = IsVariable target × IsValue value
 IsForm (debug_print e) = IsText e
 IsForm end_sub = Unit {0}
 
--- the code line of a form at a line of a file
+-- the code line of a form at a line of a file; its text is what spells it
 abbrev pub code_line : ℕ → ℕ × Form → Line
-code_line file (n, form) = record { place = record { file = file; line = n }; form = form }
+code_line file (n, form) = record { place = record { file = file; line = n }; text = form_text form; form = whole_form form }
 
 -- whether a name is among these, compared without case
 abbrev pub is_among : List ℕ → List (List ℕ) → Bool
 is_among name names = list_any (is_same_name name) names
 
 -- the names of variables in an expression
-abbrev pub variables_in : Exp → List (List ℕ)
-variables_in (lit l) = []
-variables_in (word name) = name ∷ []
-variables_in (binary op a b) = variables_in a ++ variables_in b
+abbrev pub variables_in : vb.Exp → List (List ℕ)
+variables_in (vb.word name suffix) = name ∷ []
+variables_in (vb.binary op a b) = variables_in a ++ variables_in b
+variables_in _ = []
 
-abbrev pub declared_after : List (List ℕ) → Form → List (List ℕ)
-declared_after names (sub_head name) = names
-declared_after names (dim name) = name ∷ names
-declared_after names (assign target value) = names
-declared_after names (debug_print e) = names
-declared_after names end_sub = names
+abbrev pub declared_after : List (List ℕ) → vb.Form → List (List ℕ)
+declared_after names (vb.variables w (d ∷ [])) = d.name ∷ names
+declared_after names _ = names
 
--- whether, where these names are declared, a line declares a new one or uses declared ones alone
-abbrev pub keeps_declared : List (List ℕ) → Form → Bool
-keeps_declared names (sub_head name) = true
-keeps_declared names (dim name) = not (is_among name names)
-keeps_declared names (assign target value) = list_all (λ name. is_among name names) (variables_in target ++ variables_in value)
-keeps_declared names (debug_print e) = list_all (λ name. is_among name names) (variables_in e)
-keeps_declared names end_sub = true
+-- whether, where these names are declared, a line of a Sub declares a new one or uses declared ones alone
+abbrev pub keeps_declared : List (List ℕ) → vb.Form → Bool
+keeps_declared names (vb.variables w (d ∷ [])) = not (is_among d.name names)
+keeps_declared names (vb.assign target value) = list_all (λ name. is_among name names) (variables_in target ++ variables_in value)
+keeps_declared names (vb.debug_print (e ∷ []) ended) = list_all (λ name. is_among name names) (variables_in e)
+keeps_declared names _ = false
 
 -- whether each variable is declared once, and in an earlier line than its uses; these names are declared before the lines
 abbrev pub are_declared : List (List ℕ) → List Line → Bool
@@ -118,14 +113,46 @@ are_declared names (l ∷ lines) = keeps_declared names l.form && are_declared (
 
 abbrev pub is_declared_member : Member → Bool
 is_declared_member (proc head body close) = are_declared [] (flat_lines body)
+is_declared_member _ = false
 
 abbrev pub member_name : Member → List ℕ
 member_name (proc head body close) = name_of head.form
+member_name _ = []
 
 -- whether no name comes twice
 abbrev pub are_apart : List (List ℕ) → Bool
 are_apart [] = true
 are_apart (name ∷ names) = not (is_among name names) && are_apart names
+
+-- the head of a Sub
+abbrev pub opens : vb.Form → Bool
+opens (vb.sub_head s) = true
+opens _ = false
+
+-- the closing line of a Sub
+abbrev pub closes : vb.Form → Bool
+closes vb.end_sub = true
+closes _ = false
+
+-- neither a head nor a closing line
+abbrev pub is_inner : Line → Bool
+is_inner l = not (opens l.form) && not (closes l.form)
+
+-- whether no block stands in a body
+abbrev pub has_no_block : Nodes → Bool
+has_no_block no_nodes = true
+has_no_block (next_node (line l) more) = has_no_block more
+has_no_block (next_node (block _ _ _ _) more) = false
+
+-- a Sub: its head, lines that are neither heads nor closing lines, and its closing line
+abbrev pub IsSub : Member → Type 0
+IsSub (proc head body close) =
+    (opens head.form ≡ true) × (list_all is_inner (flat_lines body) ≡ true) × (closes close.form ≡ true) × (has_no_block body ≡ true)
+IsSub _ = ⊥
+
+-- each member of each module is a Sub
+abbrev pub AreSubs : Project → Type 0
+AreSubs P = All (λ m. All IsSub m.members) P.modules
 
 -- The text is a module of the file of this number that is this: Subs with different names, one of them Main, whose lines
 -- in order are its lines.
@@ -133,10 +160,11 @@ pub record HeldModule (entry : Entry) (number : ℕ) (text : List ℕ) (m : Modu
   pub forms : List (ℕ × Form)
   pub lines : FormLines form_text IsForm 1 (lines_of text) forms
   pub in_order : module_lines m ≡ map (code_line number) forms
-  pub nested : All IsNested m.members
+  pub subs : All IsSub m.members
   pub declared : list_all is_declared_member m.members ≡ true
   pub apart : are_apart (map member_name m.members) ≡ true
   pub main : is_among (codes "Main") (map member_name m.members) ≡ true
   pub file : m.file ≡ number
   pub name : m.name ≡ entry.name
   pub class : m.class ≡ false
+  pub comments : m.comments ≡ []

@@ -1,7 +1,7 @@
 -- What the lines of a module come to, read from the first on.
 use Rattle.std.specs.Prelude.{◌≡◌, ℕ, true, cond, Option, Some, None, List, [], ◌∷◌, codes}
-use Rattle.vb_tree.specs.Tree.{Form, sub_head, dim, assign, debug_print, end_sub, Line}
-use Rattle.wizard_cli.specs.ModuleForm.{is_among, keeps_declared}
+use Rattle.vb_tree.specs.Tree.{Form, sub_head, end_sub, Line}
+use Rattle.wizard_cli.specs.ModuleForm.{is_among, keeps_declared, declared_after}
 
 -- What lines of a module come to: the names of its Subs, and inside of a Sub the variables that it declares; in both the
 -- last name comes first.
@@ -11,19 +11,14 @@ pub record Scan : Type 0 where
 
 -- where one more line leads inside of a Sub
 abbrev pub step_inside : List (List ℕ) → List (List ℕ) → Form → Option Scan
-step_inside subs variables (sub_head name) = None
-step_inside subs variables (dim name) = cond (keeps_declared variables (dim name)) (Some (record { subs = subs; variables = Some (name ∷ variables) })) None
-step_inside subs variables (assign target value) = cond (keeps_declared variables (assign target value)) (Some (record { subs = subs; variables = Some variables })) None
-step_inside subs variables (debug_print e) = cond (keeps_declared variables (debug_print e)) (Some (record { subs = subs; variables = Some variables })) None
+step_inside subs variables (sub_head s) = None
 step_inside subs variables end_sub = Some (record { subs = subs; variables = None })
+step_inside subs variables f = cond (keeps_declared variables f) (Some (record { subs = subs; variables = Some (declared_after variables f) })) None
 
 -- where one more line leads outside of Subs
 abbrev pub step_outside : List (List ℕ) → Form → Option Scan
-step_outside subs (sub_head name) = cond (is_among name subs) None (Some (record { subs = name ∷ subs; variables = Some [] }))
-step_outside subs (dim name) = None
-step_outside subs (assign target value) = None
-step_outside subs (debug_print e) = None
-step_outside subs end_sub = None
+step_outside subs (sub_head s) = cond (is_among s.name subs) None (Some (record { subs = s.name ∷ subs; variables = Some [] }))
+step_outside subs _ = None
 
 abbrev pub step_from : List (List ℕ) → Option (List (List ℕ)) → Form → Option Scan
 step_from subs None f = step_outside subs f

@@ -2,7 +2,8 @@
 use Rattle.std.specs.Prelude.{◌≡◌, ◌⊎◌, ℕ, ◌+◌, ◌≤◌, true, false, Some, None, List, ◌∷◌, ◌++◌, length, map, codes, count_by}
 use Rattle.std.specs.List.{filter_map, list_all}
 use Rattle.vb_tree.specs.declared.project.ProjectFile.{ProjectFile}
-use Rattle.vb_tree.specs.Tree.{Form, Line}
+use Rattle.vb_tree.specs.Tree.{Line}
+use Rattle.wizard_cli.specs.Readable.{Form}
 use Rattle.wizard_cli.specs.Lines.{lines_of, FormLines}
 use Rattle.wizard_cli.specs.ModuleForm.{IsForm, form_text, code_line, opens, is_inner, is_among}
 use Rattle.wizard_cli.specs.ModuleScan.{Scan, scan, first_scan}

@@ -1,7 +1,7 @@
 -- How often a variable stands in a line of a body, and in a written line. Names are compared without case.
 use Rattle.std.specs.Prelude.{ℕ, ◌+◌, cond, List, [], ◌∷◌}
 use Rattle.up_base.specs.Names.{is_same_name}
-use Rattle.vb_tree.specs.Tree.{Exp, lit, word, binary, Form, sub_head, dim, assign, debug_print, end_sub}
+use Rattle.vb_tree.specs.Tree.{Exp, word, binary, Form, assign, debug_print}
 use Rattle.net_tree.specs.Tree as net
 
 -- 1 where two names are one, else 0
@@ -9,17 +9,15 @@ abbrev pub once : List ℕ → List ℕ → ℕ
 once other name = cond (is_same_name other name) 1 0
 
 abbrev pub occurs : List ℕ → Exp → ℕ
-occurs name (lit l) = 0
-occurs name (word other) = once other name
+occurs name (word other suffix) = once other name
 occurs name (binary op a b) = occurs name a + occurs name b
+occurs name _ = 0
 
--- a declaration of a variable is no use of it
+-- so far variables stand in assignments and in prints of one item alone
 abbrev pub line_occurs : List ℕ → Form → ℕ
-line_occurs name (sub_head other) = 0
-line_occurs name (dim other) = 0
 line_occurs name (assign target value) = occurs name target + occurs name value
-line_occurs name (debug_print e) = occurs name e
-line_occurs name end_sub = 0
+line_occurs name (debug_print (e ∷ []) ended) = occurs name e
+line_occurs name _ = 0
 
 -- a path of one name stands for a variable, and no other
 abbrev pub path_occurs : List ℕ → List (List ℕ) → ℕ

@@ -69,4 +69,5 @@ pub record HeldProjectFile (text : List ℕ) (file : ProjectFile) : Type 0 where
   pub names : count_by is_project_name settings ≤ 1
   pub kind : file.kind ≡ Exe
   pub startup : (start : ℕ × List ℕ) × (filter_map startup_at settings ≡ start ∷ []) × (file.startup ≡ Some start)
+  pub dropped : file.dropped ≡ []
   pub entry : (entry : Entry) × (filter_map entry_at settings ≡ entry ∷ []) × (file.entries ≡ entry ∷ [])

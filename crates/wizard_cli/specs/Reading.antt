@@ -7,11 +7,12 @@ use Rattle.up_base.specs.declared.place.Place.{Place}
 use Rattle.up_base.specs.declared.place.Fault.{Fault}
 use Rattle.up_base.specs.declared.place.ReadFail.{ReadFail}
 use Rattle.up_base.specs.declared.place.ReadFail.TheVariants as fail
-use Rattle.vb_tree.specs.Tree.{Exp, Form, sub_head, dim, assign, debug_print, end_sub, Line}
-use Rattle.vb_tree.specs.View.{form_of, line_of, node_of, member_of}
+use Rattle.vb_tree.specs.Tree.{Line}
+use Rattle.wizard_cli.specs.Readable.{Exp, Form, sub_head, dim, assign, debug_print, end_sub}
+use Rattle.vb_tree.specs.View.{form_of, line_of, nodes_of, member_of}
 use Rattle.vb_tree.specs.FlatLines.{flat_lines, member_lines}
 use Rattle.wizard_cli.specs.Lines.{lines_of, Holds, FormLines}
-use Rattle.wizard_cli.specs.ModuleForm.{IsForm, form_text, IsVariable, IsNumber, IsValue, code_line, opens, is_inner, IsNested}
+use Rattle.wizard_cli.specs.ModuleForm.{IsForm, form_text, IsVariable, IsNumber, IsValue, code_line, opens, is_inner, has_no_block, IsSub}
 use Rattle.wizard_cli.specs.ProjectForm.{Setting, IsSetting, setting_text, type_exe, startup_main, project_name, module_entry, is_type, is_project_name, startup_at, entry_at}
 use Rattle.wizard_cli.specs.ModuleScan.{Scan, step, scan, first_scan}
 use Rattle.wizard_cli.specs.NotBuilt.{FirstBadLine, AreApart, AreInPlace}
@@ -88,7 +89,7 @@ scan_of stage = record { subs = stage.subs; variables = variables_of stage.insid
 
 abbrev pub inside_lines : Option OpenSub → List Line
 inside_lines None = []
-inside_lines (Some sub) = line_of sub.head ∷ flat_lines (map node_of sub.body.items)
+inside_lines (Some sub) = line_of sub.head ∷ flat_lines (nodes_of sub.body.items)
 
 -- the lines of a module so far
 abbrev pub stage_lines : Stage → List Line
@@ -96,11 +97,12 @@ stage_lines stage = flat_map member_lines (map member_of stage.members) ++ insid
 
 abbrev pub IsInside : Option OpenSub → Type 0
 IsInside None = Unit {0}
-IsInside (Some sub) = (opens (form_of sub.head.form) ≡ true) × (list_all is_inner (flat_lines (map node_of sub.body.items)) ≡ true)
+IsInside (Some sub) =
+    (opens (form_of sub.head.form.value) ≡ true) × (list_all is_inner (flat_lines (nodes_of sub.body.items)) ≡ true) × (has_no_block (nodes_of sub.body.items) ≡ true)
 
--- the lines so far are nested as those of a module are
+-- the lines so far are Subs as those of a module are
 pub record IsStage (stage : Stage) : Type 0 where
-  pub members : All IsNested (map member_of stage.members)
+  pub members : All IsSub (map member_of stage.members)
   pub inside : IsInside stage.inside
 
 -- a code line leads from one stage to another

@@ -1,11 +1,13 @@
 -- The .NET project that is written for a project, as a function of trees.
-use Rattle.std.specs.Prelude.{ℕ, Bool, true, false, cond, List, [], ◌∷◌, map, filter, codes, Option, Some, None}
+use Rattle.std.specs.Prelude.{ℕ, pos, Bool, true, false, cond, List, [], ◌∷◌, map, filter, codes, Option, Some, None}
 use Rattle.std.specs.List.{list_any}
 use Rattle.up_base.specs.Names.{is_same_name}
 use Rattle.vb_tree.specs.declared.expression.BinOp.{BinOp}
 use Rattle.vb_tree.specs.declared.expression.BinOp.TheVariants as op
-use Rattle.vb_tree.specs.Tree.{Literal, long, str, Exp, lit, word, binary, Form, sub_head, dim, assign, debug_print, end_sub, Line, Member, Module, Project}
-use Rattle.vb_tree.specs.FlatLines.{Procedure, procedure_of, procedures_of_module, name_of}
+use Rattle.vb_tree.specs.declared.token.Literal6.{Literal6}
+use Rattle.vb_tree.specs.declared.token.Literal6.TheVariants as literal
+use Rattle.vb_tree.specs.Tree.{Exp, lit, word, binary, Form, sub_head, assign, debug_print, Line, Module, Project}
+use Rattle.vb_tree.specs.FlatLines.{Procedure, procedures_of_module, name_of}
 use Rattle.net_tree.specs.declared.expression.NetBin.{NetBin}
 use Rattle.net_tree.specs.declared.expression.NetBin.TheVariants as net_op
 use Rattle.net_tree.specs.declared.expression.NetType.TheVariants.{Integer, Str}
@@ -13,13 +15,17 @@ use Rattle.net_tree.specs.declared.project.NetClose.TheVariants.{EndSub}
 use Rattle.net_tree.specs.Tree as net
 use Rattle.net_tree.specs.Run.{print_line_path}
 
-abbrev pub written_literal : Literal → net.Literal
-written_literal (long z hexadecimal) = net.integer z hexadecimal
-written_literal (str units) = net.str units
+-- What can't be read yet has nothing that is written for it: below, the number 0, a sum or the empty call stands there, so
+-- that each project has one that is written for it.
+abbrev pub written_literal : Literal6 → net.Literal
+written_literal (literal.Long z hexadecimal) = net.integer z hexadecimal
+written_literal (literal.Str units) = net.str units
+written_literal _ = net.integer (pos 0) false
 
 abbrev pub written_operator : BinOp → NetBin
 written_operator op.Add = net_op.Add
 written_operator op.Sub = net_op.Sub
+written_operator _ = net_op.Add
 
 -- a name as it is spelt where it is declared, for the names of the locals in declared order
 abbrev pub spelling : List (List ℕ) → List ℕ → List ℕ
@@ -29,17 +35,15 @@ spelling (local ∷ locals) name = cond (is_same_name local name) local (spellin
 -- what is written for an expression, for the names of the locals
 abbrev pub written_exp : List (List ℕ) → Exp → net.Exp
 written_exp locals (lit l) = net.lit (written_literal l)
-written_exp locals (word name) = net.path (spelling locals name ∷ [])
+written_exp locals (word name suffix) = net.path (spelling locals name ∷ [])
 written_exp locals (binary operator a b) = net.binary (written_operator operator) (written_exp locals a) (written_exp locals b)
+written_exp locals _ = net.lit (net.integer (pos 0) false)
 
--- The line that is written for a code line of a body. Heads, declarations and closing lines are none: nothing that can be
--- written stands for them.
+-- the line that is written for a code line of a body
 abbrev pub written_form : List (List ℕ) → Form → net.Line
-written_form locals (sub_head name) = net.call [] []
-written_form locals (dim name) = net.call [] []
 written_form locals (assign target value) = net.assign (written_exp locals target) (written_exp locals value)
-written_form locals (debug_print e) = net.call print_line_path (written_exp locals e ∷ [])
-written_form locals end_sub = net.call [] []
+written_form locals (debug_print (e ∷ []) ended) = net.call print_line_path (written_exp locals e ∷ [])
+written_form locals _ = net.call [] []
 
 abbrev pub written_line : List (List ℕ) → Line → net.Line
 written_line locals l = written_form locals l.form
@@ -56,11 +60,8 @@ written_procedure p = record {
   close = EndSub;
 }
 
-abbrev pub written_member : Member → net.Member
-written_member m = net.proc (written_procedure (procedure_of m))
-
 abbrev pub written_module : Module → net.Module
-written_module m = record { name = m.name; members = map written_member m.members }
+written_module m = record { name = m.name; members = map (λ p. net.proc (written_procedure p)) (procedures_of_module m) }
 
 -- the text of the support function PrintLine
 abbrev pub print_line_text : net.Procedure
@@ -73,11 +74,8 @@ print_line_text = record {
 
 -- whether a line uses PrintLine
 abbrev pub prints : Form → Bool
-prints (sub_head name) = false
-prints (dim name) = false
-prints (assign target value) = false
-prints (debug_print e) = true
-prints end_sub = false
+prints (debug_print items ended) = true
+prints _ = false
 
 -- the module of the support functions that are used
 abbrev pub support_module : Bool → net.Module
@@ -93,9 +91,13 @@ module_uses_print_line m = list_any uses_print_line_in (procedures_of_module m)
 abbrev pub uses_print_line : Project → Bool
 uses_print_line P = list_any module_uses_print_line P.modules
 
--- whether a procedure is Main; names are compared without case
+-- whether it is the head of a Sub Main; names are compared without case
+abbrev pub is_main_head : Form → Bool
+is_main_head (sub_head s) = is_same_name s.name (codes "Main")
+is_main_head _ = false
+
 abbrev pub is_main : Procedure → Bool
-is_main p = is_same_name (name_of p.head.form) (codes "Main")
+is_main p = is_main_head p.head.form
 
 abbrev pub declares_main : Module → Bool
 declares_main m = list_any is_main (procedures_of_module m)

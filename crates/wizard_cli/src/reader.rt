@@ -8,8 +8,10 @@ mod lines;
 mod module;
 mod names;
 mod project;
+mod readable;
 #[cfg(test)]
 mod tests;
+mod whole;
 
 pub(crate) use module::read_module;
 pub(crate) use project::read_project;

@@ -1,16 +1,16 @@
 //! From the tree of a project to the tree of what is written for it.
-ghost use Rattle.std.specs.Prelude.{◌≡◌, List, [], ◌∷◌, All, map, cond, true, codes, Option, IfOk, option_map, is_some};
-ghost use Rattle.std.specs.List.{list_any, filter};
-ghost use Rattle.std.specs.Option.{option_copied, option_to_list};
+ghost use Rattle.std.specs.Prelude.{◌≡◌, Bool, List, [], ◌∷◌, ◌++◌, All, map, cond, true, codes, Option, IfOk, OnOk, option_map, is_some};
+ghost use Rattle.std.specs.List.{list_any, filter, flat_map};
 ghost use Rattle.up_base.specs.Names.{is_name, is_same_name};
+ghost use Rattle.vb_tree.specs.Tree.{debug_print};
 ghost use Rattle.vb_tree.specs.View as vb;
-ghost use Rattle.vb_tree.specs.FlatLines.{flat_lines, declared_by, locals_in, is_code, code_lines, procedure_of, name_of};
-ghost use Rattle.vb_tree.specs.ModuleTree.{opens, IsNested, IsNestedProject};
+ghost use Rattle.vb_tree.specs.Blocks.{is_code};
+ghost use Rattle.vb_tree.specs.FlatLines.{declared_by, locals_in, code_lines, procedures_in, name_of};
 ghost use Rattle.net_tree.specs.View as net;
 ghost use Rattle.net_tree.specs.Tree as net_tree;
 ghost use Rattle.net_tree.specs.Run.{print_line_path};
-ghost use Rattle.wizard_cli.specs.Bodies.{line_in};
-ghost use Rattle.wizard_cli.specs.Written.{written, spelling, written_operator, written_exp, written_literal, written_local, written_form, written_line, written_member, written_module, support_module, print_line_text, prints, uses_print_line_in, module_uses_print_line, uses_print_line, is_main, declares_main, only, main_of};
+ghost use Rattle.wizard_cli.specs.ModuleForm.{opens, IsSub, AreSubs};
+ghost use Rattle.wizard_cli.specs.Written.{written, spelling, written_operator, written_exp, written_literal, written_local, written_form, written_line, written_procedure, written_module, support_module, print_line_text, prints, uses_print_line_in, module_uses_print_line, uses_print_line, is_main_head, is_main, declares_main, only, main_of};
 
 use net_tree::{
     NetBin, NetClose, NetDim, NetExpr, NetHead, NetLine, NetLit, NetMember, NetModule, NetParam,
@@ -18,11 +18,11 @@ use net_tree::{
 };
 use std::alloc::Global;
 use up_base::{Mem, Name, Sequence, Wide};
-use vb_tree::{BinOp, CodeLine, Expr6, Form6, Literal6, Member6, Module6, Node6, Project6};
+use vb_tree::{BinOp, CodeLine, Expr6, Form6, Literal6, Member6, Module6, Project6, flat_lines};
 
 /// What is written for a project.
 pub(crate) fn rewrite(alloc: Global, project: &Project6) -> Result<NetProject, Mem>
-    requires { IsNestedProject (vb.project_of project.now) }
+    requires { AreSubs (vb.project_of project.now) }
     ensures { IfOk result (λ tree. net.project_of tree ≡ written (vb.project_of project.now)) }
 {
     let mut modules = Sequence::new(alloc);
@@ -35,17 +35,17 @@ pub(crate) fn rewrite(alloc: Global, project: &Project6) -> Result<NetProject, M
         main,
         note: None,
         modules,
-        support: support_of(alloc, uses_print(project))?,
+        support: support_of(alloc, uses_print(alloc, project)?)?,
     })
 }
 
 fn rewrite_module(alloc: Global, source: &Module6) -> Result<NetModule, Mem>
-    requires { All IsNested (vb.module_of source.now).members }
+    requires { All IsSub (vb.module_of source.now).members }
     ensures { IfOk result (λ tree. net.module_of tree ≡ written_module (vb.module_of source.now)) }
 {
     let mut members = Sequence::new(alloc);
     for member in source.members.as_slice() {
-        members.push(rewrite_member(alloc, member)?)?;
+        members.push(NetMember::Proc(rewrite_member(alloc, member)?))?;
     }
     Ok(NetModule {
         name: source.name.copy(alloc)?,
@@ -53,57 +53,61 @@ fn rewrite_module(alloc: Global, source: &Module6) -> Result<NetModule, Mem>
     })
 }
 
-fn rewrite_member(alloc: Global, member: &Member6) -> Result<NetMember, Mem>
-    requires { IsNested (vb.member_of member.now) }
-    ensures { IfOk result (λ tree. net.member_of tree ≡ written_member (vb.member_of member.now)) }
+fn rewrite_member(alloc: Global, member: &Member6) -> Result<NetProc, Mem>
+    requires { IsSub (vb.member_of member.now) }
+    ensures { IfOk result (λ tree. net.procedure_of tree ∷ [] ≡ map written_procedure (procedures_in (vb.member_of member.now))) }
 {
-    let Member6::Proc(head, body, _) = member;
+    let Member6::Proc(head, body, _) = member else {
+        unreachable!()
+    };
     let head = rewrite_head(alloc, head)?;
-    let locals = locals_of(alloc, body)?;
+    let source = flat_lines(alloc, body.as_slice())?;
+    let locals = locals_of(alloc, &source)?;
     let prologue = declarations(alloc, &locals)?;
-    let lines = rewrite_body(alloc, &locals, body)?;
-    Ok(NetMember::Proc(NetProc {
+    let lines = rewrite_lines(alloc, &locals, &source)?;
+    Ok(NetProc {
         head,
         prologue,
         lines,
         close: NetClose::EndSub,
-    }))
+    })
 }
 
 fn rewrite_head(alloc: Global, head: &CodeLine) -> Result<NetHead, Mem>
-    requires { opens (vb.form_of head.now.form) ≡ true }
-    ensures { IfOk result (λ tree. net.head_of tree ≡ net_tree.sub (name_of (vb.form_of head.now.form)) []) }
+    requires { opens (vb.form_of head.now.form.value) ≡ true }
+    ensures { IfOk result (λ tree. net.head_of tree ≡ net_tree.sub (name_of (vb.form_of head.now.form.value)) []) }
 {
-    match &head.form {
-        Form6::SubHead(name) => Ok(NetHead::Sub(name.copy(alloc)?, Vec::new(alloc))),
-        Form6::Dim(_) | Form6::Assign(_, _) | Form6::DebugPrint(_) | Form6::EndSub => {
-            unreachable!()
+    match &*head.form {
+        Form6::SubHead(signature) => {
+            let name = signature.name.copy(alloc)?;
+            Ok(NetHead::Sub(name, Vec::new(alloc)))
         }
+        _ => unreachable!(),
     }
 }
 
-// The names of the locals that a body declares, in order.
-fn locals_of(alloc: Global, body: &[Node6]) -> Result<Vec<Name>, Mem>
-    ensures { IfOk result (λ locals. locals.items ≡ locals_in (flat_lines (map vb.node_of body.now))) }
+// The names of the locals that lines declare, in order.
+fn locals_of(alloc: Global, lines: &[&CodeLine]) -> Result<Vec<Name>, Mem>
+    ensures { IfOk result (λ locals. locals.items ≡ locals_in (map (λ l. vb.line_of l.now) lines.now)) }
 {
     let mut locals = Vec::new(alloc);
-    for node in body {
-        if let Some(name) = declared_in(node) {
-            locals.push(name.copy(alloc)?)?;
-        }
+    for line in lines {
+        push_declared(alloc, &mut locals, &line.form)?;
     }
     Ok(locals)
 }
 
-// The name of the local that a line declares.
-fn declared_in(node: &Node6) -> Option<&Name>
-    ensures { option_to_list (option_copied result) ≡ declared_by (line_in node.now).form }
+// Puts the names of the locals that a line declares behind others.
+fn push_declared(alloc: Global, locals: &mut Vec<Name>, form: &Form6) -> Result<(), Mem>
+    ensures { OnOk result (locals.new.items ≡ locals.old.items ++ declared_by (vb.form_of form.now)) }
 {
-    let Node6::Line(line) = node;
-    match &line.form {
-        Form6::Dim(name) => Some(name),
-        Form6::SubHead(_) | Form6::Assign(_, _) | Form6::DebugPrint(_) | Form6::EndSub => None,
+    let Form6::Variables(_, declarators) = form else {
+        return Ok(());
+    };
+    for declarator in declarators.as_slice() {
+        locals.push(declarator.name.copy(alloc)?)?;
     }
+    Ok(())
 }
 
 // The declarations that are written for locals.
@@ -117,23 +121,17 @@ fn declarations(alloc: Global, locals: &[Name]) -> Result<Vec<NetDim>, Mem>
     Ok(prologue)
 }
 
-fn rewrite_body(alloc: Global, locals: &[Name], body: &[Node6]) -> Result<Vec<NetLine>, Mem>
-    ensures { IfOk result (λ lines. map net.line_of lines.items ≡ map (written_line locals.now) (code_lines (flat_lines (map vb.node_of body.now)))) }
+// The lines that are written for those of a body.
+fn rewrite_lines(alloc: Global, locals: &[Name], source: &[&CodeLine]) -> Result<Vec<NetLine>, Mem>
+    ensures { IfOk result (λ lines. map net.line_of lines.items ≡ map (written_line locals.now) (code_lines (map (λ l. vb.line_of l.now) source.now))) }
 {
-    let mut lines = Vec::with_capacity(alloc, body.len())?;
-    for node in body {
-        if declared_in(node).is_none() {
-            lines.push(rewrite_node(alloc, locals, node)?)?;
+    let mut lines = Vec::with_capacity(alloc, source.len())?;
+    for line in source {
+        if line.form.is_code() {
+            lines.push(rewrite_form(alloc, locals, &line.form)?)?;
         }
     }
     Ok(lines)
-}
-
-fn rewrite_node(alloc: Global, locals: &[Name], node: &Node6) -> Result<NetLine, Mem>
-    ensures { IfOk result (λ line. net.line_of line ≡ written_line locals.now (line_in node.now)) }
-{
-    let Node6::Line(line) = node;
-    rewrite_form(alloc, locals, &line.form)
 }
 
 fn rewrite_form(alloc: Global, locals: &[Name], form: &Form6) -> Result<NetLine, Mem>
@@ -145,11 +143,25 @@ fn rewrite_form(alloc: Global, locals: &[Name], form: &Form6) -> Result<NetLine,
             let value = rewrite_expr(alloc, locals, value)?;
             Ok(NetLine::Assign(target, value))
         }
-        Form6::DebugPrint(e) => print_line(alloc, rewrite_expr(alloc, locals, e)?),
-        Form6::SubHead(_) | Form6::Dim(_) | Form6::EndSub => {
-            Ok(NetLine::Call(Path::new(alloc), Vec::new(alloc)))
-        }
+        Form6::DebugPrint(items, _) => rewrite_print(alloc, locals, items.as_slice()),
+        _ => nothing_written(alloc),
     }
+}
+
+fn rewrite_print(alloc: Global, locals: &[Name], items: &[Expr6]) -> Result<NetLine, Mem>
+    ensures { (ended : Bool) → IfOk result (λ line. net.line_of line ≡ written_form locals.now (debug_print (map vb.exp_of items.now) ended)) }
+{
+    match items {
+        [e] => print_line(alloc, rewrite_expr(alloc, locals, e)?),
+        _ => nothing_written(alloc),
+    }
+}
+
+// The empty call.
+fn nothing_written(alloc: Global) -> Result<NetLine, Mem>
+    ensures { IfOk result (λ line. net.line_of line ≡ net_tree.call [] []) }
+{
+    Ok(NetLine::Call(Path::new(alloc), Vec::new(alloc)))
 }
 
 // The call of the support function PrintLine.
@@ -168,10 +180,10 @@ fn path_of(alloc: Global, outer: &[u8], inner: &[u8]) -> Result<Path, Mem>
     requires inner_name { is_name inner.now ≡ true }
     ensures { IfOk result (λ path. path ≡ outer.now ∷ inner.now ∷ []) }
 {
-    let mut path = Path::new(alloc);
+    let mut path = Vec::with_capacity(alloc, 2)?;
     path.push(Name::from_valid(alloc, outer)?)?;
     path.push(Name::from_valid(alloc, inner)?)?;
-    Ok(path)
+    Ok(Path::from_vec(path))
 }
 
 fn rewrite_expr(alloc: Global, locals: &[Name], e: &Expr6) -> Result<NetExpr, Mem>
@@ -179,13 +191,14 @@ fn rewrite_expr(alloc: Global, locals: &[Name], e: &Expr6) -> Result<NetExpr, Me
 {
     match e {
         Expr6::Lit(literal) => Ok(NetExpr::Lit(rewrite_literal(alloc, literal)?)),
-        Expr6::Word(name) => Ok(NetExpr::Path(variable(alloc, locals, name)?)),
+        Expr6::Word(name, _) => Ok(NetExpr::Path(variable(alloc, locals, name)?)),
         Expr6::Binary(operator, a, b) => {
             let a = rewrite_expr(alloc, locals, a)?;
             let b = rewrite_expr(alloc, locals, b)?;
             let operator = rewrite_operator(*operator);
             Ok(NetExpr::Binary(operator, Box::new(alloc, a)?, Box::new(alloc, b)?))
         }
+        _ => Ok(NetExpr::Lit(NetLit::Integer(0, false))),
     }
 }
 
@@ -193,8 +206,8 @@ fn rewrite_operator(operator: BinOp) -> NetBin
     ensures { result ≡ written_operator operator }
 {
     match operator {
-        BinOp::Add => NetBin::Add,
         BinOp::Sub => NetBin::Sub,
+        _ => NetBin::Add,
     }
 }
 
@@ -202,9 +215,9 @@ fn rewrite_operator(operator: BinOp) -> NetBin
 fn variable(alloc: Global, locals: &[Name], name: &Name) -> Result<Path, Mem>
     ensures { IfOk result (λ path. path ≡ spelling locals.now name.now ∷ []) }
 {
-    let mut path = Path::new(alloc);
+    let mut path = Vec::with_capacity(alloc, 1)?;
     path.push(declared_spelling(locals, name).copy(alloc)?)?;
-    Ok(path)
+    Ok(Path::from_vec(path))
 }
 
 // The name as it is spelt where it is declared.
@@ -220,63 +233,65 @@ fn declared_spelling<'a>(locals: &'a [Name], name: &'a Name) -> &'a Name
 }
 
 fn rewrite_literal(alloc: Global, literal: &Literal6) -> Result<NetLit, Mem>
-    ensures { IfOk result (λ tree. net.literal_of tree ≡ written_literal (vb.literal_of literal.now)) }
+    ensures { IfOk result (λ tree. net.literal_of tree ≡ written_literal literal.now) }
 {
     match literal {
         Literal6::Long(z, hexadecimal) => Ok(NetLit::Integer(*z, *hexadecimal)),
         Literal6::Str(units) => Ok(NetLit::Str(Wide::from_slice(alloc, units.as_slice())?)),
+        _ => Ok(NetLit::Integer(0, false)),
     }
 }
 
 // Whether a line of the project prints.
-#[tactic(auto, using(crate::proofs::Lines::any_module))]
-fn uses_print(project: &Project6) -> bool
-    ensures { result ≡ uses_print_line (vb.project_of project.now) }
+fn uses_print(alloc: Global, project: &Project6) -> Result<bool, Mem>
+    ensures { IfOk result (λ used. used ≡ uses_print_line (vb.project_of project.now)) }
 {
-    a_module_prints(project.modules.as_slice())
+    for module in project.modules.as_slice() {
+        if module_prints(alloc, module)? {
+            return Ok(true);
+        }
+    }
+    Ok(false)
 }
 
-fn a_module_prints(modules: &[Module6]) -> bool
-    ensures { result ≡ list_any (λ m. module_uses_print_line (vb.module_of m)) modules.now }
+fn module_prints(alloc: Global, source: &Module6) -> Result<bool, Mem>
+    ensures { IfOk result (λ used. used ≡ module_uses_print_line (vb.module_of source.now)) }
 {
-    modules.iter().any(|m| module_prints(m))
+    for member in source.members.as_slice() {
+        if member_prints(alloc, member)? {
+            return Ok(true);
+        }
+    }
+    Ok(false)
 }
 
-#[tactic(auto, using(crate::proofs::Lines::any_procedure))]
-fn module_prints(source: &Module6) -> bool
-    ensures { result ≡ module_uses_print_line (vb.module_of source.now) }
+fn member_prints(alloc: Global, member: &Member6) -> Result<bool, Mem>
+    ensures { IfOk result (λ used. used ≡ list_any uses_print_line_in (procedures_in (vb.member_of member.now))) }
 {
-    a_member_prints(source.members.as_slice())
-}
-
-fn a_member_prints(members: &[Member6]) -> bool
-    ensures { result ≡ list_any (λ member. uses_print_line_in (procedure_of (vb.member_of member))) members.now }
-{
-    members.iter().any(|member| member_prints(member))
+    let Member6::Proc(_, body, _) = member else {
+        return Ok(false);
+    };
+    let lines = flat_lines(alloc, body.as_slice())?;
+    Ok(a_line_prints(&lines))
 }
 
 #[tactic(auto, using(crate::proofs::Lines::prints_in))]
-fn member_prints(member: &Member6) -> bool
-    ensures { result ≡ uses_print_line_in (procedure_of (vb.member_of member.now)) }
+fn a_line_prints(lines: &[&CodeLine]) -> bool
+    ensures { result ≡ list_any (λ l. prints l.form) (code_lines (map (λ l. vb.line_of l.now) lines.now)) }
 {
-    let Member6::Proc(_, body, _) = member;
-    a_node_prints(body)
+    any_prints(lines)
 }
 
-fn a_node_prints(body: &[Node6]) -> bool
-    ensures { result ≡ list_any (λ node. prints (line_in node).form) body.now }
+fn any_prints(lines: &[&CodeLine]) -> bool
+    ensures { result ≡ list_any (λ l. prints (vb.form_of l.now.form.value)) lines.now }
 {
-    body.iter().any(|node| node_prints(node))
+    lines.iter().any(|l| prints(&l.form))
 }
 
-fn node_prints(node: &Node6) -> bool
-    ensures { result ≡ prints (line_in node.now).form }
+fn prints(form: &Form6) -> bool
+    ensures { result ≡ prints (vb.form_of form.now) }
 {
-    let Node6::Line(line) = node;
-    match &line.form {
-        Form6::DebugPrint(_) => true,
-        Form6::SubHead(_) | Form6::Dim(_) | Form6::Assign(_, _) | Form6::EndSub => false,
-    }
+    matches!(form, Form6::DebugPrint(_, _))
 }
 
 // The module of the support functions: PrintLine where it is used.
@@ -362,18 +377,26 @@ fn module_declares_main(source: &Module6) -> bool
 }
 
 fn a_member_is_main(members: &[Member6]) -> bool
-    ensures { result ≡ list_any (λ member. is_main (procedure_of (vb.member_of member))) members.now }
+    ensures { result ≡ list_any (λ member. list_any is_main (procedures_in (vb.member_of member))) members.now }
 {
     members.iter().any(|member| member_is_main(member))
 }
 
-// Whether the member is a procedure Main. Names are compared without case.
 fn member_is_main(member: &Member6) -> bool
-    ensures { result ≡ is_main (procedure_of (vb.member_of member.now)) }
+    ensures { result ≡ list_any is_main (procedures_in (vb.member_of member.now)) }
 {
-    let Member6::Proc(head, _, _) = member;
-    match &head.form {
-        Form6::SubHead(name) => name.lower_bytes() == b"main".as_slice(),
-        Form6::Dim(_) | Form6::Assign(_, _) | Form6::DebugPrint(_) | Form6::EndSub => false,
+    match member {
+        Member6::Proc(head, _, _) => is_main_head(&head.form),
+        _ => false,
+    }
+}
+
+// Whether it is the head of a Sub Main. Names are compared without case.
+fn is_main_head(form: &Form6) -> bool
+    ensures { result ≡ is_main_head (vb.form_of form.now) }
+{
+    match form {
+        Form6::SubHead(signature) => signature.name.lower_bytes() == b"main".as_slice(),
+        _ => false,
     }
 }

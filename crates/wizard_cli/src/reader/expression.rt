@@ -2,17 +2,16 @@
 ghost use Rattle.std.specs.Prelude.{◌≡◌, ◌≢◌, ◌<◌, ◌≤◌, ◌^◌, ◌/◌, ◌%◌, ◌++◌, ℕ, pos, List, true, false, length, MatchOption, IfOk};
 ghost use Rattle.std.specs.List.{list_all};
 ghost use Rattle.std.specs.Fmt.{decimal};
-ghost use Rattle.vb_tree.specs.declared.expression.BinOp.{BinOp};
-ghost use Rattle.vb_tree.specs.Tree.{lit, long};
-ghost use Rattle.vb_tree.specs.View.{exp_of};
+ghost use Rattle.wizard_cli.specs.declared.reader.readable.ReadableOperator.{ReadableOperator};
+ghost use Rattle.wizard_cli.specs.Readable.{lit, long, exp_of};
 ghost use Rattle.wizard_cli.specs.ModuleForm.{exp_text, operator_text, is_letter, is_variable, IsVariable, IsSum, IsValue};
 ghost use Rattle.wizard_cli.specs.Reading.{IsRead, IsPart, is_no_blank, EndsInBlank};
 
 use super::lines::are_digits;
 use super::name_of;
+use super::readable::{ReadableExpr, ReadableLiteral, ReadableOperator};
 use std::alloc::Global;
 use up_base::Mem;
-use vb_tree::{BinOp, Expr6, Literal6};
 
 // The parts that a sum may have behind its first variable.
 const PARTS: u32 = 8;
@@ -21,7 +20,7 @@ const PARTS: u32 = 8;
 const DIGITS: usize = 10;
 
 // What may be assigned: a number or a sum.
-pub(super) fn value_in(alloc: Global, text: &[u8]) -> Result<Option<Expr6>, Mem>
+pub(super) fn value_in(alloc: Global, text: &[u8]) -> Result<Option<ReadableExpr>, Mem>
     ensures { IfOk result (IsRead exp_text IsValue exp_of text.now) }
 {
     match number_in(text) {
@@ -31,7 +30,7 @@ pub(super) fn value_in(alloc: Global, text: &[u8]) -> Result<Option<Expr6>, Mem>
 }
 
 // A variable followed by at most this many parts.
-fn sum_in(alloc: Global, text: &[u8], parts: u32) -> Result<Option<Expr6>, Mem>
+fn sum_in(alloc: Global, text: &[u8], parts: u32) -> Result<Option<ReadableExpr>, Mem>
     ensures { IfOk result (IsRead exp_text (IsSum parts) exp_of text.now) }
 {
     let (front, word) = last_word(text);
@@ -47,11 +46,11 @@ fn sum_in(alloc: Global, text: &[u8], parts: u32) -> Result<Option<Expr6>, Mem>
     let Some(left) = sum_in(alloc, left, parts - 1)? else {
         return Ok(None);
     };
-    Ok(Some(Expr6::Binary(operator, Box::new(alloc, left)?, Box::new(alloc, part)?)))
+    Ok(Some(ReadableExpr::Binary(operator, Box::new(alloc, left)?, Box::new(alloc, part)?)))
 }
 
 // A variable or a number.
-fn part_in(alloc: Global, text: &[u8]) -> Result<Option<Expr6>, Mem>
+fn part_in(alloc: Global, text: &[u8]) -> Result<Option<ReadableExpr>, Mem>
     ensures { IfOk result (IsRead exp_text IsPart exp_of text.now) }
 {
     match number_in(text) {
@@ -61,13 +60,13 @@ fn part_in(alloc: Global, text: &[u8]) -> Result<Option<Expr6>, Mem>
 }
 
 // A variable.
-pub(super) fn variable_in(alloc: Global, text: &[u8]) -> Result<Option<Expr6>, Mem>
+pub(super) fn variable_in(alloc: Global, text: &[u8]) -> Result<Option<ReadableExpr>, Mem>
     ensures { IfOk result (IsRead exp_text IsVariable exp_of text.now) }
 {
     if !is_variable(text) {
         return Ok(None);
     }
-    Ok(Some(Expr6::Word(name_of(alloc, text)?)))
+    Ok(Some(ReadableExpr::Word(name_of(alloc, text)?)))
 }
 
 // Whether it is a letter followed by at most eight digits.
@@ -100,22 +99,22 @@ fn last_word(text: &[u8]) -> (&[u8], &[u8])
 }
 
 // What stands before the operator at the end of a text, and the operator.
-fn operator_after(text: &[u8]) -> Option<(&[u8], BinOp)>
-    ensures { MatchOption result ((left : List ℕ) (op : BinOp) → text.now ≢ left ++ operator_text op) (λ r. text.now ≡ r.0.now ++ operator_text r.1) }
+fn operator_after(text: &[u8]) -> Option<(&[u8], ReadableOperator)>
+    ensures { MatchOption result ((left : List ℕ) (op : ReadableOperator) → text.now ≢ left ++ operator_text op) (λ r. text.now ≡ r.0.now ++ operator_text r.1) }
 {
     if let Some(left) = text.strip_suffix(b" + ") {
-        return Some((left, BinOp::Add));
+        return Some((left, ReadableOperator::Add));
     }
     let left = text.strip_suffix(b" - ")?;
-    Some((left, BinOp::Sub))
+    Some((left, ReadableOperator::Sub))
 }
 
 // The tree of a number.
-fn number_of(n: u32) -> Expr6
+fn number_of(n: u32) -> ReadableExpr
     requires { n < 2 ^ 31 }
-    ensures { exp_of result ≡ lit (long (pos n) false) }
+    ensures { exp_of result ≡ lit (long (pos n)) }
 {
-    Expr6::Lit(Literal6::Long(n as i32, false))
+    ReadableExpr::Lit(ReadableLiteral::Long(n as i32))
 }
 
 // A whole number to 2147483647 without leading zeros.

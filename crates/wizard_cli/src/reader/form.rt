@@ -1,22 +1,22 @@
 //! The forms of a module's lines.
 ghost use Rattle.std.specs.Prelude.{◌≡◌, ◌++◌, ℕ, List, codes, MatchOption, IfOk};
-ghost use Rattle.vb_tree.specs.View.{form_of};
 ghost use Rattle.wizard_cli.specs.ModuleForm.{is_sub_name, IsForm, form_text};
+ghost use Rattle.wizard_cli.specs.Readable.{form_of};
 ghost use Rattle.wizard_cli.specs.Reading.{IsRead, IsAssignment, IsAssigned};
 
 use super::expression::{is_variable, value_in, variable_in};
 use super::lines::{between, is_text, wide};
 use super::name_of;
+use super::readable::{ReadableExpr, ReadableForm, ReadableLiteral};
 use std::alloc::Global;
 use up_base::Mem;
-use vb_tree::{Expr6, Form6, Literal6};
 
 // The form that the bytes spell.
-pub(super) fn form_in(alloc: Global, content: &[u8]) -> Result<Option<Form6>, Mem>
+pub(super) fn form_in(alloc: Global, content: &[u8]) -> Result<Option<ReadableForm>, Mem>
     ensures { IfOk result (IsRead form_text IsForm form_of content.now) }
 {
     if content == b"End Sub".as_slice() {
-        return Ok(Some(Form6::EndSub));
+        return Ok(Some(ReadableForm::EndSub));
     }
     if let Some(name) = between(content, b"Sub ", b"()") {
         return head_of(alloc, name);
@@ -31,13 +31,13 @@ pub(super) fn form_in(alloc: Global, content: &[u8]) -> Result<Option<Form6>, Me
 }
 
 // The head of the Sub of this name.
-fn head_of(alloc: Global, name: &[u8]) -> Result<Option<Form6>, Mem>
+fn head_of(alloc: Global, name: &[u8]) -> Result<Option<ReadableForm>, Mem>
     ensures { IfOk result (IsRead form_text IsForm form_of (codes "Sub " ++ name.now ++ codes "()")) }
 {
     if !is_sub_name(name) {
         return Ok(None);
     }
-    Ok(Some(Form6::SubHead(name_of(alloc, name)?)))
+    Ok(Some(ReadableForm::SubHead(name_of(alloc, name)?)))
 }
 
 // Whether it is Main, or a letter followed by at most eight digits.
@@ -48,28 +48,28 @@ fn is_sub_name(name: &[u8]) -> bool
 }
 
 // The declaration of the variable of this name.
-fn dim_of(alloc: Global, name: &[u8]) -> Result<Option<Form6>, Mem>
+fn dim_of(alloc: Global, name: &[u8]) -> Result<Option<ReadableForm>, Mem>
     ensures { IfOk result (IsRead form_text IsForm form_of (codes "Dim " ++ name.now ++ codes " As Long")) }
 {
     if !is_variable(name) {
         return Ok(None);
     }
-    Ok(Some(Form6::Dim(name_of(alloc, name)?)))
+    Ok(Some(ReadableForm::Dim(name_of(alloc, name)?)))
 }
 
 // The printing of this text.
-fn print_of(alloc: Global, units: &[u8]) -> Result<Option<Form6>, Mem>
+fn print_of(alloc: Global, units: &[u8]) -> Result<Option<ReadableForm>, Mem>
     ensures { IfOk result (IsRead form_text IsForm form_of (codes "Debug.Print \"" ++ units.now ++ codes "\"")) }
 {
     if !is_text(units) {
         return Ok(None);
     }
-    let text = Expr6::Lit(Literal6::Str(wide(alloc, units)?));
-    Ok(Some(Form6::DebugPrint(text)))
+    let text = ReadableExpr::Lit(ReadableLiteral::Str(wide(alloc, units)?));
+    Ok(Some(ReadableForm::DebugPrint(text)))
 }
 
 // The assignment that the bytes spell.
-fn assignment_in(alloc: Global, content: &[u8]) -> Result<Option<Form6>, Mem>
+fn assignment_in(alloc: Global, content: &[u8]) -> Result<Option<ReadableForm>, Mem>
     ensures { IfOk result (IsRead form_text IsAssignment form_of content.now) }
 {
     let Some((target, value)) = assigned(content) else {
@@ -81,7 +81,7 @@ fn assignment_in(alloc: Global, content: &[u8]) -> Result<Option<Form6>, Mem>
     let Some(value) = value_in(alloc, value)? else {
         return Ok(None);
     };
-    Ok(Some(Form6::Assign(target, value)))
+    Ok(Some(ReadableForm::Assign(target, value)))
 }
 
 // What stands on both sides of the first blank, where ` = ` begins.

@@ -1,6 +1,7 @@
 //! The reading of modules.
-ghost use Rattle.std.specs.Prelude.{◌≡◌, ◌≤◌, ℕ, [], true, length, IfOk, OnOk};
+ghost use Rattle.std.specs.Prelude.{◌≡◌, ◌≤◌, ◌++◌, ℕ, List, [], true, length, IfOk, OnOk};
 ghost use Rattle.std.specs.List.{list_all};
+ghost use Rattle.std.specs.Option.{option_copied, option_to_list};
 ghost use Rattle.vb_tree.specs.View.{exp_of, form_of, line_of, module_of};
 ghost use Rattle.wizard_cli.specs.ModuleForm.{is_among, is_inner, variables_in, declared_after, keeps_declared, HeldModule};
 ghost use Rattle.wizard_cli.specs.Faults.{fault_at};
@@ -11,9 +12,10 @@ ghost use Rattle.wizard_cli.specs.Reading.{OnFault, scan_of, IsStage, Leads, Tak
 use super::form::form_in;
 use super::lines::{content, first_line};
 use super::names::NameSet;
+use super::whole::whole_line;
 use super::{name_of, not_built};
 use std::alloc::Global;
-use up_base::{Mem, Place, ReadFail, Sequence};
+use up_base::{Mem, Name, Place, ReadFail, Sequence};
 use vb_tree::{CodeLine, Entry, Expr6, Form6, Member6, Module6, Node6};
 
 // What the lines of a module have given so far.
@@ -57,11 +59,13 @@ pub(crate) fn read_module(
     if !subs.contains(&main) {
         return Err(not_built(file, 0));
     }
+    let comments = Sequence::new(alloc);
     Ok(Module6 {
         file,
         name: name_of(alloc, entry.name.as_bytes())?,
         class: false,
         members,
+        comments,
     })
 }
 
@@ -100,14 +104,15 @@ fn read_line(alloc: Global, stage: Stage, place: Place, line: &[u8]) -> Result<S
     let Some(form) = form_in(alloc, content)? else {
         return Err(not_built(place.file, place.line));
     };
-    with_line(alloc, stage, CodeLine { place, form })
+    let line = whole_line(alloc, place, content, form)?;
+    with_line(alloc, stage, line)
 }
 
 // What one more code line gives.
 fn with_line(alloc: Global, mut stage: Stage, line: CodeLine) -> Result<Stage, ReadFail>
     requires { IsStage stage }
     ensures ok { IfOk result (Leads (line_of line) stage) }
-    ensures fault { OnFault result (λ f. (f ≡ fault_at line.place.file line.place.line 99) × (step (scan_of stage) (form_of line.form) ≡ None)) }
+    ensures fault { OnFault result (λ f. (f ≡ fault_at line.place.file line.place.line 99) × (step (scan_of stage) (form_of line.form.value) ≡ None)) }
 {
     match stage.inside.take() {
         Some(sub) => with_inner(alloc, stage, sub, line),
@@ -120,15 +125,15 @@ fn with_head(alloc: Global, mut stage: Stage, line: CodeLine) -> Result<Stage, R
     requires stage { IsStage stage }
     requires outside { stage.inside ≡ None }
     ensures ok { IfOk result (Leads (line_of line) stage) }
-    ensures fault { OnFault result (λ f. (f ≡ fault_at line.place.file line.place.line 99) × (step (scan_of stage) (form_of line.form) ≡ None)) }
+    ensures fault { OnFault result (λ f. (f ≡ fault_at line.place.file line.place.line 99) × (step (scan_of stage) (form_of line.form.value) ≡ None)) }
 {
-    let Form6::SubHead(name) = &line.form else {
+    let Form6::SubHead(signature) = &*line.form else {
         return Err(not_built(line.place.file, line.place.line));
     };
-    if stage.subs.contains(name) {
+    if stage.subs.contains(&signature.name) {
         return Err(not_built(line.place.file, line.place.line));
     }
-    stage.subs.add(name.copy(alloc)?)?;
+    stage.subs.add(signature.name.copy(alloc)?)?;
     stage.inside = Some(OpenSub {
         head: line,
         body: Vec::new(alloc),
@@ -142,9 +147,9 @@ fn with_inner(alloc: Global, stage: Stage, sub: OpenSub, line: CodeLine) -> Resu
     requires stage { IsStage (record stage { inside = Some sub }) }
     requires outside { stage.inside ≡ None }
     ensures ok { IfOk result (Leads (line_of line) (record stage { inside = Some sub })) }
-    ensures fault { OnFault result (λ f. (f ≡ fault_at line.place.file line.place.line 99) × (step (scan_of (record stage { inside = Some sub })) (form_of line.form) ≡ None)) }
+    ensures fault { OnFault result (λ f. (f ≡ fault_at line.place.file line.place.line 99) × (step (scan_of (record stage { inside = Some sub })) (form_of line.form.value) ≡ None)) }
 {
-    match &line.form {
+    match &*line.form {
         Form6::SubHead(_) => Err(not_built(line.place.file, line.place.line)),
         Form6::EndSub => Ok(with_end(stage, sub, line)?),
         _ => with_body_line(alloc, stage, sub, line),
@@ -154,12 +159,14 @@ fn with_inner(alloc: Global, stage: Stage, sub: OpenSub, line: CodeLine) -> Resu
 // What the end of the Sub gives.
 fn with_end(mut stage: Stage, sub: OpenSub, line: CodeLine) -> Result<Stage, Mem>
     requires stage { IsStage (record stage { inside = Some sub }) }
-    requires closes { line.form ≡ Form6.EndSub }
+    requires closes { line.form.value ≡ Form6.EndSub }
     requires outside { stage.inside ≡ None }
     ensures { IfOk result (Leads (line_of line) (record stage { inside = Some sub })) }
 {
     let OpenSub { head, body, .. } = sub;
-    stage.members.push(Member6::Proc(head, body, line))?;
+    stage
+        .members
+        .push(Member6::Proc(head, Sequence::from_vec(body), line))?;
     Ok(stage)
 }
 
@@ -173,7 +180,7 @@ fn with_body_line(
     requires stage { IsStage (record stage { inside = Some sub }) }
     requires inner { is_inner (line_of line) ≡ true }
     ensures ok { IfOk result (Leads (line_of line) (record stage { inside = Some sub })) }
-    ensures fault { OnFault result (λ f. (f ≡ fault_at line.place.file line.place.line 99) × (step (scan_of (record stage { inside = Some sub })) (form_of line.form) ≡ None)) }
+    ensures fault { OnFault result (λ f. (f ≡ fault_at line.place.file line.place.line 99) × (step (scan_of (record stage { inside = Some sub })) (form_of line.form.value) ≡ None)) }
 {
     if !keeps_declared(&sub.variables, &line.form) {
         return Err(not_built(line.place.file, line.place.line));
@@ -188,9 +195,22 @@ fn with_body_line(
 fn declare(alloc: Global, variables: &mut NameSet, form: &Form6) -> Result<(), Mem>
     ensures { OnOk result (variables.new ≡ declared_after variables.old (form_of form.now)) }
 {
+    match declared_in(form) {
+        Some(name) => variables.add(name.copy(alloc)?),
+        None => Ok(()),
+    }
+}
+
+// The name of the variable that a line declares.
+fn declared_in(form: &Form6) -> Option<&Name>
+    ensures { (names : List (List ℕ)) → declared_after names (form_of form.now) ≡ option_to_list (option_copied result) ++ names }
+{
     match form {
-        Form6::Dim(name) => variables.add(name.copy(alloc)?),
-        _ => Ok(()),
+        Form6::Variables(_, declarators) => match declarators.as_slice() {
+            [declarator] => Some(&declarator.name),
+            _ => None,
+        },
+        _ => None,
     }
 }
 
@@ -199,13 +219,18 @@ fn keeps_declared(variables: &NameSet, form: &Form6) -> bool
     ensures { result ≡ keeps_declared variables.now (form_of form.now) }
 {
     match form {
-        Form6::Dim(name) => !variables.contains(name),
+        Form6::Variables(_, declarators) => match declarators.as_slice() {
+            [declarator] => !variables.contains(&declarator.name),
+            _ => false,
+        },
         Form6::Assign(target, value) => {
             are_declared(variables, target) && are_declared(variables, value)
         }
-        Form6::DebugPrint(e) => are_declared(variables, e),
-        Form6::SubHead(_) => true,
-        Form6::EndSub => true,
+        Form6::DebugPrint(items, _) => match items.as_slice() {
+            [e] => are_declared(variables, e),
+            _ => false,
+        },
+        _ => false,
     }
 }
 
@@ -214,8 +239,8 @@ fn are_declared(variables: &NameSet, e: &Expr6) -> bool
     ensures { result ≡ list_all (λ name. is_among name variables.now) (variables_in (exp_of e.now)) }
 {
     match e {
-        Expr6::Lit(_) => true,
-        Expr6::Word(name) => variables.contains(name),
+        Expr6::Word(name, _) => variables.contains(name),
         Expr6::Binary(_, a, b) => are_declared(variables, a) && are_declared(variables, b),
+        _ => true,
     }
 }

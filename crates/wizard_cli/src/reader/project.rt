@@ -50,10 +50,12 @@ pub(crate) fn read_project(alloc: Global, text: &[u8]) -> Result<ProjectFile, Re
     };
     let mut entries = Sequence::new(alloc);
     entries.push(entry)?;
+    let dropped = Sequence::new(alloc);
     Ok(ProjectFile {
         kind: ProjectKind::Exe,
         startup: Some((line, wide(alloc, b"Sub Main")?)),
         entries,
+        dropped,
     })
 }
 

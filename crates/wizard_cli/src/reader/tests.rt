@@ -200,12 +200,16 @@ fn reads_a_module(rt: HostRuntime) -> Result<(), Fail> {
         panic!(rt; "no procedure");
     };
     assert_eq!(rt; (head.place.line, close.place.line), (2, 4));
-    let Some(Node6::Line(CodeLine { place, form })) = body.first() else {
+    let Some(Node6::Line(CodeLine { place, text, form })) = body.get(0) else {
         panic!(rt; "no line");
     };
     assert_eq!(rt; (place.file, place.line), (7, 3));
-    let Form6::DebugPrint(Expr6::Lit(Literal6::Str(units))) = form else {
+    assert_eq!(rt; text.len(), b"Debug.Print \"hi\"".len());
+    let Form6::DebugPrint(items, false) = &**form else {
         panic!(rt; "no Debug.Print");
+    };
+    let [Expr6::Lit(Literal6::Str(units))] = items.as_slice() else {
+        panic!(rt; "no text");
     };
     assert_eq!(rt; units.as_slice(), [104, 105].as_slice());
     Ok(())
@@ -215,13 +219,13 @@ fn reads_a_module(rt: HostRuntime) -> Result<(), Fail> {
 fn grouped(alloc: Global, e: &Expr6) -> Result<String, Fail> {
     match e {
         Expr6::Lit(Literal6::Long(n, _)) => Ok(format!(in alloc; "{n}")?),
-        Expr6::Lit(Literal6::Str(_)) => Err("no number")?,
-        Expr6::Word(name) => Ok(format!(in alloc; "{}", str::from_utf8(name.as_bytes())?)?),
+        Expr6::Word(name, _) => Ok(format!(in alloc; "{}", str::from_utf8(name.as_bytes())?)?),
         Expr6::Binary(operator, a, b) => {
             let a = grouped(alloc, a)?;
             let b = grouped(alloc, b)?;
             Ok(format!(in alloc; "({a} {operator:?} {b})")?)
         }
+        _ => Err("no sum")?,
     }
 }
 
@@ -234,9 +238,11 @@ fn groups_a_sum_from_the_left(rt: HostRuntime) -> Result<(), Fail> {
         panic!(rt; "no procedure");
     };
     assert_eq!(rt; body.len(), 2);
-    let Node6::Line(CodeLine { place, form }) = &body[1];
+    let Some(Node6::Line(CodeLine { place, form, .. })) = body.get(1) else {
+        panic!(rt; "no line");
+    };
     assert_eq!(rt; (place.file, place.line), (7, 3));
-    let Form6::Assign(target, value) = form else {
+    let Form6::Assign(target, value) = &**form else {
         panic!(rt; "no assignment");
     };
     assert_eq!(rt; grouped(rt.alloc(), target)?.as_str(), "a1");

@@ -28,4 +28,4 @@ returns-clause-ok c =
     let reads = c.in_ok-members.ensures.ok in
     let out : stage.inside ≡ None = cc in
     let main : is_among (codes "Main") stage.subs ≡ true = ap (λ x. is_among x stage.subs) (sym c.in_ok-main.ensures) ∙ sym c.if-not-contains.ensures in
-    module_held c.args.file c.args.text.now reads.0 stage reads.1 c.args.entry.now _ out main (c.in_ok-name_of.ensures ∙ c.as_bytes.ensures.bytes)
+    module_held c.args.file c.args.text.now reads.0 stage reads.1 c.args.entry.now _ _ out main (c.in_ok-name_of.ensures ∙ c.as_bytes.ensures.bytes) c.new-comments.ensures

@@ -5,7 +5,7 @@ use Rattle.wizard_cli.proofs.reader.project.read_project.Goals as goal
 pub returns-clause-ok : goal.returns-clause-ok
 returns-clause-ok c =
     let reads = c.in_ok-settings.ensures.ok in
-    project_held c.args.text.now c.in_ok-settings.settings reads.0 c.in-Some.line c.in-Some-entry.entry c.in_ok-wide.field-0 _ reads.1 c.if-not-settings.false c.in-Some.is c.in-Some-entry.is c.in_ok-wide.ensures ((rw c.in-Some-entry.entry-is at c.in_ok-push.ensures.ok) ∙ ap (λ x. x ++ c.in-Some-entry.entry ∷ []) c.new-entries.ensures)
+    project_held c.args.text.now c.in_ok-settings.settings reads.0 c.in-Some.line c.in-Some-entry.entry c.in_ok-wide.field-0 _ _ reads.1 c.if-not-settings.false c.in-Some.is c.in-Some-entry.is c.in_ok-wide.ensures ((rw c.in-Some-entry.entry-is at c.in_ok-push.ensures.ok) ∙ ap (λ x. x ++ c.in-Some-entry.entry ∷ []) c.new-entries.ensures) c.new-dropped.ensures
 
 pub returns-then-not-settings-clause-fault : goal.returns-then-not-settings-clause-fault
 returns-then-not-settings-clause-fault c =
