@@ -7,3 +7,4 @@ pub mod FlatLines
 pub mod ModuleTree
 pub mod Run
 pub mod Clean
+pub mod ProjectLines
