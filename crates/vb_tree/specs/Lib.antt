@@ -7,4 +7,7 @@ pub mod FlatLines
 pub mod ModuleTree
 pub mod Run
 pub mod Clean
+pub mod Tokens
+pub mod TokenClasses
+pub mod LogicalLines
 pub mod ProjectLines

@@ -1,0 +1,15 @@
+pub mod Lengths
+pub mod LongestNumbers
+pub mod LongestOthers
+pub mod LongestTokens
+pub mod NumberShapes
+pub mod OtherShapes
+pub mod PhysicalLines
+pub mod PlacedTokens
+pub mod ReadingContents
+pub mod ReadingTexts
+pub mod Runs
+pub mod SpreadTokens
+pub mod Suffixes
+pub mod TokenShapes
+pub mod Values

@@ -1,0 +1,6 @@
+pub mod Answers
+pub mod Classes
+pub mod Contents
+pub mod Found
+pub mod Physical
+pub mod Readings

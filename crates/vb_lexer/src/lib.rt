@@ -1,0 +1,22 @@
+//! The logical lines and tokens of Visual Basic 6.
+#![tactic(auto)]
+
+mod content;
+mod faults;
+mod laws;
+mod lex_fail;
+mod lexeme;
+mod lexing;
+mod numbers;
+mod physical;
+mod reading;
+mod signs;
+#[cfg(test)]
+mod tests;
+mod texts;
+mod units;
+mod words;
+
+pub use laws::{longest_token, one_answer, placed_tokens, spread_tokens};
+pub use lex_fail::LexFail;
+pub use lexing::logical_lines;
