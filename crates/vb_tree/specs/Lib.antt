@@ -10,4 +10,5 @@ pub mod Clean
 pub mod Tokens
 pub mod TokenClasses
 pub mod LogicalLines
+pub mod Expressions
 pub mod ProjectLines

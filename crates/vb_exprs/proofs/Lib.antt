@@ -1,0 +1,13 @@
+pub mod Arms
+pub mod OneForm
+pub mod Views
+pub mod Lists
+pub mod Fronts
+pub mod Scanned
+pub mod Ends
+pub mod Grouping
+pub mod Spelled
+pub mod Spines
+pub mod Types
+pub mod Symbols
+pub mod Keywords

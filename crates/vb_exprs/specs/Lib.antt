@@ -1,0 +1,4 @@
+pub mod TokenClass
+pub mod Scan
+pub mod Reading
+pub mod Answer
