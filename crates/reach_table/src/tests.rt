@@ -9,6 +9,8 @@ use std::sync::ledger::{Blank, Ledger};
 use std::test::Fail;
 use up_base::Mem;
 
+mod closure;
+
 type Pair = (u32, u32);
 
 fn table(rt: &impl Abort, alloc: Global, nodes: u32, pairs: &[Pair]) -> Result<Arrows, Mem>
