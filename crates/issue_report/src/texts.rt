@@ -1,11 +1,12 @@
 //! What is said of each fault and of each rule. No look-up takes memory.
-ghost use Rattle.std.specs.Prelude.{◌≡◌};
+ghost use Rattle.std.specs.Prelude.{◌≡◌, ◌≤◌, IfSome, length};
 ghost use Rattle.std.specs.Option.{option_copied};
 ghost use Rattle.issue_report.specs.Texts.{fault_text, rule_text};
 
 /// The text of a fault, and none where no fault has this number. The faults have the numbers 1 to 15, and 99.
 pub fn fault_text(kind: u8) -> Option<&'static [u8]>
-    ensures { option_copied result ≡ fault_text kind }
+    ensures text { option_copied result ≡ fault_text kind }
+    ensures short { IfSome result (λ text. length text.now ≤ 34) }
 {
     let text: &'static [u8] = match kind {
         1 => b"project file not found",

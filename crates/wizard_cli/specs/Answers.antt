@@ -1,6 +1,7 @@
 -- What a run says of its outcome, and with which status it ends.
-use Rattle.std.specs.Prelude.{ℕ, ◌+◌, ◌/◌, ◌%◌, ◌==◌, if◌then◌else◌, List, [], ◌∷◌, ◌++◌, codes, Option, IfSome}
+use Rattle.std.specs.Prelude.{ℕ, ◌+◌, ◌/◌, ◌%◌, List, [], ◌∷◌, ◌++◌, codes, Option, IfSome, unwrap_or}
 use Rattle.std.specs.Fmt.{decimal}
+use Rattle.issue_report.specs.Texts.{fault_text}
 use Rattle.up_base.specs.declared.place.Fault.{Fault}
 use Rattle.up_base.specs.Outside.{Files}
 use Rattle.wizard_cli.specs.Held.{ReadingOrder, ReadsUpTo}
@@ -10,12 +11,9 @@ use Rattle.wizard_cli.specs.declared.answer.Answer.TheVariants.{Done, BadWords, 
 use Rattle.wizard_cli.specs.declared.answer.Status.{Status}
 use Rattle.wizard_cli.specs.declared.answer.Status.TheVariants as status
 
--- what is wrong, by the number of a fault
-abbrev pub fault_text : ℕ → List ℕ
-fault_text kind =
-    if kind == 1 then codes "project file not found"
-    else (if kind == 2 then codes "module file not found"
-    else (if kind == 3 then codes "size limit passed" else codes "form not built yet"))
+-- what is wrong, by the number of a fault; of a number that no fault has, nothing is said
+abbrev pub said_of : ℕ → List ℕ
+said_of kind = unwrap_or (fault_text kind) []
 
 -- a number below 100 in two digits
 abbrev pub two_digits : ℕ → List ℕ
@@ -23,7 +21,7 @@ two_digits n = (48 + n / 10) ∷ (48 + n % 10) ∷ []
 
 -- the fault in the file of this name
 abbrev pub fault_line : List ℕ → Fault → List ℕ
-fault_line name fault = name ++ codes "(" ++ decimal fault.place.line ++ codes "): F" ++ two_digits fault.kind ++ codes " " ++ fault_text fault.kind
+fault_line name fault = name ++ codes "(" ++ decimal fault.place.line ++ codes "): F" ++ two_digits fault.kind ++ codes " " ++ said_of fault.kind
 
 -- what is said of an outcome, without the line feed that ends it
 abbrev pub answer_line : Answer → List ℕ

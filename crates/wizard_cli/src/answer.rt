@@ -2,9 +2,10 @@
 ghost use Rattle.std.specs.Prelude.{◌≡◌, ◌+◌, ◌<◌, ◌≤◌, ◌^◌, [], ◌∷◌, ◌++◌, length};
 ghost use Rattle.std.specs.Fmt.{decimal};
 ghost use Rattle.wizard_cli.specs.declared.answer.Answer.TheVariants.{OutOfMemory};
-ghost use Rattle.wizard_cli.specs.Answers.{fault_text, two_digits, fault_line, answer_line, answer_text, status_of};
+ghost use Rattle.wizard_cli.specs.Answers.{said_of, two_digits, fault_line, answer_line, answer_text, status_of};
 
 use crate::message::{Message, push_number, push_text};
+use issue_report::fault_text;
 use up_base::{Fault, Mem, Name};
 
 /// How a run ended. The numbers of the statuses are 0 to 8, in this order.
@@ -122,18 +123,16 @@ fn push_fault(message: &mut Message, name: &Name, fault: Fault)
     message.push(48 + fault.kind / 10);
     message.push(48 + fault.kind % 10);
     push_text(message, b" ");
-    push_text(message, fault_name(fault.kind));
+    push_text(message, said_of(fault.kind));
 }
 
 // What is wrong, by the number of a fault.
-fn fault_name(kind: u8) -> &'static [u8]
-    ensures text { result.now ≡ fault_text kind }
-    ensures short { length result.now ≤ 22 }
+fn said_of(kind: u8) -> &'static [u8]
+    ensures text { result.now ≡ said_of kind }
+    ensures short { length result.now ≤ 34 }
 {
-    match kind {
-        1 => b"project file not found",
-        2 => b"module file not found",
-        3 => b"size limit passed",
-        _ => b"form not built yet",
+    match fault_text(kind) {
+        Some(text) => text,
+        None => b"",
     }
 }
