@@ -1,7 +1,8 @@
 #!/usr/bin/env bash
 # Measures the upgrade wizard on a small project and on two with a module of the largest size, one of printed texts and
-# one of sums, beside a plain reading of the same files. It prints seconds, megabytes (10^6 bytes of input) a second and
-# peak memory, with the targets beside them, and judges nothing: it ends with status 0 whatever the figures.
+# one of sums, beside a plain reading of the same files; and the lexer on 16 MiB of code, beside universal-ctags where that
+# is installed. It prints seconds, megabytes (10^6 bytes of input) a second and peak memory, with the targets beside them,
+# and judges nothing: it ends with status 0 whatever the figures.
 set -euo pipefail
 export LC_ALL=C
 
@@ -18,6 +19,35 @@ build() {
     local status=0
     "$root/vbup" >/dev/null </dev/null || status=$?
     [ "$status" -ne 100 ]
+}
+
+# Builds the counter of logical lines and tokens where need be; a count of lines says that it was built.
+lexer="$root/crates/lex_count/out/lex_count"
+build_lexer() {
+    (cd "$root/crates/lex_count" && rt run <stdin) >"$work/built" 2>&1
+    tail -n 1 "$work/built" | grep -q '^lines '
+}
+
+# Writes at most so many bytes of code in the shape of a real module: functions with comments, long names, continued lines
+# and texts.
+write_code() {
+    awk -v limit="$2" 'BEGIN {
+        for (n = 1; ; n++) {
+            text = sprintf("\047 Returns the amount that is due for the order %d, with the discount of its customer.\r\n", n)
+            text = text "\047 The amount is rounded to whole cents, and is never below zero; see the remark at the head.\r\n"
+            text = text sprintf("Public Function AmountDueForOrder%d(ByVal customerNumber As Long, ByVal orderNumber As Long) As Currency\r\n", n)
+            text = text "    Dim amountBeforeDiscount As Currency, discountInPercent As Integer\r\n"
+            text = text "    amountBeforeDiscount = OrderTable(customerNumber, orderNumber).Amount + _\r\n"
+            text = text "        OrderTable(customerNumber, orderNumber).Postage _\r\n        - VoucherTable(orderNumber)\r\n"
+            text = text "    If discountInPercent > 0 Then \047 a customer of the house\r\n"
+            text = text sprintf("        amountBeforeDiscount = amountBeforeDiscount * %d / 100\r\n", 100 - n % 10)
+            text = text sprintf("        Debug.Print \"discount of order \" & orderNumber & \": \"\"special\"\" &H%X\"\r\n", n % 65536)
+            text = text sprintf("    End If\r\n    AmountDueForOrder%d = amountBeforeDiscount\r\nEnd Function\r\n", n)
+            size += length(text)
+            if (size > limit) break
+            printf "%s", text
+        }
+    }' >"$1"
 }
 
 # Writes a project of a name with one module of at most the limit: one procedure that begins with some lines and has as
@@ -82,7 +112,24 @@ measure_project() {
     cd "$root"
 }
 
+# Measures the lexer on a file, and universal-ctags on the same file where it is installed.
+measure_lexer() {
+    local file="$1" bytes
+    bytes="$(wc -c <"$file")"
+    for ((run = 1; run <= runs; run++)); do
+        measure sh -c '"$1" <"$2"' sh "$lexer" "$file"
+        print_figures "lex_count" "$bytes" "over 20 MB/s, and peak/read under 10"
+    done
+    if ctags --version 2>/dev/null | grep -q '^Universal Ctags'; then
+        for ((run = 1; run <= runs; run++)); do
+            measure ctags -f /dev/null --language-force=Basic "$file"
+            print_figures "ctags" "$bytes" ""
+        done
+    fi
+}
+
 build
+build_lexer
 mkdir "$work/hello" "$work/large" "$work/sums"
 cp "$root"/examples/hello/{Hello.vbp,Main1.bas} "$work/hello/"
 write_project "$work/large" Large '' '    Debug.Print "line %06d of a generated module"\r\n'
@@ -92,3 +139,6 @@ printf '%-16s %9s %8s %9s %10s %9s %7s   %s\n' command bytes seconds MB/s 'peak 
 measure_project "$work/hello" Hello.vbp "under 0.05 s"
 measure_project "$work/large" Large.vbp "under 1 s, and peak/read under 16"
 measure_project "$work/sums" Sums.vbp "under 1 s"
+
+write_code "$work/Code.bas" 16777216
+measure_lexer "$work/Code.bas"

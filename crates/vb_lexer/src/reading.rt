@@ -7,7 +7,7 @@ use crate::content::{read_content, shown};
 use crate::faults::{directive, first_fault};
 use std::alloc::Global;
 use up_base::{Fault, Mem, Place};
-use vb_tree::Line;
+use vb_tree::{Line, Tokens};
 
 /// A logical line, and its first fault.
 #[derive(Drop)]
@@ -39,8 +39,17 @@ pub(crate) fn read_line(
     let line = Line {
         place,
         text: shown(alloc, units)?,
-        tokens: content.tokens,
+        tokens: fitted(content.tokens),
         comment: content.comment,
     };
     Ok(Reading { line, fault })
+}
+
+// The same tokens, in no more memory than they fill.
+fn fitted(tokens: Tokens) -> Tokens
+    ensures { result ≡ tokens }
+{
+    let mut items = tokens.into_vec();
+    items.shrink_to_fit();
+    Tokens::from_vec(items)
 }
