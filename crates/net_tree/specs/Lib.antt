@@ -1,5 +1,13 @@
+pub mod Types
 pub mod Tree
 pub mod View
+pub mod Blocks
 pub mod FlatLines
-pub mod Text
 pub mod Run
+pub mod Spelling
+pub mod Comments
+pub mod Literals
+pub mod Expressions
+pub mod Lines
+pub mod Declarations
+pub mod Text

@@ -1,65 +1,14 @@
-//! Projects, modules, procedures and lines.
+//! Modules, projects and their files.
 
-use crate::{NetExpr, NetType, Path};
+use crate::NetMember;
 use up_base::{Bytes, Name, Sequence};
 
-/// A line of a procedure.
-#[derive(Drop)]
-pub enum NetLine {
-    /// `P(ARGS)`
-    Call(Path, Vec<NetExpr>),
-    /// `T = E`
-    Assign(NetExpr, NetExpr),
-}
-
-/// A declaration at the head of a procedure.
-#[derive(Drop)]
-pub enum NetDim {
-    /// `Dim N As T`
-    Local(Name, NetType),
-}
-
-/// A parameter, by value.
-#[derive(Drop)]
-pub struct NetParam {
-    pub name: Name,
-    pub ty: NetType,
-}
-
-/// The head of a procedure.
-#[derive(Drop)]
-pub enum NetHead {
-    /// `Public Sub N(PARAMS)`
-    Sub(Name, Vec<NetParam>),
-}
-
-/// The closing line of a procedure.
-#[derive(Clone, Copy, Debug, PartialEq, Eq)]
-pub enum NetClose {
-    /// `End Sub`
-    EndSub,
-}
-
-/// A procedure.
-#[derive(Drop)]
-pub struct NetProc {
-    pub head: NetHead,
-    /// The declarations of its locals.
-    pub prologue: Vec<NetDim>,
-    pub lines: Vec<NetLine>,
-    pub close: NetClose,
-}
-
-/// What stands in a module.
-#[derive(Drop)]
-pub enum NetMember {
-    Proc(NetProc),
-}
-
-/// A module.
+/// A module: a standard module or a class.
 #[derive(Drop)]
 pub struct NetModule {
     pub name: Name,
+    /// Whether it is a class.
+    pub class: bool,
     pub members: Sequence<NetMember>,
 }
 

@@ -14,7 +14,7 @@ use Rattle.wizard_cli.specs.Held.{IsOfForm}
 use Rattle.wizard_cli.specs.Occurrences.{occurs, line_occurs, written_occurs, written_line_occurs}
 use Rattle.wizard_cli.specs.Written.{written_exp, written_form, written_line, written_procedure, written_module, written}
 use Rattle.wizard_cli.specs.Headline.{Pairs, PrintWritten, LineWritten, ProcedureWritten, ModuleWritten, FilesCorrespond}
-use Rattle.wizard_cli.proofs.Emitting.{and-left, and-right}
+use Rattle.wizard_cli.proofs.Forms.{and_left, and_right}
 use Rattle.wizard_cli.proofs.SameNames.{spelling_compared}
 
 -- each variable occurs as often in what is written for an expression
@@ -28,9 +28,9 @@ assign_occurs : (name : List ℕ) (locals : List (List ℕ)) (target value : Exp
 assign_occurs name locals target value =
     ap (λ n. n + written_occurs name (written_exp locals value)) (occurs_written name locals target) ∙ ap (λ n. occurs name target + n) (occurs_written name locals value)
 
-print_occurs : (name : List ℕ) (locals : List (List ℕ)) (e : Exp) → written_occurs name (written_exp locals e) + 0 ≡ occurs name e
+print_occurs : (name : List ℕ) (locals : List (List ℕ)) (e : Exp) → 0 + (written_occurs name (written_exp locals e) + 0) ≡ occurs name e
 print_occurs name locals e =
-    let alone : written_occurs name (written_exp locals e) + 0 ≡ written_occurs name (written_exp locals e) = omega arith in
+    let alone : 0 + (written_occurs name (written_exp locals e) + 0) ≡ written_occurs name (written_exp locals e) = omega arith in
     alone ∙ occurs_written name locals e
 
 literal_printed : (locals : List (List ℕ)) (l : Literal6) → PrintWritten (lit l) (written_exp locals (lit l))
@@ -56,22 +56,22 @@ lines_more locals names place text _ lines keeps rest = cc
 lines_written : (locals names : List (List ℕ)) (lines : List Line) → are_declared names lines ≡ true → Pairs (λ l k. LineWritten l.form k) (code_lines lines) (map (written_line locals) (code_lines lines))
 lines_written locals names [] declared = tt
 lines_written locals names (l ∷ lines) declared =
-    lines_more locals names l.place l.text l.form lines (and-left (keeps_declared names l.form) (are_declared (declared_after names l.form) lines) declared)
-    (lines_written locals (declared_after names l.form) lines (and-right (keeps_declared names l.form) (are_declared (declared_after names l.form) lines) declared))
+    lines_more locals names l.place l.text l.form lines (and_left (keeps_declared names l.form) (are_declared (declared_after names l.form) lines) declared)
+    (lines_written locals (declared_after names l.form) lines (and_right (keeps_declared names l.form) (are_declared (declared_after names l.form) lines) declared))
 
 procedure_corresponds : (head : Line) (body : Nodes) (close : Line) → are_declared [] (flat_lines body) ≡ true → ProcedureWritten (procedure_of head body close) (written_procedure (procedure_of head body close))
 procedure_corresponds head body close declared = record { head = refl; locals = refl; lines = lines_written _ [] (flat_lines body) declared }
 
-procedures_correspond : (members : List Member) → All IsSub members → list_all is_declared_member members ≡ true → Pairs ProcedureWritten (flat_map procedures_in members) (map net_flat.procedure_in (map (λ p. net.proc (written_procedure p)) (flat_map procedures_in members)))
+procedures_correspond : (members : List Member) → All IsSub members → list_all is_declared_member members ≡ true → Pairs ProcedureWritten (flat_map procedures_in members) (flat_map net_flat.procedures_in (map (λ p. net.proc (written_procedure p)) (flat_map procedures_in members)))
 procedures_correspond [] subs declared = tt
 procedures_correspond (proc head body close ∷ members) subs declared = (
-  procedure_corresponds head body close (and-left (are_declared [] (flat_lines body)) (list_all is_declared_member members) declared),
-  procedures_correspond members (All-tail IsSub (proc head body close) members subs) (and-right (are_declared [] (flat_lines body)) (list_all is_declared_member members) declared),
+  procedure_corresponds head body close (and_left (are_declared [] (flat_lines body)) (list_all is_declared_member members) declared),
+  procedures_correspond members (All-tail IsSub (proc head body close) members subs) (and_right (are_declared [] (flat_lines body)) (list_all is_declared_member members) declared),
 )
 procedures_correspond (m ∷ members) subs declared = absurd (All-head IsSub m members subs)
 
 module_corresponds : (m : Module) → All IsSub m.members → list_all is_declared_member m.members ≡ true → ModuleWritten m (written_module m)
-module_corresponds m subs declared = record { name = refl; procedures = procedures_correspond m.members subs declared }
+module_corresponds m subs declared = record { name = refl; class = refl; procedures = procedures_correspond m.members subs declared }
 
 -- the written project corresponds to the project
 pub correspond_written : (P : Project) → IsOfForm P → FilesCorrespond P (written P)

@@ -9,7 +9,10 @@ use Rattle.vb_tree.specs.Tree.{Line, Nodes, no_nodes, next_node, line, proc, Pro
 use Rattle.vb_tree.specs.Run.{Value, Memory, blank, machine_of}
 use Rattle.net_tree.specs.FlatLines as net_flat
 use Rattle.net_tree.specs.Run as net_run
-use Rattle.net_tree.specs.Text.{line_text, dim_text}
+use Rattle.std.specs.Char.{encode_utf8}
+use Rattle.net_tree.specs.Spelling.{is_bracketed}
+use Rattle.net_tree.specs.Lines.{line_text}
+use Rattle.net_tree.specs.Declarations.{dim_text}
 use Rattle.wizard_cli.specs.Readable.{long, str, Exp, lit, word, binary, Form, sub_head, dim, assign, debug_print, end_sub}
 use Rattle.wizard_cli.specs.ModuleForm.{code_line}
 use Rattle.wizard_cli.specs.Written.{written}
@@ -67,8 +70,9 @@ net_stops = refl
 
 -- the lines that are written
 texts : map line_text (flat_map (λ p. p.lines) (net_flat.procedures_of (written project))) ≡ codes "a = 2147483647" ∷ codes "a = ((a + 1) - a)" ∷ codes "UpgradeSupport.PrintLine(\"never\")" ∷ []
-unfolding digits
+unfolding digits is_bracketed encode_utf8
 texts = refl
 
 declarations : map dim_text (flat_map (λ p. p.prologue) (net_flat.procedures_of (written project))) ≡ codes "Dim a As Integer" ∷ []
+unfolding is_bracketed
 declarations = refl

@@ -17,11 +17,17 @@ use Rattle.vb_tree.specs.Tree.{Line, Member, proc, Module, Project}
 use Rattle.vb_tree.specs.FlatLines.{declared_by, locals_in, code_lines, flat_lines, procedure_of, procedures_in, member_lines, module_lines, name_of}
 use Rattle.wizard_cli.specs.Readable.{long, str, Exp, lit, word, binary, Form, sub_head, dim, assign, debug_print, end_sub, whole_exp, whole_form}
 use Rattle.net_tree.specs.Tree as net
-use Rattle.net_tree.specs.Text.{is_word_part, is_identifier, is_path, is_writable_exp, is_writable_line, is_writable_dim, is_writable_member, is_writable_module, is_main, file_name, module_text, response_text, files_of, IsWritable}
+use Rattle.net_tree.specs.declared.block.NetRole.TheVariants.{Plain}
+use Rattle.net_tree.specs.Blocks.{role_of, nests, nests_in}
+use Rattle.net_tree.specs.Spelling.{is_word_part, is_identifier, is_path}
+use Rattle.net_tree.specs.Expressions.{is_writable_exp}
+use Rattle.net_tree.specs.Lines.{is_writable_line}
+use Rattle.net_tree.specs.Declarations.{is_writable_dim, is_writable_member}
+use Rattle.net_tree.specs.Text.{is_writable_module, is_main, file_name, module_text, response_text, files_of, IsWritable}
 use Rattle.wizard_cli.specs.Lines.{FormLines, no_lines, blank_line, form_line, is_text_unit}
 use Rattle.wizard_cli.specs.ProjectForm.{Setting, type_exe, startup_main, project_name, module_entry, setting_text, IsSetting, is_digit, AreDigits, IsModuleName, entry_at}
 use Rattle.wizard_cli.specs.ModuleForm.{form_text, is_letter, is_variable, IsNumber, IsVariable, IsSum, IsValue, IsText, IsForm, opens, closes, is_inner, IsSub, AreSubs, code_line, HeldModule}
-use Rattle.wizard_cli.specs.Written.{spelling, written_exp, written_local, written_line, written_procedure, written_module, support_module, declares_main, main_of, only, is_library, uses_print_line, written}
+use Rattle.wizard_cli.specs.Written.{spelling, written_exp, written_local, written_form, written_line, written_procedure, written_module, support_module, declares_main, main_of, only, is_library, uses_print_line, written}
 use Rattle.wizard_cli.specs.Held.{IsOfForm}
 use Rattle.wizard_cli.specs.Headline.{in_folder}
 
@@ -187,6 +193,10 @@ spelling_is_identifier (local ∷ locals) name all fine =
       chosen true x y p q = p
       chosen false x y p q = q
 
+or_true : (b : Bool) → (b || true) ≡ true
+or_true true = refl
+or_true false = refl
+
 -- a name is a path that may stand in an expression
 one_name_path : (name : List ℕ) → is_identifier name ≡ true → is_path (name ∷ []) ≡ true
 one_name_path name h = and_both (is_identifier name && true) _ (and_both (is_identifier name) true h refl) (never_both (pointwise nat_eq name (codes "System"))) where
@@ -195,7 +205,7 @@ one_name_path name h = and_both (is_identifier name && true) _ (and_both (is_ide
   never_both false = refl
 
 exp_is_writable : (locals : List (List ℕ)) (e : vb.Exp) → list_all is_identifier locals ≡ true → is_fine_exp e ≡ true → is_writable_exp (written_exp locals e) ≡ true
-exp_is_writable locals (vb.lit (Long (pos n) hexadecimal)) all fine = and_both (not hexadecimal) true fine refl
+exp_is_writable locals (vb.lit (Long (pos n) hexadecimal)) all fine = or_true hexadecimal
 exp_is_writable locals (vb.lit (Long (negsuc n) hexadecimal)) all fine = cc
 exp_is_writable locals (vb.lit (Str units)) all fine = fine
 exp_is_writable locals (vb.word name suffix) all fine = one_name_path (spelling locals name) (spelling_is_identifier locals name all fine)
@@ -240,7 +250,19 @@ head_is_identifier _ o h = cc
 dims_are_writable : (names : List (List ℕ)) → list_all is_identifier names ≡ true → list_all is_writable_dim (map written_local names) ≡ true
 dims_are_writable [] all = refl
 dims_are_writable (name ∷ names) all =
-    and_both (is_identifier name) _ (and_left (is_identifier name) (list_all is_identifier names) all) (dims_are_writable names (and_right (is_identifier name) (list_all is_identifier names) all))
+    and_both ((is_identifier name && true) && true) _ (and_both (is_identifier name && true) true (and_both (is_identifier name) true (and_left (is_identifier name) (list_all is_identifier names) all) refl) refl) (dims_are_writable names (and_right (is_identifier name) (list_all is_identifier names) all))
+
+-- what is written for lines opens, parts and closes no block
+written_is_plain : (locals : List (List ℕ)) (f : vb.Form) → role_of (written_form locals f) ≡ Plain
+written_is_plain locals (vb.assign target value) = refl
+written_is_plain locals (vb.debug_print [] ended) = refl
+written_is_plain locals (vb.debug_print (e ∷ []) ended) = refl
+written_is_plain locals (vb.debug_print (e ∷ d ∷ items) ended) = refl
+written_is_plain locals _ = refl
+
+lines_nest : (locals : List (List ℕ)) (ls : List Line) → nests_in [] (map (written_line locals) ls) ≡ true
+lines_nest locals [] = refl
+lines_nest locals (l ∷ ls) = rw (written_is_plain locals l.form) (lines_nest locals ls)
 
 -- what is written for a Sub
 sub_is_writable : (head : Line) (body : vb.Nodes) (close : Line) → IsSub (proc head body close) → list_all (λ l. is_fine_form l.form) (member_lines (proc head body close)) ≡ true → is_writable_member (net.proc (written_procedure (procedure_of head body close))) ≡ true
@@ -249,11 +271,12 @@ sub_is_writable head body close is all =
     let fine : list_all (λ l. is_fine_form l.form) (flat_lines body) ≡ true = and_left (list_all (λ l. is_fine_form l.form) (flat_lines body)) _ (sym (list_all-append (λ l. is_fine_form l.form) (flat_lines body) (close ∷ [])) ∙ inside) in
     let named = locals_are_identifiers (flat_lines body) fine in
     let locals = locals_in (flat_lines body) in
-    and_both ((is_identifier (name_of head.form) && true) && list_all is_writable_dim (map written_local locals)) (list_all is_writable_line (map (written_line locals) (code_lines (flat_lines body))))
-    (and_both (is_identifier (name_of head.form) && true) (list_all is_writable_dim (map written_local locals))
-    (and_both (is_identifier (name_of head.form)) true (head_is_identifier head.form is.0 (and_left (is_fine_form head.form) _ all)) refl)
-    (dims_are_writable locals named))
-    (lines_are_writable locals (flat_lines body) named is.1 fine)
+    let ls = code_lines (flat_lines body) in
+    let named_head = and_both (is_identifier (name_of head.form)) true (head_is_identifier head.form is.0 (and_left (is_fine_form head.form) _ all)) refl in
+    let closed = and_both (is_identifier (name_of head.form) && true) true named_head refl in
+    let declared = and_both ((is_identifier (name_of head.form) && true) && true) (list_all is_writable_dim (map written_local locals)) closed (dims_are_writable locals named) in
+    let coded = and_both (((is_identifier (name_of head.form) && true) && true) && list_all is_writable_dim (map written_local locals)) (list_all is_writable_line (map (written_line locals) ls)) declared (lines_are_writable locals (flat_lines body) named is.1 fine) in
+    and_both ((((is_identifier (name_of head.form) && true) && true) && list_all is_writable_dim (map written_local locals)) && list_all is_writable_line (map (written_line locals) ls)) (nests (map (written_line locals) ls)) coded (lines_nest locals ls)
 
 members_are_writable : (members : List Member) → All IsSub members → list_all (λ l. is_fine_form l.form) (flat_map member_lines members) ≡ true → list_all is_writable_member (map (λ p. net.proc (written_procedure p)) (flat_map procedures_in members)) ≡ true
 members_are_writable [] subs all = refl
@@ -343,6 +366,7 @@ is_writable P form =
       target = same_target (main_of P.file.startup P.modules);
       modules = subst (λ ms. list_all is_writable_module (map written_module ms ++ support_module (uses_print_line P) ∷ []) ≡ true) (sym form.modules)
           (and_both (is_writable_module (written_module form.m)) _ fine (and_both (is_writable_module (support_module (uses_print_line P))) true (support_is_writable (uses_print_line P)) refl));
+      support = refl;
       file_names = subst (λ ms. list_all (λ m. is_name (file_name m)) (map written_module ms ++ support_module (uses_print_line P) ∷ []) ≡ true) (sym form.modules)
           (and_both (is_name (form.m.name ++ codes ".vb")) _ (module_file_name form.m.name named) refl);
     }

@@ -14,7 +14,6 @@ pub mod Upgrades
 pub mod Unique
 pub mod FirstFaults
 pub mod Complete
-pub mod Emitting
 pub mod ReadingLines
 pub mod ReadingValues
 pub mod ReadingForms

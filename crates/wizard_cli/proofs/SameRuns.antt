@@ -2,7 +2,7 @@
 -- what one line does.
 use Rattle.std.proofs.Common.{◌≡◌, ℕ, zero, suc, true, false, List, [], ◌∷◌, ◌++◌, map, Option, Some, None, refl, sym, ap, ◌∙◌, subst}
 use Rattle.std.specs.Prelude.{slice_get, option_map}
-use Rattle.std.specs.List.{flat_map}
+use Rattle.std.specs.List.{filter, flat_map}
 use Rattle.std.proofs.lemmas.Option.{slice_get-map}
 use Rattle.std.proofs.lemmas.List.{map-append}
 use Rattle.up_base.specs.Running.{printed, Outcome, then, each_made, Frame, first_frame, on_to, Next, goes_on, leaves, line_end, Job, enters, runs, Calls, stepped, follow, line_turn, body_turn, entry, turn, go}
@@ -11,6 +11,7 @@ use Rattle.vb_tree.specs.FlatLines.{Procedure, procedures_of_module, procedures_
 use Rattle.vb_tree.specs.Run.{Value, long, text, Memory, make_local, value_of, print_line, line_does, locals_of, locals_at, machine_of}
 use Rattle.vb_tree.specs.Clean.{IsClean}
 use Rattle.net_tree.specs.Tree as net
+use Rattle.net_tree.specs.Blocks as net_blocks
 use Rattle.net_tree.specs.FlatLines as net_flat
 use Rattle.net_tree.specs.Run as net_run
 use Rattle.wizard_cli.specs.Written.{written_exp, written_form, written_line, written_local, written_procedure, written_module, written}
@@ -42,9 +43,9 @@ module _ (m : ℕ → ℕ) where
   on_agrees f r r' h = then_agrees m (λ a b. Unit {0}) (NextMatch m) r r' _ _ h (λ a b s t e h. (refl, record { same_line = refl; cells = refl }, h))
 
   -- a print of one item
-  item_agrees : (locals : List (List ℕ)) (f : Frame) (e : Exp) (s : Memory) (t : net_run.Memory) → MemoryMatch m s t → Agrees m (λ a b. Unit {0}) (then (value_of locals f.vars e s) print_line) (then (net_run.values_of locals (map m f.vars) (written_exp locals e ∷ []) t) (net_run.called net_run.print_line_path))
+  item_agrees : (locals : List (List ℕ)) (f : Frame) (e : Exp) (s : Memory) (t : net_run.Memory) → MemoryMatch m s t → Agrees m (λ a b. Unit {0}) (then (value_of locals f.vars e s) print_line) (then (net_run.values_of locals (map m f.vars) (net.next_exp (written_exp locals e) net.no_exps) t) (net_run.called net_run.print_line_path))
   item_agrees locals f e s t h =
-      then_agrees m (λ v us. (u : net_run.Value) × (us ≡ u ∷ []) × ValueMatch v u) (λ a b. Unit {0}) (value_of locals f.vars e s) (net_run.values_of locals (map m f.vars) (written_exp locals e ∷ []) t) _ _
+      then_agrees m (λ v us. (u : net_run.Value) × (us ≡ u ∷ []) × ValueMatch v u) (λ a b. Unit {0}) (value_of locals f.vars e s) (net_run.values_of locals (map m f.vars) (net.next_exp (written_exp locals e) net.no_exps) t) _ _
       (mapped_agrees m ValueMatch (λ v us. (u : net_run.Value) × (us ≡ u ∷ []) × ValueMatch v u) (λ u. u ∷ []) (value_of locals f.vars e s) (net_run.value_of locals (map m f.vars) (written_exp locals e) t) (λ v u e. (u, refl, e)) (value_agrees m locals f.vars e s t h))
       (λ v us s t e h. print_agrees v us s t e h)
 
@@ -76,7 +77,7 @@ step_agrees m P N R go_on go_on' s t h agree (suc n) = agree (record s { left = 
 abbrev written_lines : List (List ℕ) → List Line → List net.Line
 written_lines locals ls = map (written_line locals) ls
 
-members_written : (ps : List Procedure) → map net_flat.procedure_in (map (λ p. net.proc (written_procedure p)) ps) ≡ map written_procedure ps
+members_written : (ps : List Procedure) → flat_map net_flat.procedures_in (map (λ p. net.proc (written_procedure p)) ps) ≡ map written_procedure ps
 members_written [] = refl
 members_written (p ∷ ps) = ap (λ rest. written_procedure p ∷ rest) (members_written ps)
 
@@ -85,9 +86,21 @@ procedures_written : (modules : List Module) → flat_map net_flat.procedures_of
 procedures_written [] = refl
 procedures_written (m ∷ modules) = simp map-append (cc (members_written (procedures_of_module m), procedures_written modules))
 
-body_of_written : (o : Option Procedure) → option_map (λ p. p.lines) (option_map written_procedure o) ≡ option_map (written_lines (locals_of o)) (option_map (λ p. p.lines) o)
+-- what is written for a line is no comment
+is_code_written : (locals : List (List ℕ)) (f : Form) → net_blocks.is_code (written_form locals f) ≡ true
+is_code_written locals (assign target value) = refl
+is_code_written locals (debug_print [] ended) = refl
+is_code_written locals (debug_print (e ∷ []) ended) = refl
+is_code_written locals (debug_print (e ∷ d ∷ items) ended) = refl
+is_code_written locals _ = refl
+
+code_written : (locals : List (List ℕ)) (ls : List Line) → filter net_blocks.is_code (written_lines locals ls) ≡ written_lines locals ls
+code_written locals [] = refl
+code_written locals (l ∷ ls) = rw (is_code_written locals l.form) (ap (λ rest. written_line locals l ∷ rest) (code_written locals ls))
+
+body_of_written : (o : Option Procedure) → option_map net_flat.code_lines (option_map written_procedure o) ≡ option_map (written_lines (locals_of o)) (option_map (λ p. p.lines) o)
 body_of_written None = refl
-body_of_written (Some p) = refl
+body_of_written (Some p) = ap Some (code_written p.locals p.lines)
 
 prologue_of_written : (o : Option Procedure) → net_run.prologue_of (option_map written_procedure o) ≡ map written_local (locals_of o)
 prologue_of_written None = refl
@@ -100,9 +113,9 @@ module _ (m : ℕ → ℕ) (P : Project) (N : net.Project) (same : net_flat.proc
   procedure_at : (p : ℕ) → slice_get (net_flat.procedures_of N) p ≡ option_map written_procedure (slice_get (procedures_of P) p)
   procedure_at p = ap (λ ps. slice_get ps p) same ∙ slice_get-map written_procedure (procedures_of P) p
 
-  body_at : (p : ℕ) → slice_get (map (λ q. q.lines) (net_flat.procedures_of N)) p ≡ option_map (written_lines (locals_at P p)) (slice_get (map (λ q. q.lines) (procedures_of P)) p)
+  body_at : (p : ℕ) → slice_get (map net_flat.code_lines (net_flat.procedures_of N)) p ≡ option_map (written_lines (locals_at P p)) (slice_get (map (λ q. q.lines) (procedures_of P)) p)
   body_at p =
-      slice_get-map (λ q. q.lines) (net_flat.procedures_of N) p ∙ ap (option_map (λ q. q.lines)) (procedure_at p) ∙ body_of_written (slice_get (procedures_of P) p)
+      slice_get-map net_flat.code_lines (net_flat.procedures_of N) p ∙ ap (option_map net_flat.code_lines) (procedure_at p) ∙ body_of_written (slice_get (procedures_of P) p)
       ∙ ap (option_map (written_lines (locals_at P p))) (sym (slice_get-map (λ q. q.lines) (procedures_of P) p))
 
   prologue_at : (p : ℕ) → net_run.prologue_at N p ≡ map written_local (locals_at P p)

@@ -129,10 +129,10 @@ module _ (m : ℕ → ℕ) where
       subst (λ u. Agrees m ValueMatch (operate op x y s) (net_run.operated (written_operator op) u (net_run.integer y') t)) (ap net_run.integer (sym e))
       (subst (λ u. Agrees m ValueMatch (operate op x y s) (net_run.operated (written_operator op) (net_run.integer x) u t)) (ap net_run.integer (sym f)) (numbers_agree op x y s t h))
 
-  literal_agrees : (l : Literal6) (s : Memory) (t : net_run.Memory) → MemoryMatch m s t → Agrees m ValueMatch (literal_does l s) (gives [] (net_run.literal_value (written_literal l)) t)
+  literal_agrees : (l : Literal6) (s : Memory) (t : net_run.Memory) → MemoryMatch m s t → Agrees m ValueMatch (literal_does l s) (net_run.literal_does (written_literal l) t)
   literal_agrees (Long z hexadecimal) s t h = (refl, refl, h)
   literal_agrees (Str units) s t h = (refl, refl, h)
-  literal_agrees l s t h = outside_agrees m ValueMatch (gives [] (net_run.literal_value (written_literal l)) t)
+  literal_agrees l s t h = outside_agrees m ValueMatch (net_run.literal_does (written_literal l) t)
 
   -- one expression and what is written for it
   pub value_agrees : (locals : List (List ℕ)) (places : List ℕ) (e : Exp) (s : Memory) (t : net_run.Memory) → MemoryMatch m s t → Agrees m ValueMatch (value_of locals places e s) (net_run.value_of locals (map m places) (written_exp locals e) t)

@@ -5,14 +5,15 @@ use Rattle.vb_tree.specs.declared.token.Literal6.TheVariants.{Str}
 use Rattle.vb_tree.specs.Tree.{Exp, lit, Form, assign, debug_print, Module, Project}
 use Rattle.vb_tree.specs.FlatLines.{Procedure, procedures_of_module, name_of}
 use Rattle.vb_tree.specs.Clean.{IsClean}
-use Rattle.net_tree.specs.declared.expression.NetType.TheVariants.{Integer}
+use Rattle.net_tree.specs.declared.declaration.NetVisibility.TheVariants.{Public}
 use Rattle.net_tree.specs.Tree as net
+use Rattle.net_tree.specs.Types as ty
 use Rattle.net_tree.specs.FlatLines as net_flat
 use Rattle.net_tree.specs.Run.{print_line_path}
 use Rattle.net_tree.specs.Text.{files_of, NetText}
 use Rattle.wizard_cli.specs.Report.{no_issues_report}
 use Rattle.wizard_cli.specs.Occurrences.{line_occurs, written_line_occurs}
-use Rattle.wizard_cli.specs.Written.{main_of, support_module, uses_print_line}
+use Rattle.wizard_cli.specs.Written.{call_with, main_of, support_module, uses_print_line}
 use Rattle.wizard_cli.specs.SameRun.{SameRun}
 use Rattle.wizard_cli.specs.Held.{HeldProject}
 
@@ -31,7 +32,7 @@ PrintWritten _ x = Unit {0}
 -- the written variant of a code line's form; so far there are assignments and prints of one item
 abbrev pub FormWritten : Form → net.Line → Type 0
 FormWritten (assign target value) k = (t x : net.Exp) × (k ≡ net.assign t x)
-FormWritten (debug_print (e ∷ []) ended) k = (x : net.Exp) × (k ≡ net.call print_line_path (x ∷ [])) × PrintWritten e x
+FormWritten (debug_print (e ∷ []) ended) k = (x : net.Exp) × (k ≡ call_with print_line_path x) × PrintWritten e x
 FormWritten _ k = ⊥
 
 -- the line has the written variant, and in it each variable occurs as often
@@ -42,13 +43,14 @@ pub record LineWritten (l : Form) (k : net.Line) : Type 0 where
 -- The written procedure has the name and no parameter, declares each local once as an Integer, in order, and has one line
 -- for each code line.
 pub record ProcedureWritten (p : Procedure) (q : net.Procedure) : Type 0 where
-  pub head : q.head ≡ net.sub (name_of p.head.form) []
-  pub locals : q.prologue ≡ map (λ name. net.local name Integer) p.locals
+  pub head : q.head ≡ net.sub Public (name_of p.head.form) []
+  pub locals : q.prologue ≡ map (λ name. net.local (record { name = name; ty = ty.integer; value = None })) p.locals
   pub lines : Pairs (λ l k. LineWritten l.form k) p.lines q.lines
 
--- the written module has the name, and the procedures in order
+-- the written module has the name and the kind, and the procedures in order
 pub record ModuleWritten (m : Module) (n : net.Module) : Type 0 where
   pub name : n.name ≡ m.name
+  pub class : n.class ≡ m.class
   pub procedures : Pairs ProcedureWritten (procedures_of_module m) (net_flat.procedures_of_module n)
 
 -- The written project has the modules in order, the support functions that are used, and starts where the project does.

@@ -25,15 +25,30 @@ path_occurs name [] = 0
 path_occurs name (other ∷ []) = once other name
 path_occurs name (other ∷ member ∷ members) = 0
 
-abbrev pub written_occurs : List ℕ → net.Exp → ℕ
-written_occurs name (net.lit l) = 0
-written_occurs name (net.path names) = path_occurs name names
-written_occurs name (net.binary op a b) = written_occurs name a + written_occurs name b
+abbrev mutual
+  pub written_occurs : List ℕ → net.Exp → ℕ
+  written_occurs name (net.lit l) = 0
+  written_occurs name net.nothing = 0
+  written_occurs name net.me = 0
+  written_occurs name (net.path names) = path_occurs name names
+  written_occurs name (net.with_dot member) = 0
+  written_occurs name (net.dot a member) = written_occurs name a
+  written_occurs name (net.call_of a arguments) = written_occurs name a + all_occur name arguments
+  written_occurs name (net.cast w a) = written_occurs name a
+  written_occurs name (net.ctype a t) = written_occurs name a
+  written_occurs name (net.unary op a) = written_occurs name a
+  written_occurs name (net.binary op a b) = written_occurs name a + written_occurs name b
+  written_occurs name (net.paren a) = written_occurs name a
+  written_occurs name (net.new_object t arguments) = all_occur name arguments
+  written_occurs name (net.new_array t bounds) = all_occur name bounds
+  written_occurs name (net.type_of a t) = written_occurs name a
 
-abbrev pub all_occur : List ℕ → List net.Exp → ℕ
-all_occur name [] = 0
-all_occur name (e ∷ es) = written_occurs name e + all_occur name es
+  pub all_occur : List ℕ → net.Exps → ℕ
+  all_occur name net.no_exps = 0
+  all_occur name (net.next_exp e es) = written_occurs name e + all_occur name es
 
+-- so far no other lines are written
 abbrev pub written_line_occurs : List ℕ → net.Line → ℕ
-written_line_occurs name (net.call callee arguments) = all_occur name arguments
+written_line_occurs name (net.call callee arguments) = written_occurs name callee + all_occur name arguments
 written_line_occurs name (net.assign target value) = written_occurs name target + written_occurs name value
+written_line_occurs name _ = 0

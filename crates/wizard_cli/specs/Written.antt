@@ -10,9 +10,11 @@ use Rattle.vb_tree.specs.Tree.{Exp, lit, word, binary, Form, sub_head, assign, d
 use Rattle.vb_tree.specs.FlatLines.{Procedure, procedures_of_module, name_of}
 use Rattle.net_tree.specs.declared.expression.NetBin.{NetBin}
 use Rattle.net_tree.specs.declared.expression.NetBin.TheVariants as net_op
-use Rattle.net_tree.specs.declared.expression.NetType.TheVariants.{Integer, Str}
-use Rattle.net_tree.specs.declared.project.NetClose.TheVariants.{EndSub}
+use Rattle.net_tree.specs.declared.declaration.NetClose.TheVariants.{EndSub}
+use Rattle.net_tree.specs.declared.declaration.NetPassing.TheVariants as passing
+use Rattle.net_tree.specs.declared.declaration.NetVisibility.TheVariants.{Public}
 use Rattle.net_tree.specs.Tree as net
+use Rattle.net_tree.specs.Types as ty
 use Rattle.net_tree.specs.Run.{print_line_path}
 
 -- What can't be read yet has nothing that is written for it: below, the number 0, a sum or the empty call stands there, so
@@ -39,36 +41,40 @@ written_exp locals (word name suffix) = net.path (spelling locals name ∷ [])
 written_exp locals (binary operator a b) = net.binary (written_operator operator) (written_exp locals a) (written_exp locals b)
 written_exp locals _ = net.lit (net.integer (pos 0) false)
 
+-- the call of a path with one argument
+abbrev pub call_with : List (List ℕ) → net.Exp → net.Line
+call_with callee argument = net.call (net.path callee) (net.next_exp argument net.no_exps)
+
 -- the line that is written for a code line of a body
 abbrev pub written_form : List (List ℕ) → Form → net.Line
 written_form locals (assign target value) = net.assign (written_exp locals target) (written_exp locals value)
-written_form locals (debug_print (e ∷ []) ended) = net.call print_line_path (written_exp locals e ∷ [])
-written_form locals _ = net.call [] []
+written_form locals (debug_print (e ∷ []) ended) = call_with print_line_path (written_exp locals e)
+written_form locals _ = net.call (net.path []) net.no_exps
 
 abbrev pub written_line : List (List ℕ) → Line → net.Line
 written_line locals l = written_form locals l.form
 
 -- a Long local is declared as an Integer
 abbrev pub written_local : List ℕ → net.Dim
-written_local name = net.local name Integer
+written_local name = net.local (record { name = name; ty = ty.integer; value = None })
 
 abbrev pub written_procedure : Procedure → net.Procedure
 written_procedure p = record {
-  head = net.sub (name_of p.head.form) [];
+  head = net.sub Public (name_of p.head.form) [];
   prologue = map written_local p.locals;
   lines = map (written_line p.locals) p.lines;
   close = EndSub;
 }
 
 abbrev pub written_module : Module → net.Module
-written_module m = record { name = m.name; members = map (λ p. net.proc (written_procedure p)) (procedures_of_module m) }
+written_module m = record { name = m.name; class = m.class; members = map (λ p. net.proc (written_procedure p)) (procedures_of_module m) }
 
 -- the text of the support function PrintLine
 abbrev pub print_line_text : net.Procedure
 print_line_text = record {
-  head = net.sub (codes "PrintLine") (record { name = codes "s"; ty = Str } ∷ []);
+  head = net.sub Public (codes "PrintLine") (record { passing = passing.Value; name = codes "s"; ty = ty.str } ∷ []);
   prologue = [];
-  lines = net.call (codes "System" ∷ codes "Console" ∷ codes "WriteLine" ∷ []) (net.path (codes "s" ∷ []) ∷ []) ∷ [];
+  lines = call_with (codes "System" ∷ codes "Console" ∷ codes "WriteLine" ∷ []) (net.path (codes "s" ∷ [])) ∷ [];
   close = EndSub;
 }
 
@@ -79,7 +85,7 @@ prints _ = false
 
 -- the module of the support functions that are used
 abbrev pub support_module : Bool → net.Module
-support_module used = record { name = codes "UpgradeSupport"; members = cond used (net.proc print_line_text ∷ []) [] }
+support_module used = record { name = codes "UpgradeSupport"; class = false; members = cond used (net.proc print_line_text ∷ []) [] }
 
 abbrev pub uses_print_line_in : Procedure → Bool
 uses_print_line_in p = list_any (λ l. prints l.form) p.lines

@@ -12,7 +12,6 @@ ghost use Rattle.wizard_cli.specs.Headline.{IsUpgraded};
 ghost use Rattle.wizard_cli.specs.Runs.{IsAnswer, Concludes, IsRefusedFor};
 
 mod answer;
-mod emitter;
 mod loading;
 mod message;
 mod reader;

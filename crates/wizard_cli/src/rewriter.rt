@@ -8,13 +8,14 @@ ghost use Rattle.vb_tree.specs.Blocks.{is_code};
 ghost use Rattle.vb_tree.specs.FlatLines.{declared_by, locals_in, code_lines, procedures_in, name_of};
 ghost use Rattle.net_tree.specs.View as net;
 ghost use Rattle.net_tree.specs.Tree as net_tree;
+ghost use Rattle.net_tree.specs.declared.declaration.NetVisibility.TheVariants.{Public};
 ghost use Rattle.net_tree.specs.Run.{print_line_path};
 ghost use Rattle.wizard_cli.specs.ModuleForm.{opens, IsSub, AreSubs};
-ghost use Rattle.wizard_cli.specs.Written.{written, spelling, written_operator, written_exp, written_literal, written_local, written_form, written_line, written_procedure, written_module, support_module, print_line_text, prints, uses_print_line_in, module_uses_print_line, uses_print_line, is_main_head, is_main, declares_main, only, main_of};
+ghost use Rattle.wizard_cli.specs.Written.{written, call_with, spelling, written_operator, written_exp, written_literal, written_local, written_form, written_line, written_procedure, written_module, support_module, print_line_text, prints, uses_print_line_in, module_uses_print_line, uses_print_line, is_main_head, is_main, declares_main, only, main_of};
 
 use net_tree::{
     NetBin, NetClose, NetDim, NetExpr, NetHead, NetLine, NetLit, NetMember, NetModule, NetParam,
-    NetProc, NetProject, NetType, Path,
+    NetPassing, NetProc, NetProject, NetType, NetVariable, NetVisibility, Path,
 };
 use std::alloc::Global;
 use up_base::{Mem, Name, Sequence, Wide};
@@ -45,10 +46,12 @@ fn rewrite_module(alloc: Global, source: &Module6) -> Result<NetModule, Mem>
 {
     let mut members = Sequence::new(alloc);
     for member in source.members.as_slice() {
-        members.push(NetMember::Proc(rewrite_member(alloc, member)?))?;
+        let procedure = Box::new(alloc, rewrite_member(alloc, member)?)?;
+        members.push(NetMember::Proc(procedure))?;
     }
     Ok(NetModule {
         name: source.name.copy(alloc)?,
+        class: source.class,
         members,
     })
 }
@@ -75,12 +78,12 @@ fn rewrite_member(alloc: Global, member: &Member6) -> Result<NetProc, Mem>
 
 fn rewrite_head(alloc: Global, head: &CodeLine) -> Result<NetHead, Mem>
     requires { opens (vb.form_of head.now.form.value) ≡ true }
-    ensures { IfOk result (λ tree. net.head_of tree ≡ net_tree.sub (name_of (vb.form_of head.now.form.value)) []) }
+    ensures { IfOk result (λ tree. net.head_of tree ≡ net_tree.sub Public (name_of (vb.form_of head.now.form.value)) []) }
 {
     match &*head.form {
         Form6::SubHead(signature) => {
             let name = signature.name.copy(alloc)?;
-            Ok(NetHead::Sub(name, Vec::new(alloc)))
+            Ok(NetHead::Sub(NetVisibility::Public, name, Vec::new(alloc)))
         }
         _ => unreachable!(),
     }
@@ -116,7 +119,11 @@ fn declarations(alloc: Global, locals: &[Name]) -> Result<Vec<NetDim>, Mem>
 {
     let mut prologue = Vec::with_capacity(alloc, locals.len())?;
     for name in locals {
-        prologue.push(NetDim::Local(name.copy(alloc)?, NetType::Integer))?;
+        prologue.push(NetDim::Local(NetVariable {
+            name: name.copy(alloc)?,
+            ty: NetType::Integer,
+            value: None,
+        }))?;
     }
     Ok(prologue)
 }
@@ -141,7 +148,7 @@ fn rewrite_form(alloc: Global, locals: &[Name], form: &Form6) -> Result<NetLine,
         Form6::Assign(target, value) => {
             let target = rewrite_expr(alloc, locals, target)?;
             let value = rewrite_expr(alloc, locals, value)?;
-            Ok(NetLine::Assign(target, value))
+            Ok(NetLine::Assign(Box::new(alloc, target)?, Box::new(alloc, value)?))
         }
         Form6::DebugPrint(items, _) => rewrite_print(alloc, locals, items.as_slice()),
         _ => nothing_written(alloc),
@@ -159,19 +166,28 @@ fn rewrite_print(alloc: Global, locals: &[Name], items: &[Expr6]) -> Result<NetL
 
 // The empty call.
 fn nothing_written(alloc: Global) -> Result<NetLine, Mem>
-    ensures { IfOk result (λ line. net.line_of line ≡ net_tree.call [] []) }
+    ensures { IfOk result (λ line. net.line_of line ≡ net_tree.call (net_tree.path []) net_tree.no_exps) }
 {
-    Ok(NetLine::Call(Path::new(alloc), Vec::new(alloc)))
+    let nothing = Box::new(alloc, NetExpr::Path(Path::new(alloc)))?;
+    Ok(NetLine::Call(nothing, Sequence::new(alloc)))
 }
 
 // The call of the support function PrintLine.
 fn print_line(alloc: Global, argument: NetExpr) -> Result<NetLine, Mem>
-    ensures { IfOk result (λ line. net.line_of line ≡ net_tree.call print_line_path (net.exp_of argument ∷ [])) }
+    ensures { IfOk result (λ line. net.line_of line ≡ call_with print_line_path (net.exp_of argument)) }
 {
     let callee = path_of(alloc, b"UpgradeSupport", b"PrintLine")?;
+    call_with(alloc, callee, argument)
+}
+
+// The call of a path with one argument.
+fn call_with(alloc: Global, callee: Path, argument: NetExpr) -> Result<NetLine, Mem>
+    ensures { IfOk result (λ line. net.line_of line ≡ call_with callee (net.exp_of argument)) }
+{
     let mut arguments = Vec::with_capacity(alloc, 1)?;
     arguments.push(argument)?;
-    Ok(NetLine::Call(callee, arguments))
+    let callee = Box::new(alloc, NetExpr::Path(callee))?;
+    Ok(NetLine::Call(callee, Sequence::from_vec(arguments)))
 }
 
 // The path of two names.
@@ -300,10 +316,12 @@ fn support_of(alloc: Global, used: bool) -> Result<NetModule, Mem>
 {
     let mut members = Sequence::new(alloc);
     if used {
-        members.push(NetMember::Proc(print_line_procedure(alloc)?))?;
+        let procedure = Box::new(alloc, print_line_procedure(alloc)?)?;
+        members.push(NetMember::Proc(procedure))?;
     }
     Ok(NetModule {
         name: Name::from_valid(alloc, b"UpgradeSupport")?,
+        class: false,
         members,
     })
 }
@@ -313,13 +331,18 @@ fn print_line_procedure(alloc: Global) -> Result<NetProc, Mem>
 {
     let mut params = Vec::with_capacity(alloc, 1)?;
     params.push(NetParam {
+        passing: NetPassing::Value,
         name: Name::from_valid(alloc, b"s")?,
         ty: NetType::Str,
     })?;
     let mut lines = Vec::with_capacity(alloc, 1)?;
     lines.push(write_line(alloc)?)?;
     Ok(NetProc {
-        head: NetHead::Sub(Name::from_valid(alloc, b"PrintLine")?, params),
+        head: NetHead::Sub(
+            NetVisibility::Public,
+            Name::from_valid(alloc, b"PrintLine")?,
+            params,
+        ),
         prologue: Vec::new(alloc),
         lines,
         close: NetClose::EndSub,
@@ -328,15 +351,13 @@ fn print_line_procedure(alloc: Global) -> Result<NetProc, Mem>
 
 // `System.Console.WriteLine(s)`
 fn write_line(alloc: Global) -> Result<NetLine, Mem>
-    ensures { IfOk result (λ line. net.line_of line ≡ net_tree.call (codes "System" ∷ codes "Console" ∷ codes "WriteLine" ∷ []) (net_tree.path (codes "s" ∷ []) ∷ [])) }
+    ensures { IfOk result (λ line. net.line_of line ≡ call_with (codes "System" ∷ codes "Console" ∷ codes "WriteLine" ∷ []) (net_tree.path (codes "s" ∷ []))) }
 {
     let mut callee = path_of(alloc, b"System", b"Console")?;
     callee.push(Name::from_valid(alloc, b"WriteLine")?)?;
     let mut s = Path::new(alloc);
     s.push(Name::from_valid(alloc, b"s")?)?;
-    let mut arguments = Vec::with_capacity(alloc, 1)?;
-    arguments.push(NetExpr::Path(s))?;
-    Ok(NetLine::Call(callee, arguments))
+    call_with(alloc, callee, NetExpr::Path(s))
 }
 
 // The module that a program starts in: the only one that has Sub Main, where the project starts with it.

@@ -11,12 +11,12 @@ ghost use Rattle.wizard_cli.specs.Headline.{in_folder, put_order};
 ghost use Rattle.wizard_cli.specs.Runs.{IsAnswer, OnFault, PutAnswer};
 
 use crate::answer::Answer;
-use crate::emitter::emit;
 use crate::loading::load_project;
 use crate::report::report;
 use crate::rewriter::rewrite;
 use crate::words::{Words, WordsFail, file_to_upgrade};
 use crate::writing::{folder_name, move_into_folder, put_all};
+use net_emitter::emit;
 use net_tree::NetProject;
 use std::alloc::Global;
 use up_base::{Bytes, Folder, Mem, Name, Outlet};

@@ -1,0 +1,178 @@
+//! The written files of a project.
+ghost use Rattle.std.specs.Prelude.{◌≡◌, ◌++◌, ◌∷◌, [], true, map, codes, IfOk, OnOk};
+ghost use Rattle.std.specs.List.{flat_map};
+ghost use Rattle.up_base.specs.Names.{is_name};
+ghost use Rattle.net_tree.specs.View.{module_of, project_of, member_of};
+ghost use Rattle.net_tree.specs.Spelling.{at_depth, name_text};
+ghost use Rattle.net_tree.specs.Declarations.{member_text};
+ghost use Rattle.net_tree.specs.Text.{byte_order_mark, note_text, options_text, kind_text, module_text, target_text, main_text, file_name};
+ghost use Rattle.net_tree.specs.Text.{written_modules, response_text, files_of, IsWritable};
+
+use crate::declarations::write_members;
+use crate::layout::{end_line, write_line};
+use crate::names::write_name;
+use net_tree::{NetFiles, NetModule, NetProject};
+use std::alloc::Global;
+use up_base::{Bytes, Mem, Name, Sequence};
+
+/// The files that stand for a project: those of its modules, of its support module, and the compiler's response file.
+pub fn emit(alloc: Global, project: &NetProject) -> Result<NetFiles, Mem>
+    requires { IsWritable (project_of project.now) }
+    ensures { IfOk result (λ files. files ≡ files_of (project_of project.now)) }
+{
+    let mut files = Sequence::new(alloc);
+    for net_module in project.modules.as_slice() {
+        files.push(module_file(alloc, &project.note, net_module)?)?;
+    }
+    files.push(module_file(alloc, &project.note, &project.support)?)?;
+    files.push(response_file(alloc, project)?)?;
+    Ok(files)
+}
+
+// The file of a module.
+fn module_file(
+    alloc: Global,
+    note: &Option<Bytes>,
+    net_module: &NetModule,
+) -> Result<(Name, Bytes), Mem>
+    requires { is_name (file_name (module_of net_module.now)) ≡ true }
+    ensures { let m = module_of net_module.now in IfOk result (λ file. file ≡ (file_name m, module_text note.now m)) }
+{
+    let mut name = Sequence::new(alloc);
+    write_file_name(&mut name, net_module)?;
+    let mut text = Sequence::new(alloc);
+    write_module(&mut text, note, net_module)?;
+    Ok((Name::from_valid(alloc, name.as_slice())?, text))
+}
+
+// The compiler's response file.
+fn response_file(alloc: Global, project: &NetProject) -> Result<(Name, Bytes), Mem>
+    ensures { IfOk result (λ file. file ≡ (codes "upgrade.rsp", response_text (project_of project.now))) }
+{
+    let mut text = Sequence::new(alloc);
+    write_response(&mut text, project)?;
+    Ok((Name::from_valid(alloc, b"upgrade.rsp")?, text))
+}
+
+fn write_file_name(out: &mut Bytes, net_module: &NetModule) -> Result<(), Mem>
+    ensures { OnOk result (out.new ≡ out.old ++ file_name (module_of net_module.now)) }
+{
+    out.extend_from_slice(net_module.name.as_bytes())?;
+    out.extend_from_slice(b".vb")
+}
+
+// Writes the comment at the head of a file, where there is one.
+fn write_note(out: &mut Bytes, note: &Option<Bytes>) -> Result<(), Mem>
+    ensures { OnOk result (out.new ≡ out.old ++ note_text note.now) }
+{
+    let Some(note) = note else {
+        return Ok(());
+    };
+    out.extend_from_slice(b"' ")?;
+    out.extend_from_slice(note.as_slice())?;
+    end_line(out)
+}
+
+fn write_options(out: &mut Bytes) -> Result<(), Mem>
+    ensures { OnOk result (out.new ≡ out.old ++ options_text) }
+{
+    write_line(out, 0, b"Option Explicit On")?;
+    write_line(out, 0, b"Option Strict Off")?;
+    write_line(out, 0, b"Option Compare Binary")
+}
+
+// Writes the word of a class or of a standard module.
+fn write_kind(out: &mut Bytes, class: bool) -> Result<(), Mem>
+    ensures { OnOk result (out.new ≡ out.old ++ kind_text class) }
+{
+    if class {
+        return out.extend_from_slice(b"Class");
+    }
+    out.extend_from_slice(b"Module")
+}
+
+fn write_opening(out: &mut Bytes, net_module: &NetModule) -> Result<(), Mem>
+    ensures { OnOk result (out.new ≡ out.old
+        ++ at_depth 0 (codes "Public " ++ kind_text net_module.now.class ++ codes " " ++ name_text net_module.now.name)) }
+{
+    out.extend_from_slice(b"Public ")?;
+    write_kind(out, net_module.class)?;
+    out.push(b' ')?;
+    write_name(out, &net_module.name)?;
+    end_line(out)
+}
+
+fn write_ending(out: &mut Bytes, net_module: &NetModule) -> Result<(), Mem>
+    ensures { OnOk result (out.new ≡ out.old ++ at_depth 0 (codes "End " ++ kind_text net_module.now.class)) }
+{
+    out.extend_from_slice(b"End ")?;
+    write_kind(out, net_module.class)?;
+    end_line(out)
+}
+
+// Writes what stands before the name of a module.
+fn write_preamble(out: &mut Bytes, note: &Option<Bytes>) -> Result<(), Mem>
+    ensures { OnOk result (out.new ≡ out.old ++ byte_order_mark ++ note_text note.now ++ options_text) }
+{
+    out.extend_from_slice(b"\xEF\xBB\xBF")?;
+    write_note(out, note)?;
+    write_options(out)
+}
+
+fn write_module(out: &mut Bytes, note: &Option<Bytes>, net_module: &NetModule) -> Result<(), Mem>
+    ensures { OnOk result (out.new ≡ out.old ++ module_text note.now (module_of net_module.now)) }
+{
+    write_preamble(out, note)?;
+    write_opening(out, net_module)?;
+    write_members(out, net_module.members.as_slice())?;
+    write_ending(out, net_module)
+}
+
+fn write_target(out: &mut Bytes, library: bool) -> Result<(), Mem>
+    ensures { OnOk result (out.new ≡ out.old ++ at_depth 0 (target_text library)) }
+{
+    if library {
+        write_line(out, 0, b"/target:library")
+    } else {
+        write_line(out, 0, b"/target:exe")
+    }
+}
+
+fn write_main(out: &mut Bytes, main: &Option<Name>) -> Result<(), Mem>
+    ensures { OnOk result (out.new ≡ out.old ++ main_text main.now) }
+{
+    let Some(name) = main else {
+        return Ok(());
+    };
+    out.extend_from_slice(b"/main:")?;
+    out.extend_from_slice(name.as_bytes())?;
+    end_line(out)
+}
+
+// Writes the line of a module's file.
+fn write_source(out: &mut Bytes, net_module: &NetModule) -> Result<(), Mem>
+    ensures { OnOk result (out.new ≡ out.old ++ at_depth 0 (file_name (module_of net_module.now))) }
+{
+    write_file_name(out, net_module)?;
+    end_line(out)
+}
+
+fn write_sources(out: &mut Bytes, project: &NetProject) -> Result<(), Mem>
+    ensures { OnOk result (out.new ≡ out.old
+        ++ flat_map (λ m. at_depth 0 (file_name m)) (written_modules (project_of project.now))) }
+{
+    for net_module in project.modules.as_slice() {
+        write_source(out, net_module)?;
+    }
+    write_source(out, &project.support)
+}
+
+fn write_response(out: &mut Bytes, project: &NetProject) -> Result<(), Mem>
+    ensures { OnOk result (out.new ≡ out.old ++ response_text (project_of project.now)) }
+{
+    write_target(out, project.library)?;
+    write_main(out, &project.main)?;
+    write_line(out, 0, b"/optionexplicit+")?;
+    write_line(out, 0, b"/optionstrict-")?;
+    write_sources(out, project)
+}

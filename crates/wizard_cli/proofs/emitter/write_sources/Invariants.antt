@@ -1,8 +1,0 @@
-use Rattle.std.proofs.Common.{◌≡◌, ◌++◌, map, take}
-use Rattle.std.specs.List.{flat_map}
-use Rattle.net_tree.specs.View.{module_of}
-use Rattle.net_tree.specs.Text.{at_depth, file_name}
-use Rattle.wizard_cli.proofs.emitter.write_sources.Given as goal
-
-abbrev pub invariant-loop-net_module : goal.invariant-loop-net_module
-invariant-loop-net_module l = l.out ≡ l.initial.out ++ flat_map (λ m. at_depth 0 (file_name m)) (map module_of (take l.net_module-index l.net_module-items))
