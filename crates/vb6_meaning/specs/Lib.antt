@@ -1,0 +1,10 @@
+pub mod Answers
+pub mod Rounding
+pub mod Bits
+pub mod Kinds
+pub mod Numbers
+pub mod NumberTexts
+pub mod Values
+pub mod Library
+pub mod Results
+pub mod Rows
