@@ -1,0 +1,7 @@
+use Rattle.net_meaning.proofs.Scales.{sum_beyond}
+use Rattle.net_meaning.proofs.decimal.sum.Goals as goal
+
+pub returns-in-None : goal.returns-in-None
+returns-in-None c =
+    sum_beyond c.args.a.mantissa c.args.a.scale c.args.b.mantissa c.args.b.scale c.max-scale.result c.max-scale.ensures
+    c.requires.left c.requires.right c.in-None.ensures

@@ -1,0 +1,11 @@
+pub mod Whole
+pub mod Decimals
+pub mod Conversions
+pub mod Operators
+pub mod Meets
+pub mod ValueMatch
+pub mod Support
+pub mod Library
+pub mod WrittenRows
+pub mod SameValues
+pub mod WrittenLiterals
