@@ -1,5 +1,5 @@
 -- From the longest front to the answer.
-use Rattle.std.proofs.Common.{◌≡◌, ℕ, ◌<◌, ◌≤◌, List, [], ◌∷◌, ◌++◌, get_or, refl, sym, ap, ◌∙◌, subst, arith, append-nil, Some, None, length, take}
+use Rattle.std.proofs.Common.{◌≡◌, ℕ, ◌<◌, ◌≤◌, List, [], ◌∷◌, ◌++◌, get_or, refl, sym, ap, ◌∙◌, subst, arith, append-nil, Option, Some, None, length, take}
 use Rattle.std.proofs.lemmas.List.{length-append, length-map, take-map, take_at, get_or_at, map-append}
 use Rattle.vb_tree.specs.declared.token.Token.{Token}
 use Rattle.vb_tree.specs.Tree.{Exp}
@@ -10,7 +10,7 @@ use Rattle.vb_exprs.specs.declared.fail.ExprFail.TheVariants as fail
 use Rattle.vb_exprs.specs.TokenClass.{class_of}
 use Rattle.vb_exprs.specs.Scan.{step_of}
 use Rattle.vb_exprs.specs.Reading.{IsWritten, IsLongestEnd, Stands, Fails}
-use Rattle.vb_exprs.specs.Answer.{IsRead, IsNotExpr, FailsFor}
+use Rattle.vb_exprs.specs.Answer.{IsRead, IsNotExpr, IsFrontLength, FailsFor}
 use Rattle.vb_exprs.proofs.Spelled.{accepted}
 use Rattle.vb_exprs.proofs.Ends.{stuck_here}
 use Rattle.vb_exprs.proofs.Spines.{below_15}
@@ -104,3 +104,7 @@ module _ (ts : List Token) (n : ℕ) (end : IsLongestEnd (length ts) (symbols ts
     only = λ u m k. sym (h k.begins.expression.written (stands u m k) ∙ k.begins.expression.tree);
     shallow = shallow;
   }
+
+pub front_length : (ts : List Token) (r : Option ℕ) → IsLongestEnd (length ts) (symbols ts) r → IsFrontLength ts r
+front_length ts None h = no_front ts h
+front_length ts (Some n) h = (tree_of h.1.0, found_longest ts n h)

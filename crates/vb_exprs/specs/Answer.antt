@@ -1,5 +1,5 @@
 -- What the call answers.
-use Rattle.std.specs.Prelude.{◌≡◌, ℕ, ◌+◌, ◌<◌, ◌≤◌, List, drop, Result, Ok, Err}
+use Rattle.std.specs.Prelude.{◌≡◌, ℕ, ◌+◌, ◌<◌, ◌≤◌, List, drop, Option, Some, None, Result, Ok, Err}
 use Rattle.vb_tree.specs.declared.expression.Expr6.{Expr6}
 use Rattle.vb_tree.specs.declared.token.Token.{Token}
 use Rattle.vb_tree.specs.Tree.{Exp}
@@ -25,6 +25,11 @@ pub record IsTooDeep (tokens : List Token) : Type 0 where
 -- no expression begins there
 abbrev pub IsNotExpr : List Token → Type 0
 IsNotExpr tokens = (u : Exp) (m : ℕ) → Begins tokens u m → ⊥
+
+-- the number of tokens of the longest expression that the tokens begin with, if one begins there
+abbrev pub IsFrontLength : List Token → Option ℕ → Type 0
+IsFrontLength tokens None = IsNotExpr tokens
+IsFrontLength tokens (Some len) = (t : Exp) × BeginsLongest tokens t len
 
 abbrev pub FailsFor : List Token → ExprFail → Type 0
 FailsFor tokens fail.NotExpr = IsNotExpr tokens

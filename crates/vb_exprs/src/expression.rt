@@ -1,14 +1,15 @@
 //! The longest expression from a place.
-ghost use Rattle.std.specs.Prelude.{◌≡◌, ◌≤◌, ◌∷◌, ◌++◌, List, length};
+ghost use Rattle.std.specs.Prelude.{◌≡◌, ◌≤◌, ◌∷◌, ◌++◌, List, length, IfOk};
 ghost use Rattle.vb_tree.specs.declared.token.Token.{Token};
 ghost use Rattle.vb_tree.specs.Tree.{Exp};
 ghost use Rattle.vb_tree.specs.Expressions.{IsExpression, BeginsLongest, IsStop, symbol_of};
-ghost use Rattle.vb_exprs.specs.Answer.{Answers, AnswersFront};
+ghost use Rattle.vb_exprs.specs.Answer.{Answers, AnswersFront, IsFrontLength};
 
 use crate::fail::ExprFail;
 use crate::reader::read;
 use crate::scan::longest_end;
 use std::alloc::Global;
+use up_base::Mem;
 use vb_tree::{Expr6, Token, Tokens};
 
 /// An expression, and the place behind its last token.
@@ -23,15 +24,23 @@ pub fn read_expr(alloc: Global, tokens: &Tokens, from: usize) -> Result<ExprRead
     requires { from ≤ length tokens.now }
     ensures { Answers tokens.now from result }
 {
-    let (expr, len) = read_front(alloc, &tokens.as_slice()[from..])?;
+    let (expr, len) = front_expression(alloc, &tokens.as_slice()[from..])?;
     Ok(ExprRead {
         expr,
         next: from + len,
     })
 }
 
-// The longest expression that the tokens begin with, and the number of its tokens.
-fn read_front(alloc: Global, tokens: &[Token]) -> Result<(Expr6, usize), ExprFail>
+/// The number of tokens of the longest expression that the tokens begin with, however deep it is.
+#[tactic(auto, using(crate::proofs::Fronts::front_length))]
+pub fn front_length(alloc: Global, tokens: &[Token]) -> Result<Option<usize>, Mem>
+    ensures { IfOk result (λ found. IsFrontLength tokens.now found) }
+{
+    Ok(longest_end(alloc, tokens)?)
+}
+
+/// The longest expression that the tokens begin with, and the number of its tokens.
+pub fn front_expression(alloc: Global, tokens: &[Token]) -> Result<(Expr6, usize), ExprFail>
     ensures { AnswersFront tokens.now result }
 {
     let Some(len) = longest_end(alloc, tokens)? else {

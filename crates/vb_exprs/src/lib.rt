@@ -10,5 +10,8 @@ mod scan;
 mod tests;
 mod token_class;
 
-pub use expression::{ExprRead, longest_before_stop, one_expression, read_expr};
+pub use expression::{
+    ExprRead, front_expression, front_length, longest_before_stop, one_expression, read_expr,
+};
 pub use fail::ExprFail;
+pub use token_class::{Class, class_at};

@@ -1,7 +1,7 @@
 use Rattle.std.proofs.Common.{[], arith}
 use Rattle.std.proofs.lemmas.Result.{err_from_is_err_and}
 use Rattle.vb_exprs.proofs.Fronts.{no_front, answer_err, answer_ok}
-use Rattle.vb_exprs.proofs.expression.read_front.Goals as goal
+use Rattle.vb_exprs.proofs.expression.front_expression.Goals as goal
 
 pub returns-in_default : goal.returns-in_default
 returns-in_default c = no_front c.args.tokens.now (rw c.in_default.is at c.in_ok-len.ensures)
