@@ -1,0 +1,10 @@
+pub mod Parting
+pub mod Answering
+pub mod Chaining
+pub mod Joining
+pub mod Listing
+pub mod Bounding
+pub mod Typing
+pub mod Targets
+pub mod Casing
+pub mod Redimming

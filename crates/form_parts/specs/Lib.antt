@@ -1,0 +1,11 @@
+pub mod Words
+pub mod Answer
+pub mod Cuts
+pub mod Now
+pub mod Opened
+pub mod Chains
+pub mod Parts
+pub mod Items
+pub mod Arguments
+pub mod Cases
+pub mod Redims
