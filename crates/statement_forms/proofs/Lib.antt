@@ -1,0 +1,6 @@
+pub mod Ends
+pub mod Making
+pub mod Sharing
+pub mod Drawn
+pub mod Choosing
+pub mod Slotting

@@ -1,0 +1,4 @@
+pub mod Fronts
+pub mod LineForms
+pub mod Answer
+pub mod Pieces

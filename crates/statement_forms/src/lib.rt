@@ -1,0 +1,16 @@
+//! What one statement of a procedure is.
+#![tactic(auto)]
+
+mod drawing;
+mod forms;
+mod fronts;
+mod kept;
+mod meanings;
+mod parts;
+mod pieces;
+mod printing;
+#[cfg(test)]
+mod tests;
+mod words;
+
+pub use pieces::{FormFail, Piece, read_statement};
