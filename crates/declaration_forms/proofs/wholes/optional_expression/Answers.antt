@@ -1,0 +1,7 @@
+use Rattle.vb_tree.specs.Expressions.{IsExpression, depth_of}
+use Rattle.form_parts.specs.Parts.{IsTypeName, type_depth}
+use Rattle.declaration_forms.proofs.Making.{optional_fails}
+use Rattle.declaration_forms.proofs.wholes.optional_expression.Goals as goal
+
+pub returns-in-Err : goal.returns-in-Err
+returns-in-Err c = rw c.in-Some.is (optional_fails IsExpression depth_of c.in-Some.tokens.now c.in-Err.e c.in-Err.ensures)

@@ -1,0 +1,10 @@
+pub mod Words
+pub mod Now
+pub mod Options
+pub mod Starts
+pub mod Outlines
+pub mod Wholes
+pub mod Variables
+pub mod Heads
+pub mod DeclarationForms
+pub mod Heading
