@@ -62,7 +62,7 @@ mutual
     typed : Ty → Term → Expr
 
   pub data Term : Type 0 where
-    constant : Value6 → Term
+    constant : Value6 → (hexadecimal : Bool) → Term
     variable : VarId → Term
     field : Expr → ℕ → Term
     element : Expr → Exprs → Term
@@ -99,3 +99,8 @@ mutual
 pub record Body : Type 0 where
   pub procedure : ProcId
   pub lines : List (List Expr)
+
+-- a project whose names are bound
+pub record Bound : Type 0 where
+  pub declarations : Declarations
+  pub bodies : List Body

@@ -2,6 +2,7 @@
 use Rattle.std.specs.Prelude.{map}
 use Rattle.vb_tree.specs.declared.bound.BoundArg.{BoundArg}
 use Rattle.vb_tree.specs.declared.bound.BoundArg.TheVariants as a
+use Rattle.vb_tree.specs.declared.bound.Bound.{Bound as Bound6}
 use Rattle.vb_tree.specs.declared.bound.BoundBody.{BoundBody}
 use Rattle.vb_tree.specs.declared.bound.BoundExpr.{BoundExpr}
 use Rattle.vb_tree.specs.declared.bound.BoundNode.{BoundNode, Held-BoundNode-Call-1, None', Some', Row_of-BoundArg, end_of-BoundArg, more_of-BoundArg, Row_of-BoundExpr, end_of-BoundExpr, more_of-BoundExpr}
@@ -12,7 +13,7 @@ use Rattle.vb_tree.specs.declared.declared.VarDecl.{VarDecl}
 use Rattle.vb_tree.specs.declared.value.Type6.{Type6}
 use Rattle.vb_tree.specs.declared.value.Type6.TheVariants as t
 use Rattle.vb_tree.specs.View.{exp_of, project_of}
-use Rattle.vb_tree.specs.BoundTree.{Ty, boolean, byte, integer, long, currency, str, fixed, user, class, object, variant, array, nothing, unknown, Variable, ProcedureDecl, Declarations, Expr, typed, Term, constant, variable, field, element, call, library, unary, binary, convert, new_object, me, with_object, err_number, err_raise, err_clear, is_same, loose, Object, no_object, of_object, Exprs, no_exprs, next_expr, Passed, no_passed, by_value, by_reference, Body}
+use Rattle.vb_tree.specs.BoundTree.{Ty, boolean, byte, integer, long, currency, str, fixed, user, class, object, variant, array, nothing, unknown, Variable, ProcedureDecl, Declarations, Expr, typed, Term, constant, variable, field, element, call, library, unary, binary, convert, new_object, me, with_object, err_number, err_raise, err_clear, is_same, loose, Object, no_object, of_object, Exprs, no_exprs, next_expr, Passed, no_passed, by_value, by_reference, Body, Bound}
 
 abbrev pub type_of : Type6 → Ty
 type_of t.Boolean = boolean
@@ -48,7 +49,7 @@ declarations_of d = record {
 
 abbrev mutual
   pub term_of : BoundNode → Term
-  term_of (n.Const v) = constant v
+  term_of (n.Const v hexadecimal) = constant v hexadecimal
   term_of (n.Var v) = variable v
   term_of (n.Field' p ty e k) = field (typed (type_of ty) (term_of e)) k
   term_of (n.Element' p ty e shape indexes) = element (typed (type_of ty) (term_of e)) (exprs_in_row indexes)
@@ -87,3 +88,6 @@ expr_of e = typed (type_of e.ty) (term_of e.node)
 
 abbrev pub body_of : BoundBody → Body
 body_of b = record { procedure = b.procedure; lines = map (map expr_of) b.lines }
+
+abbrev pub bound_of : Bound6 → Bound
+bound_of b = record { declarations = declarations_of b.declared; bodies = map body_of b.bodies }

@@ -54,7 +54,8 @@ pub struct BoundExpr {
 #[derive(Drop)]
 #[cycle(bound_expression)]
 pub enum BoundNode {
-    Const(Value6),
+    /// A constant, and whether the source has a number in hexadecimal or octal there.
+    Const(Value6, bool),
     Var(VarId),
     /// A field of a user type or of an object, by its place among the fields or the module's variables.
     Field(Box<BoundExpr>, u32),
