@@ -1,10 +1,13 @@
 -- The definitions, computed.
-use Rattle.std.proofs.Common.{◌≡◌, refl, pos, negsuc, true, false, [], ◌∷◌, Some, None}
+use Rattle.std.proofs.Common.{◌≡◌, refl, ℕ, ℤ, pos, negsuc, Bool, true, false, [], ◌∷◌, Some, None}
 use Rattle.vb_tree.specs.BoundTree as types
 use Rattle.vb_tree.specs.declared.expression.BinOp.TheVariants as b
+use Rattle.vb_tree.specs.declared.bound.Op6.TheVariants.{Typed}
+use Rattle.vb_tree.specs.declared.value.Value6.{Value6}
 use Rattle.vb_tree.specs.declared.value.Value6.TheVariants as v
 use Rattle.std.specs.Fmt.{digits}
-use Rattle.vb6_meaning.specs.Answers.{gives, raises, outside}
+use Rattle.vb6_meaning.specs.Answers.{Answer, gives, raises, outside}
+use Rattle.vb6_meaning.specs.Values.{operate}
 use Rattle.vb6_meaning.specs.Bits.{from_bits}
 use Rattle.net_tree.specs.Types as net
 use Rattle.net_tree.specs.Tree as tree
@@ -12,13 +15,16 @@ use Rattle.net_tree.specs.declared.expression.NetBin.TheVariants as op
 use Rattle.net_tree.specs.declared.expression.NetUn.TheVariants as un
 use Rattle.net_tree.specs.declared.expression.CastWord.TheVariants as word
 use Rattle.net_tree.specs.declared.expression.OpN.TheVariants.{Bin}
+use Rattle.net_meaning.specs.declared.value.ValueN.{ValueN}
 use Rattle.net_meaning.specs.declared.value.ValueN.TheVariants as n
+use Rattle.net_meaning.specs.SameValues.{IsSame}
+use Rattle.net_meaning.specs.ValueMatch.{Matches, integers}
 use Rattle.net_meaning.specs.Conversions.{coerce_net}
 use Rattle.net_meaning.specs.Operators.{operate_net}
 use Rattle.net_meaning.specs.Support as support
 use Rattle.net_meaning.specs.Library as library
 use Rattle.net_meaning.specs.WrittenRows.{write_operator, write_conversion, written, operand_a, operand_b, no_text, cast, unary, binary, call, cur, cur_text}
-use Rattle.net_meaning.specs.WrittenLiterals.{literal_value, write_constant, constant_value, literal, negative, as_byte, pieces_of, quoted, unit}
+use Rattle.net_meaning.specs.WrittenLiterals.{IsWrittenConstant, literal_value, write_constant, constant_value, literal, negative, as_byte, pieces_of, quoted, unit}
 
 -- a half goes to the even number
 half_to_short : coerce_net (n.Decimal (pos 25) 1) net.short ≡ gives (n.Short (pos 2))
@@ -74,6 +80,23 @@ pattern = refl
 
 without_suffix : literal_value (tree.integer (pos 65535) true) ≡ n.Integer (pos 65535)
 without_suffix = refl
+
+is_short : (are_same : ℕ → ℕ → Bool) (a : Value6) (x : ValueN) → Matches are_same types.integer a x → (z : ℤ) × (x ≡ n.Short z)
+is_short are_same _ _ (integers z fits) = (z, refl)
+
+-- -1 written in hexadecimal without its suffix is no -1
+refuses_without_suffix : (are_same : ℕ → ℕ → Bool) → IsWrittenConstant are_same (v.Int (negsuc 0)) (Some (literal (tree.integer (pos 65535) true))) → ⊥
+refuses_without_suffix are_same h =
+    let short = is_short are_same (v.Int (negsuc 0)) h.0 h.2 in
+    let integer : n.Integer (pos 65535) ≡ h.0 = cc (h.1) in
+    cc (integer, short.1)
+
+no_error : (x : ValueN) → ◌≡◌ {A = Answer ValueN} (gives x) (raises 6) → ⊥
+no_error x e = cc
+
+-- a sum of Currencies written without its check does not overflow
+refuses_unchecked : (are_same : ℕ → ℕ → Bool) → IsSame are_same (operate (Typed b.Add) (v.Cur (pos 9223372036854775807)) (v.Cur (pos 1))) (written types.currency (binary op.Add operand_a operand_b)) (n.Decimal (pos 9223372036854775807) 4) (n.Decimal (pos 1) 4) → ⊥
+refuses_unchecked are_same h = no_error (n.Decimal (pos 9223372036854775808) 4) h
 
 minus_one_and_a_half : constant_value (negative (tree.decimal (pos 15000))) ≡ gives (n.Decimal (negsuc 14) 1)
 minus_one_and_a_half = refl
