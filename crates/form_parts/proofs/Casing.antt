@@ -1,5 +1,5 @@
 -- Items of a Case and optional types.
-use Rattle.std.proofs.Common.{◌≡◌, ℕ, ◌≤◌, max, List, [], ◌∷◌, length, get_or, take, drop, ◌-◌, sym, ap, ◌∙◌, subst, arith, Option, Some, None, codes, true, false, refl}
+use Rattle.std.proofs.Common.{◌≡◌, ◌≤◌, max, List, [], ◌∷◌, length, get_or, take, drop, ◌-◌, sym, ap, ◌∙◌, subst, arith, Option, Some, None, codes, true, false, refl}
 use Rattle.std.proofs.lemmas.List.{take_rest}
 use Rattle.vb_tree.specs.declared.expression.BinOp.{BinOp}
 use Rattle.vb_tree.specs.declared.token.Token.{Token}
@@ -11,7 +11,7 @@ use Rattle.form_parts.specs.Words.{is_key}
 use Rattle.form_parts.specs.Parts.{IsJoined, IsTypeName, type_depth}
 use Rattle.form_parts.specs.Cases.{comparison, begins_is, IsCaseItem, case_depth}
 use Rattle.form_parts.specs.Redims.{IsOptionalType, optional_type_depth}
-use Rattle.form_parts.specs.Arguments.{Argument, IsArgument, argument_depth, argument_name, past_name, past_mark, begins_marked}
+use Rattle.form_parts.specs.Arguments.{IsArgument, argument_depth, argument_name, past_name, past_mark, begins_marked}
 use Rattle.form_parts.proofs.Answering.{fails_along}
 use Rattle.form_parts.proofs.Joining.{one_joined, joined_not_whole, to_joint}
 

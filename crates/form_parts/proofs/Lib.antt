@@ -8,3 +8,4 @@ pub mod Typing
 pub mod Targets
 pub mod Casing
 pub mod Redimming
+pub mod OnePart

@@ -1,5 +1,5 @@
 -- Arrays of a ReDim.
-use Rattle.std.proofs.Common.{◌≡◌, ℕ, ◌<◌, ◌≤◌, max, List, [], ◌∷◌, length, take, drop, sym, ap, ◌∙◌, subst, arith, Option, Some, None, ◌⊎◌, inl, inr, map, option_map, Result, Ok, Err}
+use Rattle.std.proofs.Common.{◌≡◌, ℕ, ◌<◌, ◌≤◌, max, List, ◌∷◌, take, drop, sym, ap, ◌∙◌, subst, arith, Option, Some, ◌⊎◌, inl, inr, map, option_map, Result, Ok, Err}
 use Rattle.std.proofs.lemmas.Bool.{cases_lt}
 use Rattle.vb_tree.specs.declared.expression.Expr6.{Expr6}
 use Rattle.vb_tree.specs.declared.form_parts.Bounds6.{Bounds6}

@@ -17,11 +17,13 @@ string_not_named word star [] h = refl
 string_not_named word star (b ∷ []) h = ap (λ x. with_library (name_alone (name_of_token word)) (behind_dot x (word_of b.kind))) h ∙ no_library (name_alone (name_of_token word))
 string_not_named word star (b ∷ e ∷ more) h = refl
 
+-- what begins as String and a star is no name
+pub string_no_name : (tokens rest : List Token) → IsStringHead tokens rest → named_type tokens ≡ None
+string_no_name tokens rest head = ap named_type head.split ∙ string_not_named head.word head.star rest (ap is_dot head.sign)
+
 module _ (tokens rest : List Token) (head : IsStringHead tokens rest) where
   units_of : (t : TypeName) → IsTypeName tokens t → (e : Exp) × IsExpression rest e
-  units_of (named n) h =
-      let no_name : named_type tokens ≡ None = ap named_type head.split ∙ string_not_named head.word head.star rest (ap is_dot head.sign) in
-      absurd (cc (h, no_name))
+  units_of (named n) h = absurd (cc (h, string_no_name tokens rest head))
   units_of (fixed_string u) h =
       let same : h.0 ≡ rest = cc (sym h.1.split ∙ head.split) in
       (u, subst (λ x. IsExpression x u) same h.2)

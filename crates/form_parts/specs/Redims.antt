@@ -3,7 +3,7 @@ use Rattle.std.specs.Prelude.{◌≡◌, ℕ, max, List, [], ◌∷◌, take, dr
 use Rattle.vb_tree.specs.declared.token.Sign.TheVariants.{OpenParen}
 use Rattle.vb_tree.specs.declared.token.Token.{Token}
 use Rattle.vb_tree.specs.declared.token.TokenKind.TheVariants as kind
-use Rattle.vb_tree.specs.Tree.{Exp, Bounds, TypeName, ReDimItem}
+use Rattle.vb_tree.specs.Tree.{TypeName, ReDimItem}
 use Rattle.vb_tree.specs.Expressions.{depth_of}
 use Rattle.form_parts.specs.declared.cuts.Separator.TheVariants as sep
 use Rattle.form_parts.specs.Words.{is_key}

@@ -1,5 +1,5 @@
 -- The first kind that fits.
-use Rattle.std.proofs.Common.{◌≡◌, ℕ, ◌≤◌, ◌<◌, List, [], ◌∷◌, ◌++◌, sym, subst, Result, Ok, Err, ◌⊎◌, inl, inr, Bool, true, false}
+use Rattle.std.proofs.Common.{◌≡◌, ℕ, List, [], ◌∷◌, ◌++◌, sym, subst, Result, Ok, Err, ◌⊎◌, inl, inr, true, false}
 use Rattle.vb_tree.specs.declared.form.Form6.{Form6}
 use Rattle.vb_tree.specs.declared.token.Token.{Token}
 use Rattle.vb_tree.specs.Tree.{Form}
@@ -7,7 +7,7 @@ use Rattle.vb_tree.specs.View.{form_of}
 use Rattle.form_parts.specs.declared.answer.PartFail.{PartFail}
 use Rattle.form_parts.specs.declared.answer.PartFail.TheVariants as fail
 use Rattle.statement_forms.specs.LineForms.{FormKind, Fits, FirstIn}
-use Rattle.statement_forms.specs.Answer.{Reads, Holds, first_found, not_found}
+use Rattle.statement_forms.specs.Answer.{Reads, first_found, not_found}
 
 neither : (k : FormKind) (ks : List FormKind) (ts : List Token) (f : Form) (n : ℕ) → (Fits k ts f n → ⊥) → (FirstIn ks ts f n → ⊥) → FirstIn (k ∷ ks) ts f n → ⊥
 neither k ks ts f n a b (inl h) = a h

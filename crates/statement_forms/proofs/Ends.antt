@@ -1,5 +1,5 @@
 -- Lists of tokens from their end.
-use Rattle.std.proofs.Common.{◌≡◌, ℕ, List, [], ◌∷◌, ◌++◌, refl, sym, ap, ◌∙◌, Option, Some, None, option_map, Bool, true, false, cond}
+use Rattle.std.proofs.Common.{◌≡◌, List, [], ◌∷◌, ◌++◌, refl, ap, ◌∙◌, Option, Some, None, option_map, Bool, true, false, cond}
 use Rattle.vb_tree.specs.declared.token.Token.{Token}
 use Rattle.statement_forms.specs.Fronts.{before_last}
 

@@ -4,3 +4,4 @@ pub mod Sharing
 pub mod Drawn
 pub mod Choosing
 pub mod Slotting
+pub mod OneMeaning

@@ -1,5 +1,5 @@
 -- From parts to what is made of them.
-use Rattle.std.proofs.Common.{◌≡◌, ℕ, ◌≤◌, ◌<◌, List, [], ◌∷◌, map, refl, sym, ap, ◌∙◌, subst, arith, Option, Some, None, Result, Ok, Err}
+use Rattle.std.proofs.Common.{◌≡◌, ℕ, ◌≤◌, List, [], ◌∷◌, map, refl, sym, ap, subst, arith, Option, Some, None, Result, Ok, Err}
 use Rattle.form_parts.specs.declared.answer.PartFail.{PartFail}
 use Rattle.form_parts.specs.declared.answer.PartFail.TheVariants as fail
 use Rattle.form_parts.specs.Answer.{Answers, FailsFor}

@@ -13,8 +13,8 @@ use Rattle.form_parts.specs.declared.answer.PartFail.TheVariants as fail
 use Rattle.form_parts.specs.declared.cuts.Separator.TheVariants as sep
 use Rattle.form_parts.specs.Answer.{Answers, FailsFor, both_of}
 use Rattle.form_parts.specs.Arguments.{Argument, argument_of, IsArgument, argument_depth}
-use Rattle.form_parts.specs.Chains.{IsTarget, IsCallee, IsCalleeLength}
-use Rattle.form_parts.specs.Cuts.{parted, pieces, Each}
+use Rattle.form_parts.specs.Chains.{IsCallee, IsCalleeLength}
+use Rattle.form_parts.specs.Cuts.{pieces, Each}
 use Rattle.form_parts.specs.Items.{deepest}
 use Rattle.form_parts.specs.Parts.{IsJoined}
 use Rattle.form_parts.specs.Redims.{IsReDimItem, redim_depth}
@@ -22,8 +22,8 @@ use Rattle.form_parts.proofs.Answering.{fails_along, both_answers}
 use Rattle.form_parts.proofs.Joining.{one_joined, same_front, joined_not_whole, to_joint, step_joint, goto_joint, gosub_joint}
 use Rattle.form_parts.proofs.Redimming.{one_length}
 use Rattle.statement_forms.specs.Fronts.{behind_key, is_found, past_word, each_parts, behind_debug, has_column, before_semicolon}
-use Rattle.statement_forms.specs.LineForms.{Behind, AreSides, pair_depth, AreArrays, IsLimit, IsLimitFrom, limit_depth, IsRange, range_depth, IsForEach, AreArguments, AreItems, AreFew, IsPrinted, IsPrinting, printing_depth, IsJumpAt, NoJump, IsJumpFront, IsInvocation, invocation_depth}
-use Rattle.statement_forms.specs.Answer.{pair_of, limit_of, range_of, printed_of, invocation_of}
+use Rattle.statement_forms.specs.LineForms.{Behind, AreArrays, IsLimit, IsLimitFrom, limit_depth, IsRange, range_depth, IsForEach, AreArguments, AreItems, AreFew, IsPrinted, IsPrinting, printing_depth, IsJumpAt, NoJump, IsJumpFront, IsInvocation, invocation_depth}
+use Rattle.statement_forms.specs.Answer.{range_of, printed_of, invocation_of}
 use Rattle.statement_forms.proofs.Making.{behind_answers}
 
 -- both parts, as one answer that is known
@@ -93,7 +93,7 @@ pub arguments_answers : (tokens : List Token) → 1 ≤ length tokens → (r : R
 arguments_answers [] low r h = absurd (omega arith)
 arguments_answers (t ∷ ts) low r h = h
 
-one_front : (tokens a b c d : List Token) → (IsJoined (codes "goto") tokens a b ⊎ IsJoined (codes "gosub") tokens a b) → (IsJoined (codes "goto") tokens c d ⊎ IsJoined (codes "gosub") tokens c d) → a ≡ c
+pub one_front : (tokens a b c d : List Token) → (IsJoined (codes "goto") tokens a b ⊎ IsJoined (codes "gosub") tokens a b) → (IsJoined (codes "goto") tokens c d ⊎ IsJoined (codes "gosub") tokens c d) → a ≡ c
 one_front tokens a b c d (inl j) (inl k) = same_front (codes "goto") (codes "goto") tokens a b c d goto_joint goto_joint j k
 one_front tokens a b c d (inl j) (inr k) = same_front (codes "goto") (codes "gosub") tokens a b c d goto_joint gosub_joint j k
 one_front tokens a b c d (inr j) (inl k) = same_front (codes "gosub") (codes "goto") tokens a b c d gosub_joint goto_joint j k

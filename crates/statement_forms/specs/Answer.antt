@@ -1,5 +1,5 @@
 -- What the readers of statements answer.
-use Rattle.std.specs.Prelude.{◌≡◌, ℕ, ◌≤◌, ◌<◌, List, map, Option, None, option_map, Result, Ok, Err, Bool, true, false}
+use Rattle.std.specs.Prelude.{◌≡◌, ℕ, ◌≤◌, List, map, Option, None, option_map, Result, Ok, Err, Bool, true, false}
 use Rattle.std.specs.Borrow.{Bor}
 use Rattle.vb_tree.specs.declared.expression.Arg6.{Arg6}
 use Rattle.vb_tree.specs.declared.expression.Expr6.{Expr6}

@@ -7,7 +7,6 @@ use Rattle.vb_tree.specs.Tree.{Exp, CaseItem, ReDimItem, Form}
 use Rattle.vb_tree.specs.Tree as tree
 use Rattle.vb_tree.specs.Expressions.{IsExpression, depth_of}
 use Rattle.form_parts.specs.declared.cuts.Separator.TheVariants as sep
-use Rattle.form_parts.specs.Words.{is_key}
 use Rattle.form_parts.specs.Cuts.{parted, pieces, Each}
 use Rattle.form_parts.specs.Chains.{IsTarget, IsCallee, IsCalleeLength}
 use Rattle.form_parts.specs.Parts.{IsJoined, option_depth}

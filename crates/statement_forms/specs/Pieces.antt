@@ -1,5 +1,5 @@
 -- Code lines of a statement: one, but one for each item of a Next or an Erase with commas.
-use Rattle.std.specs.Prelude.{◌≡◌, ℕ, ◌+◌, ◌≤◌, ◌<◌, zero, suc, List, [], ◌∷◌, length, Option, Some, None, option_map, Bool, true, false, Result, Ok, Err, codes, if◌then◌else◌}
+use Rattle.std.specs.Prelude.{◌≡◌, ℕ, ◌+◌, ◌≤◌, ◌<◌, zero, suc, List, [], ◌∷◌, length, Option, Some, None, option_map, Bool, true, false, Result, Ok, Err, codes}
 use Rattle.vb_tree.specs.declared.token.Token.{Token}
 use Rattle.vb_tree.specs.Tree.{Form}
 use Rattle.vb_tree.specs.Tree as tree

@@ -13,4 +13,5 @@ mod printing;
 mod tests;
 mod words;
 
+pub use meanings::one_form;
 pub use pieces::{FormFail, Piece, read_statement};

@@ -1,5 +1,7 @@
 //! The form that is meant.
-ghost use Rattle.std.specs.Prelude.{◌≡◌};
+ghost use Rattle.std.specs.Prelude.{◌≡◌, ℕ, List};
+ghost use Rattle.vb_tree.specs.declared.token.Token.{Token};
+ghost use Rattle.vb_tree.specs.Tree.{Form};
 ghost use Rattle.statement_forms.specs.LineForms.{FirstIn, first_kinds, branch_kinds, loop_kinds, jump_kinds, last_kinds, IsMeant};
 ghost use Rattle.statement_forms.specs.Answer.{Reads, first_found, not_found};
 
@@ -112,3 +114,8 @@ pub fn statement(alloc: Global, tokens: &[Token]) -> Result<Form6, PartFail>
     }
     last_forms(alloc, tokens)
 }
+
+/// A law: a statement means one form at most.
+pub fn one_form()
+    ensures { (ts : List Token) (f g : Form) (n m : ℕ) → IsMeant ts f n → IsMeant ts g m → (f ≡ g) × (n ≡ m) }
+{}

@@ -1,4 +1,4 @@
-use Rattle.std.proofs.Common.{◌≡◌, take, ◌+◌, ◌&&◌, sym, ap, ◌∙◌}
+use Rattle.std.proofs.Common.{◌&&◌, sym, ap, ◌∙◌}
 use Rattle.statement_forms.specs.Fronts.{draws}
 use Rattle.statement_forms.proofs.Drawn.{dotted_more, drawn_at, none_more, drawn_here}
 use Rattle.statement_forms.proofs.drawing.drawn_length.Goals as goal

@@ -1,4 +1,4 @@
-use Rattle.std.proofs.Common.{◌≤◌, refl, subst, arith, take, true, false}
+use Rattle.std.proofs.Common.{subst, false}
 use Rattle.statement_forms.specs.LineForms.{FrontIs}
 use Rattle.statement_forms.proofs.Drawn.{not_drawing}
 use Rattle.statement_forms.proofs.forms.drawing.Goals as goal

@@ -1,4 +1,4 @@
-use Rattle.std.proofs.Common.{◌≡◌, ◌+◌, [], ◌∷◌, ◌++◌, length, sym, ap, ◌∙◌, subst, arith, append_assoc, Err}
+use Rattle.std.proofs.Common.{◌+◌, [], ◌∷◌, ◌++◌, length, sym, ap, ◌∙◌, subst, arith, append_assoc, Err}
 use Rattle.form_parts.specs.declared.cuts.Separator.TheVariants as sep
 use Rattle.form_parts.specs.Cuts.{pieces}
 use Rattle.form_parts.specs.Now.{both_now}
