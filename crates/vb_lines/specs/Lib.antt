@@ -1,0 +1,11 @@
+pub mod Statements
+pub mod Cuts
+pub mod Nesting
+pub mod Building
+pub mod Forms
+pub mod Boxing
+pub mod Parts
+pub mod Modules
+pub mod Reading
+pub mod Answers
+pub mod Laws
