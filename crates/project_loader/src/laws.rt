@@ -1,0 +1,17 @@
+//! Laws of the definitions.
+ghost use Rattle.project_loader.specs.Laws.{OneFirstFault, NoFaultWhereHeld, OneHeldProject};
+
+/// A project has one first fault at most, which is said of one file.
+pub fn one_first_fault()
+    ensures { OneFirstFault }
+{}
+
+/// A project that is held has no first fault.
+pub fn no_fault_where_held()
+    ensures { NoFaultWhereHeld }
+{}
+
+/// A folder holds one project at most under a name.
+pub fn one_held_project()
+    ensures { OneHeldProject }
+{}
