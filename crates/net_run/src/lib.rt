@@ -1,0 +1,2 @@
+//! What a procedure of a written Visual Basic .NET project does, step by step: a definition.
+#![tactic(auto)]

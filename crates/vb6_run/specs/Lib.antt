@@ -1,0 +1,4 @@
+pub mod Running
+pub mod Program
+pub mod Store
+pub mod Run
