@@ -1,0 +1,354 @@
+-- What is written for the modules of a project can be written, where its names and texts are such.
+use Rattle.std.proofs.Common.{◌≡◌, ℕ, zero, suc, ◌+◌, Bool, true, false, not, ◌&&◌, ◌||◌, cond, codes, List, [], ◌∷◌, ◌++◌, map, length, Option, Some, None, refl, sym, ap, ◌∙◌, arith}
+use Rattle.std.specs.List.{list_all, flat_map}
+use Rattle.std.specs.Prelude.{slice_get, nat_le}
+use Rattle.vb_tree.specs.BoundTree as types
+use Rattle.vb_tree.specs.BoundTree.{Ty, Variable, Expr, Bound}
+use Rattle.vb_tree.specs.Blocks.{is_code}
+use Rattle.vb_tree.specs.FlatLines as flat
+use Rattle.vb_tree.specs.Tree as tree
+use Rattle.vb_tree.specs.Tree.{Form, sub_head, Line, Member, alone, group, proc, Module}
+use Rattle.vb6_run.specs.Program.{Written, procedures_in, procedures_of, BoundLine, bound_lines, is_local_of, locals_from, locals_of}
+use Rattle.net_tree.specs.declared.block.NetRole.TheVariants.{Plain}
+use Rattle.net_tree.specs.Blocks as net_blocks
+use Rattle.net_tree.specs.Comments.{is_comment, is_well_formed, is_within_line, is_surrogate}
+use Rattle.std.specs.Char.Utf16.{is_high_surrogate, is_low_surrogate}
+use Rattle.net_tree.specs.declared.declaration.NetClose.TheVariants.{EndSub}
+use Rattle.net_tree.specs.Declarations.{is_writable_dim, is_writable_head, closes, is_writable_procedure, is_writable_member, is_get, is_set}
+use Rattle.net_tree.specs.Expressions.{is_writable_type}
+use Rattle.net_tree.specs.Lines.{is_writable_line}
+use Rattle.net_tree.specs.Spelling.{is_identifier}
+use Rattle.net_tree.specs.Text.{is_writable_module}
+use Rattle.net_tree.specs.Tree as net
+use Rattle.net_rewrite.specs.Modules.{Comment, up_to, past, comment_lines, with_comments, lines_at, written_head, written_procedure, upgrade_text, upgrade_comment, member_comments, left_out, all_left_out, first_exprs, later_exprs, marked, exprs_at, is_translated_declaration, member_lines, is_kept, written_member, written_members, written_module, numbers_behind, written_modules}
+use Rattle.net_rewrite.specs.Translated.{is_plain_sub, is_straight, has_straight_body, is_scalar_local, are_translated, is_translated_line, is_translated_form, is_translated_procedure}
+use Rattle.net_rewrite.specs.Writable.{are_comments, has_comment_text, names_sub, is_named_head, is_named_module, is_named_variable, is_named}
+use Rattle.net_rewrite.specs.Written.{net_type, assign_line, line_of, written_line, written_local}
+use Rattle.net_rewrite.proofs.Placing.{number_of_members}
+use Rattle.net_rewrite.proofs.Scalars.{both_true}
+use Rattle.net_rewrite.proofs.WritableExpressions.{and_true, are_named, line_can}
+
+-- ---- lists
+
+all_append : {A : Type 0} (f : A → Bool) (xs ys : List A) → list_all f xs ≡ true → list_all f ys ≡ true → list_all f (xs ++ ys) ≡ true
+all_append f [] ys h k = k
+all_append f (x ∷ xs) ys h k =
+    let both = both_true (f x) (list_all f xs) h in
+    and_true (f x) (list_all f (xs ++ ys)) both.0 (all_append f xs ys both.1 k)
+
+left_all : {A : Type 0} (f : A → Bool) (xs ys : List A) → list_all f (xs ++ ys) ≡ true → list_all f xs ≡ true
+left_all f [] ys h = refl
+left_all f (x ∷ xs) ys h =
+    let both = both_true (f x) (list_all f (xs ++ ys)) h in
+    and_true (f x) (list_all f xs) both.0 (left_all f xs ys both.1)
+
+right_all : {A : Type 0} (f : A → Bool) (xs ys : List A) → list_all f (xs ++ ys) ≡ true → list_all f ys ≡ true
+right_all f [] ys h = h
+right_all f (x ∷ xs) ys h = right_all f xs ys (both_true (f x) (list_all f (xs ++ ys)) h).1
+
+-- ---- comments
+
+up_to_can : (n : ℕ) (cs : List Comment) → are_comments cs ≡ true → are_comments (up_to n cs) ≡ true
+up_to_can n [] h = refl
+up_to_can n (c ∷ cs) h =
+    let both = both_true (is_comment c.1) (are_comments cs) h in
+    of_test (nat_le c.0 n) (and_true (is_comment c.1) (are_comments (up_to n cs)) both.0 (up_to_can n cs both.1))
+  where
+    of_test : (b : Bool) → are_comments (c ∷ up_to n cs) ≡ true → are_comments (cond b (c ∷ up_to n cs) []) ≡ true
+    of_test true k = k
+    of_test false k = refl
+
+past_can : (n : ℕ) (cs : List Comment) → are_comments cs ≡ true → are_comments (past n cs) ≡ true
+past_can n [] h = refl
+past_can n (c ∷ cs) h = of_test (nat_le c.0 n) (past_can n cs (both_true (is_comment c.1) (are_comments cs) h).1)
+  where
+    of_test : (b : Bool) → are_comments (past n cs) ≡ true → are_comments (cond b (past n cs) (c ∷ cs)) ≡ true
+    of_test true k = k
+    of_test false k = h
+
+-- ---- texts
+
+not_of : (b : Bool) → not b ≡ true → b ≡ false
+not_of true e = absurd (cc e)
+not_of false e = refl
+
+neither : (a b : Bool) → a || b ≡ false → (a ≡ false) × (b ≡ false)
+neither true b e = absurd (cc e)
+neither false b e = (refl, e)
+
+-- a unit that is no surrogate, in front of a text
+formed_behind : (u : ℕ) (units : List ℕ) → is_surrogate u ≡ false → is_well_formed units ≡ true → is_well_formed (u ∷ units) ≡ true
+formed_behind u [] e h = ap not e
+formed_behind u (v ∷ units) e h =
+    let parts = neither (is_high_surrogate u) (is_low_surrogate u) e in
+    ap (λ b. cond b (is_low_surrogate v && is_well_formed units) (not (is_low_surrogate u) && is_well_formed (v ∷ units))) parts.0
+    ∙ ap (λ b. not b && is_well_formed (v ∷ units)) parts.1 ∙ h
+
+abbrev is_simple : ℕ → Bool
+is_simple u = is_within_line u && not (is_surrogate u)
+
+simple_front : (xs units : List ℕ) → list_all is_simple xs ≡ true → is_comment units ≡ true → is_comment (xs ++ units) ≡ true
+simple_front [] units e h = h
+simple_front (x ∷ xs) units e h =
+    let all = both_true (is_simple x) (list_all is_simple xs) e in
+    let one = both_true (is_within_line x) (not (is_surrogate x)) all.0 in
+    let more = both_true (list_all is_within_line (xs ++ units)) (is_well_formed (xs ++ units)) (simple_front xs units all.1 h) in
+    and_true (is_within_line x && list_all is_within_line (xs ++ units)) (is_well_formed (x ∷ (xs ++ units)))
+    (and_true (is_within_line x) (list_all is_within_line (xs ++ units)) one.0 more.0)
+    (formed_behind x (xs ++ units) (not_of (is_surrogate x) one.1) more.1)
+
+upgrade_can : (text : List ℕ) → is_comment text ≡ true → is_comment (upgrade_text text) ≡ true
+upgrade_can text h = simple_front (codes "UPGRADE U99: ") text refl h
+
+-- ---- procedures
+
+-- a line outside of blocks
+abbrev is_plain_line : net.Line → Bool
+is_plain_line (net.comment units) = true
+is_plain_line (net.assign target value) = true
+is_plain_line (net.call callee arguments) = true
+is_plain_line _ = false
+
+plain_role : (l : net.Line) → is_plain_line l ≡ true → net_blocks.role_of l ≡ Plain
+plain_role (net.comment units) e = refl
+plain_role (net.assign target value) e = refl
+plain_role (net.call callee arguments) e = refl
+plain_role _ e = absurd (cc e)
+
+plain_nests : (ls : List net.Line) → list_all is_plain_line ls ≡ true → net_blocks.nests ls ≡ true
+plain_nests [] e = refl
+plain_nests (l ∷ ls) e =
+    let both = both_true (is_plain_line l) (list_all is_plain_line ls) e in
+    ap (λ r. net_blocks.fits_in r [] && net_blocks.nests_in (net_blocks.open_behind r []) ls) (plain_role l both.0) ∙ plain_nests ls both.1
+
+abbrev CanLines : List net.Line → Type 0
+CanLines ls = (list_all is_writable_line ls ≡ true) × (list_all is_plain_line ls ≡ true)
+
+comments_can : (cs : List Comment) → are_comments cs ≡ true → CanLines (comment_lines cs)
+comments_can [] h = (refl, refl)
+comments_can (c ∷ cs) h =
+    let both = both_true (is_comment c.1) (are_comments cs) h in
+    let more = comments_can cs both.1 in
+    (and_true (is_comment c.1) (list_all is_writable_line (comment_lines cs)) both.0 more.0, more.1)
+
+written_is_plain : (locals : List (ℕ × Variable)) (l : BoundLine) → is_plain_line (written_line locals l) ≡ true
+written_is_plain locals l = of_form l.flat.line.form l.exprs
+  where
+    of_exprs : (es : List Expr) → is_plain_line (assign_line locals es) ≡ true
+    of_exprs [] = refl
+    of_exprs (e ∷ []) = refl
+    of_exprs (e ∷ d ∷ []) = refl
+    of_exprs (e ∷ d ∷ c ∷ es) = refl
+
+    of_form : (f : Form) (es : List Expr) → is_plain_line (line_of locals f es) ≡ true
+    of_form (tree.assign target value) es = of_exprs es
+    of_form (tree.debug_print items ended) es = refl
+    of_form _ es = refl
+
+lines_can : (ls : List (ℕ × Variable)) (cs : List Comment) (lines : List BoundLine) (close : ℕ) → are_named ls ≡ true → are_comments cs ≡ true → list_all (is_translated_line ls) lines ≡ true → CanLines (with_comments ls cs lines close)
+lines_can ls cs [] close n h e = comments_can (up_to close cs) (up_to_can close cs h)
+lines_can ls cs (l ∷ lines) close n h e =
+    let both = both_true (is_translated_line ls l) (list_all (is_translated_line ls) lines) e in
+    let at = l.flat.line.place.line in
+    let first = comments_can (up_to at cs) (up_to_can at cs h) in
+    let more = lines_can ls (past at cs) lines close n (past_can at cs h) both.1 in (
+      all_append is_writable_line (comment_lines (up_to at cs)) (written_line ls l ∷ with_comments ls (past at cs) lines close) first.0
+          (and_true (is_writable_line (written_line ls l)) (list_all is_writable_line (with_comments ls (past at cs) lines close)) (line_can ls l n both.0) more.0),
+      all_append is_plain_line (comment_lines (up_to at cs)) (written_line ls l ∷ with_comments ls (past at cs) lines close) first.1
+          (and_true (is_plain_line (written_line ls l)) (list_all is_plain_line (with_comments ls (past at cs) lines close)) (written_is_plain ls l) more.1),
+    )
+
+type_can : (t : Ty) → is_writable_type (net_type t) ≡ true
+type_can types.boolean = refl
+type_can types.byte = refl
+type_can types.integer = refl
+type_can types.long = refl
+type_can types.currency = refl
+type_can types.str = refl
+type_can _ = refl
+
+locals_can : (ls : List (ℕ × Variable)) → are_named ls ≡ true → list_all is_writable_dim (map written_local ls) ≡ true
+locals_can [] n = refl
+locals_can (x ∷ ls) n =
+    let both = both_true (is_identifier x.1.name) (are_named ls) n in
+    and_true (is_identifier x.1.name && is_writable_type (net_type x.1.ty) && true) (list_all is_writable_dim (map written_local ls))
+    (and_true (is_identifier x.1.name && is_writable_type (net_type x.1.ty)) true (and_true (is_identifier x.1.name) (is_writable_type (net_type x.1.ty)) both.0 (type_can x.1.ty)) refl)
+    (locals_can ls both.1)
+
+-- a part of a property
+abbrev is_part : net.Head → Bool
+is_part h = is_get h || is_set h
+
+head_can : (f : Form) → is_plain_sub f ≡ true → names_sub f ≡ true → (is_writable_head (written_head f) ≡ true) × (closes (written_head f) EndSub ≡ true) × (is_part (written_head f) ≡ false)
+head_can (sub_head s) p n = (and_true (is_identifier s.name) true n refl, refl, refl)
+head_can _ p n = absurd (cc p)
+
+translated_lines : (ls : List (ℕ × Variable)) (o : Option (List BoundLine)) → are_translated ls o ≡ true → list_all (is_translated_line ls) (lines_at o) ≡ true
+translated_lines ls None e = refl
+translated_lines ls (Some lines) e = e
+
+procedure_can : (P : Bound) (p : ℕ) (cs : List Comment) (head close : Line) → are_named (locals_of P p) ≡ true → are_comments cs ≡ true → is_plain_sub head.form ≡ true → names_sub head.form ≡ true
+    → are_translated (locals_of P p) (slice_get (bound_lines P) p) ≡ true → is_writable_member (net.proc (written_procedure P p cs head close)) ≡ true
+procedure_can P p cs head close n h plain named e =
+    let heads = head_can head.form plain named in
+    let lines = lines_can (locals_of P p) cs (lines_at (slice_get (bound_lines P) p)) close.place.line n h (translated_lines (locals_of P p) (slice_get (bound_lines P) p) e) in
+    let written = with_comments (locals_of P p) cs (lines_at (slice_get (bound_lines P) p)) close.place.line in
+    let h1 = and_true (is_writable_head (written_head head.form)) (closes (written_head head.form) EndSub) heads.0 heads.1 in
+    let h2 = and_true (is_writable_head (written_head head.form) && closes (written_head head.form) EndSub) (list_all is_writable_dim (map written_local (locals_of P p))) h1 (locals_can (locals_of P p) n) in
+    let h3 = and_true (is_writable_head (written_head head.form) && closes (written_head head.form) EndSub && list_all is_writable_dim (map written_local (locals_of P p))) (list_all is_writable_line written) h2 lines.0 in
+    let h4 = and_true (is_writable_head (written_head head.form) && closes (written_head head.form) EndSub && list_all is_writable_dim (map written_local (locals_of P p)) && list_all is_writable_line written) (net_blocks.nests written) h3 (plain_nests written lines.1) in
+    and_true (not (is_part (written_head head.form))) (is_writable_procedure (written_procedure P p cs head close)) (ap not heads.2) h4
+
+-- ---- what is left out
+
+member_comments_can : (cs : List Comment) → are_comments cs ≡ true → list_all is_writable_member (member_comments cs) ≡ true
+member_comments_can [] h = refl
+member_comments_can (c ∷ cs) h =
+    let both = both_true (is_comment c.1) (are_comments cs) h in
+    and_true (is_comment c.1) (list_all is_writable_member (member_comments cs)) both.0 (member_comments_can cs both.1)
+
+abbrev has_text : Bool × Line → Bool
+has_text x = has_comment_text x.1
+
+left_out_can : (cs : List Comment) (xs : List (Bool × Line)) → are_comments cs ≡ true → list_all has_text xs ≡ true → list_all is_writable_member (all_left_out cs xs) ≡ true
+left_out_can cs [] h k = refl
+left_out_can cs (x ∷ xs) h k =
+    let both = both_true (has_comment_text x.1) (list_all has_text xs) k in
+    all_append is_writable_member (left_out cs x.0 x.1) (all_left_out (past x.1.place.line cs) xs)
+    (all_append is_writable_member (member_comments (up_to x.1.place.line cs)) (upgrade_comment x.0 x.1) (member_comments_can (up_to x.1.place.line cs) (up_to_can x.1.place.line cs h)) (of_mark x.0 both.0))
+    (left_out_can (past x.1.place.line cs) xs (past_can x.1.place.line cs h) both.1)
+  where
+    of_mark : (b : Bool) → has_comment_text x.1 ≡ true → list_all is_writable_member (upgrade_comment b x.1) ≡ true
+    of_mark true e = and_true (is_comment (upgrade_text x.1.text)) true (upgrade_can x.1.text e) refl
+    of_mark false e = refl
+
+marked_texts : (ls : List (ℕ × Variable)) (lines : List Line) (ess : List (List Expr)) → list_all has_comment_text lines ≡ true → list_all has_text (marked ls lines ess) ≡ true
+marked_texts ls [] ess h = refl
+marked_texts ls (l ∷ lines) ess h =
+    let both = both_true (has_comment_text l) (list_all has_comment_text lines) h in
+    of_code (is_code l.form) both.0 (marked_texts ls lines (later_exprs ess) both.1) (marked_texts ls lines ess both.1)
+  where
+    of_code : (b : Bool) → has_comment_text l ≡ true → list_all has_text (marked ls lines (later_exprs ess)) ≡ true → list_all has_text (marked ls lines ess) ≡ true
+        → list_all has_text (cond b ((not (is_translated_form ls l.form (first_exprs ess)), l) ∷ marked ls lines (later_exprs ess)) ((not (is_translated_declaration ls l.form), l) ∷ marked ls lines ess)) ≡ true
+    of_code true e later same = and_true (has_comment_text l) (list_all has_text (marked ls lines (later_exprs ess))) e later
+    of_code false e later same = and_true (has_comment_text l) (list_all has_text (marked ls lines ess)) e same
+
+all_marked : (lines : List Line) → list_all has_comment_text lines ≡ true → list_all has_text (map (λ (l : Line). (true, l)) lines) ≡ true
+all_marked [] h = refl
+all_marked (l ∷ lines) h =
+    let both = both_true (has_comment_text l) (list_all has_comment_text lines) h in
+    and_true (has_comment_text l) (list_all has_text (map (λ (l : Line). (true, l)) lines)) both.0 (all_marked lines both.1)
+
+member_texts : (P : Bound) (class : Bool) (p : ℕ) (m : Member) → list_all has_comment_text (flat.member_lines m) ≡ true → list_all has_text (member_lines P class p m) ≡ true
+member_texts P class p (alone l) h = h
+member_texts P class p (group head lines close) h =
+    let first = both_true (has_comment_text head) (list_all has_comment_text (lines ++ close ∷ [])) h in
+    and_true (has_comment_text head) (list_all has_text (map (λ (l : Line). (true, l)) lines ++ (true, close) ∷ [])) first.0
+    (all_append has_text (map (λ (l : Line). (true, l)) lines) ((true, close) ∷ []) (all_marked lines (left_all has_comment_text lines (close ∷ []) first.1)) (right_all has_comment_text lines (close ∷ []) first.1))
+member_texts P class p (proc head body close) h =
+    let first = both_true (has_comment_text head) (list_all has_comment_text (flat.flat_lines body ++ close ∷ [])) h in
+    let ms = marked (locals_of P p) (flat.flat_lines body) (exprs_at (slice_get P.bodies p)) in
+    and_true (has_comment_text head) (list_all has_text (ms ++ (false, close) ∷ [])) first.0
+    (all_append has_text ms ((false, close) ∷ []) (marked_texts (locals_of P p) (flat.flat_lines body) (exprs_at (slice_get P.bodies p)) (left_all has_comment_text (flat.flat_lines body) (close ∷ []) first.1)) (right_all has_comment_text (flat.flat_lines body) (close ∷ []) first.1))
+
+-- ---- members and modules
+
+locals_named : (p k : ℕ) (vars : List Variable) → list_all is_named_variable vars ≡ true → are_named (locals_from p k vars) ≡ true
+locals_named p k [] h = refl
+locals_named p k (x ∷ vars) h =
+    let both = both_true (is_named_variable x) (list_all is_named_variable vars) h in
+    of_owner (is_local_of p x.owner) both.0 (locals_named p (suc k) vars both.1)
+  where
+    of_owner : (b : Bool) → is_named_variable x ≡ true → are_named (locals_from p (suc k) vars) ≡ true → are_named (cond b ((k, x) ∷ locals_from p (suc k) vars) (locals_from p (suc k) vars)) ≡ true
+    of_owner true e more = and_true (is_identifier x.name) (are_named (locals_from p (suc k) vars)) e more
+    of_owner false e more = more
+
+-- the procedures of members stand in the project from the number p on
+abbrev Located : Bound → (p : ℕ) → List Written → Type 0
+Located P p ws = (j : ℕ) (w : Written) → slice_get ws j ≡ Some w → slice_get (procedures_of P.declarations.project) (p + j) ≡ Some w
+
+located_behind : (P : Bound) (p : ℕ) (w : Written) (ws : List Written) → Located P p (w ∷ ws) → Located P (suc p) ws
+located_behind P p w ws h j v e =
+    let there : suc p + j ≡ p + suc j = omega arith in
+    ap (slice_get (procedures_of P.declarations.project)) there ∙ h (suc j) v e
+
+kept_sub : (P : Bound) (class : Bool) (p : ℕ) (w : Written) → slice_get (procedures_of P.declarations.project) p ≡ Some w → is_kept P class p ≡ true
+    → (is_plain_sub w.head.form ≡ true) × (are_translated (locals_of P p) (slice_get (bound_lines P) p) ≡ true)
+kept_sub P class p w at k =
+    let translated = (both_true (not class) (is_translated_procedure P p) k).1 in
+    let outer = both_true (has_straight_body (slice_get (procedures_of P.declarations.project) p) && list_all is_scalar_local (locals_of P p)) (are_translated (locals_of P p) (slice_get (bound_lines P) p)) translated in
+    let inner = both_true (has_straight_body (slice_get (procedures_of P.declarations.project) p)) (list_all is_scalar_local (locals_of P p)) outer.0 in
+    let body : has_straight_body (Some w) ≡ true = sym (ap has_straight_body at) ∙ inner.0 in
+    ((both_true (is_plain_sub w.head.form) (is_straight w.body) body).0, outer.1)
+
+members_can : (P : Bound) (class : Bool) (ms : List Member) (p : ℕ) (cs : List Comment) → list_all is_named_variable P.declarations.vars ≡ true → Located P p (flat_map procedures_in ms) → list_all is_named_head (flat_map procedures_in ms) ≡ true
+    → list_all has_comment_text (flat_map flat.member_lines ms) ≡ true → are_comments cs ≡ true → list_all is_writable_member (written_members P class p cs ms) ≡ true
+members_can P class [] p cs n at heads texts h = member_comments_can cs h
+members_can P class (alone l ∷ ms) p cs n at heads texts h =
+    let rest = flat_map flat.member_lines ms in
+    all_append is_writable_member (all_left_out cs (member_lines P class p (alone l))) (written_members P class p (past l.place.line cs) ms)
+    (left_out_can cs (member_lines P class p (alone l)) h (member_texts P class p (alone l) (left_all has_comment_text (l ∷ []) rest texts)))
+    (members_can P class ms p (past l.place.line cs) n at heads (right_all has_comment_text (l ∷ []) rest texts) (past_can l.place.line cs h))
+members_can P class (group head lines close ∷ ms) p cs n at heads texts h =
+    let own = flat.member_lines (group head lines close) in
+    let rest = flat_map flat.member_lines ms in
+    all_append is_writable_member (all_left_out cs (member_lines P class p (group head lines close))) (written_members P class p (past close.place.line cs) ms)
+    (left_out_can cs (member_lines P class p (group head lines close)) h (member_texts P class p (group head lines close) (left_all has_comment_text own rest texts)))
+    (members_can P class ms p (past close.place.line cs) n at heads (right_all has_comment_text own rest texts) (past_can close.place.line cs h))
+members_can P class (proc head body close ∷ ms) p cs n at heads texts h =
+    let own = flat.member_lines (proc head body close) in
+    let rest = flat_map flat.member_lines ms in
+    let named = both_true (names_sub head.form) (list_all is_named_head (flat_map procedures_in ms)) heads in
+    let here : p + 0 ≡ p = omega arith in
+    let found = sym (ap (slice_get (procedures_of P.declarations.project)) here) ∙ at zero (record { head = head; body = body }) refl in
+    all_append is_writable_member (written_member P class p cs (proc head body close)) (written_members P class (suc p) (past close.place.line cs) ms)
+    (of_kept (is_kept P class p) refl named.0 found (left_out_can cs (member_lines P class p (proc head body close)) h (member_texts P class p (proc head body close) (left_all has_comment_text own rest texts))))
+    (members_can P class ms (suc p) (past close.place.line cs) n (located_behind P p (record { head = head; body = body }) (flat_map procedures_in ms) at) named.1 (right_all has_comment_text own rest texts) (past_can close.place.line cs h))
+  where
+    of_kept : (b : Bool) → is_kept P class p ≡ b → names_sub head.form ≡ true → slice_get (procedures_of P.declarations.project) p ≡ Some (record { head = head; body = body })
+        → list_all is_writable_member (all_left_out cs (member_lines P class p (proc head body close))) ≡ true
+        → list_all is_writable_member (cond b (member_comments (up_to head.place.line cs) ++ net.proc (written_procedure P p (past head.place.line cs) head close) ∷ []) (all_left_out cs (member_lines P class p (proc head body close)))) ≡ true
+    of_kept false k named found left = left
+    of_kept true k named found left =
+        let facts = kept_sub P class p (record { head = head; body = body }) found k in
+        all_append is_writable_member (member_comments (up_to head.place.line cs)) (net.proc (written_procedure P p (past head.place.line cs) head close) ∷ [])
+        (member_comments_can (up_to head.place.line cs) (up_to_can head.place.line cs h))
+        (and_true (is_writable_member (net.proc (written_procedure P p (past head.place.line cs) head close))) true
+        (procedure_can P p (past head.place.line cs) head close (locals_named p 0 P.declarations.vars n) (past_can head.place.line cs h) facts.0 named facts.1) refl)
+
+abbrev procedures_in_module : Module → List Written
+procedures_in_module m = flat_map procedures_in m.members
+
+modules_can : (P : Bound) (ms : List Module) (p : ℕ) → list_all is_named_variable P.declarations.vars ≡ true → Located P p (flat_map procedures_in_module ms) → list_all is_named_module ms ≡ true → list_all is_writable_module (written_modules P p ms) ≡ true
+modules_can P [] p n at named = refl
+modules_can P (m ∷ ms) p n at named =
+    let both = both_true (is_named_module m) (list_all is_named_module ms) named in
+    let third = both_true (is_identifier m.name && are_comments m.comments && list_all has_comment_text (flat.module_lines m)) (list_all is_named_head (procedures_in_module m)) both.0 in
+    let second = both_true (is_identifier m.name && are_comments m.comments) (list_all has_comment_text (flat.module_lines m)) third.0 in
+    let first = both_true (is_identifier m.name) (are_comments m.comments) second.0 in
+    and_true (is_writable_module (written_module P p m)) (list_all is_writable_module (written_modules P (numbers_behind p m.members) ms))
+    (and_true (is_identifier m.name) (list_all is_writable_member (written_members P m.class p m.comments m.members)) first.0
+    (members_can P m.class m.members p m.comments n (λ j w e. at j w (in_front (procedures_in_module m) (flat_map procedures_in_module ms) j w e)) third.1 second.1 first.1))
+    (modules_can P ms (numbers_behind p m.members) n (λ j w e. moved j w (at (length (procedures_in_module m) + j) w (at_back (procedures_in_module m) (flat_map procedures_in_module ms) j w e))) both.1)
+  where
+    in_front : (xs ys : List Written) (j : ℕ) (w : Written) → slice_get xs j ≡ Some w → slice_get (xs ++ ys) j ≡ Some w
+    in_front [] ys zero w e = absurd (cc e)
+    in_front [] ys (suc j) w e = absurd (cc e)
+    in_front (x ∷ xs) ys zero w e = e
+    in_front (x ∷ xs) ys (suc j) w e = in_front xs ys j w e
+
+    at_back : (xs ys : List Written) (j : ℕ) (w : Written) → slice_get ys j ≡ Some w → slice_get (xs ++ ys) (length xs + j) ≡ Some w
+    at_back [] ys j w e = let here : 0 + j ≡ j = omega arith in ap (slice_get ys) here ∙ e
+    at_back (x ∷ xs) ys j w e = let here : suc (length xs) + j ≡ suc (length xs + j) = omega arith in ap (slice_get (x ∷ (xs ++ ys))) here ∙ at_back xs ys j w e
+
+    moved : (j : ℕ) (w : Written) → slice_get (procedures_of P.declarations.project) (p + (length (procedures_in_module m) + j)) ≡ Some w → slice_get (procedures_of P.declarations.project) (numbers_behind p m.members + j) ≡ Some w
+    moved j w e =
+        let counted = number_of_members p m.members in
+        let same : numbers_behind p m.members + j ≡ p + (length (procedures_in_module m) + j) = omega (arith, counted) in
+        ap (slice_get (procedures_of P.declarations.project)) same ∙ e
+
+-- what is written for the modules can be written
+pub written_can : (P : Bound) → is_named P ≡ true → list_all is_writable_module (written_modules P 0 P.declarations.project.modules) ≡ true
+written_can P h =
+    let both = both_true (list_all is_named_variable P.declarations.vars) (list_all is_named_module P.declarations.project.modules) h in
+    modules_can P P.declarations.project.modules 0 both.0 (λ j w e. let here : 0 + j ≡ j = omega arith in ap (slice_get (procedures_of P.declarations.project)) here ∙ e) both.1

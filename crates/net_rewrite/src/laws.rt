@@ -1,0 +1,33 @@
+//! That what is written does the same.
+ghost use Rattle.std.specs.Prelude.{◌≡◌, ℕ, true};
+ghost use Rattle.vb_tree.specs.BoundTree.{Bound};
+ghost use Rattle.std.specs.List.{list_all};
+ghost use Rattle.net_tree.specs.Text.{is_writable_module};
+ghost use Rattle.net_tree.specs.Tree.{Project};
+ghost use Rattle.net_rewrite.specs.Translated.{is_translated_procedure};
+ghost use Rattle.net_rewrite.specs.Match.{IsWrittenAs, SameRun};
+ghost use Rattle.net_rewrite.specs.Modules.{AreWritten, is_kept_at, written_modules};
+ghost use Rattle.net_rewrite.specs.Writable.{is_named};
+
+/// A law: a procedure that is translated does the same as one that is written for it. From stores that match, within any
+/// number of steps, both put out the same, raise the same number or end or are stopped alike, and leave stores that match.
+/// Where the meaning of Visual Basic 6 doesn't cover what the procedure does, what it put out before is put out.
+#[tactic(auto, using(crate::proofs::Runs::same_run))]
+pub fn same_runs()
+    ensures { (P : Bound) (N : Project) (p q : ℕ) → is_translated_procedure P p ≡ true → IsWrittenAs P N p q → SameRun P N p q }
+{}
+
+/// A law: where the modules of a project are what is written for another one's, comments and lines that are left out
+/// included, each procedure of that one that is translated stands among them, and does the same.
+#[tactic(auto, using(crate::proofs::Placing::kept_same))]
+pub fn same_runs_of_modules()
+    ensures { (P : Bound) (N : Project) → AreWritten P N → (p : ℕ) → is_kept_at P p ≡ true
+        → (q : ℕ) × IsWrittenAs P N p q × SameRun P N p q }
+{}
+
+/// A law: where the names of a project are identifiers and its texts can stand in comments, what is written for its modules
+/// can be written.
+#[tactic(auto, using(crate::proofs::WritableModules::written_can))]
+pub fn modules_can_be_written()
+    ensures { (P : Bound) → is_named P ≡ true → list_all is_writable_module (written_modules P 0 P.declarations.project.modules) ≡ true }
+{}
