@@ -1,0 +1,10 @@
+mod Lists
+mod Units
+mod Tokens
+mod Contents
+mod Cuts
+mod Statements
+mod Declarations
+mod Lines
+mod Modules
+mod Projects
