@@ -1,8 +1,9 @@
 #!/usr/bin/env bash
 # Measures the upgrade wizard on a small project and on two with a module of the largest size, one of printed texts and
-# one of sums, beside a plain reading of the same files; and the lexer on 16 MiB of code, beside universal-ctags where that
-# is installed. It prints seconds, megabytes (10^6 bytes of input) a second and peak memory, with the targets beside them,
-# and judges nothing: it ends with status 0 whatever the figures.
+# one of sums, beside a plain reading of the same files; the lexer on 16 MiB of code, beside universal-ctags where that is
+# installed; and the emitter on a project of 16 MiB of text. It prints seconds, megabytes (10^6 bytes of input, or of text
+# that is emitted) a second and peak memory, with the targets beside them, and judges nothing: it ends with status 0
+# whatever the figures.
 set -euo pipefail
 export LC_ALL=C
 
@@ -26,6 +27,13 @@ lexer="$root/crates/lex_count/out/lex_count"
 build_lexer() {
     (cd "$root/crates/lex_count" && rt run <stdin) >"$work/built" 2>&1
     tail -n 1 "$work/built" | grep -q '^lines '
+}
+
+# Builds the program that emits a long project where need be, and emits a short one.
+emitter="$root/crates/emit_bench/out/emit_bench"
+build_emitter() {
+    (cd "$root/crates/emit_bench" && rt run -- 1 1) >"$work/built" 2>&1
+    tail -n 1 "$work/built" | grep -q '^files '
 }
 
 # Writes at most so many bytes of code in the shape of a real module: functions with comments, long names, continued lines
@@ -128,8 +136,26 @@ measure_lexer() {
     fi
 }
 
+# Measures the emitter on a project of so many lines that is emitted once, and more often. The time of the last line is the
+# difference of both, which leaves out that the project is built and let go of.
+measure_emitter() {
+    local lines="$1" times="$2" once all whole
+    for ((run = 1; run <= runs; run++)); do
+        once="$("$emitter" "$lines" 1 | sed 's/.*bytes //')"
+        measure "$emitter" "$lines" 1
+        print_figures "emit 1 time" "$once" ""
+        whole="$seconds"
+        all=$((once * times))
+        measure "$emitter" "$lines" "$times"
+        print_figures "emit $times times" "$all" ""
+        seconds="$(awk -v a="$whole" -v b="$seconds" 'BEGIN { printf "%.4f", b - a }')"
+        print_figures "emitter" "$((all - once))" "the difference"
+    done
+}
+
 build
 build_lexer
+build_emitter
 mkdir "$work/hello" "$work/large" "$work/sums"
 cp "$root"/examples/hello/{Hello.vbp,Main1.bas} "$work/hello/"
 write_project "$work/large" Large '' '    Debug.Print "line %06d of a generated module"\r\n'
@@ -142,3 +168,6 @@ measure_project "$work/sums" Sums.vbp "under 1 s"
 
 write_code "$work/Code.bas" 16777216
 measure_lexer "$work/Code.bas"
+
+# A line has 43 bytes with its end.
+measure_emitter 390000 21
