@@ -1,0 +1,13 @@
+pub mod Printing
+pub mod Bounds
+pub mod FixedTexts
+pub mod Errors
+pub mod Variants
+pub mod VariantOperators
+pub mod VariantConversions
+pub mod Assignments
+pub mod Rows
+pub mod Walk
+pub mod Needs
+pub mod Noting
+pub mod Shapes
