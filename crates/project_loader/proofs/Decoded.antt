@@ -1,9 +1,9 @@
 -- The text of bytes of which some may have no character.
-use Rattle.std.proofs.Common.{◌≡◌, ℕ, suc, ◌+◌, ◌-◌, ◌≤◌, Bool, true, false, not, cond, nat_lt, List, [], ◌∷◌, map, length, get_or, position, Option, Some, None, is_none, unwrap_or, refl, sym, ap, ◌∙◌, arith}
+use Rattle.std.proofs.Common.{◌≡◌, ℕ, suc, ◌+◌, ◌-◌, ◌≤◌, Bool, true, false, not, cond, nat_lt, ◌&&◌, List, [], ◌∷◌, map, length, get_or, position, Option, Some, None, is_none, unwrap_or, refl, sym, ap, ◌∙◌, arith}
 use Rattle.std.proofs.lemmas.List.FromFn.{get_or-map-range_with_len}
 use Rattle.std.specs.List.{range_with_len, position_or_len, prefix_len}
 use Rattle.up_base.specs.Windows1252.{unit_of, is_undefined, AreUnits}
-use Rattle.project_loader.specs.Texts.{unit_or_delete, decoded, filled}
+use Rattle.project_loader.specs.Texts.{is_byte, are_bytes, unit_or_delete, decoded, filled}
 use Rattle.project_loader.specs.declared.texts.TheConstants.{FILLED}
 
 -- the table has each byte from 80 to 9F hex
@@ -15,32 +15,33 @@ filled_at byte d low high =
     ap (λ bytes. get_or bytes (byte - 128) d) filled_are
     ∙ get_or-map-range_with_len filled 128 32 (byte - 128) byte d (omega arith) (omega arith)
 
-unit_is : (f : ℕ → Option ℕ) (byte unit : ℕ) → Some unit ≡ f byte → unit ≡ unwrap_or (f byte) 127
-unit_is f byte unit h = rw (sym h) refl
-
-pub units_decoded : (bytes units : List ℕ) → AreUnits bytes units → units ≡ decoded bytes
-units_decoded bytes units h = by unit_of bytes units h
-  where
-    by : (f : ℕ → Option ℕ) (bytes units : List ℕ) → map Some units ≡ map f bytes → units ≡ map (λ b. unwrap_or (f b) 127) bytes
-    by f [] [] h = refl
-    by f [] (u ∷ us) h = cc
-    by f (b ∷ bs) [] h = cc
-    by f (b ∷ bs) (u ∷ us) h =
-        let first : Some u ≡ f b = cc in
-        let rest : map Some us ≡ map f bs = cc in
-        ap (λ x. x ∷ us) (unit_is f b u first) ∙ ap (λ xs. unwrap_or (f b) 127 ∷ xs) (by f bs us rest)
-
 -- a byte with its character, or 7F hex
-unit_filled : (byte : ℕ) → unit_of (filled byte) ≡ Some (unit_or_delete byte)
-unit_filled byte = by (unit_of byte) refl
+unit_filled : (byte : ℕ) → is_byte byte ≡ true → unit_of (filled byte) ≡ Some (unit_or_delete byte)
+unit_filled byte h = by (unit_of byte) refl ∙ ap (λ t. Some (cond t (unwrap_or (unit_of byte) 127) 127)) (sym h)
   where
     by : (o : Option ℕ) → unit_of byte ≡ o → unit_of (cond (is_none (unit_of byte)) 127 byte) ≡ Some (unwrap_or (unit_of byte) 127)
     by None e = rw e refl
     by (Some u) e = rw e e
 
-filled_units : (bytes : List ℕ) → map unit_of (map filled bytes) ≡ map Some (decoded bytes)
-filled_units [] = refl
-filled_units (b ∷ bs) = ap (λ x. x ∷ map unit_of (map filled bs)) (unit_filled b) ∙ ap (λ xs. Some (unit_or_delete b) ∷ xs) (filled_units bs)
+first_byte : (b : ℕ) (bs : List ℕ) → are_bytes (b ∷ bs) ≡ true → is_byte b ≡ true
+first_byte b bs h = by (is_byte b) h
+  where
+    by : (t : Bool) → t && are_bytes bs ≡ true → t ≡ true
+    by true e = refl
+    by false e = absurd (cc e)
+
+later_bytes : (b : ℕ) (bs : List ℕ) → are_bytes (b ∷ bs) ≡ true → are_bytes bs ≡ true
+later_bytes b bs h = by (is_byte b) h
+  where
+    by : (t : Bool) → t && are_bytes bs ≡ true → are_bytes bs ≡ true
+    by true e = e
+    by false e = absurd (cc e)
+
+filled_units : (bytes : List ℕ) → are_bytes bytes ≡ true → map unit_of (map filled bytes) ≡ map Some (decoded bytes)
+filled_units [] h = refl
+filled_units (b ∷ bs) h =
+    ap (λ x. x ∷ map unit_of (map filled bs)) (unit_filled b (first_byte b bs h))
+    ∙ ap (λ xs. Some (unit_or_delete b) ∷ xs) (filled_units bs (later_bytes b bs h))
 
 same_units : (xs ys : List ℕ) → map Some xs ≡ map Some ys → xs ≡ ys
 same_units [] [] h = refl
@@ -51,11 +52,15 @@ same_units (x ∷ xs) (y ∷ ys) h =
     let rest : map Some xs ≡ map Some ys = cc in
     ap (λ z. z ∷ xs) first ∙ ap (λ zs. y ∷ zs) (same_units xs ys rest)
 
-pub filled_decoded : (bytes units : List ℕ) → AreUnits (map filled bytes) units → units ≡ decoded bytes
-filled_decoded bytes units h = same_units units (decoded bytes) (h ∙ filled_units bytes)
+pub filled_decoded : (bytes units : List ℕ) → are_bytes bytes ≡ true → AreUnits (map filled bytes) units → units ≡ decoded bytes
+filled_decoded bytes units bytes_are h = same_units units (decoded bytes) (h ∙ filled_units bytes bytes_are)
 
 filled_defined : (byte : ℕ) → is_undefined (filled byte) ≡ false
-filled_defined byte = ap is_none (unit_filled byte)
+filled_defined byte = by (unit_of byte) refl
+  where
+    by : (o : Option ℕ) → unit_of byte ≡ o → is_none (unit_of (cond (is_none (unit_of byte)) 127 byte)) ≡ false
+    by None e = rw e refl
+    by (Some u) e = rw e (ap is_none e)
 
 none_undefined : (bytes : List ℕ) → position_or_len is_undefined (map filled bytes) ≡ length (map filled bytes)
 none_undefined [] = refl

@@ -208,5 +208,5 @@ held_whole None name file before modules told h = tt
 held_whole (Some files) name file before modules told h =
     record { file = told.0; modules = subst (λ n. HeldEntries files n 1 file.entries modules) told.1 h }
 
-pub of_grammar : (text : List ℕ) (file : ProjectFile) (modules : List Module) → TextIsFile text file → AreModules 1 file.entries modules → IsOfGrammar (record { file = file; modules = modules })
-of_grammar text file modules is h = record { text = text; file = is; modules = h }
+pub of_grammar : (bytes : List ℕ) (file : ProjectFile) (modules : List Module) → TextIsFile (decoded bytes) file → AreModules 1 file.entries modules → IsOfGrammar (record { file = file; modules = modules })
+of_grammar bytes file modules is h = record { bytes = bytes; file = is; modules = h }

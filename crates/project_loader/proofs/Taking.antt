@@ -30,7 +30,7 @@ use Rattle.project_loader.specs.Steps.{first_of, IfFault, OnStop, OnFault, stop_
 -- ---- lists of modules, and one more
 
 abbrev Texts : Entry → ℕ → Module → Type 0
-Texts entry k m = (text : List ℕ) × TextIsModule entry k text m
+Texts entry k m = (bytes : List ℕ) × TextIsModule entry k (decoded bytes) m
 
 texts_push : (k : ℕ) (es : List Entry) (ms : List Module) (e : Entry) (m : Module) (n : ℕ) → n ≡ k + length es → AreModules k es ms → Texts e n m → AreModules k (es ++ e ∷ []) (ms ++ m ∷ [])
 texts_push k [] [] e m n at h t =
@@ -229,7 +229,7 @@ text_stopped (Some files) before n entry bytes (Err stop.Mem) within h fault = t
 -- one more module, with its bytes
 pub takes_entry : (held : Option Files) (entry : Entry) (old new : ModuleList) (m : Module) (bytes : List ℕ) → map module_of new.modules ≡ map module_of old.modules ++ m ∷ [] → new.count ≡ old.count + 1 → new.bytes ≡ old.bytes + length bytes → old.bytes + length bytes ≤ total_limit → TextIsModule entry (old.count + 1) (decoded bytes) m → IfSome held (λ files. HeldText files entry.file bytes) → TakesEntry held entry old new
 takes_entry held entry old new m bytes modules count total within is h =
-    record { m = m; modules = modules; count = count; within = subst (λ n. n ≤ total_limit) (sym total) within; text = (decoded bytes, is); told = by held h }
+    record { m = m; modules = modules; count = count; within = subst (λ n. n ≤ total_limit) (sym total) within; text = (bytes, is); told = by held h }
   where
     by : (o : Option Files) → IfSome o (λ files. HeldText files entry.file bytes) → IfSome o (λ files. HeldEntry files old.bytes (old.count + 1) entry m × (new.bytes ≡ old.bytes + size_of (files entry.file)))
     by None h = tt

@@ -43,15 +43,15 @@ pub record HeldProject (files : Files) (name : List ℕ) (P : Project) : Type 0 
   pub file : HeldFile files name P.file
   pub modules : HeldEntries files (size_of (files name)) 1 P.file.entries P.modules
 
--- texts of modules, numbered from k, by their entries
+-- bytes of modules, numbered from k, by their entries
 abbrev pub AreModules : (k : ℕ) → List Entry → List Module → Type 0
 AreModules k [] [] = Unit {0}
 AreModules k [] (m ∷ ms) = ⊥
 AreModules k (entry ∷ entries) [] = ⊥
-AreModules k (entry ∷ entries) (m ∷ ms) = ((text : List ℕ) × TextIsModule entry k text m) × AreModules (k + 1) entries ms
+AreModules k (entry ∷ entries) (m ∷ ms) = ((bytes : List ℕ) × TextIsModule entry k (decoded bytes) m) × AreModules (k + 1) entries ms
 
--- a project of the grammar: there are texts that it is read from
+-- a project of the grammar: there are bytes that it is read from
 pub record IsOfGrammar (P : Project) : Type 0 where
-  pub text : List ℕ
-  pub file : TextIsFile text P.file
+  pub bytes : List ℕ
+  pub file : TextIsFile (decoded bytes) P.file
   pub modules : AreModules 1 P.file.entries P.modules

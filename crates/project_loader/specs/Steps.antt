@@ -13,7 +13,7 @@ use Rattle.project_loader.specs.declared.loading.LoadFail.TheVariants as load
 use Rattle.project_loader.specs.declared.modules.ModuleList.{ModuleList}
 use Rattle.project_loader.specs.declared.texts.Stop.{Stop}
 use Rattle.project_loader.specs.declared.texts.Stop.TheVariants as stop
-use Rattle.project_loader.specs.Texts.{IsTooLong, total_limit, size_of}
+use Rattle.project_loader.specs.Texts.{IsTooLong, total_limit, size_of, decoded}
 use Rattle.project_loader.specs.Modules.{TextIsModule}
 use Rattle.project_loader.specs.Held.{HeldEntry, HeldEntries, AreModules, sizes}
 use Rattle.project_loader.specs.Faults.{fault_at, EntryFault}
@@ -63,7 +63,7 @@ pub record TakesEntry (held : Option Files) (entry : Entry) (old new : ModuleLis
   pub modules : map module_of new.modules ≡ map module_of old.modules ++ m ∷ []
   pub count : new.count ≡ old.count + 1
   pub within : new.bytes ≤ total_limit
-  pub text : (text : List ℕ) × TextIsModule entry (old.count + 1) text m
+  pub text : (bytes : List ℕ) × TextIsModule entry (old.count + 1) (decoded bytes) m
   pub told : IfSome held (λ files. HeldEntry files old.bytes (old.count + 1) entry m × (new.bytes ≡ old.bytes + size_of (files entry.file)))
 
 -- the files of entries are read, where so many bytes count before them

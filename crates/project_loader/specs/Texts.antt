@@ -1,5 +1,6 @@
 -- The texts that a folder holds, and how many bytes may be read.
-use Rattle.std.specs.Prelude.{◌≡◌, ℕ, ◌≤◌, ◌<◌, cond, List, map, length, Option, Some, None, unwrap_or}
+use Rattle.std.specs.Prelude.{◌≡◌, ℕ, ◌≤◌, ◌<◌, nat_lt, Bool, cond, List, map, length, Option, Some, None, unwrap_or}
+use Rattle.std.specs.List.{list_all}
 use Rattle.up_base.specs.Outside.{Files}
 use Rattle.up_base.specs.Windows1252.{unit_of, is_undefined}
 
@@ -27,10 +28,16 @@ abbrev pub size_of : Option (List ℕ) → ℕ
 size_of None = 0
 size_of (Some bytes) = length bytes
 
--- the unit that a byte stands for by Windows-1252; a byte without a character becomes 7F hex, a control unit, which no
--- text may hold
+abbrev pub is_byte : ℕ → Bool
+is_byte n = nat_lt n 256
+
+abbrev pub are_bytes : List ℕ → Bool
+are_bytes bytes = list_all is_byte bytes
+
+-- the unit that a byte stands for by Windows-1252; a byte without a character, and a number that is no byte, becomes 7F hex,
+-- a control unit, which no text may hold
 abbrev pub unit_or_delete : ℕ → ℕ
-unit_or_delete byte = unwrap_or (unit_of byte) 127
+unit_or_delete n = cond (is_byte n) (unwrap_or (unit_of n) 127) 127
 
 abbrev pub decoded : List ℕ → List ℕ
 decoded bytes = map unit_or_delete bytes

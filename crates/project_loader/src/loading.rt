@@ -98,7 +98,7 @@ struct SizedFile {
 
 // The project file under a name.
 fn load_file<F: Folder>(alloc: Global, folder: &mut F, name: &Name) -> Result<SizedFile, Stop>
-    ensures text { IfOk result (λ s. (text : List ℕ) × TextIsFile text s.file) }
+    ensures text { IfOk result (λ s. (bytes : List ℕ) × TextIsFile (decoded bytes) s.file) }
     ensures few { IfOk result (λ s. length s.file.entries ≤ entry_limit) }
     ensures short { IfOk result (λ s. s.bytes ≤ file_limit) }
     ensures held_file { IfSome (F.held folder.old) (λ files. IfOk result (λ s. HeldFile files name.now s.file × (s.bytes ≡ size_of (files name.now)))) }

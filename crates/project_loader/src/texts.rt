@@ -1,7 +1,7 @@
 //! The texts of a project's files.
-ghost use Rattle.std.specs.Prelude.{◌≡◌, ◌≤◌, ◌<◌, ◌^◌, map, None, IfOk, IfErr, IfSome, IsErrOf, length};
+ghost use Rattle.std.specs.Prelude.{◌≡◌, ◌≤◌, ◌<◌, ◌^◌, true, map, None, IfOk, IfErr, IfSome, IsErrOf, length};
 ghost use Rattle.up_base.specs.Outside.{Rose, CountsCall};
-ghost use Rattle.project_loader.specs.Texts.{HeldText, IsTooLong, decoded, filled, file_limit};
+ghost use Rattle.project_loader.specs.Texts.{HeldText, IsTooLong, is_byte, are_bytes, decoded, filled, file_limit};
 ghost use Rattle.project_loader.specs.Faults.{fault_at};
 ghost use Rattle.project_loader.specs.Steps.{OnStop, UnreadFault, stop_of};
 ghost use Rattle.project_loader.specs.declared.texts.Stop.TheVariants as stop;
@@ -135,18 +135,6 @@ pub(crate) fn decoded(alloc: Global, bytes: &[u8]) -> Result<Wide, Mem>
     requires { length bytes.now < 2 ^ 32 }
     ensures { IfOk result (λ text. text ≡ decoded bytes.now) }
 {
-    match decode_1252(alloc, bytes) {
-        Ok(text) => Ok(text),
-        Err(DecodeFail::Undefined(_)) => Ok(filled_text(alloc, bytes)?),
-        Err(DecodeFail::Mem) => Err(Mem),
-    }
-}
-
-// The same of bytes some of which may have no character.
-fn filled_text(alloc: Global, bytes: &[u8]) -> Result<Wide, Mem>
-    requires { length bytes.now < 2 ^ 32 }
-    ensures { IfOk result (λ text. text ≡ decoded bytes.now) }
-{
     let filled = filled_bytes(alloc, bytes)?;
     match decode_1252(alloc, &filled) {
         Ok(text) => Ok(text),
@@ -155,8 +143,10 @@ fn filled_text(alloc: Global, bytes: &[u8]) -> Result<Wide, Mem>
     }
 }
 
+// Bytes, with 7F hex for those without a character.
 fn filled_bytes(alloc: Global, bytes: &[u8]) -> Result<Vec<u8>, Mem>
-    ensures { IfOk result (λ all. all.items ≡ map filled bytes.now) }
+    ensures filled { IfOk result (λ all. all.items ≡ map filled bytes.now) }
+    ensures bytes { IfOk result (λ all. are_bytes bytes.now ≡ true) }
 {
     let mut all = Vec::with_capacity(alloc, bytes.len())?;
     for byte in bytes {
@@ -167,7 +157,8 @@ fn filled_bytes(alloc: Global, bytes: &[u8]) -> Result<Vec<u8>, Mem>
 
 // A byte, and 7F hex for one without a character.
 fn filled(byte: u8) -> u8
-    ensures { result ≡ filled byte }
+    ensures filled { result ≡ filled byte }
+    ensures byte { is_byte byte ≡ true }
 {
     match byte {
         0x80..=0x9F => FILLED[byte as usize - 0x80],
