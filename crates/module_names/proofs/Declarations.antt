@@ -1,5 +1,6 @@
--- The name of a Sub is an identifier, where the tokens of its head are such names.
-use Rattle.std.proofs.Common.{◌≡◌, ℕ, Bool, true, false, if◌then◌else◌, Option, Some, None, option_map, option_and_then, List, [], ◌∷◌, codes, refl, ap, ◌∙◌}
+-- The names of a Sub and of variables are identifiers, where the tokens of the line that declares them are such names.
+use Rattle.std.proofs.Common.{◌≡◌, ℕ, Bool, true, false, if◌then◌else◌, Option, Some, None, option_map, option_and_then, List, [], ◌∷◌, map, codes, refl, ap, ◌∙◌}
+use Rattle.std.specs.List.{list_all}
 use Rattle.vb_tree.specs.declared.block.BlockKind.{BlockKind}
 use Rattle.vb_tree.specs.declared.block.BlockKind.TheVariants as block
 use Rattle.vb_tree.specs.declared.declared.ProcKind.{ProcKind}
@@ -16,8 +17,9 @@ use Rattle.vb_tree.specs.declared.token.Token.{Token}
 use Rattle.vb_tree.specs.declared.token.TokenKind.{TokenKind}
 use Rattle.vb_tree.specs.declared.token.TokenKind.TheVariants as kind
 use Rattle.vb_tree.specs.Expressions.{Keyword, constant_word, operator_keyword, keyword_of, keyword_symbol, word_symbol, sign_symbol, symbol_of}
-use Rattle.vb_tree.specs.Tree.{Form}
-use Rattle.form_parts.specs.Cuts.{open_after, part_behind, pieces, parted}
+use Rattle.vb_tree.specs.Tree.{Declarator, Form}
+use Rattle.form_parts.specs.Cuts.{open_after, part_behind, parts_here, placed, pieces_in, pieces, parted, Each}
+use Rattle.form_parts.specs.declared.cuts.Separator.{Separator}
 use Rattle.form_parts.specs.Parts.{symbol_name, name_of_token}
 use Rattle.declaration_forms.specs.declared.starts.Spot.{Spot}
 use Rattle.declaration_forms.specs.declared.starts.Spot.TheVariants as spot
@@ -30,14 +32,13 @@ use Rattle.declaration_forms.specs.Words.{lead_of, before_last}
 use Rattle.declaration_forms.specs.Starts.{Begun, is_general, is_procedural, general, property_kind, property_part, part_of, procedure_part, before_static, head_of, head_start, static_head, static_start, has_events, variables_start, seen_variables, static_variables, property_start, static_line, closed_block, closed_procedure, ends, end_start, procedure_end, plain_start, other_start, declared_start, behind_visibility, seen_start, module_start, seen_constants, seen_in_procedure, local_start, procedure_start, member_start, group_start, start_of}
 use Rattle.declaration_forms.specs.Options.{whole_number, lower_bound, option_of_two, option_line}
 use Rattle.declaration_forms.specs.DeclarationForms.{head_form, HeadLine, end_form, Fits, FitsStart, IsDeclaration}
-use Rattle.declaration_forms.specs.Variables.{Outlines, FieldOf, MemberOf, IsMemberCut}
+use Rattle.declaration_forms.specs.Variables.{Outlines, DeclaratorOf, IsDeclarator, FieldOf, MemberOf, IsMemberCut}
 use Rattle.form_parts.specs.Words.{is_key}
 use Rattle.form_parts.specs.declared.cuts.Separator.TheVariants.{Comma, Equal}
 use Rattle.std.specs.Prelude.{ℤ, pos}
 use Rattle.std.specs.Ordering.{int_eq}
-use Rattle.net_rewrite.specs.Writable.{names_sub}
-use Rattle.module_names.proofs.Statements.{option_names, found_names, either_names}
-use Rattle.module_names.proofs.Lists.{by_test, all_more, all_first, all_rest}
+use Rattle.module_names.proofs.Statements.{is_well_named, option_names, found_names, either_names}
+use Rattle.net_rewrite.proofs.Lists.{by_test, and_true, all_more, all_first, all_rest}
 use Rattle.module_names.proofs.Cuts.{are_named}
 use Rattle.module_names.proofs.Tokens.{is_named_kind, is_named_token}
 use Rattle.net_tree.specs.Spelling.{is_identifier}
@@ -110,6 +111,33 @@ cut_names tokens (Some cut) h k = named_outline_names (Some cut.1) cut.0 k
 
 pub outline_names : (tokens : List Token) → are_named tokens ≡ true → is_named_outline (outline_of tokens) ≡ true
 outline_names tokens h = cut_names tokens (typed tokens) h (typed_names 0 tokens h)
+
+-- ---- variables
+
+placed_named : (b : Bool) (t : Token) (ps : List (List Token)) → is_named_token t ≡ true → list_all are_named ps ≡ true → list_all are_named (placed b t ps) ≡ true
+placed_named true t ps h k = k
+placed_named false t [] h k = all_more are_named (t ∷ []) [] (all_more is_named_token t [] h refl) refl
+placed_named false t (p ∷ ps) h k = all_more are_named (t ∷ p) ps (all_more is_named_token t p h (all_first are_named p ps k)) (all_rest are_named p ps k)
+
+pieces_named : (s : Separator) (d : ℕ) (tokens : List Token) → are_named tokens ≡ true → list_all are_named (pieces_in s d tokens) ≡ true
+pieces_named s d [] h = refl
+pieces_named s d (t ∷ ts) h =
+    placed_named (parts_here s d t.kind) t (pieces_in s (open_after d t.kind) ts) (all_first is_named_token t ts h)
+    (pieces_named s (open_after d t.kind) ts (all_rest is_named_token t ts h))
+
+declarator_named : (tokens : List Token) (d : Declarator) → are_named tokens ≡ true → IsDeclarator tokens d → is_identifier d.name ≡ true
+declarator_named tokens d h e = of_outline (outline_of tokens) (outline_names tokens h) e
+  where
+    of_outline : (o : Option Outline) → is_named_outline o ≡ true → Outlines DeclaratorOf o d → is_identifier d.name ≡ true
+    of_outline None k e = absurd e
+    of_outline (Some o) k e = ap is_identifier e.name ∙ k
+
+declarators_named : (ps : List (List Token)) (ds : List Declarator) → list_all are_named ps ≡ true → Each IsDeclarator ps ds → list_all is_identifier (map (λ (d : Declarator). d.name) ds) ≡ true
+declarators_named [] [] h e = refl
+declarators_named [] (d ∷ ds) h e = absurd e
+declarators_named (p ∷ ps) [] h e = absurd e
+declarators_named (p ∷ ps) (d ∷ ds) h e =
+    all_more is_identifier d.name (map (λ (d : Declarator). d.name) ds) (declarator_named p d (all_first are_named p ps h) e.0) (declarators_named ps ds (all_rest are_named p ps h) e.1)
 
 -- ---- what a line begins with
 
@@ -318,44 +346,45 @@ end_form_names block.Type = refl
 end_form_names block.Enum = refl
 end_form_names _ = refl
 
-outlines_names : (Is : Outline → Form → Type 0) (o : Option Outline) (f : Form) → is_named_outline o ≡ true → ((o : Outline) → is_identifier o.name ≡ true → Is o f → names_sub f ≡ true) → Outlines Is o f → names_sub f ≡ true
+outlines_names : (Is : Outline → Form → Type 0) (o : Option Outline) (f : Form) → is_named_outline o ≡ true → ((o : Outline) → is_identifier o.name ≡ true → Is o f → is_well_named f ≡ true) → Outlines Is o f → is_well_named f ≡ true
 outlines_names Is None f h each e = absurd e
 outlines_names Is (Some o) f h each e = each o h e
 
-head_names : (k : ProcKind) (v : Option Visibility) (o : Outline) (f : Form) → is_identifier o.name ≡ true → HeadLine k v (head_form k) o f → names_sub f ≡ true
-head_names proc.Sub v o f h l = ap names_sub l.form ∙ ap is_identifier l.head.signed.name ∙ h
-head_names proc.Function v o f h l = ap names_sub l.form
-head_names proc.Get v o f h l = ap names_sub l.form
-head_names proc.Let v o f h l = ap names_sub l.form
-head_names proc.Set v o f h l = ap names_sub l.form
+head_names : (k : ProcKind) (v : Option Visibility) (o : Outline) (f : Form) → is_identifier o.name ≡ true → HeadLine k v (head_form k) o f → is_well_named f ≡ true
+head_names proc.Sub v o f h l = ap is_well_named l.form ∙ and_true (is_identifier l.signature.name) true (ap is_identifier l.head.signed.name ∙ h) refl
+head_names proc.Function v o f h l = ap is_well_named l.form
+head_names proc.Get v o f h l = ap is_well_named l.form
+head_names proc.Let v o f h l = ap is_well_named l.form
+head_names proc.Set v o f h l = ap is_well_named l.form
 
-member_names : (behind : Option (List Token)) (o : Option Outline) (f : Form) → Outlines (MemberOf behind) o f → names_sub f ≡ true
+member_names : (behind : Option (List Token)) (o : Option Outline) (f : Form) → Outlines (MemberOf behind) o f → is_well_named f ≡ true
 member_names behind None f e = absurd e
-member_names behind (Some o) f e = ap names_sub e.form
+member_names behind (Some o) f e = ap is_well_named e.form
 
-fits_names : (s : Start) (line rest : List Token) (f : Form) → are_named rest ≡ true → Fits s line rest f → names_sub f ≡ true
-fits_names start.Attribute line rest f h e = ap names_sub e
+fits_names : (s : Start) (line rest : List Token) (f : Form) → are_named rest ≡ true → Fits s line rest f → is_well_named f ≡ true
+fits_names start.Attribute line rest f h e = ap is_well_named e
 fits_names start.Option line rest f h e = found_names (option_line rest) f (option_line_names rest) e
-fits_names (start.Def w) line rest f h e = ap names_sub e.form
-fits_names (start.Variables w) line rest f h e = ap names_sub e.form
-fits_names start.Events line rest f h e = ap names_sub e.form
-fits_names (start.Constants v) line rest f h e = ap names_sub e.form
-fits_names (start.Type v) line rest f h e = outlines_names _ (outline_of rest) f (outline_names rest h) (λ o n l. ap names_sub l.form) e
-fits_names (start.Enum v) line rest f h e = outlines_names _ (outline_of rest) f (outline_names rest h) (λ o n l. ap names_sub l.form) e
+fits_names (start.Def w) line rest f h e = ap is_well_named e.form
+fits_names (start.Variables w) line rest f h e =
+    ap is_well_named e.form ∙ declarators_named (pieces Comma rest) e.declarators (pieces_named Comma 0 rest h) e.each
+fits_names start.Events line rest f h e = ap is_well_named e.form
+fits_names (start.Constants v) line rest f h e = ap is_well_named e.form
+fits_names (start.Type v) line rest f h e = outlines_names _ (outline_of rest) f (outline_names rest h) (λ o n l. ap is_well_named l.form) e
+fits_names (start.Enum v) line rest f h e = outlines_names _ (outline_of rest) f (outline_names rest h) (λ o n l. ap is_well_named l.form) e
 fits_names (start.Head k v) line rest f h e = outlines_names _ (outline_of rest) f (outline_names rest h) (λ o n l. head_names k v o f n l) e
-fits_names (start.StaticHead k v) line rest f h e = outlines_names _ (outline_of rest) f (outline_names rest h) (λ o n l. ap names_sub l.form) e
+fits_names (start.StaticHead k v) line rest f h e = outlines_names _ (outline_of rest) f (outline_names rest h) (λ o n l. ap is_well_named l.form) e
 fits_names (start.End k) line rest f h e = found_names (end_form k) f (end_form_names k) e
-fits_names start.Opaque line rest f h e = ap names_sub e
-fits_names start.Field line rest f h e = outlines_names FieldOf (outline_of rest) f (outline_names rest h) (λ o n l. ap names_sub l.form) e
+fits_names start.Opaque line rest f h e = ap is_well_named e
+fits_names start.Field line rest f h e = outlines_names FieldOf (outline_of rest) f (outline_names rest h) (λ o n l. ap is_well_named l.form) e
 fits_names start.Member line rest f h e = of_cut (parted Equal rest) e
   where
-    of_cut : (cut : Option (List Token × List Token)) → IsMemberCut rest cut f → names_sub f ≡ true
+    of_cut : (cut : Option (List Token × List Token)) → IsMemberCut rest cut f → is_well_named f ≡ true
     of_cut None k = member_names None (outline_of rest) f k
     of_cut (Some cut) k = member_names (Some cut.1) (outline_of cut.0) f k
 
-pub declaration_names : (place : Spot) (line : List Token) (f : Form) → are_named line ≡ true → IsDeclaration place line f → names_sub f ≡ true
+pub declaration_names : (place : Spot) (line : List Token) (f : Form) → are_named line ≡ true → IsDeclaration place line f → is_well_named f ≡ true
 declaration_names place line f h e = of_start (start_of place line) (start_begun place line h) e
   where
-    of_start : (b : Begun) → is_begun b ≡ true → FitsStart b line f → names_sub f ≡ true
+    of_start : (b : Begun) → is_begun b ≡ true → FitsStart b line f → is_well_named f ≡ true
     of_start None k e = absurd e
     of_start (Some s) k e = fits_names s.0 line s.1 f k e

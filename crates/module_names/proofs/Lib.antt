@@ -1,4 +1,3 @@
-mod Lists
 mod Units
 mod Tokens
 mod Contents
@@ -7,4 +6,4 @@ mod Statements
 mod Declarations
 mod Lines
 mod Modules
-mod Projects
+pub mod Projects

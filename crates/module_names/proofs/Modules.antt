@@ -15,12 +15,13 @@ use Rattle.net_tree.specs.Comments.{is_comment}
 use Rattle.net_tree.specs.Spelling.{is_word_part, is_identifier}
 use Rattle.vb6_run.specs.Program.{procedures_in}
 use Rattle.net_rewrite.specs.Modules.{Comment}
-use Rattle.net_rewrite.specs.Writable.{are_comments, has_comment_text, names_sub, is_named_head, is_named_module}
+use Rattle.net_rewrite.specs.Writable.{are_comments, has_comment_text, names_sub, names_variables, is_named_head, is_named_module}
 use Rattle.module_names.specs.Texts.{are_single}
 use Rattle.module_names.proofs.Contents.{is_good_line, has_simple_comment, lines_good}
 use Rattle.module_names.proofs.Cuts.{are_named, all_parts_good}
 use Rattle.module_names.proofs.Lines.{is_good_code, read_good}
-use Rattle.module_names.proofs.Lists.{both_true, and_true, all_more, all_first, all_rest, all_append, all_left, all_right, all_leads, all_flat}
+use Rattle.net_rewrite.proofs.Lists.{both_true, and_true, all_more, all_first, all_rest, all_append, all_left, all_right, all_leads, all_flat}
+use Rattle.module_names.proofs.Statements.{is_well_named}
 use Rattle.module_names.proofs.Units.{is_simple, simple_is_comment}
 
 -- ---- the name of a module
@@ -97,14 +98,17 @@ comments_good lines h = all_flat is_good_line is_comment_at (λ l. comment_at l.
 -- ---- members
 
 code_has_comment : (l : tree.Line) → is_good_code l ≡ true → has_comment_text l ≡ true
-code_has_comment l h = simple_is_comment l.text (both_true (list_all is_simple l.text) (names_sub l.form) h).0
+code_has_comment l h = simple_is_comment l.text (both_true (list_all is_simple l.text) (is_well_named l.form) h).0
+
+code_names : (l : tree.Line) → is_good_code l ≡ true → (names_sub l.form ≡ true) × (names_variables l ≡ true)
+code_names l h = both_true (names_sub l.form) (names_variables l) (both_true (list_all is_simple l.text) (is_well_named l.form) h).1
 
 member_heads : (m : Member) → list_all is_good_code (member_lines m) ≡ true → list_all is_named_head (procedures_in m) ≡ true
 member_heads (alone l) h = refl
 member_heads (group head lines close) h = refl
 member_heads (proc head body close) h =
     all_more is_named_head (record { head = head; body = body }) []
-    (both_true (list_all is_simple head.text) (names_sub head.form) (all_first is_good_code head (flat_lines body ++ close ∷ []) h)).1
+    (code_names head (all_first is_good_code head (flat_lines body ++ close ∷ []) h)).0
     refl
 
 heads_good : (members : List Member) → list_all is_good_code (flat_map member_lines members) ≡ true → list_all is_named_head (flat_map procedures_in members) ≡ true
@@ -120,13 +124,14 @@ of_body : (entry : Entry) (number : ℕ) (body : List Line) (m : Module) → is_
 of_body entry number body m h k is =
     let lines : list_all is_good_code (module_lines m) ≡ true =
     ap (λ ls. list_all is_good_code ls) is.tree.in_order ∙ read_good [] (all_parts body) is.lines (all_parts_good body k) is.read in
-    and_true (is_identifier m.name && are_comments m.comments && list_all has_comment_text (module_lines m)) (list_all is_named_head (flat_map procedures_in m.members))
-    (and_true (is_identifier m.name && are_comments m.comments) (list_all has_comment_text (module_lines m))
+    let texts = and_true (is_identifier m.name && are_comments m.comments) (list_all has_comment_text (module_lines m))
     (and_true (is_identifier m.name) (are_comments m.comments)
     (ap is_identifier is.name ∙ module_name_is_identifier entry.name h)
     (ap are_comments is.comments ∙ comments_good body k))
-    (all_leads is_good_code has_comment_text code_has_comment (module_lines m) lines))
-    (heads_good m.members lines)
+    (all_leads is_good_code has_comment_text code_has_comment (module_lines m) lines) in
+    let heads = and_true (is_identifier m.name && are_comments m.comments && list_all has_comment_text (module_lines m)) (list_all is_named_head (flat_map procedures_in m.members)) texts (heads_good m.members lines) in
+    and_true (is_identifier m.name && are_comments m.comments && list_all has_comment_text (module_lines m) && list_all is_named_head (flat_map procedures_in m.members)) (list_all names_variables (module_lines m))
+    heads (all_leads is_good_code names_variables (λ l e. (code_names l e).1) (module_lines m) lines)
 
 of_head : (entry : Entry) (number : ℕ) (head : Head) (m : Module) → is_module_name entry.name ≡ true → GoodHead head → IsModule entry number head m → is_named_module m ≡ true
 of_head entry number (ended body) m h k is = of_body entry number body m h k is

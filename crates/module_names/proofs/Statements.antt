@@ -1,5 +1,6 @@
--- A statement of a procedure is no head of a Sub.
+-- A statement of a procedure is no head of a Sub, and declares no variable.
 use Rattle.std.proofs.Common.{◌≡◌, ℕ, Bool, true, false, if◌then◌else◌, ◌&&◌, Option, Some, None, option_map, option_and_then, List, [], ◌∷◌, codes, inl, inr, refl, sym, ap, ◌∙◌}
+use Rattle.std.specs.List.{list_all}
 use Rattle.vb_tree.specs.declared.form_parts.Label6.{Label6}
 use Rattle.vb_tree.specs.declared.token.Token.{Token}
 use Rattle.vb_tree.specs.Tree.{Form}
@@ -9,20 +10,25 @@ use Rattle.form_parts.specs.Words.{is_key}
 use Rattle.statement_forms.specs.Fronts.{behind_key, end_form, exit_form, one_word, two_words, four_words, words_form, is_zero_label, label_in, labelled, jump_form, behind_error, error_form, resume_form, named_next, next_form}
 use Rattle.statement_forms.specs.LineForms.{Made, FormKind, print_items, print_kept, replacement, assignment, setting, calling, block_if, else_if, words_alone, select_head, case_items, counting, for_each_item, next_end, do_while_head, do_until_head, loop_while_end, loop_until_end, while_line, with_line, jump, error_jump, resumption, redimming, erasing, kept_words, computed_jump, invocation, drawing, Fits, FirstIn, order, IsMeant}
 use Rattle.statement_forms.specs.Pieces.{ItemMeans, named_item}
-use Rattle.net_rewrite.specs.Writable.{names_sub}
+use Rattle.net_tree.specs.Spelling.{is_identifier}
+use Rattle.net_rewrite.specs.Writable.{names_sub, variables_of}
+
+-- the Sub and the variables that a line declares, if it does, are named by identifiers
+abbrev pub is_well_named : Form → Bool
+is_well_named f = names_sub f && list_all is_identifier (variables_of f)
 
 abbrev pub option_names : Option Form → Bool
 option_names None = true
-option_names (Some f) = names_sub f
+option_names (Some f) = is_well_named f
 
-pub found_names : (o : Option Form) (f : Form) → option_names o ≡ true → o ≡ Some f → names_sub f ≡ true
+pub found_names : (o : Option Form) (f : Form) → option_names o ≡ true → o ≡ Some f → is_well_named f ≡ true
 found_names o f h e = ap option_names (sym e) ∙ h
 
 pub either_names : (b : Bool) (x y : Option Form) → option_names x ≡ true → option_names y ≡ true → option_names (if b then x else y) ≡ true
 either_names true x y h k = h
 either_names false x y h k = k
 
-pub mapped_names : {A : Type 0} (make : A → Form) (o : Option A) → ((a : A) → names_sub (make a) ≡ true) → option_names (option_map make o) ≡ true
+pub mapped_names : {A : Type 0} (make : A → Form) (o : Option A) → ((a : A) → is_well_named (make a) ≡ true) → option_names (option_map make o) ≡ true
 mapped_names make None h = refl
 mapped_names make (Some a) h = h a
 
@@ -30,7 +36,7 @@ pub then_names : {A : Type 0} (next : A → Option Form) (o : Option A) → ((a 
 then_names next None h = refl
 then_names next (Some a) h = h a
 
-labelled_names : (f : Form) (make : Label6 → Form) (o : Option Label6) → names_sub f ≡ true → ((l : Label6) → names_sub (make l) ≡ true) → option_names (labelled f make o) ≡ true
+labelled_names : (f : Form) (make : Label6 → Form) (o : Option Label6) → is_well_named f ≡ true → ((l : Label6) → is_well_named (make l) ≡ true) → option_names (labelled f make o) ≡ true
 labelled_names f make None h k = refl
 labelled_names f make (Some l) h k = either_names (is_zero_label l) (Some f) (Some (make l)) h (k l)
 
@@ -90,12 +96,12 @@ words_names (t ∷ u ∷ v ∷ w ∷ x ∷ more) = refl
 
 -- ---- kinds of statements
 
-made_names : {X : Type 0} (Is : X → Type 0) (make : X → Form) (depth : X → ℕ) (f : Form) (n : ℕ) → ((x : X) → names_sub (make x) ≡ true) → Made Is make depth f n → names_sub f ≡ true
-made_names Is make depth f n h made = ap names_sub made.2 ∙ h made.0
+made_names : {X : Type 0} (Is : X → Type 0) (make : X → Form) (depth : X → ℕ) (f : Form) (n : ℕ) → ((x : X) → is_well_named (make x) ≡ true) → Made Is make depth f n → is_well_named f ≡ true
+made_names Is make depth f n h made = ap is_well_named made.2 ∙ h made.0
 
-fits_names : (k : FormKind) (ts : List Token) (f : Form) (n : ℕ) → Fits k ts f n → names_sub f ≡ true
+fits_names : (k : FormKind) (ts : List Token) (f : Form) (n : ℕ) → Fits k ts f n → is_well_named f ≡ true
 fits_names print_items ts f n h = made_names _ _ _ f n (λ x. refl) h
-fits_names print_kept ts f n h = ap names_sub h.1
+fits_names print_kept ts f n h = ap is_well_named h.1
 fits_names replacement ts f n h = made_names _ _ _ f n (λ x. refl) h
 fits_names assignment ts f n h = made_names _ _ _ f n (λ x. refl) h
 fits_names setting ts f n h = made_names _ _ _ f n (λ x. refl) h
@@ -119,19 +125,19 @@ fits_names error_jump ts f n h = found_names (error_form ts) f (error_names ts) 
 fits_names resumption ts f n h = found_names (resume_form ts) f (resume_names ts) h.0
 fits_names redimming ts f n h = made_names _ _ _ f n (λ x. refl) h
 fits_names erasing ts f n h = made_names _ _ _ f n (λ x. refl) h
-fits_names kept_words ts f n h = ap names_sub h.1
+fits_names kept_words ts f n h = ap is_well_named h.1
 fits_names computed_jump ts f n h = made_names _ _ _ f n (λ x. refl) h
 fits_names invocation ts f n h = made_names _ _ _ f n (λ x. refl) h
 fits_names drawing ts f n h = made_names _ _ _ f n (λ x. refl) h
 
-first_names : (ks : List FormKind) (ts : List Token) (f : Form) (n : ℕ) → FirstIn ks ts f n → names_sub f ≡ true
+first_names : (ks : List FormKind) (ts : List Token) (f : Form) (n : ℕ) → FirstIn ks ts f n → is_well_named f ≡ true
 first_names [] ts f n h = absurd h
 first_names (k ∷ ks) ts f n (inl h) = fits_names k ts f n h
 first_names (k ∷ ks) ts f n (inr h) = first_names ks ts f n h.1
 
-pub meant_names : (ts : List Token) (f : Form) (n : ℕ) → IsMeant ts f n → names_sub f ≡ true
+pub meant_names : (ts : List Token) (f : Form) (n : ℕ) → IsMeant ts f n → is_well_named f ≡ true
 meant_names ts f n h = first_names order ts f n h
 
-pub item_means_names : (erases : Bool) (ts : List Token) (f : Form) (n : ℕ) → ItemMeans erases ts f n → names_sub f ≡ true
+pub item_means_names : (erases : Bool) (ts : List Token) (f : Form) (n : ℕ) → ItemMeans erases ts f n → is_well_named f ≡ true
 item_means_names true ts f n h = made_names _ tree.erase _ f n (λ x. refl) h
 item_means_names false ts f n h = found_names (named_item ts) f (item_names ts) h.0

@@ -4,16 +4,17 @@ use Rattle.std.proofs.lemmas.Bool.Decides.{nat_tests}
 use Rattle.std.specs.List.{list_all}
 use Rattle.std.specs.Map.{lookup}
 use Rattle.std.specs.Char.Utf16.{is_high_surrogate, is_low_surrogate}
-use Rattle.up_base.specs.Windows1252.{assigned}
+use Rattle.up_base.specs.Windows1252.{assigned, unit_of}
 use Rattle.vb_tree.specs.Tokens.{is_line_end}
 use Rattle.vb_tree.specs.LogicalLines.{shown_unit, shown}
 use Rattle.net_tree.specs.Comments.{is_surrogate, is_well_formed, is_within_line, is_comment}
-use Rattle.project_loader.specs.Texts.{unit_or_delete, decoded}
-use Rattle.module_names.specs.Texts.{is_single, are_single, are_bytes}
-use Rattle.module_names.proofs.Lists.{by_test, both_true, and_true, all_first, all_rest, all_through, all_leads}
+use Rattle.project_loader.specs.Texts.{is_byte, unit_or_delete, decoded}
+use Rattle.module_names.specs.Texts.{is_single, are_single}
+use Rattle.net_rewrite.proofs.Characters.{not_of, formed_behind}
+use Rattle.net_rewrite.proofs.Lists.{by_test, both_true, and_true, all_first, all_rest, all_map, all_through, all_leads}
 
-small_is_single : (b : ℕ) → nat_lt b 256 ≡ true → is_single b ≡ true
-small_is_single b h =
+byte_is_single : (b : ℕ) → nat_lt b 256 ≡ true → is_single b ≡ true
+byte_is_single b h =
     let high : is_high_surrogate b ≡ false = grind (arith, nat_tests) in
     let low : is_low_surrogate b ≡ false = grind (arith, nat_tests) in
     ap (λ c. not (c || is_low_surrogate b)) high ∙ ap not low
@@ -25,14 +26,17 @@ found_is_single b (r ∷ rs) h =
     (λ e. all_first (λ r. is_single r.1) r rs h)
     (λ e. found_is_single b rs (all_rest (λ r. is_single r.1) r rs h))
 
-unit_is_single : (b : ℕ) → nat_lt b 256 ≡ true → is_single (unit_or_delete b) ≡ true
-unit_is_single b h =
+unit_of_byte_is_single : (b : ℕ) → nat_lt b 256 ≡ true → is_single (unwrap_or (unit_of b) 127) ≡ true
+unit_of_byte_is_single b h =
     by_test (nat_le 0x80 b && nat_le b 0x9F) (λ t. is_single (unwrap_or (cond t (lookup (nat_eq b) assigned) (Some b)) 127) ≡ true)
     (λ e. found_is_single b assigned refl)
-    (λ e. small_is_single b h)
+    (λ e. byte_is_single b h)
 
-pub decoded_singly : (bytes : List ℕ) → are_bytes bytes ≡ true → are_single (decoded bytes) ≡ true
-decoded_singly bytes h = all_through (λ b. nat_lt b 256) is_single unit_or_delete unit_is_single bytes h
+unit_is_single : (n : ℕ) → is_single (unit_or_delete n) ≡ true
+unit_is_single n = by_test (is_byte n) (λ t. is_single (cond t (unwrap_or (unit_of n) 127) 127) ≡ true) (λ e. unit_of_byte_is_single n e) (λ e. refl)
+
+pub decoded_singly : (bytes : List ℕ) → are_single (decoded bytes) ≡ true
+decoded_singly bytes = all_map is_single unit_or_delete bytes unit_is_single
 
 -- ---- texts within a line
 
@@ -48,21 +52,6 @@ shown_is_simple u h =
 
 pub shown_simply : (units : List ℕ) → are_single units ≡ true → list_all is_simple (shown units) ≡ true
 shown_simply units h = all_through is_single is_simple shown_unit shown_is_simple units h
-
-not_of : (b : Bool) → not b ≡ true → b ≡ false
-not_of true e = absurd (cc e)
-not_of false e = refl
-
-neither : (a b : Bool) → a || b ≡ false → (a ≡ false) × (b ≡ false)
-neither true b e = absurd (cc e)
-neither false b e = (refl, e)
-
-formed_behind : (u : ℕ) (units : List ℕ) → is_surrogate u ≡ false → is_well_formed units ≡ true → is_well_formed (u ∷ units) ≡ true
-formed_behind u [] e h = ap not e
-formed_behind u (v ∷ units) e h =
-    let parts = neither (is_high_surrogate u) (is_low_surrogate u) e in
-    ap (λ b. cond b (is_low_surrogate v && is_well_formed units) (not (is_low_surrogate u) && is_well_formed (v ∷ units))) parts.0
-    ∙ ap (λ b. not b && is_well_formed (v ∷ units)) parts.1 ∙ h
 
 formed : (units : List ℕ) → list_all is_simple units ≡ true → is_well_formed units ≡ true
 formed [] h = refl

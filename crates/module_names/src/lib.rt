@@ -3,4 +3,4 @@
 
 mod laws;
 
-pub use laws::{decoded_singly, named_module, named_project};
+pub use laws::{decoded_singly, named_grammar, named_module, named_project};

@@ -1,16 +1,20 @@
 -- Both meanings, computed on procedures and on what is written for them.
-use Rattle.std.proofs.Common.{◌≡◌, refl, ℕ, ◌+◌, pos, negsuc, Bool, true, false, List, [], ◌∷◌, ◌++◌, map, codes, Option, Some, None, arith}
+use Rattle.std.proofs.Common.{◌≡◌, refl, ap, ℕ, zero, suc, ◌+◌, pos, negsuc, Bool, true, false, List, [], ◌∷◌, ◌++◌, map, codes, Option, Some, None, arith}
+use Rattle.std.specs.List.{flat_map}
+use Rattle.std.specs.Prelude.{slice_get}
 use Rattle.std.specs.Fmt.{digits}
 use Rattle.vb_tree.specs.BoundTree as types
 use Rattle.vb_tree.specs.BoundTree.{Ty, Variable, Expr, typed, constant, variable, binary, convert, Bound}
 use Rattle.vb_tree.specs.declared.declared.Owner.TheVariants as owner
 use Rattle.vb_tree.specs.declared.expression.BinOp.TheVariants as b
+use Rattle.vb_tree.specs.declared.form_parts.VarWord.TheVariants as var
 use Rattle.vb_tree.specs.declared.project.ProjectKind.TheVariants.{Exe}
 use Rattle.vb_tree.specs.declared.token.Suffix.TheVariants as suffix
 use Rattle.vb_tree.specs.declared.value.Value6.TheVariants as v
-use Rattle.vb_tree.specs.Tree.{Form, Line, Nodes, sub_head, end_sub, assign, debug_print, no_nodes, next_node, line, proc}
+use Rattle.vb_tree.specs.FlatLines.{flat_lines}
+use Rattle.vb_tree.specs.Tree.{Declarator, Form, Line, Nodes, sub_head, end_sub, assign, debug_print, no_nodes, next_node, line, proc}
 use Rattle.vb_tree.specs.Tree as tree
-use Rattle.vb6_run.specs.Program.{BoundLine, bound_lines, locals_of}
+use Rattle.vb6_run.specs.Program.{Written, BoundLine, bound_lines, locals_of}
 use Rattle.vb6_run.specs.Running.{Output, printed, Outcome, raises, spent, outputs, run}
 use Rattle.vb6_run.specs.Store.{Memory, blank}
 use Rattle.vb6_run.specs.Run.{machine_of}
@@ -21,9 +25,11 @@ use Rattle.net_tree.specs.Tree as net
 use Rattle.net_run.specs.Calls.{cur_path, print_num_path, print_line_path}
 use Rattle.net_run.specs.Store as net_store
 use Rattle.net_run.specs.Run as net_run
-use Rattle.net_rewrite.specs.Match.{Map, StoreMatch, ResultMatch, Agrees, IsWrittenAs}
+use Rattle.net_rewrite.specs.Match.{Map, StoreMatch, ResultMatch, Agrees, IsWrittenAs, SameRun}
+use Rattle.net_rewrite.specs.Modules.{written_modules, flags_from, IsKept, dim_names, LocalsAreDeclared}
 use Rattle.net_rewrite.specs.Translated.{is_translated_procedure}
 use Rattle.net_rewrite.specs.Written.{written_local, written_line}
+use Rattle.net_rewrite.proofs.Placing.{kept_same}
 use Rattle.net_rewrite.proofs.Runs.{same_run}
 
 -- ---- projects of one Sub Main
@@ -41,8 +47,14 @@ abbrev body_of : List (Form × List Expr) → Nodes
 body_of [] = no_nodes
 body_of (x ∷ xs) = next_node (line (at_two x.0)) (body_of xs)
 
-abbrev main_of : List Variable → List (Form × List Expr) → Bound
-main_of vars lines = record {
+-- lines before others
+abbrev before : List Form → Nodes → Nodes
+before [] rest = rest
+before (f ∷ fs) rest = next_node (line (at_two f)) (before fs rest)
+
+-- with these declarations before the lines
+abbrev main_with : List Variable → List Form → List (Form × List Expr) → Bound
+main_with vars declared lines = record {
   declarations = record {
     project = record {
       file = record { kind = Exe; startup = None; entries = []; dropped = [] };
@@ -50,7 +62,7 @@ main_of vars lines = record {
         file = 1;
         name = codes "Main1";
         class = false;
-        members = proc (at_two (sub_head (record { visibility = None; name = codes "Main"; suffix = suffix.Absent; params = [] }))) (body_of lines) (at_two end_sub) ∷ [];
+        members = proc (at_two (sub_head (record { visibility = None; name = codes "Main"; suffix = suffix.Absent; params = [] }))) (before declared (body_of lines)) (at_two end_sub) ∷ [];
         comments = [];
       } ∷ [];
     };
@@ -62,6 +74,9 @@ main_of vars lines = record {
   };
   bodies = record { procedure = record { 0 = 0 }; lines = map (λ x. x.1) lines } ∷ [];
 }
+
+abbrev main_of : List Variable → List (Form × List Expr) → Bound
+main_of vars lines = main_with vars [] lines
 
 abbrev at_first : {A : Type 0} → List (List A) → List A
 at_first [] = []
@@ -267,3 +282,65 @@ hex_is_written = record { lines = _; source = refl; procedure = _; target = refl
 
 hex_same : (k n : ℕ) → Agrees (moved_by k) ResultMatch start (run (machine_of (main_of hex_locals hex_lines)) 0 n start) (run (net_run.machine_of (written_of hex_locals hex_lines)) 0 n (net_start_at k))
 hex_same k n = same_run (main_of hex_locals hex_lines) (written_of hex_locals hex_lines) 0 0 refl hex_is_written (moved_by k) start (net_start_at k) n (empty_match k)
+
+-- ---- the premises of the law on modules hold of such a project that declares its locals
+
+abbrev declarator : List ℕ → Declarator
+declarator name = record { name = name; suffix = suffix.Absent; bounds = None; auto = false; ty = None }
+
+abbrev dim : List (List ℕ) → Form
+dim names = tree.variables var.Dim (map declarator names)
+
+abbrev hex_declared : Bound
+hex_declared = main_with hex_locals (dim (codes "x" ∷ codes "y" ∷ []) ∷ []) hex_lines
+
+abbrev hex_modules : net.Project
+hex_modules = record {
+  library = false;
+  main = None;
+  note = None;
+  modules = written_modules hex_declared 0 hex_declared.declarations.project.modules;
+  support = record { name = codes "UpgradeSupport"; class = false; members = [] };
+}
+
+hex_kept : IsKept hex_declared 0
+hex_kept = refl
+
+of_some : {A : Type 0} (x y : A) → ◌≡◌ {A = Option A} (Some x) (Some y) → x ≡ y
+of_some x y e = cc e
+
+hex_locals_declared : LocalsAreDeclared hex_declared
+hex_locals_declared zero w e = ap (λ (w : Written). flat_map (λ (l : Line). dim_names l.form) (flat_lines w.body)) (of_some _ w e)
+hex_locals_declared (suc p) w e = absurd (cc e)
+
+hex_kept_same : (q : ℕ) × IsWrittenAs hex_declared hex_modules 0 q × SameRun hex_declared hex_modules 0 q
+hex_kept_same = kept_same hex_declared hex_modules hex_locals_declared refl 0 hex_kept
+
+-- ---- a Sub that isn't translated: a local with the name of the module, two with one name, and a constant that is no Integer
+
+abbrev is_main_kept : Bound → Option Bool
+is_main_kept P = slice_get (flags_from P 0 P.declarations.project.modules) 0
+
+abbrev of_integers : List (List ℕ) → Bound
+of_integers names = main_with (map (λ n. local n types.integer) names) (dim names ∷ []) []
+
+other_kept : is_main_kept (of_integers (codes "Main2" ∷ codes "x" ∷ [])) ≡ Some true
+other_kept = refl
+
+module_taken : is_main_kept (of_integers (codes "main1" ∷ codes "x" ∷ [])) ≡ Some false
+module_taken = refl
+
+system_taken : is_main_kept (of_integers (codes "x" ∷ codes "System" ∷ [])) ≡ Some false
+system_taken = refl
+
+declared_twice : is_main_kept (of_integers (codes "x" ∷ codes "X" ∷ [])) ≡ Some false
+declared_twice = refl
+
+abbrev of_long : ℕ → Bound
+of_long n = main_with hex_locals (dim (codes "x" ∷ codes "y" ∷ []) ∷ []) ((debug_print [] false, typed types.integer (convert types.integer (typed types.long (constant (v.Long (pos n)) false))) ∷ []) ∷ [])
+
+small_kept : is_main_kept (of_long 32767) ≡ Some true
+small_kept = refl
+
+large_left : is_main_kept (of_long 32768) ≡ Some false
+large_left = refl

@@ -34,6 +34,7 @@ use Rattle.net_rewrite.specs.Translated.{is_scalar, is_over_a, is_over_both, is_
 use Rattle.net_rewrite.specs.Written.{Operand, plain, operand_of, exp_or_nothing, operator_exp, conversion_exp, value_in, spelt, is_whole, takes_literals, literal_in, literal_as, converted_exp, local_name, exp_of, term_exp}
 use Rattle.net_rewrite.proofs.Agreeing.{later_self, then_agrees, weakened, answers_agree}
 use Rattle.net_rewrite.proofs.Constants.{constant_gives}
+use Rattle.net_rewrite.proofs.LocalNames.{local_is}
 use Rattle.net_rewrite.proofs.Memories.{read_agrees, variable_agrees}
 use Rattle.net_rewrite.proofs.Rows.{Fits, plain_fits, over_a, over_both, behind_is}
 use Rattle.net_rewrite.proofs.Decimals.{operand_fits}
@@ -214,7 +215,8 @@ module _ (m : Map) where
         constant_agrees x ty k ys s t both.0 both.1 h
     term_agrees ls xs ys ty (variable id) s t v e h =
         let both = both_true (is_scalar ty) (is_first ls id.0 (local_name ls id.0)) e in
-        variable_agrees m (At ty) ls xs ys id.0 (local_name ls id.0) (read_place ty) net_store.read_cell s t v both.1 (λ p. read_agrees m ty p s t h)
+        subst (λ z. Agrees m (At ty) s (term_value xs ty (variable id) s) (net_run.value_of ys z t)) (sym (local_is ls id.0 (local_name ls id.0) both.1))
+        (variable_agrees m (At ty) ls xs ys id.0 (local_name ls id.0) (read_place ty) net_store.read_cell s t v both.1 (λ p. read_agrees m ty p s t h))
     term_agrees ls xs ys ty (unary o a) s t v e h =
         let last = both_true (is_translated ls a && is_scalar (type_of a)) (unary_fits ty (write_unary o (type_of a))) e in
         let first = both_true (is_translated ls a) (is_scalar (type_of a)) last.0 in

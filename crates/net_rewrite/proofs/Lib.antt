@@ -1,6 +1,9 @@
+pub mod Lists
+pub mod Characters
 mod Agreeing
 mod Scalars
 mod Memories
+mod LocalNames
 mod Rows
 mod Constants
 mod Decimals
@@ -8,10 +11,23 @@ mod Expressions
 mod Lines
 mod Straight
 mod Runs
-mod Placing
+mod Kept
+pub mod Placing
 mod WritableExpressions
 mod WritableModules
+pub mod WritableProjects
 pub mod Amounts
 pub mod NumberRows
+pub mod BitRows
+pub mod OperatorRows
+pub mod TextRows
+pub mod WholeLiterals
 pub mod Pieces
+pub mod FitRows
+pub mod FitTerms
+pub mod NameLists
+mod BodyViews
+pub mod PlacedBodies
+pub mod Marking
+pub mod SmallNames
 mod Examples

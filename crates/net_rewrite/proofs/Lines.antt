@@ -37,6 +37,7 @@ use Rattle.net_rewrite.specs.Translated.{is_scalar, is_first, is_translated, is_
 use Rattle.net_rewrite.specs.Written.{local_name, exp_of, call_of_one, item_exp, printed_item, joined_items, items_exp, print_path, call_line, line_of, written_line, written_flat}
 use Rattle.net_rewrite.proofs.Agreeing.{later_self, outside_agrees, then_agrees, answers_agree, after_nil, then_assoc}
 use Rattle.net_rewrite.proofs.Expressions.{value_agrees}
+use Rattle.net_rewrite.proofs.LocalNames.{local_is}
 use Rattle.net_rewrite.proofs.Memories.{write_agrees, variable_agrees}
 use Rattle.net_rewrite.proofs.Rows.{then_gives, call_gives, on_answer}
 use Rattle.net_rewrite.proofs.Scalars.{both_true, by_test, same_scalar}
@@ -250,8 +251,9 @@ module _ (m : Map) where
         of_term : (term : Term) → is_target ls to term ≡ true → Agrees m Nothing s (write_variable xs to term v s) (net_run.write_target ys (exp_of ls (typed to term)) x t)
         of_term (variable id) j =
             let both = both_true (is_scalar to) (is_first ls id.0 (local_name ls id.0)) j in
-            variable_agrees m Nothing ls xs ys id.0 (local_name ls id.0) (write_place to v) (net_store.write_cell x) s t vars both.1
-            (λ p. write_agrees m to v x p s t both.0 (subst (λ z. At z v x) (sym same) e) h)
+            subst (λ z. Agrees m Nothing s (write_variable xs to (variable id) v s) (net_run.write_target ys z x t)) (sym (local_is ls id.0 (local_name ls id.0) both.1))
+            (variable_agrees m Nothing ls xs ys id.0 (local_name ls id.0) (write_place to v) (net_store.write_cell x) s t vars both.1
+            (λ p. write_agrees m to v x p s t both.0 (subst (λ z. At z v x) (sym same) e) h))
         of_term (constant y k) j = absurd (cc j)
         of_term (field a k) j = absurd (cc j)
         of_term (element a k) j = absurd (cc j)

@@ -1,14 +1,16 @@
 -- Operands as numbers of a kind.
-use Rattle.std.proofs.Common.{◌≡◌, Bool, true, false, Option, Some, None, refl, sym, ap, ◌∙◌}
+use Rattle.std.proofs.Common.{◌≡◌, Bool, true, false, ◌&&◌, Option, Some, None, refl, sym, ap, ◌∙◌}
 use Rattle.vb_tree.specs.BoundTree.{Ty}
 use Rattle.vb_tree.specs.BoundTree as types
 use Rattle.vb6_meaning.specs.declared.number.NumberKind.TheVariants as kinds
 use Rattle.vb6_meaning.specs.Kinds.{wider, whole}
+use Rattle.vb6_meaning.specs.Values.{are_currencies}
 use Rattle.net_tree.specs.declared.expression.NetBin.{NetBin}
+use Rattle.net_tree.specs.declared.expression.NetBin.TheVariants as op
 use Rattle.vb6_meaning.specs.declared.number.NumberKind.{NumberKind}
-use Rattle.net_meaning.specs.WrittenRows.{Row, Written, written, operand_a, operand_b, kind_of, type_of_kind, as_kind, is_of_kind, word_of_kind, checked, both_as, arithmetic, division, compared, on_kinds, on_numbers}
+use Rattle.net_meaning.specs.WrittenRows.{Row, Written, written, operand_a, operand_b, kind_of, type_of_kind, as_kind, is_of_kind, word_of_kind, checked, both_as, arithmetic, product, division, compared, on_kinds, on_numbers}
 use Rattle.net_rewrite.specs.Written.{Operand, plain, row_exp, cast_exp}
-use Rattle.net_rewrite.specs.Operands.{wider_of}
+use Rattle.net_rewrite.specs.Operands.{wider_of, is_currency}
 
 pub of_kind : (k : NumberKind) (s : Ty) (x y : Operand) → is_of_kind k s ≡ true → row_exp (as_kind k s operand_a) x y ≡ x.exp
 of_kind k s x y e = rw e refl
@@ -40,7 +42,7 @@ checked_over kinds.Long r x y = refl
 checked_over kinds.Currency r x y = refl
 
 -- what goes by the wider one of two kinds
-in_wider : (g : NumberKind → Option Written) (k l : Option NumberKind) (m : NumberKind) → wider_of k l ≡ Some m → on_kinds (λ i j. g (wider i j)) k l ≡ g m
+pub in_wider : (g : NumberKind → Option Written) (k l : Option NumberKind) (m : NumberKind) → wider_of k l ≡ Some m → on_kinds (λ i j. g (wider i j)) k l ≡ g m
 in_wider g None l m e = absurd (cc e)
 in_wider g (Some k) None m e = absurd (cc e)
 in_wider g (Some k) (Some l) m e = ap g (let h : wider k l ≡ m = cc e in h)
@@ -61,3 +63,23 @@ compared_in o s t m e = in_wider (λ m. written types.boolean (both_as m o s t))
 
 pub none_in : (f : Ty → Ty → NumberKind → NumberKind → Option Written) (s t : Ty) → wider_of (kind_of s) (kind_of t) ≡ None → on_numbers f s t ≡ None
 none_in f s t e = nowhere (f s t) (kind_of s) (kind_of t) e
+
+-- ---- products: two types are both Currency where their kinds are
+
+pub product_of_currencies : (s t : Ty) → (is_currency s && is_currency t) ≡ true → on_numbers product s t ≡ None
+product_of_currencies types.currency types.currency e = refl
+product_of_currencies types.currency _ e = absurd (cc e)
+product_of_currencies _ t e = absurd (cc e)
+
+product_by : (k : NumberKind) (s t : Ty) (l : Option NumberKind) → ((j : NumberKind) → are_currencies k j ≡ false) → on_kinds (product s t) (Some k) l ≡ on_kinds (arithmetic op.Mul s t) (Some k) l
+product_by k s t None h = refl
+product_by k s t (Some j) h = rw (h j) refl
+
+pub other_product : (s t : Ty) → (is_currency s && is_currency t) ≡ false → on_numbers product s t ≡ on_numbers (arithmetic op.Mul) s t
+other_product types.boolean t e = product_by kinds.Integer types.boolean t (kind_of t) (λ j. refl)
+other_product types.byte t e = product_by kinds.Byte types.byte t (kind_of t) (λ j. refl)
+other_product types.integer t e = product_by kinds.Integer types.integer t (kind_of t) (λ j. refl)
+other_product types.long t e = product_by kinds.Long types.long t (kind_of t) (λ j. refl)
+other_product types.currency types.currency e = absurd (cc e)
+other_product types.currency _ e = refl
+other_product _ t e = refl

@@ -1,5 +1,5 @@
 -- Scalar types, and the values that match at them.
-use Rattle.std.proofs.Common.{◌≡◌, ℕ, Bool, true, false, ◌&&◌, cond, refl, sym, ap, ◌∙◌}
+use Rattle.std.proofs.Common.{◌≡◌, ℕ, Bool, true, false, cond, refl, sym, ap, ◌∙◌}
 use Rattle.std.proofs.lemmas.Bool.{eqb-true}
 use Rattle.std.specs.Prelude.{nat_eq, nat_lt}
 use Rattle.vb_tree.specs.BoundTree as types
@@ -13,15 +13,7 @@ use Rattle.vb6_run.specs.Store.{scalar_number, is_same_scalar}
 use Rattle.net_run.specs.Store.{is_of_type}
 use Rattle.net_rewrite.specs.Translated.{is_scalar}
 use Rattle.net_rewrite.specs.Written.{net_type}
-
-pub both_true : (a b : Bool) → a && b ≡ true → (a ≡ true) × (b ≡ true)
-both_true true true e = (refl, refl)
-both_true true false e = absurd (cc e)
-both_true false b e = absurd (cc e)
-
-pub by_test : (b : Bool) (P : Bool → Type 0) → (b ≡ true → P true) → (b ≡ false → P false) → P b
-by_test true P y n = y refl
-by_test false P y n = n refl
+pub use Rattle.net_rewrite.proofs.Lists.{by_test, both_true}
 
 -- what a test holds of
 pub chosen : {A : Type 0} (b : Bool) (x y : A) → b ≡ true → cond b x y ≡ x

@@ -18,7 +18,7 @@ use Rattle.net_rewrite.proofs.Scalars.{both_true, by_test}
 use Rattle.std.proofs.lemmas.Bool.{eqb-true}
 
 -- lines that lead to one another, numbered from n
-abbrev numbered : ℕ → List Line → List Flat
+abbrev pub numbered : ℕ → List Line → List Flat
 numbered n [] = []
 numbered n (l ∷ ls) = record { line = l; after = suc n; otherwise = None; back = None; leave = None } ∷ numbered (suc n) ls
 
@@ -59,7 +59,8 @@ straight x (tree.next_node (tree.line l) rest) n behind e b =
         let here : n + 0 ≡ n = omega arith in
         zero_more (omega (arith, b)) ∙ ap (λ k. numbered k (code_lines (flat_lines rest))) here
 
-straight_body : (body : Nodes) → is_straight body ≡ true → flat_body body ≡ numbered 1 (code_lines (flat_lines body))
+-- the lines of a body without blocks
+pub straight_body : (body : Nodes) → is_straight body ≡ true → flat_body body ≡ numbered 1 (code_lines (flat_lines body))
 straight_body body e = straight _ body 1 (1 + count_lines body) e refl
 
 -- ---- what is written

@@ -1,5 +1,5 @@
 -- What is written for expressions and lines that are translated can be written.
-use Rattle.std.proofs.Common.{◌≡◌, ℕ, Bool, true, false, not, ◌&&◌, cond, codes, pos, negsuc, List, [], ◌∷◌, Option, Some, None, refl}
+use Rattle.std.proofs.Common.{◌≡◌, ℕ, Bool, true, false, not, ◌&&◌, cond, codes, pos, negsuc, List, [], ◌∷◌, Option, Some, None, refl, sym, subst}
 use Rattle.std.specs.List.{list_all}
 use Rattle.std.specs.Prelude.{nat_eq}
 use Rattle.up_base.specs.Names.{is_printable}
@@ -21,14 +21,10 @@ use Rattle.net_tree.specs.Tree as net
 use Rattle.net_meaning.specs.WrittenLiterals.{Piece, quoted, unit, Pieces, pieces_of, behind, in_front, is_plain, write_constant}
 use Rattle.net_meaning.specs.WrittenRows.{Row, operand_a, operand_b, no_text, cast, Call, cur, cur_text, fix, var_as, var_str, Written, write_operator, write_unary, write_conversion}
 use Rattle.net_meaning.specs.WrittenRows as row
-use Rattle.net_rewrite.specs.Written.{piece_exp, joined_exp, exp_or_nothing, call_path, Operand, plain, cast_exp, decimal_for, row_exp, operator_exp, literal_as, literal_exp, operand_of, converted_exp, local_name, exp_of, term_exp, item_exp, printed_item, joined_items, items_exp, print_path, assign_line, line_of, written_line}
+use Rattle.net_rewrite.specs.Written.{piece_exp, joined_exp, exp_or_nothing, call_path, Operand, plain, cast_exp, decimal_for, row_exp, operator_exp, literal_as, literal_exp, operand_of, converted_exp, local_name, local_exp, exp_of, term_exp, item_exp, printed_item, joined_items, items_exp, print_path, assign_line, line_of, written_line}
 use Rattle.net_rewrite.specs.Translated.{is_scalar, is_plain_call, is_over_a, is_over_b, is_over_both, is_safe, is_operand_a, is_to_decimal, is_not, goes_to_decimal, has_not, is_first, unary_fits, binary_fits, conversion_fits, compares_objects, is_translated, is_translated_term, is_target, is_target_of, is_assignment, is_item, is_translated_form, is_translated_line}
-use Rattle.net_rewrite.proofs.Scalars.{both_true}
-
--- two tests that hold
-pub and_true : (a b : Bool) → a ≡ true → b ≡ true → a && b ≡ true
-and_true true b e f = f
-and_true false b e f = absurd (cc e)
+use Rattle.net_rewrite.proofs.Lists.{both_true, and_true}
+use Rattle.net_rewrite.proofs.LocalNames.{local_is}
 
 -- ---- constants
 
@@ -218,13 +214,16 @@ no_second false = refl
 path_can : (name : List ℕ) → is_identifier name ≡ true → Can (net.path (name ∷ []))
 path_can name e = and_true (is_identifier name && true) (not (is_same_path (name ∷ []) (codes "System" ∷ codes "Array" ∷ []))) (and_true (is_identifier name) true e refl) (no_second (is_same_text name (codes "System")))
 
+local_can : (ls : List (ℕ × Variable)) (id : ℕ) → are_named ls ≡ true → is_first ls id (local_name ls id) ≡ true → Can (local_exp ls id)
+local_can ls id n e = subst Can (sym (local_is ls id (local_name ls id) e)) (path_can (local_name ls id) (name_can ls id n e))
+
 mutual
   pub exp_can : (ls : List (ℕ × Variable)) (e : Expr) → are_named ls ≡ true → is_translated ls e ≡ true → Can (exp_of ls e)
   exp_can ls (typed ty term) n e = term_can ls ty term n e
 
   term_can : (ls : List (ℕ × Variable)) (ty : Ty) (term : Term) → are_named ls ≡ true → is_translated_term ls ty term ≡ true → Can (term_exp ls term)
   term_can ls ty (constant x k) n e = constant_can k x
-  term_can ls ty (variable id) n e = path_can (local_name ls id.0) (name_can ls id.0 n (both_true (is_scalar ty) (is_first ls id.0 (local_name ls id.0)) e).1)
+  term_can ls ty (variable id) n e = local_can ls id.0 n (both_true (is_scalar ty) (is_first ls id.0 (local_name ls id.0)) e).1
   term_can ls ty (unary o a) n e =
       let last = both_true (is_translated ls a && is_scalar (type_of a)) (unary_fits ty (write_unary o (type_of a))) e in
       let first = both_true (is_translated ls a) (is_scalar (type_of a)) last.0 in
@@ -285,7 +284,7 @@ target_can : (ls : List (ℕ × Variable)) (e : Expr) (s : Ty) → are_named ls 
 target_can ls (typed ty term) s n i = of_term term (both_true (is_target ls ty term) (is_same_scalar ty s) i).0
   where
     of_term : (term : Term) → is_target ls ty term ≡ true → Can (term_exp ls term)
-    of_term (variable id) j = path_can (local_name ls id.0) (name_can ls id.0 n (both_true (is_scalar ty) (is_first ls id.0 (local_name ls id.0)) j).1)
+    of_term (variable id) j = local_can ls id.0 n (both_true (is_scalar ty) (is_first ls id.0 (local_name ls id.0)) j).1
     of_term (constant x k) j = absurd (cc j)
     of_term (field a k) j = absurd (cc j)
     of_term (element a k) j = absurd (cc j)

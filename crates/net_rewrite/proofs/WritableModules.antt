@@ -12,7 +12,6 @@ use Rattle.vb6_run.specs.Program.{Written, procedures_in, procedures_of, BoundLi
 use Rattle.net_tree.specs.declared.block.NetRole.TheVariants.{Plain}
 use Rattle.net_tree.specs.Blocks as net_blocks
 use Rattle.net_tree.specs.Comments.{is_comment, is_well_formed, is_within_line, is_surrogate}
-use Rattle.std.specs.Char.Utf16.{is_high_surrogate, is_low_surrogate}
 use Rattle.net_tree.specs.declared.declaration.NetClose.TheVariants.{EndSub}
 use Rattle.net_tree.specs.Declarations.{is_writable_dim, is_writable_head, closes, is_writable_procedure, is_writable_member, is_get, is_set}
 use Rattle.net_tree.specs.Expressions.{is_writable_type}
@@ -20,31 +19,16 @@ use Rattle.net_tree.specs.Lines.{is_writable_line}
 use Rattle.net_tree.specs.Spelling.{is_identifier}
 use Rattle.net_tree.specs.Text.{is_writable_module}
 use Rattle.net_tree.specs.Tree as net
-use Rattle.net_rewrite.specs.Modules.{Comment, up_to, past, comment_lines, with_comments, lines_at, written_head, written_procedure, upgrade_text, upgrade_comment, member_comments, left_out, all_left_out, first_exprs, later_exprs, marked, exprs_at, is_translated_declaration, member_lines, is_kept, written_member, written_members, written_module, numbers_behind, written_modules}
-use Rattle.net_rewrite.specs.Translated.{is_plain_sub, is_straight, has_straight_body, is_scalar_local, are_translated, is_translated_line, is_translated_form, is_translated_procedure}
-use Rattle.net_rewrite.specs.Writable.{are_comments, has_comment_text, names_sub, is_named_head, is_named_module, is_named_variable, is_named}
+use Rattle.net_rewrite.specs.Marks.{taken_names, declared_by, is_translated_declaration, is_translated_code, placed_lines, first_exprs, later_exprs, marked, exprs_at, Place6, marked_lines, is_kept, behind, behind_all, first_place}
+use Rattle.net_rewrite.specs.Modules.{Comment, up_to, past, comment_lines, with_comments, lines_at, written_head, written_procedure, upgrade_text, upgrade_comment, member_comments, left_out, all_left_out, written_member, written_members, written_module, written_modules}
+use Rattle.net_rewrite.specs.Translated.{is_plain_sub, are_translated, is_translated_line}
+use Rattle.net_rewrite.specs.Writable.{are_comments, has_comment_text, names_sub, is_named_head, names_variables, is_named_module, is_named_variable, is_named}
 use Rattle.net_rewrite.specs.Written.{net_type, assign_line, line_of, written_line, written_local}
-use Rattle.net_rewrite.proofs.Placing.{number_of_members}
-use Rattle.net_rewrite.proofs.Scalars.{both_true}
-use Rattle.net_rewrite.proofs.WritableExpressions.{and_true, are_named, line_can}
-
--- ---- lists
-
-all_append : {A : Type 0} (f : A → Bool) (xs ys : List A) → list_all f xs ≡ true → list_all f ys ≡ true → list_all f (xs ++ ys) ≡ true
-all_append f [] ys h k = k
-all_append f (x ∷ xs) ys h k =
-    let both = both_true (f x) (list_all f xs) h in
-    and_true (f x) (list_all f (xs ++ ys)) both.0 (all_append f xs ys both.1 k)
-
-left_all : {A : Type 0} (f : A → Bool) (xs ys : List A) → list_all f (xs ++ ys) ≡ true → list_all f xs ≡ true
-left_all f [] ys h = refl
-left_all f (x ∷ xs) ys h =
-    let both = both_true (f x) (list_all f (xs ++ ys)) h in
-    and_true (f x) (list_all f xs) both.0 (left_all f xs ys both.1)
-
-right_all : {A : Type 0} (f : A → Bool) (xs ys : List A) → list_all f (xs ++ ys) ≡ true → list_all f ys ≡ true
-right_all f [] ys h = h
-right_all f (x ∷ xs) ys h = right_all f xs ys (both_true (f x) (list_all f (xs ++ ys)) h).1
+use Rattle.net_rewrite.proofs.Characters.{not_of, formed_behind}
+use Rattle.net_rewrite.proofs.Kept.{placed_line, placed_are, kept_is_plain, kept_lines}
+use Rattle.net_rewrite.proofs.Lists.{both_true, and_true, all_append, all_left, all_right}
+use Rattle.net_rewrite.proofs.Placing.{in_front, at_back, procedures_in_module, number_of_members}
+use Rattle.net_rewrite.proofs.WritableExpressions.{are_named, line_can}
 
 -- ---- comments
 
@@ -67,22 +51,6 @@ past_can n (c ∷ cs) h = of_test (nat_le c.0 n) (past_can n cs (both_true (is_c
     of_test false k = h
 
 -- ---- texts
-
-not_of : (b : Bool) → not b ≡ true → b ≡ false
-not_of true e = absurd (cc e)
-not_of false e = refl
-
-neither : (a b : Bool) → a || b ≡ false → (a ≡ false) × (b ≡ false)
-neither true b e = absurd (cc e)
-neither false b e = (refl, e)
-
--- a unit that is no surrogate, in front of a text
-formed_behind : (u : ℕ) (units : List ℕ) → is_surrogate u ≡ false → is_well_formed units ≡ true → is_well_formed (u ∷ units) ≡ true
-formed_behind u [] e h = ap not e
-formed_behind u (v ∷ units) e h =
-    let parts = neither (is_high_surrogate u) (is_low_surrogate u) e in
-    ap (λ b. cond b (is_low_surrogate v && is_well_formed units) (not (is_low_surrogate u) && is_well_formed (v ∷ units))) parts.0
-    ∙ ap (λ b. not b && is_well_formed (v ∷ units)) parts.1 ∙ h
 
 abbrev is_simple : ℕ → Bool
 is_simple u = is_within_line u && not (is_surrogate u)
@@ -222,16 +190,17 @@ left_out_can cs (x ∷ xs) h k =
     of_mark true e = and_true (is_comment (upgrade_text x.1.text)) true (upgrade_can x.1.text e) refl
     of_mark false e = refl
 
-marked_texts : (ls : List (ℕ × Variable)) (lines : List Line) (ess : List (List Expr)) → list_all has_comment_text lines ≡ true → list_all has_text (marked ls lines ess) ≡ true
-marked_texts ls [] ess h = refl
-marked_texts ls (l ∷ lines) ess h =
-    let both = both_true (has_comment_text l) (list_all has_comment_text lines) h in
-    of_code (is_code l.form) both.0 (marked_texts ls lines (later_exprs ess) both.1) (marked_texts ls lines ess both.1)
+marked_texts : (taken : List (List ℕ)) (ls : List (ℕ × Variable)) (xs : List (Bool × Line)) (ess : List (List Expr)) → list_all has_comment_text (map placed_line xs) ≡ true → list_all has_text (marked taken ls xs ess) ≡ true
+marked_texts taken ls [] ess h = refl
+marked_texts taken ls (x ∷ xs) ess h =
+    let both = both_true (has_comment_text x.1) (list_all has_comment_text (map placed_line xs)) h in
+    of_code (is_code x.1.form) both.0 (marked_texts taken ls xs (later_exprs ess) both.1) (marked_texts (declared_by x.1.form ++ taken) ls xs ess both.1)
   where
-    of_code : (b : Bool) → has_comment_text l ≡ true → list_all has_text (marked ls lines (later_exprs ess)) ≡ true → list_all has_text (marked ls lines ess) ≡ true
-        → list_all has_text (cond b ((not (is_translated_form ls l.form (first_exprs ess)), l) ∷ marked ls lines (later_exprs ess)) ((not (is_translated_declaration ls l.form), l) ∷ marked ls lines ess)) ≡ true
-    of_code true e later same = and_true (has_comment_text l) (list_all has_text (marked ls lines (later_exprs ess))) e later
-    of_code false e later same = and_true (has_comment_text l) (list_all has_text (marked ls lines ess)) e same
+    of_code : (b : Bool) → has_comment_text x.1 ≡ true → list_all has_text (marked taken ls xs (later_exprs ess)) ≡ true → list_all has_text (marked (declared_by x.1.form ++ taken) ls xs ess) ≡ true
+        → list_all has_text (cond b ((not (x.0 && is_translated_code ls x.1.form (first_exprs ess)), x.1) ∷ marked taken ls xs (later_exprs ess))
+        ((not (x.0 && is_translated_declaration taken ls x.1.form), x.1) ∷ marked (declared_by x.1.form ++ taken) ls xs ess)) ≡ true
+    of_code true e later same = and_true (has_comment_text x.1) (list_all has_text (marked taken ls xs (later_exprs ess))) e later
+    of_code false e later same = and_true (has_comment_text x.1) (list_all has_text (marked (declared_by x.1.form ++ taken) ls xs ess)) e same
 
 all_marked : (lines : List Line) → list_all has_comment_text lines ≡ true → list_all has_text (map (λ (l : Line). (true, l)) lines) ≡ true
 all_marked [] h = refl
@@ -239,17 +208,19 @@ all_marked (l ∷ lines) h =
     let both = both_true (has_comment_text l) (list_all has_comment_text lines) h in
     and_true (has_comment_text l) (list_all has_text (map (λ (l : Line). (true, l)) lines)) both.0 (all_marked lines both.1)
 
-member_texts : (P : Bound) (class : Bool) (p : ℕ) (m : Member) → list_all has_comment_text (flat.member_lines m) ≡ true → list_all has_text (member_lines P class p m) ≡ true
-member_texts P class p (alone l) h = h
-member_texts P class p (group head lines close) h =
+member_texts : (P : Bound) (at : Place6) (m : Member) → list_all has_comment_text (flat.member_lines m) ≡ true → list_all has_text (marked_lines P at m) ≡ true
+member_texts P at (alone l) h = h
+member_texts P at (group head lines close) h =
     let first = both_true (has_comment_text head) (list_all has_comment_text (lines ++ close ∷ [])) h in
     and_true (has_comment_text head) (list_all has_text (map (λ (l : Line). (true, l)) lines ++ (true, close) ∷ [])) first.0
-    (all_append has_text (map (λ (l : Line). (true, l)) lines) ((true, close) ∷ []) (all_marked lines (left_all has_comment_text lines (close ∷ []) first.1)) (right_all has_comment_text lines (close ∷ []) first.1))
-member_texts P class p (proc head body close) h =
+    (all_append has_text (map (λ (l : Line). (true, l)) lines) ((true, close) ∷ []) (all_marked lines (all_left has_comment_text lines (close ∷ []) first.1)) (all_right has_comment_text lines (close ∷ []) first.1))
+member_texts P at (proc head body close) h =
     let first = both_true (has_comment_text head) (list_all has_comment_text (flat.flat_lines body ++ close ∷ [])) h in
-    let ms = marked (locals_of P p) (flat.flat_lines body) (exprs_at (slice_get P.bodies p)) in
+    let taken = taken_names P.declarations.project.modules in
+    let ms = marked taken (locals_of P at.procedure) (placed_lines body) (exprs_at (slice_get P.bodies at.procedure)) in
+    let inside = ap (list_all has_comment_text) (placed_are body) ∙ all_left has_comment_text (flat.flat_lines body) (close ∷ []) first.1 in
     and_true (has_comment_text head) (list_all has_text (ms ++ (false, close) ∷ [])) first.0
-    (all_append has_text ms ((false, close) ∷ []) (marked_texts (locals_of P p) (flat.flat_lines body) (exprs_at (slice_get P.bodies p)) (left_all has_comment_text (flat.flat_lines body) (close ∷ []) first.1)) (right_all has_comment_text (flat.flat_lines body) (close ∷ []) first.1))
+    (all_append has_text ms ((false, close) ∷ []) (marked_texts taken (locals_of P at.procedure) (placed_lines body) (exprs_at (slice_get P.bodies at.procedure)) inside) (all_right has_comment_text (flat.flat_lines body) (close ∷ []) first.1))
 
 -- ---- members and modules
 
@@ -267,84 +238,65 @@ locals_named p k (x ∷ vars) h =
 abbrev Located : Bound → (p : ℕ) → List Written → Type 0
 Located P p ws = (j : ℕ) (w : Written) → slice_get ws j ≡ Some w → slice_get (procedures_of P.declarations.project) (p + j) ≡ Some w
 
-located_behind : (P : Bound) (p : ℕ) (w : Written) (ws : List Written) → Located P p (w ∷ ws) → Located P (suc p) ws
+located_behind : (P : Bound) (p : ℕ) (w : Written) (ws : List Written) → Located P p (w ∷ ws) → Located P (1 + p) ws
 located_behind P p w ws h j v e =
-    let there : suc p + j ≡ p + suc j = omega arith in
+    let there : (1 + p) + j ≡ p + suc j = omega arith in
     ap (slice_get (procedures_of P.declarations.project)) there ∙ h (suc j) v e
 
-kept_sub : (P : Bound) (class : Bool) (p : ℕ) (w : Written) → slice_get (procedures_of P.declarations.project) p ≡ Some w → is_kept P class p ≡ true
-    → (is_plain_sub w.head.form ≡ true) × (are_translated (locals_of P p) (slice_get (bound_lines P) p) ≡ true)
-kept_sub P class p w at k =
-    let translated = (both_true (not class) (is_translated_procedure P p) k).1 in
-    let outer = both_true (has_straight_body (slice_get (procedures_of P.declarations.project) p) && list_all is_scalar_local (locals_of P p)) (are_translated (locals_of P p) (slice_get (bound_lines P) p)) translated in
-    let inner = both_true (has_straight_body (slice_get (procedures_of P.declarations.project) p)) (list_all is_scalar_local (locals_of P p)) outer.0 in
-    let body : has_straight_body (Some w) ≡ true = sym (ap has_straight_body at) ∙ inner.0 in
-    ((both_true (is_plain_sub w.head.form) (is_straight w.body) body).0, outer.1)
-
-members_can : (P : Bound) (class : Bool) (ms : List Member) (p : ℕ) (cs : List Comment) → list_all is_named_variable P.declarations.vars ≡ true → Located P p (flat_map procedures_in ms) → list_all is_named_head (flat_map procedures_in ms) ≡ true
-    → list_all has_comment_text (flat_map flat.member_lines ms) ≡ true → are_comments cs ≡ true → list_all is_writable_member (written_members P class p cs ms) ≡ true
-members_can P class [] p cs n at heads texts h = member_comments_can cs h
-members_can P class (alone l ∷ ms) p cs n at heads texts h =
+members_can : (P : Bound) (at : Place6) (ms : List Member) (cs : List Comment) → list_all is_named_variable P.declarations.vars ≡ true → Located P at.procedure (flat_map procedures_in ms) → list_all is_named_head (flat_map procedures_in ms) ≡ true
+    → list_all has_comment_text (flat_map flat.member_lines ms) ≡ true → are_comments cs ≡ true → list_all is_writable_member (written_members P at cs ms) ≡ true
+members_can P at [] cs n found heads texts h = member_comments_can cs h
+members_can P at (alone l ∷ ms) cs n found heads texts h =
     let rest = flat_map flat.member_lines ms in
-    all_append is_writable_member (all_left_out cs (member_lines P class p (alone l))) (written_members P class p (past l.place.line cs) ms)
-    (left_out_can cs (member_lines P class p (alone l)) h (member_texts P class p (alone l) (left_all has_comment_text (l ∷ []) rest texts)))
-    (members_can P class ms p (past l.place.line cs) n at heads (right_all has_comment_text (l ∷ []) rest texts) (past_can l.place.line cs h))
-members_can P class (group head lines close ∷ ms) p cs n at heads texts h =
+    all_append is_writable_member (all_left_out cs (marked_lines P at (alone l))) (written_members P (behind at (alone l)) (past l.place.line cs) ms)
+    (left_out_can cs (marked_lines P at (alone l)) h (member_texts P at (alone l) (all_left has_comment_text (l ∷ []) rest texts)))
+    (members_can P (behind at (alone l)) ms (past l.place.line cs) n found heads (all_right has_comment_text (l ∷ []) rest texts) (past_can l.place.line cs h))
+members_can P at (group head lines close ∷ ms) cs n found heads texts h =
     let own = flat.member_lines (group head lines close) in
     let rest = flat_map flat.member_lines ms in
-    all_append is_writable_member (all_left_out cs (member_lines P class p (group head lines close))) (written_members P class p (past close.place.line cs) ms)
-    (left_out_can cs (member_lines P class p (group head lines close)) h (member_texts P class p (group head lines close) (left_all has_comment_text own rest texts)))
-    (members_can P class ms p (past close.place.line cs) n at heads (right_all has_comment_text own rest texts) (past_can close.place.line cs h))
-members_can P class (proc head body close ∷ ms) p cs n at heads texts h =
+    all_append is_writable_member (all_left_out cs (marked_lines P at (group head lines close))) (written_members P (behind at (group head lines close)) (past close.place.line cs) ms)
+    (left_out_can cs (marked_lines P at (group head lines close)) h (member_texts P at (group head lines close) (all_left has_comment_text own rest texts)))
+    (members_can P (behind at (group head lines close)) ms (past close.place.line cs) n found heads (all_right has_comment_text own rest texts) (past_can close.place.line cs h))
+members_can P at (proc head body close ∷ ms) cs n found heads texts h =
     let own = flat.member_lines (proc head body close) in
     let rest = flat_map flat.member_lines ms in
     let named = both_true (names_sub head.form) (list_all is_named_head (flat_map procedures_in ms)) heads in
-    let here : p + 0 ≡ p = omega arith in
-    let found = sym (ap (slice_get (procedures_of P.declarations.project)) here) ∙ at zero (record { head = head; body = body }) refl in
-    all_append is_writable_member (written_member P class p cs (proc head body close)) (written_members P class (suc p) (past close.place.line cs) ms)
-    (of_kept (is_kept P class p) refl named.0 found (left_out_can cs (member_lines P class p (proc head body close)) h (member_texts P class p (proc head body close) (left_all has_comment_text own rest texts))))
-    (members_can P class ms (suc p) (past close.place.line cs) n (located_behind P p (record { head = head; body = body }) (flat_map procedures_in ms) at) named.1 (right_all has_comment_text own rest texts) (past_can close.place.line cs h))
+    let here : at.procedure + 0 ≡ at.procedure = omega arith in
+    let stands = sym (ap (slice_get (procedures_of P.declarations.project)) here) ∙ found zero (record { head = head; body = body }) refl in
+    all_append is_writable_member (written_member P at cs (proc head body close)) (written_members P (behind at (proc head body close)) (past close.place.line cs) ms)
+    (of_kept (is_kept P at (proc head body close)) refl named.0 stands (left_out_can cs (marked_lines P at (proc head body close)) h (member_texts P at (proc head body close) (all_left has_comment_text own rest texts))))
+    (members_can P (behind at (proc head body close)) ms (past close.place.line cs) n (located_behind P at.procedure (record { head = head; body = body }) (flat_map procedures_in ms) found) named.1 (all_right has_comment_text own rest texts) (past_can close.place.line cs h))
   where
-    of_kept : (b : Bool) → is_kept P class p ≡ b → names_sub head.form ≡ true → slice_get (procedures_of P.declarations.project) p ≡ Some (record { head = head; body = body })
-        → list_all is_writable_member (all_left_out cs (member_lines P class p (proc head body close))) ≡ true
-        → list_all is_writable_member (cond b (member_comments (up_to head.place.line cs) ++ net.proc (written_procedure P p (past head.place.line cs) head close) ∷ []) (all_left_out cs (member_lines P class p (proc head body close)))) ≡ true
+    of_kept : (b : Bool) → is_kept P at (proc head body close) ≡ b → names_sub head.form ≡ true → slice_get (procedures_of P.declarations.project) at.procedure ≡ Some (record { head = head; body = body })
+        → list_all is_writable_member (all_left_out cs (marked_lines P at (proc head body close))) ≡ true
+        → list_all is_writable_member (cond b (member_comments (up_to head.place.line cs) ++ net.proc (written_procedure P at.procedure (past head.place.line cs) head close) ∷ []) (all_left_out cs (marked_lines P at (proc head body close)))) ≡ true
     of_kept false k named found left = left
     of_kept true k named found left =
-        let facts = kept_sub P class p (record { head = head; body = body }) found k in
-        all_append is_writable_member (member_comments (up_to head.place.line cs)) (net.proc (written_procedure P p (past head.place.line cs) head close) ∷ [])
+        all_append is_writable_member (member_comments (up_to head.place.line cs)) (net.proc (written_procedure P at.procedure (past head.place.line cs) head close) ∷ [])
         (member_comments_can (up_to head.place.line cs) (up_to_can head.place.line cs h))
-        (and_true (is_writable_member (net.proc (written_procedure P p (past head.place.line cs) head close))) true
-        (procedure_can P p (past head.place.line cs) head close (locals_named p 0 P.declarations.vars n) (past_can head.place.line cs h) facts.0 named facts.1) refl)
-
-abbrev procedures_in_module : Module → List Written
-procedures_in_module m = flat_map procedures_in m.members
+        (and_true (is_writable_member (net.proc (written_procedure P at.procedure (past head.place.line cs) head close))) true
+        (procedure_can P at.procedure (past head.place.line cs) head close (locals_named at.procedure 0 P.declarations.vars n) (past_can head.place.line cs h) (kept_is_plain P at head body close k) named (kept_lines P at head body close k found)) refl)
 
 modules_can : (P : Bound) (ms : List Module) (p : ℕ) → list_all is_named_variable P.declarations.vars ≡ true → Located P p (flat_map procedures_in_module ms) → list_all is_named_module ms ≡ true → list_all is_writable_module (written_modules P p ms) ≡ true
-modules_can P [] p n at named = refl
-modules_can P (m ∷ ms) p n at named =
+modules_can P [] p n found named = refl
+modules_can P (m ∷ ms) p n found named =
+    let at = first_place P.declarations.project.modules p m in
+    let next = (behind_all at m.members).procedure in
     let both = both_true (is_named_module m) (list_all is_named_module ms) named in
-    let third = both_true (is_identifier m.name && are_comments m.comments && list_all has_comment_text (flat.module_lines m)) (list_all is_named_head (procedures_in_module m)) both.0 in
+    let fourth = both_true (is_identifier m.name && are_comments m.comments && list_all has_comment_text (flat.module_lines m) && list_all is_named_head (procedures_in_module m)) (list_all names_variables (flat.module_lines m)) both.0 in
+    let third = both_true (is_identifier m.name && are_comments m.comments && list_all has_comment_text (flat.module_lines m)) (list_all is_named_head (procedures_in_module m)) fourth.0 in
     let second = both_true (is_identifier m.name && are_comments m.comments) (list_all has_comment_text (flat.module_lines m)) third.0 in
     let first = both_true (is_identifier m.name) (are_comments m.comments) second.0 in
-    and_true (is_writable_module (written_module P p m)) (list_all is_writable_module (written_modules P (numbers_behind p m.members) ms))
-    (and_true (is_identifier m.name) (list_all is_writable_member (written_members P m.class p m.comments m.members)) first.0
-    (members_can P m.class m.members p m.comments n (λ j w e. at j w (in_front (procedures_in_module m) (flat_map procedures_in_module ms) j w e)) third.1 second.1 first.1))
-    (modules_can P ms (numbers_behind p m.members) n (λ j w e. moved j w (at (length (procedures_in_module m) + j) w (at_back (procedures_in_module m) (flat_map procedures_in_module ms) j w e))) both.1)
+    and_true (is_writable_module (written_module P at m)) (list_all is_writable_module (written_modules P next ms))
+    (and_true (is_identifier m.name) (list_all is_writable_member (written_members P at m.comments m.members)) first.0
+    (members_can P at m.members m.comments n (λ j w e. found j w (in_front (procedures_in_module m) (flat_map procedures_in_module ms) j w e)) third.1 second.1 first.1))
+    (modules_can P ms next n (λ j w e. moved at j w (found (length (procedures_in_module m) + j) w (at_back (procedures_in_module m) (flat_map procedures_in_module ms) j w e))) both.1)
   where
-    in_front : (xs ys : List Written) (j : ℕ) (w : Written) → slice_get xs j ≡ Some w → slice_get (xs ++ ys) j ≡ Some w
-    in_front [] ys zero w e = absurd (cc e)
-    in_front [] ys (suc j) w e = absurd (cc e)
-    in_front (x ∷ xs) ys zero w e = e
-    in_front (x ∷ xs) ys (suc j) w e = in_front xs ys j w e
-
-    at_back : (xs ys : List Written) (j : ℕ) (w : Written) → slice_get ys j ≡ Some w → slice_get (xs ++ ys) (length xs + j) ≡ Some w
-    at_back [] ys j w e = let here : 0 + j ≡ j = omega arith in ap (slice_get ys) here ∙ e
-    at_back (x ∷ xs) ys j w e = let here : suc (length xs) + j ≡ suc (length xs + j) = omega arith in ap (slice_get (x ∷ (xs ++ ys))) here ∙ at_back xs ys j w e
-
-    moved : (j : ℕ) (w : Written) → slice_get (procedures_of P.declarations.project) (p + (length (procedures_in_module m) + j)) ≡ Some w → slice_get (procedures_of P.declarations.project) (numbers_behind p m.members + j) ≡ Some w
-    moved j w e =
-        let counted = number_of_members p m.members in
-        let same : numbers_behind p m.members + j ≡ p + (length (procedures_in_module m) + j) = omega (arith, counted) in
+    moved : (at : Place6) (j : ℕ) (w : Written) → slice_get (procedures_of P.declarations.project) (at.procedure + (length (procedures_in_module m) + j)) ≡ Some w
+        → slice_get (procedures_of P.declarations.project) ((behind_all at m.members).procedure + j) ≡ Some w
+    moved at j w e =
+        let counted = number_of_members at m.members in
+        let same : (behind_all at m.members).procedure + j ≡ at.procedure + (length (procedures_in_module m) + j) = omega (arith, counted) in
         ap (slice_get (procedures_of P.declarations.project)) same ∙ e
 
 -- what is written for the modules can be written

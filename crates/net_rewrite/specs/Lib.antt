@@ -1,7 +1,15 @@
 pub mod Written
 pub mod Translated
+pub mod Marks
 pub mod Match
 pub mod Modules
 pub mod Writable
+pub mod Projects
+pub mod Connectives
+pub mod Plans
 pub mod Operands
 pub mod View
+pub mod Fits
+pub mod Locals
+pub mod Taken
+pub mod MarkedMembers

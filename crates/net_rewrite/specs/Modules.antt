@@ -1,23 +1,20 @@
 -- What is written for a module: its comments, and for each procedure that is translated the written one. A procedure that
 -- isn't is left out so far, like all other members; a comment stands for each of its lines that isn't translated.
-use Rattle.std.specs.Prelude.{ℕ, suc, nat_le, Bool, true, false, not, ◌&&◌, ◌||◌, ◌≡◌, cond, List, [], ◌∷◌, ◌++◌, map, codes, Option, None, Some, slice_get}
-use Rattle.std.specs.List.{list_all, flat_map}
-use Rattle.up_base.specs.Names.{is_same_name}
-use Rattle.vb_tree.specs.BoundTree.{Variable, Expr, Body, Bound}
-use Rattle.vb_tree.specs.Blocks.{is_code}
-use Rattle.vb_tree.specs.declared.form_parts.VarWord.{VarWord}
+use Rattle.std.specs.Prelude.{ℕ, nat_le, Bool, true, false, ◌≡◌, cond, List, [], ◌∷◌, ◌++◌, map, codes, Option, None, Some, slice_get}
+use Rattle.std.specs.List.{flat_map}
+use Rattle.vb_tree.specs.BoundTree.{Variable, Bound}
 use Rattle.vb_tree.specs.declared.form_parts.VarWord.TheVariants as var
 use Rattle.vb_tree.specs.declared.form_parts.Visibility.{Visibility}
 use Rattle.vb_tree.specs.declared.form_parts.Visibility.TheVariants as seen
 use Rattle.vb_tree.specs.FlatLines.{flat_lines, name_of}
-use Rattle.vb_tree.specs.Tree.{Form, Line, Nodes, Member, alone, group, proc, Module, Project, sub_head}
+use Rattle.vb_tree.specs.Tree.{Declarator, Form, Line, Member, alone, group, proc, Module, sub_head}
 use Rattle.vb_tree.specs.Tree as tree
-use Rattle.vb6_run.specs.Program.{BoundLine, bound_lines, locals_of, procedures_in}
+use Rattle.vb6_run.specs.Program.{Written as Written6, BoundLine, bound_lines, locals_of, procedures_of}
 use Rattle.net_tree.specs.declared.declaration.NetClose.TheVariants.{EndSub}
 use Rattle.net_tree.specs.declared.declaration.NetVisibility.{NetVisibility}
 use Rattle.net_tree.specs.declared.declaration.NetVisibility.TheVariants as net_seen
 use Rattle.net_tree.specs.Tree as net
-use Rattle.net_rewrite.specs.Translated.{is_scalar, is_plain_sub, is_translated_form, is_translated_procedure}
+use Rattle.net_rewrite.specs.Marks.{Place6, marked_lines, is_kept, behind, behind_all, first_place}
 use Rattle.net_rewrite.specs.Written.{written_line, written_local}
 
 -- a comment with the first physical line of its logical line
@@ -95,71 +92,15 @@ abbrev pub past_all : List Comment → List (Bool × Line) → List Comment
 past_all cs [] = cs
 past_all cs (x ∷ xs) = past_all (past x.1.place.line cs) xs
 
-abbrev pub is_dim : VarWord → Bool
-is_dim var.Dim = true
-is_dim _ = false
-
--- whether the first local of a name is a scalar
-abbrev pub is_scalar_name : List (ℕ × Variable) → List ℕ → Bool
-is_scalar_name [] name = false
-is_scalar_name (x ∷ locals) name = cond (is_same_name x.1.name name) (is_scalar x.1.ty) (is_scalar_name locals name)
-
--- a declaration in a procedure: Attribute lines are passed over, and a Dim is translated where all its variables are scalars
-abbrev pub is_translated_declaration : List (ℕ × Variable) → Form → Bool
-is_translated_declaration locals (tree.attribute tokens) = true
-is_translated_declaration locals (tree.variables w ds) = is_dim w && list_all (λ d. is_scalar_name locals d.name) ds
-is_translated_declaration locals _ = false
-
-abbrev pub is_attribute : Form → Bool
-is_attribute (tree.attribute tokens) = true
-is_attribute _ = false
-
-abbrev pub first_exprs : List (List Expr) → List Expr
-first_exprs [] = []
-first_exprs (es ∷ more) = es
-
-abbrev pub later_exprs : List (List Expr) → List (List Expr)
-later_exprs [] = []
-later_exprs (es ∷ more) = more
-
--- the lines of a body in order, each with whether it is untranslated; code lines have bound expressions
-abbrev pub marked : List (ℕ × Variable) → List Line → List (List Expr) → List (Bool × Line)
-marked locals [] ess = []
-marked locals (l ∷ ls) ess =
-    cond (is_code l.form) ((not (is_translated_form locals l.form (first_exprs ess)), l) ∷ marked locals ls (later_exprs ess))
-    ((not (is_translated_declaration locals l.form), l) ∷ marked locals ls ess)
-
-abbrev pub exprs_at : Option Body → List (List Expr)
-exprs_at None = []
-exprs_at (Some b) = b.lines
-
--- the lines of a member, each with whether it is untranslated; p is the number of its procedure. Members of classes aren't
--- translated so far.
-abbrev pub member_lines : Bound → (class : Bool) → (p : ℕ) → Member → List (Bool × Line)
-member_lines P class p (alone l) = (not (is_attribute l.form), l) ∷ []
-member_lines P class p (group head lines close) = (true, head) ∷ map (λ l. (true, l)) lines ++ (true, close) ∷ []
-member_lines P class p (proc head body close) =
-    (class || not (is_plain_sub head.form), head) ∷ marked (locals_of P p) (flat_lines body) (exprs_at (slice_get P.bodies p)) ++ (false, close) ∷ []
-
 -- ---- modules
 
--- whether the procedure p of a module or class is translated
-abbrev pub is_kept : Bound → (class : Bool) → (p : ℕ) → Bool
-is_kept P class p = not class && is_translated_procedure P p
-
-abbrev pub written_member : Bound → (class : Bool) → (p : ℕ) → List Comment → Member → List net.Member
-written_member P class p cs (alone l) = all_left_out cs (member_lines P class p (alone l))
-written_member P class p cs (group head lines close) = all_left_out cs (member_lines P class p (group head lines close))
-written_member P class p cs (proc head body close) =
-    cond (is_kept P class p)
-    (member_comments (up_to head.place.line cs) ++ net.proc (written_procedure P p (past head.place.line cs) head close) ∷ [])
-    (all_left_out cs (member_lines P class p (proc head body close)))
-
--- the number of the next procedure behind a member
-abbrev pub number_behind : ℕ → Member → ℕ
-number_behind p (alone l) = p
-number_behind p (group head lines close) = p
-number_behind p (proc head body close) = suc p
+abbrev pub written_member : Bound → Place6 → List Comment → Member → List net.Member
+written_member P at cs (alone l) = all_left_out cs (marked_lines P at (alone l))
+written_member P at cs (group head lines close) = all_left_out cs (marked_lines P at (group head lines close))
+written_member P at cs (proc head body close) =
+    cond (is_kept P at (proc head body close))
+    (member_comments (up_to head.place.line cs) ++ net.proc (written_procedure P at.procedure (past head.place.line cs) head close) ∷ [])
+    (all_left_out cs (marked_lines P at (proc head body close)))
 
 -- the last line of a member
 abbrev pub end_of : Member → ℕ
@@ -167,36 +108,55 @@ end_of (alone l) = l.place.line
 end_of (group head lines close) = close.place.line
 end_of (proc head body close) = close.place.line
 
--- members in order, of which the first procedure has the number p; comments behind the last one stand at the end
-abbrev pub written_members : Bound → (class : Bool) → (p : ℕ) → List Comment → List Member → List net.Member
-written_members P class p cs [] = member_comments cs
-written_members P class p cs (m ∷ ms) =
-    written_member P class p cs m ++ written_members P class (number_behind p m) (past (end_of m) cs) ms
+-- members in order; comments behind the last one stand at the end
+abbrev pub written_members : Bound → Place6 → List Comment → List Member → List net.Member
+written_members P at cs [] = member_comments cs
+written_members P at cs (m ∷ ms) = written_member P at cs m ++ written_members P (behind at m) (past (end_of m) cs) ms
 
-abbrev pub written_module : Bound → (p : ℕ) → Module → net.Module
-written_module P p m = record { name = m.name; class = m.class; members = written_members P m.class p m.comments m.members }
-
-abbrev pub numbers_behind : ℕ → List Member → ℕ
-numbers_behind p [] = p
-numbers_behind p (m ∷ ms) = numbers_behind (number_behind p m) ms
+abbrev pub written_module : Bound → Place6 → Module → net.Module
+written_module P at m = record { name = m.name; class = m.class; members = written_members P at m.comments m.members }
 
 -- modules in order, of which the first procedure has the number p
 abbrev pub written_modules : Bound → (p : ℕ) → List Module → List net.Module
 written_modules P p [] = []
-written_modules P p (m ∷ ms) = written_module P p m ∷ written_modules P (numbers_behind p m.members) ms
+written_modules P p (m ∷ ms) =
+    let at = first_place P.declarations.project.modules p m in
+    written_module P at m ∷ written_modules P (behind_all at m.members).procedure ms
 
--- for each procedure in order, whether it stands in a class
-abbrev pub in_classes : List Module → List Bool
-in_classes ms = flat_map (λ (m : Module). map (λ w. m.class) (flat_map procedures_in m.members)) ms
+-- for each procedure among members in order, whether it is translated
+abbrev pub member_flags : Bound → Place6 → Member → List Bool
+member_flags P at (alone l) = []
+member_flags P at (group head lines close) = []
+member_flags P at (proc head body close) = is_kept P at (proc head body close) ∷ []
 
-abbrev pub is_kept_in : Bound → (p : ℕ) → Option Bool → Bool
-is_kept_in P p None = false
-is_kept_in P p (Some class) = is_kept P class p
+abbrev pub members_flags : Bound → Place6 → List Member → List Bool
+members_flags P at [] = []
+members_flags P at (m ∷ ms) = member_flags P at m ++ members_flags P (behind at m) ms
 
--- whether the procedure p is translated: all of it is, and it stands in no class
-abbrev pub is_kept_at : Bound → (p : ℕ) → Bool
-is_kept_at P p = is_kept_in P p (slice_get (in_classes P.declarations.project.modules) p)
+-- for each procedure of modules in order
+abbrev pub flags_from : Bound → (p : ℕ) → List Module → List Bool
+flags_from P p [] = []
+flags_from P p (m ∷ ms) =
+    let at = first_place P.declarations.project.modules p m in
+    members_flags P at m.members ++ flags_from P (behind_all at m.members).procedure ms
+
+-- the procedure p is translated
+abbrev pub IsKept : Bound → (p : ℕ) → Type 0
+IsKept P p = slice_get (flags_from P 0 P.declarations.project.modules) p ≡ Some true
 
 -- the modules of N are what is written for those of P
 abbrev pub AreWritten : Bound → net.Project → Type 0
 AreWritten P N = N.modules ≡ written_modules P 0 P.declarations.project.modules
+
+-- ---- locals
+
+-- the names that lines declare as locals by Dim, in order
+abbrev pub dim_names : Form → List (List ℕ)
+dim_names (tree.variables var.Dim ds) = map (λ (d : Declarator). d.name) ds
+dim_names _ = []
+
+-- The locals of each procedure are those that its lines declare.
+abbrev pub LocalsAreDeclared : Bound → Type 0
+LocalsAreDeclared P =
+    (p : ℕ) (w : Written6) → slice_get (procedures_of P.declarations.project) p ≡ Some w
+    → map (λ (x : ℕ × Variable). x.1.name) (locals_of P p) ≡ flat_map (λ (l : Line). dim_names l.form) (flat_lines w.body)

@@ -152,13 +152,18 @@ abbrev pub local_name : List (ℕ × Variable) → ℕ → List ℕ
 local_name [] id = []
 local_name (x ∷ locals) id = cond (nat_eq x.0 id) x.1.name (local_name locals id)
 
+-- what is written for the local of a number; nothing where there is none
+abbrev pub local_exp : List (ℕ × Variable) → ℕ → net.Exp
+local_exp [] id = net.nothing
+local_exp (x ∷ locals) id = cond (nat_eq x.0 id) (net.path (x.1.name ∷ [])) (local_exp locals id)
+
 abbrev mutual
   pub exp_of : List (ℕ × Variable) → Expr → net.Exp
   exp_of locals (typed s term) = term_exp locals term
 
   pub term_exp : List (ℕ × Variable) → Term → net.Exp
   term_exp locals (constant x h) = exp_or_nothing (write_constant h x)
-  term_exp locals (variable id) = net.path (local_name locals id.0 ∷ [])
+  term_exp locals (variable id) = local_exp locals id.0
   term_exp locals (unary u a) = operator_exp (write_unary u (type_of a)) (plain (exp_of locals a)) (plain (exp_of locals a))
   term_exp locals (binary b a c) = operator_exp (write_operator b (type_of a) (type_of c)) (operand_of a (exp_of locals a)) (operand_of c (exp_of locals c))
   term_exp locals (convert to a) = converted_exp (literal_as to a) (write_conversion (type_of a) to) (exp_of locals a)

@@ -1,5 +1,5 @@
 //! The kinds of numbers by the types of operands.
-ghost use Rattle.std.specs.Prelude.{◌≡◌};
+ghost use Rattle.std.specs.Prelude.{◌≡◌, ◌&&◌, ◌||◌};
 ghost use Rattle.vb_tree.specs.BoundView.{type_of};
 ghost use Rattle.vb6_meaning.specs.Kinds.{rank, wider, whole, is_byte};
 ghost use Rattle.net_meaning.specs.WrittenRows.{kind_of, word_of_kind, is_of_kind, is_text, is_boolean, is_reference};
@@ -103,6 +103,26 @@ pub(crate) fn is_boolean(ty: &Type6) -> bool
     matches!(ty, Type6::Boolean)
 }
 
+/// Whether two types are both those of texts.
+pub(crate) fn are_texts(s: &Type6, t: &Type6) -> bool
+    ensures { result ≡ (is_text (type_of s.now) && is_text (type_of t.now)) }
+{
+    is_text(s) && is_text(t)
+}
+
+pub(crate) fn are_booleans(s: &Type6, t: &Type6) -> bool
+    ensures { result ≡ (is_boolean (type_of s.now) && is_boolean (type_of t.now)) }
+{
+    is_boolean(s) && is_boolean(t)
+}
+
+/// Whether two types are such that their values are compared as they stand.
+pub(crate) fn are_alike(s: &Type6, t: &Type6) -> bool
+    ensures { result ≡ (is_text (type_of s.now) && is_text (type_of t.now) || is_boolean (type_of s.now) && is_boolean (type_of t.now)) }
+{
+    are_texts(s, t) || are_booleans(s, t)
+}
+
 /// Whether a type is one whose values are objects.
 pub(crate) fn is_reference(ty: &Type6) -> bool
     ensures { result ≡ is_reference (type_of ty.now) }
@@ -113,4 +133,10 @@ pub(crate) fn is_reference(ty: &Type6) -> bool
         Type6::Nothing => true,
         _ => false,
     }
+}
+
+pub(crate) fn are_references(s: &Type6, t: &Type6) -> bool
+    ensures { result ≡ (is_reference (type_of s.now) && is_reference (type_of t.now)) }
+{
+    is_reference(s) && is_reference(t)
 }

@@ -2,11 +2,12 @@
 ghost use Rattle.std.specs.Prelude.{◌≡◌, ℕ, true};
 ghost use Rattle.vb_tree.specs.BoundTree.{Bound};
 ghost use Rattle.std.specs.List.{list_all};
-ghost use Rattle.net_tree.specs.Text.{is_writable_module};
+ghost use Rattle.net_tree.specs.Text.{is_writable_module, IsWritable};
 ghost use Rattle.net_tree.specs.Tree.{Project};
 ghost use Rattle.net_rewrite.specs.Translated.{is_translated_procedure};
 ghost use Rattle.net_rewrite.specs.Match.{IsWrittenAs, SameRun};
-ghost use Rattle.net_rewrite.specs.Modules.{AreWritten, is_kept_at, written_modules};
+ghost use Rattle.net_rewrite.specs.Modules.{AreWritten, IsKept, LocalsAreDeclared, written_modules};
+ghost use Rattle.net_rewrite.specs.Projects.{written_project, can_be_named};
 ghost use Rattle.net_rewrite.specs.Writable.{is_named};
 
 /// A law: a procedure that is translated does the same as one that is written for it. From stores that match, within any
@@ -18,10 +19,11 @@ pub fn same_runs()
 {}
 
 /// A law: where the modules of a project are what is written for another one's, comments and lines that are left out
-/// included, each procedure of that one that is translated stands among them, and does the same.
+/// included, each procedure of that one all of whose lines are translated stands among them, and does the same. The locals
+/// are those that its lines declare.
 #[tactic(auto, using(crate::proofs::Placing::kept_same))]
 pub fn same_runs_of_modules()
-    ensures { (P : Bound) (N : Project) → AreWritten P N → (p : ℕ) → is_kept_at P p ≡ true
+    ensures { (P : Bound) (N : Project) → LocalsAreDeclared P → AreWritten P N → (p : ℕ) → IsKept P p
         → (q : ℕ) × IsWrittenAs P N p q × SameRun P N p q }
 {}
 
@@ -30,4 +32,10 @@ pub fn same_runs_of_modules()
 #[tactic(auto, using(crate::proofs::WritableModules::written_can))]
 pub fn modules_can_be_written()
     ensures { (P : Bound) → is_named P ≡ true → list_all is_writable_module (written_modules P 0 P.declarations.project.modules) ≡ true }
+{}
+
+/// A law: so can what is written for the whole project, where files can be named for its modules.
+#[tactic(auto)]
+pub fn project_can_be_written()
+    ensures { (P : Bound) → can_be_named P ≡ true → IsWritable (written_project P) }
 {}

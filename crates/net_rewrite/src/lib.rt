@@ -1,13 +1,34 @@
 //! What is written in Visual Basic .NET for a project of Visual Basic 6, and that it does the same.
 #![tactic(auto)]
 
+mod code_fits;
 mod constant;
+mod conversion;
+mod declared_names;
+mod fit_constants;
+mod fits;
 mod kind;
 mod laws;
 mod local;
+mod logical;
+mod marked;
+mod names;
+mod number;
 mod operand;
+mod operator;
 mod parts;
+mod placed;
+mod taken_names;
 mod text;
+mod translated;
+mod written_expression;
+mod written_line;
 
-pub use laws::{modules_can_be_written, same_runs, same_runs_of_modules};
+pub use declared_names::add_member;
+pub use laws::{modules_can_be_written, project_can_be_written, same_runs, same_runs_of_modules};
 pub use local::Local;
+pub use marked::{MarkedLine, are_kept, marked_member};
+pub use names::NameSet;
+pub use taken_names::{names_taken, object_members};
+pub use written_expression::expression;
+pub use written_line::line;

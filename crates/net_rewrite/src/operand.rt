@@ -22,6 +22,18 @@ pub(crate) struct Operand {
     pub(crate) decimal: Option<NetExpr>,
 }
 
+impl Operand {
+    ghost use Rattle.net_rewrite.specs.View.{operand};
+    ghost use Rattle.net_rewrite.specs.Written.{plain};
+
+    /// An operand that is no literal.
+    pub(crate) fn plain(exp: NetExpr) -> Operand
+        ensures { operand result ≡ plain (exp_of exp) }
+    {
+        Operand { exp, decimal: None }
+    }
+}
+
 // A conversion of an expression that is also written as a Decimal.
 fn cast_literal(
     alloc: Global,

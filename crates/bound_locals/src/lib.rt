@@ -1,0 +1,6 @@
+//! What the locals of a project are whose names are bound.
+#![tactic(auto)]
+
+mod laws;
+
+pub use laws::{locals_are_declared, variables_are_named};
