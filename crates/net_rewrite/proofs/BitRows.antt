@@ -1,9 +1,9 @@
 -- What is written for the operators on bits.
-use Rattle.std.proofs.Common.{◌≡◌, Bool, true, false, cond, ◌&&◌, Option, Some, None, refl, sym, ap, ◌∙◌}
+use Rattle.std.proofs.Common.{◌≡◌, Bool, true, false, cond, ◌&&◌, Option, Some, None, refl, ap, ◌∙◌}
 use Rattle.vb_tree.specs.BoundTree.{Ty}
 use Rattle.vb_tree.specs.BoundTree as types
 use Rattle.vb6_meaning.specs.declared.number.NumberKind.{NumberKind}
-use Rattle.vb6_meaning.specs.Kinds.{wider, whole, is_byte}
+use Rattle.vb6_meaning.specs.Kinds.{whole, is_byte}
 use Rattle.net_tree.specs.Tree as net
 use Rattle.net_meaning.specs.WrittenRows.{Row, Written, written, operand_a, operand_b, kind_of, type_of_kind, as_kind, is_boolean, logical, on_numbers}
 use Rattle.net_rewrite.specs.declared.logical.Connective.{Connective}

@@ -201,6 +201,41 @@ is_spent _ = false
 sum_spent : is_spent (run (machine_of (main_of sum_locals sum_lines)) 0 2 start) ≡ true
 sum_spent = refl
 
+-- ---- a text: `Debug.Print "hello"`
+
+abbrev hello_lines : List (Form × List Expr)
+hello_lines = (debug_print [] false, typed types.str (constant (v.Str (codes "hello")) false) ∷ []) ∷ []
+
+hello_translated : is_translated_procedure (main_of [] hello_lines) 0 ≡ true
+hello_translated = refl
+
+hello_printed : outputs (run (machine_of (main_of [] hello_lines)) 0 20 start) ≡ line_text (codes "hello") ∷ []
+hello_printed = refl
+
+hello_printed_net : outputs (run (net_run.machine_of (written_of [] hello_lines)) 0 20 net_start) ≡ line_text (codes "hello") ∷ []
+hello_printed_net = refl
+
+-- ---- the end of the range of a Currency: `c = 922337203685477.5807@`, `c = c + 0.0001@`
+
+abbrev range_lines : List (Form × List Expr)
+range_lines =
+    (assign (name_of (codes "c")) (name_of []), c ∷ typed types.currency (constant (v.Cur (pos 9223372036854775807)) false) ∷ [])
+    ∷ (assign (name_of (codes "c")) (name_of []), c ∷ typed types.currency (binary b.Add c (typed types.currency (constant (v.Cur (pos 1)) false))) ∷ [])
+    ∷ []
+
+range_translated : is_translated_procedure (main_of currency_locals range_lines) 0 ≡ true
+range_translated = refl
+
+range_written : written_line (locals_of (main_of currency_locals range_lines) 0) (at_second (at_first (bound_lines (main_of currency_locals range_lines)))) ≡
+    net.assign (net.path (codes "c" ∷ [])) (net.call_of (net.path cur_path) (net.next_exp (net.binary op.Add (net.path (codes "c" ∷ [])) (net.lit (net.decimal (pos 1)))) net.no_exps))
+range_written = refl
+
+range_raises : raised (run (machine_of (main_of currency_locals range_lines)) 0 20 start) ≡ Some 6
+range_raises = refl
+
+range_raises_net : raised (run (net_run.machine_of (written_of currency_locals range_lines)) 0 20 net_start) ≡ Some 6
+range_raises_net = refl
+
 -- ---- hexadecimal literals: `x% = &HFFFF`, `y& = &HFFFF&`, `Debug.Print x; y`, `x = &H8000`, `Debug.Print x`
 
 abbrev x : Expr

@@ -30,4 +30,8 @@ mod BodyViews
 pub mod PlacedBodies
 pub mod Marking
 pub mod SmallNames
+pub mod Walking
+pub mod WrittenProcedures
+pub mod Numbered
+pub mod Mains
 mod Examples

@@ -13,3 +13,5 @@ pub mod Fits
 pub mod Locals
 pub mod Taken
 pub mod MarkedMembers
+pub mod Procedures
+pub mod Walks

@@ -28,11 +28,11 @@ is_among names name = list_any (λ n. is_same_name n name) names
 abbrev pub used_names : List (List ℕ)
 used_names = codes "UpgradeSupport" ∷ codes "System" ∷ codes "Microsoft" ∷ []
 
--- the members that each type of .NET has
+-- the members that each type of .NET has, and the name of its constructor
 abbrev pub object_members : List (List ℕ)
 object_members =
-    codes "Equals" ∷ codes "Finalize" ∷ codes "GetHashCode" ∷ codes "GetType" ∷ codes "MemberwiseClone" ∷ codes "ReferenceEquals"
-    ∷ codes "ToString" ∷ []
+    codes "Equals" ∷ codes "Finalize" ∷ codes "GetHashCode" ∷ codes "GetType" ∷ codes "MemberwiseClone" ∷ codes "New"
+    ∷ codes "ReferenceEquals" ∷ codes "ToString" ∷ []
 
 abbrev pub standard_modules : List Module → List (List ℕ)
 standard_modules ms = map (λ (m : Module). m.name) (filter (λ (m : Module). not m.class) ms)

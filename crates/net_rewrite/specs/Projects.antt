@@ -1,16 +1,14 @@
 -- What is written for a project.
-use Rattle.std.specs.Prelude.{ℕ, Bool, true, false, not, ◌&&◌, cond, codes, List, [], ◌∷◌, ◌++◌, map, filter, Option, Some, None, is_none}
+use Rattle.std.specs.Prelude.{ℕ, Bool, false, not, ◌&&◌, cond, codes, List, [], ◌∷◌, ◌++◌, map, filter, Option, Some, None, is_none}
 use Rattle.std.specs.List.{list_all, list_any, flat_map}
 use Rattle.up_base.specs.Names.{is_name, is_same_name}
 use Rattle.up_base.specs.declared.place.Place.{Place}
-use Rattle.vb_tree.specs.declared.project.ProjectFile.{ProjectFile}
 use Rattle.vb_tree.specs.declared.project.ProjectKind.{ProjectKind}
 use Rattle.vb_tree.specs.declared.project.ProjectKind.TheVariants as kind
 use Rattle.vb_tree.specs.BoundTree.{Bound}
 use Rattle.vb_tree.specs.Tree.{Form, sub_head, Line, Member, Module, Project}
 use Rattle.vb6_run.specs.Program.{Written, procedures_in}
 use Rattle.net_tree.specs.Tree as net
-use Rattle.net_tree.specs.Text.{file_name}
 use Rattle.support_text.specs.Needs.{support_module}
 use Rattle.net_rewrite.specs.Marks.{Place6, marked_lines, behind, behind_all, first_place}
 use Rattle.net_rewrite.specs.Modules.{written_modules}

@@ -21,13 +21,14 @@ fn add_word(alloc: Global, names: &mut NameSet, word: &[u8]) -> Result<(), Mem>
     Ok(())
 }
 
-/// The members that each type of .NET has: those of a module of the project may not have their names.
+/// The members that each type of .NET has, and its constructor: those of a module of the project may not have their names.
 pub fn object_members(alloc: Global) -> Result<NameSet, Mem>
     ensures { IfOk result (λ names. names ≡ marks.object_members) }
 {
     let mut names = NameSet::new(alloc);
     add_word(alloc, &mut names, b"ToString")?;
     add_word(alloc, &mut names, b"ReferenceEquals")?;
+    add_word(alloc, &mut names, b"New")?;
     add_word(alloc, &mut names, b"MemberwiseClone")?;
     add_word(alloc, &mut names, b"GetType")?;
     add_word(alloc, &mut names, b"GetHashCode")?;

@@ -1,0 +1,39 @@
+use Rattle.std.proofs.Common.{◌++◌, ◌∷◌, ◌+◌, drop, map, sym, ap, ◌∙◌}
+use Rattle.std.proofs.lemmas.List.{drop_more}
+use Rattle.vb_tree.specs.BoundView.{bound_of}
+use Rattle.vb_tree.specs.View.{member_of}
+use Rattle.net_tree.specs.View as net_view
+use Rattle.net_rewrite.specs.Modules.{past, written_members}
+use Rattle.net_rewrite.specs.Projects.{untranslated_members}
+use Rattle.net_rewrite.specs.Walks.{place_in}
+use Rattle.net_rewrite.proofs.Walking.{members_turn, places_turn, numbered_turn}
+use Rattle.net_rewrite.proofs.walk.make_members.Goals as goal
+
+pub loop-member-preserved : goal.loop-member-preserved
+loop-member-preserved c =
+    let P = bound_of c.args.bound.now in
+    let xs = c.args.given.now in
+    let i = c.loop-member.member-index in
+    let x = c.member-item.result in
+    let m = member_of x in
+    let ms = map member_of (drop (i + 1) xs) in
+    let left = ap (map member_of) (drop_more xs i x c.loop-member-test.true ∙ ap (λ y. y ∷ drop (i + 1) xs) (sym c.member-item.is)) in
+    let before = c.loop-member.invariant in
+    let own = c.loop-member.own in
+    let new = c.make_member.new.own in
+    let taken = c.args.taken.now in
+    let cs = c.loop-member.rest.now in
+    let p = c.loop-member.number in
+    let at = place_in c.args.class p (own ++ taken) in
+    let behind = c.past-rest.ensures ∙ ap (λ e. past e cs) c.end_of.ensures in
+    record {
+      numbered = numbered_turn P p c.in_ok-number.number m ms _ left c.in_ok-number.ensures before.numbered;
+      members = members_turn P c.args.class p c.in_ok-number.number own new taken cs c.past-rest.result.now m ms (map net_view.member_of c.loop-member.made.members.items) (map net_view.member_of c.make_member.new.made.members.items) _
+          c.in_ok-number.ensures behind c.in_ok-make_member.ensures.names
+          (ap (λ k. map net_view.member_of c.loop-member.made.members.items ++ written_members P at cs k) (sym left) ∙ before.members)
+          c.in_ok-make_member.ensures.members;
+      places = places_turn P c.args.file c.args.class p c.in_ok-number.number own new taken m ms c.loop-member.made.places.items c.make_member.new.made.places.items _
+          c.in_ok-number.ensures c.in_ok-make_member.ensures.names
+          (ap (λ k. c.loop-member.made.places.items ++ untranslated_members P c.args.file at k) (sym left) ∙ before.places)
+          c.in_ok-make_member.ensures.places;
+    }

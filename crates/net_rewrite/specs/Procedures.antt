@@ -1,0 +1,28 @@
+-- A written procedure by the parts that the code has of it: its locals, its code lines, and their bound expressions.
+use Rattle.std.specs.Prelude.{ℕ, List, [], ◌∷◌, ◌++◌, map, Option, Some, None}
+use Rattle.vb_tree.specs.BoundTree.{Variable, Expr}
+use Rattle.vb_tree.specs.Tree.{Form, Line, Signature, sub_head}
+use Rattle.net_tree.specs.declared.declaration.NetClose.TheVariants.{EndSub}
+use Rattle.net_tree.specs.Tree as net
+use Rattle.net_rewrite.specs.Marks.{first_exprs, later_exprs}
+use Rattle.net_rewrite.specs.Modules.{Comment, up_to, past, comment_lines, written_head}
+use Rattle.net_rewrite.specs.Written.{line_of, written_local}
+
+-- code lines with their expressions, and the comments before each and before the closing line
+abbrev pub commented : List (ℕ × Variable) → List Comment → List Line → List (List Expr) → (close : ℕ) → List net.Line
+commented locals cs [] es close = comment_lines (up_to close cs)
+commented locals cs (l ∷ ls) es close =
+    comment_lines (up_to l.place.line cs) ++ line_of locals l.form (first_exprs es) ∷ commented locals (past l.place.line cs) ls (later_exprs es) close
+
+abbrev pub procedure_on : List (ℕ × Variable) → List Comment → Signature → List Line → List (List Expr) → (close : ℕ) → net.Procedure
+procedure_on locals cs s ls es close = record {
+  head = written_head (sub_head s);
+  prologue = map written_local locals;
+  lines = commented locals cs ls es close;
+  close = EndSub;
+}
+
+-- what the head of a Sub declares
+abbrev pub sub_in : Form → Option Signature
+sub_in (sub_head s) = Some s
+sub_in _ = None

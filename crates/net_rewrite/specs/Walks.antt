@@ -1,0 +1,46 @@
+-- What is written for members by the marks of their lines, and places by what is known of the names round them.
+use Rattle.std.specs.Prelude.{◌≡◌, ℕ, Bool, not, cond, List, [], ◌∷◌, ◌++◌, Option, Some, None, slice_get}
+use Rattle.std.specs.List.{list_all}
+use Rattle.vb_tree.specs.BoundTree.{Bound}
+use Rattle.vb_tree.specs.Tree.{Line, Member, alone, group, proc, Module}
+use Rattle.vb6_run.specs.Program.{procedures_of}
+use Rattle.net_tree.specs.Tree as net
+use Rattle.net_rewrite.specs.Marks.{Place6, number_behind, behind_all, first_place}
+use Rattle.net_rewrite.specs.Modules.{Comment, up_to, past, member_comments, all_left_out, written_procedure}
+
+-- what is written for a member whose lines are marked so, where p is the number of its procedure
+abbrev pub member_by : Bound → (p : ℕ) → List Comment → Member → List (Bool × Line) → List net.Member
+member_by P p cs (alone l) xs = all_left_out cs xs
+member_by P p cs (group head lines close) xs = all_left_out cs xs
+member_by P p cs (proc head body close) xs =
+    cond (list_all (λ (x : Bool × Line). not x.0) xs)
+    (member_comments (up_to head.place.line cs) ++ net.proc (written_procedure P p (past head.place.line cs) head close) ∷ [])
+    (all_left_out cs xs)
+
+-- a place in a module where these names are taken
+abbrev pub place_in : (class : Bool) → (p : ℕ) → List (List ℕ) → Place6
+place_in class p taken = record { class = class; procedure = p; taken = taken }
+
+-- where a member is a procedure, it is the one of the number p in the project
+abbrev pub IsNumbered : Bound → (p : ℕ) → Member → Type 0
+IsNumbered P p (alone l) = Unit {0}
+IsNumbered P p (group head lines close) = Unit {0}
+IsNumbered P p (proc head body close) = slice_get (procedures_of P.declarations.project) p ≡ Some (record { head = head; body = body })
+
+abbrev pub AreNumbered : Bound → (p : ℕ) → List Member → Type 0
+AreNumbered P p [] = Unit {0}
+AreNumbered P p (m ∷ ms) = IsNumbered P p m × AreNumbered P (number_behind p m) ms
+
+abbrev pub AreNumberedIn : Bound → (p : ℕ) → List Module → Type 0
+AreNumberedIn P p [] = Unit {0}
+AreNumberedIn P p (m ∷ ms) = AreNumbered P p m.members × AreNumberedIn P (behind_all (first_place P.declarations.project.modules p m) m.members).procedure ms
+
+-- the list of a number, and the empty one where there is none
+abbrev pub list_at : {A : Type 0} → Option (List A) → List A
+list_at None = []
+list_at (Some xs) = xs
+
+-- the number of the next procedure behind members, of which the first procedure has the number p
+abbrev pub numbers_behind : (p : ℕ) → List Member → ℕ
+numbers_behind p [] = p
+numbers_behind p (m ∷ ms) = numbers_behind (number_behind p m) ms

@@ -1,0 +1,153 @@
+//! Procedures.
+ghost use Rattle.std.specs.Prelude.{◌≡◌, ◌++◌, ◌∷◌, [], drop, map, IfOk, OnOk};
+ghost use Rattle.vb_tree.specs.Tree.{sub_head};
+ghost use Rattle.vb_tree.specs.View.{signature_of};
+ghost use Rattle.vb_tree.specs.View as view;
+ghost use Rattle.vb_tree.specs.BoundView.{type_of, expr_of};
+ghost use Rattle.net_tree.specs.View.{line_of, dim_of, head_of, procedure_of, type_name_of};
+ghost use Rattle.net_rewrite.specs.View.{local_of};
+ghost use Rattle.net_rewrite.specs.Marks.{first_exprs};
+ghost use Rattle.net_rewrite.specs.Modules.{written_visibility, written_head, comment_lines, up_to};
+ghost use Rattle.net_rewrite.specs.Procedures.{commented, procedure_on};
+ghost use Rattle.net_rewrite.specs.Written as written;
+ghost use Rattle.net_rewrite.specs.Written.{net_type, written_local};
+
+use crate::comments::{Comment, past, push_lines};
+use crate::local::Local;
+use crate::written_line::line;
+use net_tree::{NetClose, NetDim, NetHead, NetLine, NetProc, NetType, NetVariable, NetVisibility};
+use std::alloc::Global;
+use up_base::{Mem, Sequence};
+use vb_tree::{BoundExpr, CodeLine, Signature6, Type6, Visibility};
+
+fn net_type(ty: &Type6) -> NetType
+    ensures { type_name_of result ≡ net_type (type_of ty.now) }
+{
+    match ty {
+        Type6::Boolean => NetType::Boolean,
+        Type6::Byte => NetType::Byte,
+        Type6::Integer => NetType::Short,
+        Type6::Long => NetType::Integer,
+        Type6::Currency => NetType::Decimal,
+        Type6::Str => NetType::Str,
+        _ => NetType::Object,
+    }
+}
+
+// The declaration of a local.
+fn declaration(alloc: Global, local: &Local) -> Result<NetDim, Mem>
+    ensures { IfOk result (λ d. dim_of d ≡ written_local (local_of local.now)) }
+{
+    Ok(NetDim::Local(NetVariable {
+        name: local.variable.name.copy(alloc)?,
+        ty: net_type(&local.variable.ty),
+        value: None,
+    }))
+}
+
+// The declarations of all locals.
+fn prologue(alloc: Global, locals: &[Local]) -> Result<Vec<NetDim>, Mem>
+    ensures { IfOk result (λ dims. map dim_of dims.items ≡ map written_local (map local_of locals.now)) }
+{
+    let mut dims = Vec::with_capacity(alloc, locals.len())?;
+    for local in locals {
+        dims.push(declaration(alloc, local)?)?;
+    }
+    Ok(dims)
+}
+
+fn visibility(seen: Option<Visibility>) -> NetVisibility
+    ensures { result ≡ written_visibility seen }
+{
+    match seen {
+        None => NetVisibility::Public,
+        Some(Visibility::Public) => NetVisibility::Public,
+        Some(Visibility::Private) => NetVisibility::Private,
+        Some(Visibility::Friend) => NetVisibility::Friend,
+        Some(Visibility::Global) => NetVisibility::Public,
+    }
+}
+
+// The head of a Sub; parameters are still to come.
+fn head(alloc: Global, signature: &Signature6) -> Result<NetHead, Mem>
+    ensures { IfOk result (λ h. head_of h ≡ written_head (sub_head (signature_of signature.now))) }
+{
+    let name = signature.name.copy(alloc)?;
+    Ok(NetHead::Sub(visibility(signature.visibility), name, Vec::new(alloc)))
+}
+
+// The expressions of the line of a number, and none behind the last.
+fn exprs_at(exprs: &[Sequence<BoundExpr>], number: usize) -> &[BoundExpr]
+    ensures { map expr_of result.now ≡ first_exprs (map (map expr_of) (drop number exprs.now)) }
+{
+    match exprs.get(number) {
+        Some(es) => es.as_slice(),
+        None => &[],
+    }
+}
+
+// Puts what is written for a code line, with the comments before it, behind other lines.
+fn push_line(
+    alloc: Global,
+    lines: &mut Vec<NetLine>,
+    locals: &[Local],
+    comments: &[Comment],
+    code: &CodeLine,
+    exprs: &[BoundExpr],
+) -> Result<(), Mem>
+    ensures { OnOk result (map line_of lines.new.items ≡ map line_of lines.old.items
+        ++ (comment_lines (up_to code.now.place.line comments.now) ++ written.line_of (map local_of locals.now) (view.line_of code.now).form (map expr_of exprs.now) ∷ [])) }
+{
+    push_lines(alloc, lines, comments, code.place.line)?;
+    lines.push(line(alloc, locals, &code.form, exprs)?)?;
+    Ok(())
+}
+
+// The code lines with the comments before each, and those before the closing line.
+fn body(
+    alloc: Global,
+    locals: &[Local],
+    comments: &[Comment],
+    code: &[&CodeLine],
+    exprs: &[Sequence<BoundExpr>],
+    close: u32,
+) -> Result<Vec<NetLine>, Mem>
+    ensures { IfOk result (λ lines. map line_of lines.items ≡ commented (map local_of locals.now) comments.now (map (λ l. view.line_of l.now) code.now) (map (map expr_of) exprs.now) close) }
+{
+    let mut lines = Vec::new(alloc);
+    let mut rest = comments;
+    for (number, line) in code.iter().enumerate() {
+        push_line(
+            alloc,
+            &mut lines,
+            locals,
+            rest,
+            line,
+            exprs_at(exprs, number),
+        )?;
+        rest = past(rest, line.place.line);
+    }
+    push_lines(alloc, &mut lines, rest, close)?;
+    Ok(lines)
+}
+
+/// What is written for a Sub: its locals, the comments behind its head, its code lines and their expressions, and the line
+/// of its closing line.
+pub fn procedure(
+    alloc: Global,
+    locals: &[Local],
+    comments: &[Comment],
+    signature: &Signature6,
+    code: &[&CodeLine],
+    exprs: &[Sequence<BoundExpr>],
+    close: u32,
+) -> Result<NetProc, Mem>
+    ensures { IfOk result (λ p. procedure_of p ≡ procedure_on (map local_of locals.now) comments.now (signature_of signature.now) (map (λ l. view.line_of l.now) code.now) (map (map expr_of) exprs.now) close) }
+{
+    Ok(NetProc {
+        head: head(alloc, signature)?,
+        prologue: prologue(alloc, locals)?,
+        lines: body(alloc, locals, comments, code, exprs, close)?,
+        close: NetClose::EndSub,
+    })
+}
