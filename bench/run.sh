@@ -1,9 +1,9 @@
 #!/usr/bin/env bash
-# Measures the upgrade wizard on a small project and on two with a module of the largest size, one of printed texts and
-# one of sums, beside a plain reading of the same files; the lexer on 16 MiB of code, beside universal-ctags where that is
-# installed; and the emitter on a project of 16 MiB of text. It prints seconds, megabytes (10^6 bytes of input, or of text
-# that is emitted) a second and peak memory, with the targets beside them, and judges nothing: it ends with status 0
-# whatever the figures.
+# Measures the upgrade wizard on a small project, on two with a module of the largest size, one of printed texts and one
+# of sums, and on one of sixteen modules of code, beside a plain reading of the same files; the lexer on 16 MiB of code,
+# beside universal-ctags where that is installed; and the emitter on a project of 16 MiB of text. It prints seconds,
+# megabytes (10^6 bytes of input, or of text that is emitted) a second and peak memory, with the targets beside them, and
+# judges nothing: it ends with status 0 whatever the figures.
 set -euo pipefail
 export LC_ALL=C
 
@@ -77,6 +77,15 @@ write_project() {
     }' >"$1/Main1.bas"
 }
 
+# Writes a project of sixteen modules in the shape of real code, 16 MB in all.
+write_office() {
+    printf 'Type=Exe\r\n' >"$1/Office.vbp"
+    for ((k = 1; k <= 16; k++)); do
+        printf 'Module=M%d; M%d.bas\r\n' "$k" "$k" >>"$1/Office.vbp"
+        write_code "$1/M$k.bas" 1048000
+    done
+}
+
 # Runs a command with no output, and sets seconds, peak (KiB) and status.
 measure() {
     local start end
@@ -106,15 +115,15 @@ print_figures() {
 # Measures the upgrade of a project in a folder, and a plain reading of its files, each several times.
 measure_project() {
     local folder="$1" project="$2" target="$3" bytes
-    bytes="$(cat "$folder/$project" "$folder/Main1.bas" | wc -c)"
     cd "$folder"
+    bytes="$(cat "$project" ./*.bas | wc -c)"
     for ((run = 1; run <= runs; run++)); do
         rm -rf upgraded
         measure "$program" upgrade "$project"
         print_figures "vbup ${project%.vbp}" "$bytes" "$target"
     done
     for ((run = 1; run <= runs; run++)); do
-        measure cat "$project" Main1.bas
+        measure cat "$project" ./*.bas
         print_figures "cat ${project%.vbp}" "$bytes" ""
     done
     cd "$root"
@@ -156,15 +165,17 @@ measure_emitter() {
 build
 build_lexer
 build_emitter
-mkdir "$work/hello" "$work/large" "$work/sums"
+mkdir "$work/hello" "$work/large" "$work/sums" "$work/office"
 cp "$root"/examples/hello/{Hello.vbp,Main1.bas} "$work/hello/"
 write_project "$work/large" Large '' '    Debug.Print "line %06d of a generated module"\r\n'
 write_project "$work/sums" Sums '    Dim a1 As Long\r\n    Dim a2 As Long\r\n' '    a1 = a2 + %d - a1 + 1 - A2\r\n'
+write_office "$work/office"
 
 printf '%-16s %9s %8s %9s %10s %9s %7s   %s\n' command bytes seconds MB/s 'peak KiB' peak/read status target
 measure_project "$work/hello" Hello.vbp "under 0.05 s"
 measure_project "$work/large" Large.vbp "under 1 s, and peak/read under 16"
 measure_project "$work/sums" Sums.vbp "under 1 s"
+measure_project "$work/office" Office.vbp "over 10 MB/s, and peak/read under 16"
 
 write_code "$work/Code.bas" 16777216
 measure_lexer "$work/Code.bas"

@@ -1,5 +1,5 @@
 -- Which answers are left: where the words ask for nothing, where the project has a fault, and where nothing fails.
-use Rattle.std.proofs.Common.{◌≡◌, ◌⊎◌, ℕ, List, [], ◌∷◌, ◌++◌, Option, Some, None, refl, sym, ap, ◌∙◌, subst, inl, inr}
+use Rattle.std.proofs.Common.{◌≡◌, ◌⊎◌, ℕ, zero, suc, List, [], ◌∷◌, ◌++◌, Option, Some, None, refl, sym, ap, ◌∙◌, subst, inl, inr}
 use Rattle.std.specs.Prelude.{IfSome}
 use Rattle.up_base.specs.Outside.{Files, IfTold}
 use Rattle.up_base.specs.declared.place.Fault.{Fault}
@@ -8,13 +8,12 @@ use Rattle.wizard_cli.specs.declared.answer.Answer.{Answer}
 use Rattle.wizard_cli.specs.declared.answer.Answer.TheVariants.{Done, BadWords, Refused, ReadFault, WriteFault, OutOfMemory}
 use Rattle.wizard_cli.specs.declared.answer.Status.{Status}
 use Rattle.wizard_cli.specs.declared.answer.Status.TheVariants as status
-use Rattle.wizard_cli.specs.Held.{AsksUpgrade, HeldProject}
-use Rattle.wizard_cli.specs.Faults.{FirstFault}
-use Rattle.wizard_cli.specs.Answers.{status_of, answer_text}
-use Rattle.wizard_cli.specs.Headline.{IsTranslation}
-use Rattle.wizard_cli.specs.Runs.{Told, IsAnswer, OnFault, Concludes, IsRefusedFor}
-use Rattle.wizard_cli.proofs.FirstFaults.{same_first_fault}
-use Rattle.wizard_cli.proofs.Unique.{no_fault}
+use Rattle.project_loader.specs.Held.{HeldProject}
+use Rattle.project_loader.specs.Faults.{FirstFault}
+use Rattle.project_loader.proofs.Unique.{first_fault_once, held_or_fault}
+use Rattle.wizard_cli.specs.Asks.{AsksUpgrade}
+use Rattle.wizard_cli.specs.Answers.{done_status, status_of, answer_text}
+use Rattle.wizard_cli.specs.Runs.{Told, IsAnswer, OnFault, Concludes, IsRefusedFor, IsDone}
 
 -- what is concluded from an answer is its status, or the console failed
 pub concluded : (P : Status → Type 0) (answer : Answer) (before after : Option (List ℕ)) (ended : Status) → Concludes answer before after ended → P (status_of answer) → P status.ConsoleFault → P ended
@@ -35,11 +34,11 @@ told_of P o a e h = subst (λ x. IfSome x P) e h
 
 -- a project that is held under a name has no fault
 held_no_fault : (files : Files) (file other said : List ℕ) (P : Project) (f : Fault) → other ≡ file → HeldProject files other P → FirstFault files file said f → ⊥
-held_no_fault files file other said P f same held first = no_fault files file said P f (subst (λ n. HeldProject files n P) same held) first
+held_no_fault files file other said P f same held first = held_or_fault files file said P f (subst (λ n. HeldProject files n P) same held) first
 
 -- words that ask for nothing
 pub asks_nothing : (words : List (List ℕ)) (told : Told) (untouched : Type 0) (answer : Answer) → ((file : List ℕ) → ¬ (AsksUpgrade words file)) → IsAnswer words told untouched answer → (status_of answer ≡ status.BadWords) ⊎ (status_of answer ≡ status.OutOfMemory)
-asks_nothing words told untouched Done none h = absurd (none h.0 h.1)
+asks_nothing words told untouched (Done n) none h = absurd (none h.0 h.1)
 asks_nothing words told untouched BadWords none h = inl refl
 asks_nothing words told untouched (Refused said fault) none h = absurd (none h.0 h.1)
 asks_nothing words told untouched (ReadFault said) none h = absurd (none h.0 h.1)
@@ -48,27 +47,31 @@ asks_nothing words told untouched OutOfMemory none h = inr refl
 
 -- a project with a fault is refused for it, unless the folder failed or memory was wanted
 pub has_fault : (words : List (List ℕ)) (told : Told) (untouched : Type 0) (answer : Answer) (files : Files) (file said : List ℕ) (fault : Fault) → told.held ≡ Some files → AsksUpgrade words file → FirstFault files file said fault → IsAnswer words told untouched answer → (answer ≡ Refused said fault) ⊎ (status_of answer ≡ status.ReadFault) ⊎ (status_of answer ≡ status.OutOfMemory)
-has_fault words told untouched Done files file said fault held asks first h =
-    let project = told_of (λ fs. (P : Project) × HeldProject fs h.0 P) told.held files held h.3 in
-    absurd (held_no_fault files file h.0 said project.0 fault (same_file words h.0 file h.1 asks) project.1 first)
+has_fault words told untouched (Done n) files file said fault held asks first h =
+    let project = told_of (λ fs. HeldProject fs h.0 h.3.0) told.held files held h.3.1 in
+    absurd (held_no_fault files file h.0 said h.3.0 fault (same_file words h.0 file h.1 asks) project first)
 has_fault words told untouched BadWords files file said fault held asks first h = absurd (h.0 file asks)
 has_fault words told untouched (Refused other f) files file said fault held asks first h =
     let found = told_of (λ fs. FirstFault fs h.0 other f) told.held files held h.2 in
-    let same = same_first_fault files file other said f fault (subst (λ n. FirstFault files n other f) (same_file words h.0 file h.1 asks) found) first in
+    let same = first_fault_once files file other said f fault (subst (λ n. FirstFault files n other f) (same_file words h.0 file h.1 asks) found) first in
     inl (ap (λ n. Refused n f) same.0 ∙ ap (Refused said) same.1)
 has_fault words told untouched (ReadFault other) files file said fault held asks first h = inr (inl refl)
 has_fault words told untouched (WriteFault other) files file said fault held asks first h =
-    let translation = told_of (λ fs. IsTranslation fs h.0 h.2.net_project) told.held files held h.2.translation in
-    absurd (held_no_fault files file h.0 said translation.project fault (same_file words h.0 file h.1 asks) translation.held first)
+    let project = told_of (λ fs. HeldProject fs h.0 h.2.project) told.held files held h.2.held in
+    absurd (held_no_fault files file h.0 said h.2.project fault (same_file words h.0 file h.1 asks) project first)
 has_fault words told untouched OutOfMemory files file said fault held asks first h = inr (inr refl)
 
+pub done_ends : (n : ℕ) → IsDone (done_status n)
+done_ends zero = inl refl
+done_ends (suc n) = inr refl
+
 -- a held project is upgraded, where nothing failed and memory sufficed
-pub completes : (words : List (List ℕ)) (told : Told) (untouched R W : Type 0) (answer : Answer) (files : Files) (file : List ℕ) (P : Project) → told.held ≡ Some files → AsksUpgrade words file → HeldProject files file P → (R → ⊥) → (W → ⊥) → OnFault answer R W → IsAnswer words told untouched answer → (status_of answer ≡ status.Done) ⊎ (status_of answer ≡ status.OutOfMemory)
-completes words told untouched R W Done files file P held asks project no_read no_write cause h = inl refl
+pub completes : (words : List (List ℕ)) (told : Told) (untouched R W : Type 0) (answer : Answer) (files : Files) (file : List ℕ) (P : Project) → told.held ≡ Some files → AsksUpgrade words file → HeldProject files file P → (R → ⊥) → (W → ⊥) → OnFault answer R W → IsAnswer words told untouched answer → IsDone (status_of answer) ⊎ (status_of answer ≡ status.OutOfMemory)
+completes words told untouched R W (Done n) files file P held asks project no_read no_write cause h = inl (done_ends n)
 completes words told untouched R W BadWords files file P held asks project no_read no_write cause h = absurd (h.0 file asks)
 completes words told untouched R W (Refused said f) files file P held asks project no_read no_write cause h =
     let first = told_of (λ fs. FirstFault fs h.0 said f) told.held files held h.2 in
-    absurd (no_fault files file said P f project (subst (λ n. FirstFault files n said f) (same_file words h.0 file h.1 asks) first))
+    absurd (held_or_fault files file said P f project (subst (λ n. FirstFault files n said f) (same_file words h.0 file h.1 asks) first))
 completes words told untouched R W (ReadFault said) files file P held asks project no_read no_write cause h = absurd (no_read cause)
 completes words told untouched R W (WriteFault said) files file P held asks project no_read no_write cause h = absurd (no_write cause)
 completes words told untouched R W OutOfMemory files file P held asks project no_read no_write cause h = inr refl
@@ -98,10 +101,10 @@ has_fault_ends words told untouched before after ended h file asks = by told.hel
         ]
 
 -- the same of a held project, whose answer is the status
-pub completes_ends : (words : List (List ℕ)) (told : Told) (untouched R W C : Type 0) (answer : Answer) (ended : Status) → ended ≡ status_of answer → OnFault answer R W → IsAnswer words told untouched answer → (file : List ℕ) → AsksUpgrade words file → IfSome told.held (λ files. (P : Project) → HeldProject files file P → (R → ⊥) → (W → ⊥) → (C → ⊥) → (ended ≡ status.Done) ⊎ (ended ≡ status.OutOfMemory))
+pub completes_ends : (words : List (List ℕ)) (told : Told) (untouched R W C : Type 0) (answer : Answer) (ended : Status) → ended ≡ status_of answer → OnFault answer R W → IsAnswer words told untouched answer → (file : List ℕ) → AsksUpgrade words file → IfSome told.held (λ files. (P : Project) → HeldProject files file P → (R → ⊥) → (W → ⊥) → (C → ⊥) → IsDone ended ⊎ (ended ≡ status.OutOfMemory))
 completes_ends words told untouched R W C answer ended is cause h file asks = by told.held refl
   where
-    by : (o : Option Files) → told.held ≡ o → IfSome o (λ files. (P : Project) → HeldProject files file P → (R → ⊥) → (W → ⊥) → (C → ⊥) → (ended ≡ status.Done) ⊎ (ended ≡ status.OutOfMemory))
+    by : (o : Option Files) → told.held ≡ o → IfSome o (λ files. (P : Project) → HeldProject files file P → (R → ⊥) → (W → ⊥) → (C → ⊥) → IsDone ended ⊎ (ended ≡ status.OutOfMemory))
     by None e = tt
     by (Some files) e = λ P project no_read no_write no_console.
-        subst (λ s. (s ≡ status.Done) ⊎ (s ≡ status.OutOfMemory)) (sym is) (completes words told untouched R W answer files file P e asks project no_read no_write cause h)
+        subst (λ s. IsDone s ⊎ (s ≡ status.OutOfMemory)) (sym is) (completes words told untouched R W answer files file P e asks project no_read no_write cause h)

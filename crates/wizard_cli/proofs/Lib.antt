@@ -1,24 +1,8 @@
-pub mod Agreeing
-pub mod Decimals
-pub mod Lines
 pub mod Puts
-pub mod SameNames
-pub mod SameValues
-pub mod SameRuns
-pub mod Forms
-pub mod Corresponding
-pub mod Examples
-pub mod Loads
-pub mod Stops
+mod Decimals
+pub mod Grammar
+pub mod Apart
+mod Ordered
 pub mod Upgrades
-pub mod Unique
-pub mod FirstFaults
+pub mod Named
 pub mod Complete
-pub mod ReadingLines
-pub mod ReadingValues
-pub mod ReadingForms
-pub mod ReadingSettings
-pub mod ReadingStages
-pub mod ReadingModules
-pub mod ReadingFaults
-pub mod ReadingProjects

@@ -1,11 +1,10 @@
 -- What a run says of its outcome, and with which status it ends.
-use Rattle.std.specs.Prelude.{ℕ, ◌+◌, ◌/◌, ◌%◌, List, [], ◌∷◌, ◌++◌, codes, Option, IfSome, unwrap_or}
+use Rattle.std.specs.Prelude.{ℕ, zero, suc, ◌+◌, ◌/◌, ◌%◌, List, [], ◌∷◌, ◌++◌, codes, unwrap_or}
 use Rattle.std.specs.Fmt.{decimal}
 use Rattle.issue_report.specs.Texts.{fault_text}
 use Rattle.up_base.specs.declared.place.Fault.{Fault}
-use Rattle.up_base.specs.Outside.{Files}
-use Rattle.wizard_cli.specs.Held.{ReadingOrder, ReadsUpTo}
-use Rattle.wizard_cli.specs.Faults.{FirstFault}
+use Rattle.project_loader.specs.declared.loading.LoadFail.{LoadFail}
+use Rattle.project_loader.specs.declared.loading.LoadFail.TheVariants as load
 use Rattle.wizard_cli.specs.declared.answer.Answer.{Answer}
 use Rattle.wizard_cli.specs.declared.answer.Answer.TheVariants.{Done, BadWords, Refused, ReadFault, WriteFault, OutOfMemory}
 use Rattle.wizard_cli.specs.declared.answer.Status.{Status}
@@ -25,7 +24,7 @@ fault_line name fault = name ++ codes "(" ++ decimal fault.place.line ++ codes "
 
 -- what is said of an outcome, without the line feed that ends it
 abbrev pub answer_line : Answer → List ℕ
-answer_line Done = codes "issues: 0"
+answer_line (Done issues) = codes "issues: " ++ decimal issues
 answer_line BadWords = codes "usage: vbup upgrade FILE.vbp, check FILE.vbp, make N, rules"
 answer_line (Refused name fault) = fault_line name fault
 answer_line (ReadFault name) = codes "cannot read " ++ name
@@ -35,21 +34,21 @@ answer_line OutOfMemory = codes "out of memory"
 abbrev pub answer_text : Answer → List ℕ
 answer_text answer = answer_line answer ++ 10 ∷ []
 
+-- the status of a run that is done, by the number of issues
+abbrev pub done_status : ℕ → Status
+done_status zero = status.Done
+done_status (suc n) = status.DoneWithIssues
+
 abbrev pub status_of : Answer → Status
-status_of Done = status.Done
+status_of (Done issues) = done_status issues
 status_of BadWords = status.BadWords
 status_of (Refused name fault) = status.Refused
 status_of (ReadFault name) = status.ReadFault
 status_of (WriteFault name) = status.WriteFault
 status_of OutOfMemory = status.OutOfMemory
 
--- Where the loading of the project under a name stops with an answer, what is known: the first fault and the file that it is
--- said of, or the file at which the folder failed. Files are what the folder holds, where it tells that, and the counts
--- those of its calls before and after.
-abbrev pub StopsLoading : Option Files → Option ℕ → Option ℕ → List ℕ → Answer → Type 0
-StopsLoading files before after name Done = ⊥
-StopsLoading files before after name BadWords = ⊥
-StopsLoading files before after name (Refused said fault) = IfSome files (λ f. FirstFault f name said fault)
-StopsLoading files before after name (ReadFault said) = (order : List (List ℕ)) × ReadingOrder files name order × ReadsUpTo before after order said
-StopsLoading files before after name (WriteFault said) = ⊥
-StopsLoading files before after name OutOfMemory = Unit {0}
+-- what is answered where a project was not loaded
+abbrev pub answer_to : LoadFail → Answer
+answer_to (load.Refused name fault) = Refused name fault
+answer_to (load.Failed name) = ReadFault name
+answer_to load.Mem = OutOfMemory

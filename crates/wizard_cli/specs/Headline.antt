@@ -1,64 +1,51 @@
--- What is written for a project.
-use Rattle.std.specs.Prelude.{◌≡◌, ◌-◌, ℕ, List, [], ◌∷◌, ◌++◌, map, insert, take, length, codes, All, Some, None, slice_get}
+-- What is written for a project, and that it does the same.
+use Rattle.std.specs.Prelude.{◌≡◌, ◌-◌, ℕ, Bool, true, false, List, [], ◌∷◌, ◌++◌, map, insert, take, length, codes, All, Some, slice_get}
+use Rattle.std.specs.List.{flat_map, list_any}
 use Rattle.up_base.specs.Outside.{Files, ChangesOnly, LeavesPrefix}
-use Rattle.vb_tree.specs.declared.token.Literal6.TheVariants.{Str}
-use Rattle.vb_tree.specs.Tree.{Exp, lit, Form, assign, debug_print, Module, Project}
-use Rattle.vb_tree.specs.FlatLines.{Procedure, procedures_of_module, name_of}
-use Rattle.vb_tree.specs.Clean.{IsClean}
-use Rattle.net_tree.specs.declared.declaration.NetVisibility.TheVariants.{Public}
+use Rattle.up_base.specs.declared.issue.Issue.{Issue}
+use Rattle.vb_tree.specs.declared.form_parts.Compare.{Compare}
+use Rattle.vb_tree.specs.declared.form_parts.Compare.TheVariants as compare
+use Rattle.vb_tree.specs.Tree.{Form, option_compare, Member, alone, group, proc, Module, Project}
+use Rattle.vb6_run.specs.Program.{procedures_in}
 use Rattle.net_tree.specs.Tree as net
-use Rattle.net_tree.specs.Types as ty
-use Rattle.net_tree.specs.FlatLines as net_flat
-use Rattle.net_tree.specs.Run.{print_line_path}
 use Rattle.net_tree.specs.Text.{files_of, NetText}
-use Rattle.wizard_cli.specs.Report.{no_issues_report}
-use Rattle.wizard_cli.specs.Occurrences.{line_occurs, written_line_occurs}
-use Rattle.wizard_cli.specs.Written.{call_with, main_of, support_module, uses_print_line}
-use Rattle.wizard_cli.specs.SameRun.{SameRun}
-use Rattle.wizard_cli.specs.Held.{HeldProject}
+use Rattle.issue_report.specs.Reports.{report_text}
+use Rattle.project_loader.specs.Held.{HeldProject}
+use Rattle.project_loader.specs.Faults.{file_names}
+use Rattle.scalar_binder.specs.Scalars.{bound}
+use Rattle.net_rewrite.specs.Match.{IsWrittenAs, SameRun}
+use Rattle.net_rewrite.specs.Modules.{IsKept}
+use Rattle.net_rewrite.specs.Projects.{written_project}
+use Rattle.wizard_cli.specs.Breaks.{broken_rules, AreIssues}
 
--- two lists have as many items, and R holds of them in order
-abbrev pub Pairs : {A B : Type 0} → (A → B → Type 0) → List A → List B → Type 0
-Pairs R [] [] = Unit {0}
-Pairs R [] (y ∷ ys) = ⊥
-Pairs R (x ∷ xs) [] = ⊥
-Pairs R (x ∷ xs) (y ∷ ys) = R x y × Pairs R xs ys
+-- ---- clean procedures
 
--- the written variant of a printed expression: a text is the same text
-abbrev pub PrintWritten : Exp → net.Exp → Type 0
-PrintWritten (lit (Str units)) x = x ≡ net.lit (net.str units)
-PrintWritten _ x = Unit {0}
+abbrev pub compares_texts : Form → Bool
+compares_texts (option_compare compare.Text) = true
+compares_texts _ = false
 
--- the written variant of a code line's form; so far there are assignments and prints of one item
-abbrev pub FormWritten : Form → net.Line → Type 0
-FormWritten (assign target value) k = (t x : net.Exp) × (k ≡ net.assign t x)
-FormWritten (debug_print (e ∷ []) ended) k = (x : net.Exp) × (k ≡ call_with print_line_path x) × PrintWritten e x
-FormWritten _ k = ⊥
+abbrev pub member_compares_texts : Member → Bool
+member_compares_texts (alone l) = compares_texts l.form
+member_compares_texts (group head lines close) = false
+member_compares_texts (proc head body close) = false
 
--- the line has the written variant, and in it each variable occurs as often
-pub record LineWritten (l : Form) (k : net.Line) : Type 0 where
-  pub form : FormWritten l k
-  pub variables : (name : List ℕ) → written_line_occurs name k ≡ line_occurs name l
+-- for each procedure in project order, whether its module compares texts without case
+abbrev pub text_flags : List Module → List Bool
+text_flags ms = flat_map (λ (m : Module). map (λ w. list_any member_compares_texts m.members) (flat_map procedures_in m.members)) ms
 
--- The written procedure has the name and no parameter, declares each local once as an Integer, in order, and has one line
--- for each code line.
-pub record ProcedureWritten (p : Procedure) (q : net.Procedure) : Type 0 where
-  pub head : q.head ≡ net.sub Public (name_of p.head.form) []
-  pub locals : q.prologue ≡ map (λ name. net.local (record { name = name; ty = ty.integer; value = None })) p.locals
-  pub lines : Pairs (λ l k. LineWritten l.form k) p.lines q.lines
+-- All lines of the procedure p are translated, and no line of its module says that texts are compared without case.
+pub record IsClean (P : Project) (p : ℕ) : Type 0 where
+  pub kept : IsKept (bound P) p
+  pub compares : slice_get (text_flags P.modules) p ≡ Some false
 
--- the written module has the name and the kind, and the procedures in order
-pub record ModuleWritten (m : Module) (n : net.Module) : Type 0 where
-  pub name : n.name ≡ m.name
-  pub class : n.class ≡ m.class
-  pub procedures : Pairs ProcedureWritten (procedures_of_module m) (net_flat.procedures_of_module n)
+-- ---- the written project
 
--- The written project has the modules in order, the support functions that are used, and starts where the project does.
-pub record FilesCorrespond (P : Project) (N : net.Project) : Type 0 where
-  pub modules : Pairs ModuleWritten P.modules N.modules
-  pub support : N.support ≡ support_module (uses_print_line P)
-  pub main : N.main ≡ main_of P.file.startup P.modules
-  pub note : N.note ≡ None
+-- N is what is written for a project, and each clean procedure stands in it and does the same.
+pub record IsTranslation (P : Project) (N : net.Project) : Type 0 where
+  pub written : N ≡ written_project (bound P)
+  pub same_runs : (p : ℕ) → IsClean P p → (q : ℕ) × IsWrittenAs (bound P) N p q × SameRun (bound P) N p q
+
+-- ---- files
 
 -- the name of a file in the folder of written files
 abbrev pub in_folder : List ℕ → List ℕ
@@ -68,13 +55,13 @@ in_folder name = codes "upgraded/" ++ name
 abbrev pub moved : List ℕ × List ℕ → List ℕ × List ℕ
 moved f = (in_folder f.0, f.1)
 
-abbrev pub report_file : List ℕ × List ℕ
-report_file = (in_folder (codes "Upgrade.txt"), no_issues_report)
+abbrev pub report_file : (report : List ℕ) → List ℕ × List ℕ
+report_file report = (in_folder (codes "Upgrade.txt"), report)
 
 -- All files that are written for a project, by name, in the order in which they are put: those that stand for it, with
 -- the report before the last, which is the response file.
-abbrev pub put_order : net.Project → List (List ℕ × List ℕ)
-put_order N = insert (map moved (files_of N)) (length (files_of N) - 1) report_file
+abbrev pub put_order : net.Project → (report : List ℕ) → List (List ℕ × List ℕ)
+put_order N report = insert (map moved (files_of N)) (length (files_of N) - 1) (report_file report)
 
 -- after is before, with these files put one after the other
 abbrev pub PutAll : List (List ℕ × List ℕ) → Files → Files → Type 0
@@ -94,20 +81,28 @@ pub record PutUpTo (files : List (List ℕ × List ℕ)) (k : ℕ) (before after
 abbrev pub HoldsAll : List (List ℕ × List ℕ) → Files → Type 0
 HoldsAll written files = All (λ f. files (in_folder f.0) ≡ Some f.1) written
 
--- N is a .NET project that corresponds to the project held under this name, and whose clean procedures do the same.
-pub record IsTranslation (files : Files) (name : List ℕ) (N : net.Project) : Type 0 where
-  pub project : Project
-  pub held : HeldProject files name project
-  pub correspond : FilesCorrespond project N
-  pub same_runs : (p : ℕ) → IsClean project p → SameRun project N p
+-- ---- upgrades
+
+-- What is written for the project under a name: a translation of it, and its issues, of which there are so many.
+pub record IsUpgrade (name : List ℕ) (P : Project) (count : ℕ) : Type 0 where
+  pub net_project : net.Project
+  pub translation : IsTranslation P net_project
+  pub issues : List Issue
+  pub are_issues : AreIssues (broken_rules P) issues
+  pub count_is : count ≡ length issues
+
+-- the report of an upgrade
+abbrev pub report_of : {name : List ℕ} {P : Project} {count : ℕ} → IsUpgrade name P count → List ℕ
+report_of {name} {P} u = report_text u.issues (file_names name P.file.entries)
 
 -- The project under this name was upgraded: the outlet holds the files that stand for a translation of it, and the
 -- report; nothing else in the outlet changed.
-pub record IsUpgraded (files : Files) (name : List ℕ) (before after : Files) : Type 0 where
-  pub net_project : net.Project
-  pub translation : IsTranslation files name net_project
+pub record IsUpgraded (files : Files) (name : List ℕ) (count : ℕ) (before after : Files) : Type 0 where
+  pub project : Project
+  pub held : HeldProject files name project
+  pub upgrade : IsUpgrade name project count
   pub net_files : List (List ℕ × List ℕ)
-  pub text : NetText net_project net_files
+  pub text : NetText upgrade.net_project net_files
   pub stand : HoldsAll net_files after
-  pub report : after report_file.0 ≡ Some report_file.1
-  pub only : PutAll (put_order net_project) before after
+  pub report : after (in_folder (codes "Upgrade.txt")) ≡ Some (report_of upgrade)
+  pub only : PutAll (put_order upgrade.net_project (report_of upgrade)) before after

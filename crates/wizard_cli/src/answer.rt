@@ -1,11 +1,12 @@
 //! How a run ends, and what is said of it.
-ghost use Rattle.std.specs.Prelude.{◌≡◌, ◌+◌, ◌<◌, ◌≤◌, ◌^◌, [], ◌∷◌, ◌++◌, length};
+ghost use Rattle.std.specs.Prelude.{◌≡◌, ◌+◌, ◌<◌, ◌≤◌, ◌^◌, [], ◌∷◌, ◌++◌, codes, length};
 ghost use Rattle.std.specs.Fmt.{decimal};
 ghost use Rattle.wizard_cli.specs.declared.answer.Answer.TheVariants.{OutOfMemory};
-ghost use Rattle.wizard_cli.specs.Answers.{said_of, two_digits, fault_line, answer_line, answer_text, status_of};
+ghost use Rattle.wizard_cli.specs.Answers.{said_of, two_digits, fault_line, answer_line, answer_text, done_status, status_of, answer_to};
 
 use crate::message::{Message, push_number, push_text};
 use issue_report::fault_text;
+use project_loader::LoadFail;
 use up_base::{Fault, Mem, Name};
 
 /// How a run ended. The numbers of the statuses are 0 to 8, in this order.
@@ -34,7 +35,8 @@ pub enum Status {
 /// The outcome of a run before it is said.
 #[derive(Drop)]
 pub enum Answer {
-    Done,
+    /// All was written, and there are so many issues.
+    Done(usize),
     BadWords,
     /// A fault, and the name of the file that it is said of.
     Refused(Name, Fault),
@@ -61,7 +63,7 @@ impl Answer {
         ensures { result ≡ status_of self.now }
     {
         match self {
-            Answer::Done => Status::Done,
+            Answer::Done(issues) => done_status(*issues),
             Answer::BadWords => Status::BadWords,
             Answer::Refused(_, _) => Status::Refused,
             Answer::ReadFault(_) => Status::ReadFault,
@@ -81,6 +83,27 @@ impl Answer {
     }
 }
 
+// The status of a run that is done, by the number of issues.
+fn done_status(issues: usize) -> Status
+    ensures { result ≡ done_status issues }
+{
+    match issues {
+        0 => Status::Done,
+        _ => Status::DoneWithIssues,
+    }
+}
+
+/// What is answered where a project was not loaded.
+pub(crate) fn answer_to(fail: LoadFail) -> Answer
+    ensures { result ≡ answer_to fail }
+{
+    match fail {
+        LoadFail::Refused(name, fault) => Answer::Refused(name, fault),
+        LoadFail::Failed(name) => Answer::ReadFault(name),
+        LoadFail::Mem => Answer::OutOfMemory,
+    }
+}
+
 // The line that is said of an outcome.
 fn push_answer(message: &mut Message, answer: &Answer)
     requires { message.old ≡ [] }
@@ -88,7 +111,7 @@ fn push_answer(message: &mut Message, answer: &Answer)
     ensures short { length message.new < 640 }
 {
     match answer {
-        Answer::Done => push_text(message, b"issues: 0"),
+        Answer::Done(issues) => push_count(message, *issues),
         Answer::BadWords => push_text(
             message,
             b"usage: vbup upgrade FILE.vbp, check FILE.vbp, make N, rules",
@@ -98,6 +121,16 @@ fn push_answer(message: &mut Message, answer: &Answer)
         Answer::WriteFault(name) => push_named(message, b"cannot write ", name),
         Answer::OutOfMemory => push_text(message, b"out of memory"),
     }
+}
+
+// How many issues there are.
+fn push_count(message: &mut Message, issues: usize)
+    requires empty { message.old ≡ [] }
+    ensures line { message.new ≡ codes "issues: " ++ decimal issues }
+    ensures short { length message.new < 640 }
+{
+    push_text(message, b"issues: ");
+    push_number(message, issues as u64);
 }
 
 fn push_named(message: &mut Message, text: &[u8], name: &Name)
@@ -118,7 +151,7 @@ fn push_fault(message: &mut Message, name: &Name, fault: Fault)
 {
     push_text(message, name.as_bytes());
     push_text(message, b"(");
-    push_number(message, fault.place.line);
+    push_number(message, fault.place.line as u64);
     push_text(message, b"): F");
     message.push(48 + fault.kind / 10);
     message.push(48 + fault.kind % 10);

@@ -5,18 +5,17 @@ ghost use Rattle.std.specs.Prelude.{◌≡◌, ◌≢◌, ◌⊎◌, ◌≤◌, 
 ghost use Rattle.up_base.specs.Outside.{IfTold, Rose};
 ghost use Rattle.up_base.specs.declared.place.Fault.{Fault};
 ghost use Rattle.vb_tree.specs.Tree.{Project};
+ghost use Rattle.project_loader.specs.Faults.{FirstFault};
+ghost use Rattle.project_loader.specs.Held.{HeldProject};
 ghost use Rattle.wizard_cli.specs.declared.answer.Answer.{Answer};
-ghost use Rattle.wizard_cli.specs.Faults.{FirstFault};
-ghost use Rattle.wizard_cli.specs.Held.{AsksUpgrade, HeldProject};
+ghost use Rattle.wizard_cli.specs.Asks.{AsksUpgrade};
 ghost use Rattle.wizard_cli.specs.Headline.{IsUpgraded};
-ghost use Rattle.wizard_cli.specs.Runs.{IsAnswer, Concludes, IsRefusedFor};
+ghost use Rattle.wizard_cli.specs.Runs.{IsAnswer, Concludes, IsRefusedFor, IsDone};
+ghost use Rattle.wizard_cli.specs.Answers.{done_status};
 
 mod answer;
-mod loading;
+mod issues;
 mod message;
-mod reader;
-mod report;
-mod rewriter;
 mod upgrading;
 mod words;
 mod writing;
@@ -27,9 +26,9 @@ use up_base::{Console, Failed, Folder, Outlet};
 use upgrading::upgrade;
 pub use words::Words;
 
-/// Does what the command words ask for: `upgrade FILE` reads the project file of that name and the file of its module
-/// from the folder, and puts the files of the .NET project that does the same under `upgraded/` into the outlet. What
-/// came of it is said on the console and is the status.
+/// Does what the command words ask for: `upgrade FILE` reads the project file of that name and the files of its entries
+/// from the folder, and puts the files of the .NET project whose clean procedures do the same under `upgraded/` into the
+/// outlet, with a report of the lines that aren't translated. What came of it is said on the console and is the status.
 pub fn run<F: Folder, O: Outlet, C: Console>(
     alloc: Global,
     words: &Words,
@@ -43,8 +42,8 @@ pub fn run<F: Folder, O: Outlet, C: Console>(
         × Concludes answer (C.said console.old) (C.said console.new) result }
 
     // The headline: a project that was upgraded was so in every way that is promised.
-    ensures upgraded { result ≡ Status.Done → (file : List ℕ) × AsksUpgrade words.now file
-        × IfSome (F.held folder.old) (λ files. IfTold (O.held outlet.old) (O.held outlet.new) (IsUpgraded files file)) }
+    ensures upgraded { IsDone result → (file : List ℕ) × AsksUpgrade words.now file
+        × IfSome (F.held folder.old) (λ files. IfTold (O.held outlet.old) (O.held outlet.new) (λ before after. (count : ℕ) × (result ≡ done_status count) × IsUpgraded files file count before after)) }
 
     // Words that ask for nothing are told so.
     ensures no_words { ((file : List ℕ) → ¬ (AsksUpgrade words.now file)) → (result ≡ Status.BadWords) ⊎ (result ≡ Status.OutOfMemory) ⊎ (result ≡ Status.ConsoleFault) }
@@ -53,13 +52,13 @@ pub fn run<F: Folder, O: Outlet, C: Console>(
     ensures refused { (file : List ℕ) → AsksUpgrade words.now file → IfSome (F.held folder.old) (λ files. (said : List ℕ) (fault : Fault) → FirstFault files file said fault
         → IsRefusedFor said fault (C.said console.old) (C.said console.new) result ⊎ (result ≡ Status.ReadFault) ⊎ (result ≡ Status.OutOfMemory) ⊎ (result ≡ Status.ConsoleFault)) }
 
-    // A project of the form is upgraded where no call of the outside failed and there was memory.
+    // A project of the grammar is upgraded where no call of the outside failed and there was memory.
     ensures completed { (file : List ℕ) → AsksUpgrade words.now file → IfSome (F.held folder.old) (λ files. (P : Project) → HeldProject files file P
         → ¬ (Rose (F.faults folder.old) (F.faults folder.new)) → ¬ (Rose (O.faults outlet.old) (O.faults outlet.new)) → ¬ (Rose (C.faults console.old) (C.faults console.new))
-        → (result ≡ Status.Done) ⊎ (result ≡ Status.OutOfMemory)) }
+        → IsDone result ⊎ (result ≡ Status.OutOfMemory)) }
 
     // The outlet changes only where a run is done, or stopped at the outlet, or was to say one of these.
-    ensures untouched { result ≢ Status.Done → result ≢ Status.WriteFault → result ≢ Status.ConsoleFault → outlet.new ≡ outlet.old }
+    ensures untouched { ¬ (IsDone result) → result ≢ Status.WriteFault → result ≢ Status.ConsoleFault → outlet.new ≡ outlet.old }
 
     // Each fault has its cause.
     ensures read_fault { result ≡ Status.ReadFault → Rose (F.faults folder.old) (F.faults folder.new) }

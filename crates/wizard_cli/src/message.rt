@@ -61,16 +61,16 @@ pub(crate) fn push_text(message: &mut Message, text: &[u8])
 }
 
 /// Appends a number in decimal digits.
-pub(crate) fn push_number(message: &mut Message, n: u32)
-    requires { length message.old + 10 ≤ 640 }
+pub(crate) fn push_number(message: &mut Message, n: u64)
+    requires { length message.old + 20 ≤ 640 }
     ensures digits { message.new ≡ message.old ++ decimal n }
-    ensures len { length message.new ≤ length message.old + 10 }
+    ensures len { length message.new ≤ length message.old + 20 }
 {
     push_digits(message, n);
 }
 
 // Appends the digits of a number, for which there is room.
-fn push_digits(message: &mut Message, n: u32)
+fn push_digits(message: &mut Message, n: u64)
     requires { length message.old + length (decimal n) ≤ 640 }
     ensures { message.new ≡ message.old ++ decimal n }
 {

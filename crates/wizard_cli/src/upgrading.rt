@@ -1,26 +1,30 @@
 //! From the command words to the written files.
-ghost use Rattle.std.specs.Prelude.{◌≡◌, ◌≤◌, ◌-◌, true, IfOk, IfSome, map, insert, length, codes};
+ghost use Rattle.std.specs.Prelude.{◌≡◌, ◌≤◌, ℕ, List, true, map, length, codes, IfOk, OnOk};
 ghost use Rattle.std.specs.List.{list_all};
 ghost use Rattle.up_base.specs.Names.{is_name};
 ghost use Rattle.up_base.specs.Outside.{Rose};
 ghost use Rattle.vb_tree.specs.View.{project_of};
 ghost use Rattle.net_tree.specs.View.{project_of as net_project_of};
-ghost use Rattle.wizard_cli.specs.Written.{written};
-ghost use Rattle.wizard_cli.specs.Held.{IsOfForm};
-ghost use Rattle.wizard_cli.specs.Headline.{in_folder, put_order};
+ghost use Rattle.net_tree.specs.Text.{IsWritable, files_of};
+ghost use Rattle.project_loader.specs.Faults.{file_names};
+ghost use Rattle.project_loader.specs.Held.{IsOfGrammar};
+ghost use Rattle.wizard_cli.specs.Headline.{in_folder, report_file, put_order};
 ghost use Rattle.wizard_cli.specs.Runs.{IsAnswer, OnFault, PutAnswer};
+ghost use Rattle.wizard_cli.specs.Upgrading.{AreFiles, IsTranslated};
 
-use crate::answer::Answer;
-use crate::loading::load_project;
-use crate::report::report;
-use crate::rewriter::rewrite;
+use crate::answer::{Answer, answer_to};
+use crate::issues::found_issues;
 use crate::words::{Words, WordsFail, file_to_upgrade};
-use crate::writing::{folder_name, move_into_folder, put_all};
+use crate::writing::{move_into_folder, put_all};
+use issue_report::report;
 use net_emitter::emit;
+use net_rewrite::{Rewritten, rewrite};
 use net_tree::NetProject;
+use project_loader::load_project;
+use scalar_binder::bind_scalars;
 use std::alloc::Global;
-use up_base::{Bytes, Folder, Mem, Name, Outlet};
-use vb_tree::Project6;
+use up_base::{Bytes, Folder, Mem, Name, Names, Outlet};
+use vb_tree::{Entry, Project6};
 
 /// Upgrades the project that the words ask for. All is translated before the first file is put, and from then on no
 /// memory is taken.
@@ -41,53 +45,109 @@ pub(crate) fn upgrade<F: Folder, O: Outlet>(
         Err(WordsFail::NoForm) => return Answer::BadWords,
         Err(WordsFail::Mem) => return Answer::OutOfMemory,
     };
-    let project = match load_project(alloc, folder, name) {
+    let project = match load_project(alloc, folder, &name) {
         Ok(project) => project,
-        Err(answer) => return answer,
+        Err(fail) => return answer_to(fail),
     };
-    match translate(alloc, project) {
-        Ok(files) => put_files(outlet, files),
+    match translate(alloc, &name, project) {
+        Ok(written) => put_files(outlet, written),
         Err(Mem) => Answer::OutOfMemory,
     }
 }
 
-// All files that are written for a project, in the order in which they are put. It lets go of the project's tree before
-// it makes their bytes.
-fn translate(alloc: Global, project: Project6) -> Result<Vec<(Name, Bytes)>, Mem>
-    requires { IsOfForm (project_of project) }
-    ensures { IfOk result (λ files. files.items ≡ put_order (written (project_of project))) }
+/// All files that are written for a project, in the order in which they are put, and how many issues it has.
+#[derive(Drop)]
+pub(crate) struct WrittenFiles {
+    pub(crate) files: Vec<(Name, Bytes)>,
+    pub(crate) issues: usize,
+}
+
+// What is written for the project under a name. Its tree is let go of before the bytes of the files are made.
+fn translate(alloc: Global, name: &Name, project: Project6) -> Result<WrittenFiles, Mem>
+    requires { IsOfGrammar (project_of project) }
+    ensures { IfOk result (λ u. AreFiles name.now (project_of project) u) }
 {
-    let tree = rewritten(alloc, project)?;
+    let Translation {
+        tree,
+        report,
+        issues,
+    } = translated(alloc, name, project)?;
+    Ok(WrittenFiles {
+        files: all_files(alloc, tree, report)?,
+        issues,
+    })
+}
+
+/// The tree that is written for a project, the report on it, and how many issues it has.
+#[derive(Drop)]
+pub(crate) struct Translation {
+    tree: NetProject,
+    report: Bytes,
+    issues: usize,
+}
+
+fn translated(alloc: Global, name: &Name, project: Project6) -> Result<Translation, Mem>
+    requires { IsOfGrammar (project_of project) }
+    ensures { IfOk result (IsTranslated name.now (project_of project)) }
+{
+    let names = file_names(alloc, name, project.file.entries.as_slice())?;
+    let bound = bind_scalars(alloc, project)?;
+    let Rewritten {
+        project: tree,
+        untranslated,
+    } = rewrite(alloc, &bound)?;
+    let issues = found_issues(alloc, &bound, &untranslated)?;
+    let report = report(alloc, &issues, &names)?;
+    Ok(Translation {
+        tree,
+        report,
+        issues: issues.len(),
+    })
+}
+
+// The files that stand for a project with the report, which goes before the last one.
+fn all_files(alloc: Global, tree: NetProject, report: Bytes) -> Result<Vec<(Name, Bytes)>, Mem>
+    requires writable { IsWritable (net_project_of tree) }
+    requires named { list_all (λ f. is_name (in_folder f.0)) (files_of (net_project_of tree)) ≡ true }
+    ensures { IfOk result (λ files. files.items ≡ put_order (net_project_of tree) report) }
+{
     let mut files = emit(alloc, &tree)?.into_vec();
     move_into_folder(alloc, &mut files)?;
-    let report_file = (report_name(alloc)?, report(alloc)?);
+    let report_file = report_file(alloc, report)?;
     let last = files.len() - 1;
     files.insert(last, report_file)?;
     Ok(files)
 }
 
-// What is written for a project, which is let go of.
-fn rewritten(alloc: Global, project: Project6) -> Result<NetProject, Mem>
-    requires { IsOfForm (project_of project) }
-    ensures { IfOk result (λ tree. net_project_of tree ≡ written (project_of project)) }
+// The names of the files that are read for a project, in order.
+fn file_names(alloc: Global, name: &Name, entries: &[Entry]) -> Result<Names, Mem>
+    ensures { IfOk result (λ names. names ≡ file_names name.now entries.now) }
 {
-    rewrite(alloc, &project)
+    let mut names = Names::new(alloc);
+    names.push(name.copy(alloc)?)?;
+    for entry in entries {
+        names.push(entry.file.copy(alloc)?)?;
+    }
+    Ok(names)
 }
 
-fn report_name(alloc: Global) -> Result<Name, Mem>
-    ensures { IfOk result (λ name. name ≡ in_folder (codes "Upgrade.txt")) }
+// The report as a file.
+fn report_file(alloc: Global, report: Bytes) -> Result<(Name, Bytes), Mem>
+    ensures { IfOk result (λ file. file ≡ report_file report) }
 {
-    Name::from_valid(alloc, b"upgraded/Upgrade.txt")
+    let name = Name::from_valid(alloc, b"upgraded/Upgrade.txt")?;
+    Ok((name, report))
 }
 
 // Puts all files, and takes no memory.
-fn put_files<O: Outlet>(outlet: &mut O, mut files: Vec<(Name, Bytes)>) -> Answer
-    ensures answer { PutAnswer files.items (O.held outlet.old) (O.held outlet.new) (O.calls outlet.old) (O.calls outlet.new) result }
+fn put_files<O: Outlet>(outlet: &mut O, written: WrittenFiles) -> Answer
+    ensures answer { PutAnswer written.files.items written.issues (O.held outlet.old) (O.held outlet.new) (O.calls outlet.old) (O.calls outlet.new) result }
     ensures failed { OnFault result ⊥ (Rose (O.faults outlet.old) (O.faults outlet.new)) }
     ensures faults { O.faults outlet.old ≤ O.faults outlet.new }
 {
+    let WrittenFiles { mut files, issues } = written;
     match put_all(outlet, files.as_slice()) {
-        Ok(()) => Answer::Done,
+        Ok(()) => Answer::Done(issues),
         Err(place) => Answer::WriteFault(files.swap_remove(place).0),
     }
 }

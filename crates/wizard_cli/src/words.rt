@@ -1,7 +1,7 @@
 //! The command words.
 ghost use Rattle.std.specs.Prelude.{◌≡◌, true, false, List, ℕ, IfOk, IsErrOf};
 ghost use Rattle.std.specs.List.{list_any};
-ghost use Rattle.wizard_cli.specs.Held.{is_separator, is_project_file, AsksUpgrade};
+ghost use Rattle.wizard_cli.specs.Asks.{is_separator, is_project_file, AsksUpgrade};
 
 use std::alloc::Global;
 use up_base::{Bytes, Mem, Name, NameFail, Sequence};

@@ -9,7 +9,7 @@ returns-in-Ok-clause-answered g c =
 
 pub returns-in-Ok-clause-upgraded : goal.returns-in-Ok-clause-upgraded
 returns-in-Ok-clause-upgraded g c =
-    λ done. done_is_upgraded c.args.words.now _ _ c.upgrade-answer.result (sym c.status.ensures ∙ done) c.upgrade-answer.ensures.answer
+    λ done. done_is_upgraded c.args.words.now _ _ c.upgrade-answer.result c.status.result c.status.ensures done c.upgrade-answer.ensures.answer
 
 pub returns-in-Ok-clause-no_words : goal.returns-in-Ok-clause-no_words
 returns-in-Ok-clause-no_words g c = asks_nothing_ends c.args.words.now _ _ _ _ c.status.result (c.upgrade-answer.result, c.upgrade-answer.ensures.answer, inl (c.status.ensures, rw (c.as_slice.ensures, c.message.ensures) at c.in-Ok.ensures.said))

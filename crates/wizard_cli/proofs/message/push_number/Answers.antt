@@ -5,9 +5,9 @@ use Rattle.wizard_cli.proofs.message.push_number.Goals as goal
 
 pub push_digits-requires : goal.push_digits-requires
 push_digits-requires c =
-    let few : length (decimal c.args.n) ≤ 10 = length-decimal-le 10 c.args.n (omega arith) (omega arith) (omega arith) in omega arith
+    let few : length (decimal c.args.n) ≤ 20 = length-decimal-le 20 c.args.n (omega arith) (omega arith) (omega arith) in omega arith
 
 pub returns-clause-len : goal.returns-clause-len
 returns-clause-len c =
-    let few : length (decimal c.args.n) ≤ 10 = length-decimal-le 10 c.args.n (omega arith) (omega arith) (omega arith) in
+    let few : length (decimal c.args.n) ≤ 20 = length-decimal-le 20 c.args.n (omega arith) (omega arith) (omega arith) in
     let all = ap length c.push_digits.ensures ∙ length-append c.args.message.now (decimal c.args.n) in omega arith

@@ -1,6 +1,6 @@
 use Rattle.std.proofs.Common.{◌≡◌, ℕ, ◌≤◌, ◌<◌, List, [], ◌∷◌, length, get_or, true, sym, ap, ◌∙◌, arith, codes}
 use Rattle.std.specs.Cmp.Lexicographic.{same_text}
-use Rattle.wizard_cli.specs.Held.{AsksUpgrade, is_project_file}
+use Rattle.wizard_cli.specs.Asks.{AsksUpgrade, is_project_file}
 use Rattle.wizard_cli.proofs.words.file_to_upgrade.Goals as goal
 
 -- a list of two items is these
