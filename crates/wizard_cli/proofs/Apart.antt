@@ -194,18 +194,22 @@ module _ (note : Option (List ℕ)) (support : net.Module) (report response : Li
       (subst (λ s. in_folder (name ++ codes ".vb") ≢ in_folder (s ++ codes ".vb")) (sym h.0) (differ_back e.name name o.0), none_of_files name es ns o.1 h.1 l)
 
   last_apart : Apart (last_files note support report response)
-  last_apart =
-      ((subst (λ s. in_folder (s ++ codes ".vb") ≢ in_folder (codes "Upgrade.txt")) (sym is_support) (no_report (codes "UpgradeSupport")),
-      (subst (λ s. in_folder (s ++ codes ".vb") ≢ in_folder (codes "upgrade.rsp")) (sym is_support) (no_response (codes "UpgradeSupport")), tt)),
-      ((report_no_response, tt), (tt, tt)))
+  last_apart = (
+    (
+      subst (λ s. in_folder (s ++ codes ".vb") ≢ in_folder (codes "Upgrade.txt")) (sym is_support) (no_report (codes "UpgradeSupport")),
+      (subst (λ s. in_folder (s ++ codes ".vb") ≢ in_folder (codes "upgrade.rsp")) (sym is_support) (no_response (codes "UpgradeSupport")), tt),
+    ),
+    ((report_no_response, tt), (tt, tt)),
+  )
 
   files_apart : (earlier es : List Entry) (ns : List net.Module) → EachNew earlier es → NamedAs es ns → Apart (map moved (map (module_file note) ns) ++ last_files note support report response)
   files_apart earlier [] [] h k = last_apart
   files_apart earlier [] (n ∷ ns) h k = absurd k
   files_apart earlier (e ∷ es) [] h k = absurd k
-  files_apart earlier (e ∷ es) (n ∷ ns) h k =
-      (subst (λ s. NotAmong (in_folder (s ++ codes ".vb")) (map moved (map (module_file note) ns) ++ last_files note support report response)) (sym k.0) (none_of_files e.name es ns (later_differ e earlier [] es h.2) k.1 (none_last e.name h.0)),
-      files_apart (earlier ++ e ∷ []) es ns h.2 k.1)
+  files_apart earlier (e ∷ es) (n ∷ ns) h k = (
+    subst (λ s. NotAmong (in_folder (s ++ codes ".vb")) (map moved (map (module_file note) ns) ++ last_files note support report response)) (sym k.0) (none_of_files e.name es ns (later_differ e earlier [] es h.2) k.1 (none_last e.name h.0)),
+    files_apart (earlier ++ e ∷ []) es ns h.2 k.1,
+  )
 
 -- ---- all files of a project
 
@@ -253,8 +257,9 @@ pub put_stand : (N : net.Project) (report : List ℕ) (before after : Files) →
     → HoldsAll (files_of N) after × (after (in_folder (codes "Upgrade.txt")) ≡ Some report)
 put_stand N report before after apart put =
     let stand = subst (λ fs. Stands fs after) (files_put N report) (all_stand (put_order N report) before after apart put) in
-    let parts = stands_parts (map moved (map (module_file N.note) N.modules)) (last_files N.note N.support report (response_text N)) after stand in
-    (subst (λ fs. HoldsAll (fs ++ (codes "upgrade.rsp", response_text N) ∷ []) after)
-    (sym (map_append (module_file N.note) N.modules (N.support ∷ [])))
-    (holds_more (map (module_file N.note) N.modules) (module_file N.note N.support) (codes "upgrade.rsp", response_text N) after parts.0 parts.1.0 parts.1.1.1.0),
-    parts.1.1.0)
+    let parts = stands_parts (map moved (map (module_file N.note) N.modules)) (last_files N.note N.support report (response_text N)) after stand in (
+      subst (λ fs. HoldsAll (fs ++ (codes "upgrade.rsp", response_text N) ∷ []) after)
+          (sym (map_append (module_file N.note) N.modules (N.support ∷ [])))
+          (holds_more (map (module_file N.note) N.modules) (module_file N.note N.support) (codes "upgrade.rsp", response_text N) after parts.0 parts.1.0 parts.1.1.1.0),
+      parts.1.1.0,
+    )
