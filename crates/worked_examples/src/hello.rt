@@ -11,12 +11,12 @@ pub(crate) const HELLO: [(&str, &str); 2] = [
     ),
     (
         "Main1.bas",
-        "Sub Main()\r\nDebug.Print \"hi\"\r\nEnd Sub\r\n",
+        "Sub Main()\r\n    Debug.Print \"hi\"\r\nEnd Sub\r\n",
     ),
 ];
 
-/// The files that are written for it, in order.
-pub(crate) const WRITTEN: [(&str, &str); 4] = [
+// The files that are written for it, in order.
+const WRITTEN: [(&str, &str); 4] = [
     (
         "upgraded/Main1.vb",
         "\u{feff}Option Explicit On\r\nOption Strict Off\r\nOption Compare Binary\r\nPublic Module Main1\r\n    Public Sub Main()\r\n        UpgradeSupport.PrintLine(\"hi\")\r\n    End Sub\r\nEnd Module\r\n",

@@ -13,16 +13,6 @@ pub(crate) enum Failing {
     Say(u32),
 }
 
-// The names under which a run of a small project puts its files.
-const PUT: [&str; 6] = [
-    "upgraded/Main1.vb",
-    "upgraded/A.vb",
-    "upgraded/B.vb",
-    "upgraded/UpgradeSupport.vb",
-    "upgraded/Upgrade.txt",
-    "upgraded/upgrade.rsp",
-];
-
 /// What a run leaves.
 #[derive(Drop)]
 pub(crate) struct Left {
@@ -35,16 +25,6 @@ impl Left {
     /// What the outlet holds under a name.
     pub(crate) fn held(&self, alloc: Global, name: &str) -> Result<Option<&[u8]>, Fail> {
         Ok(self.outlet.held(&Name::make(alloc, name.as_bytes())?))
-    }
-
-    /// Whether none of the files of a project of modules `Main1`, or `A` and `B`, is held.
-    pub(crate) fn holds_nothing(&self, alloc: Global) -> Result<bool, Fail> {
-        for name in PUT {
-            if self.held(alloc, name)?.is_some() {
-                return Ok(false);
-            }
-        }
-        Ok(true)
     }
 }
 
@@ -66,7 +46,7 @@ pub(crate) fn run_in_memory(
         return Err(Fail::new("two files have one name"));
     }
     let mut folder = MemoryFolder::make(files, list(alloc, reads)?);
-    let mut outlet = MemoryOutlet::with_room(alloc, 256, 65536, list(alloc, puts)?)?;
+    let mut outlet = MemoryOutlet::with_room(alloc, 16, 65536, list(alloc, puts)?)?;
     let mut console = MemoryConsole::with_room(alloc, 4096, list(alloc, says)?)?;
     let words = command_words(alloc, words)?;
     let status = run(alloc, &words, &mut folder, &mut outlet, &mut console);
