@@ -14,7 +14,7 @@ use Rattle.std.proofs.lemmas.List.Sums.{count_by-le-length}
 use Rattle.std.proofs.lemmas.Str.{IsAscii-append}
 use Rattle.std.proofs.lemmas.Str.Ascii.{IsAscii-nil, IsAscii-cons}
 use Rattle.up_base.specs.Names.{is_name, is_printable}
-use Rattle.up_base.specs.Running.{line_end}
+use Rattle.up_base.specs.LineEnd.{line_end}
 use Rattle.up_base.specs.declared.issue.Issue.{Issue}
 use Rattle.up_base.specs.declared.place.Place.{Place}
 use Rattle.issue_report.specs.Texts.{rule_texts, rule_text}

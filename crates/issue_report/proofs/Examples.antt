@@ -2,7 +2,7 @@
 use Rattle.std.specs.Prelude.{codes}
 use Rattle.std.proofs.Common.{◌≡◌, ℕ, List, [], ◌∷◌, ◌++◌, refl}
 use Rattle.std.specs.Fmt.{digits}
-use Rattle.up_base.specs.Running.{line_end}
+use Rattle.up_base.specs.LineEnd.{line_end}
 use Rattle.up_base.specs.declared.issue.Issue.{Issue}
 use Rattle.issue_report.specs.Reports.{report_text, report2_text}
 use Rattle.issue_report.specs.declared.verdict.Part.{Part}

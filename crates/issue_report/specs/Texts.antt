@@ -19,7 +19,6 @@ fault_texts =
     ∷ (13, codes "directive")
     ∷ (14, codes "nesting deeper than 64")
     ∷ (15, codes "class head not of its form")
-    ∷ (99, codes "form not built yet")
     ∷ []
 
 -- the text of a fault, where there is one of this number

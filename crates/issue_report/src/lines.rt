@@ -3,7 +3,7 @@ ghost use Rattle.std.specs.Prelude.{◌≡◌, ◌<◌, ◌++◌, true, length, 
 ghost use Rattle.std.specs.Fmt.{decimal};
 ghost use Rattle.std.specs.Str.{IsAscii};
 ghost use Rattle.up_base.specs.Names.{is_name};
-ghost use Rattle.up_base.specs.Running.{line_end};
+ghost use Rattle.up_base.specs.LineEnd.{line_end};
 ghost use Rattle.issue_report.specs.Texts.{rule_text};
 ghost use Rattle.issue_report.specs.Reports.{two_digits, name_of_file, place_text, numbered_rule, issue_line, count_text, part_text, word_text, procedure_name, verdict_line};
 

@@ -135,7 +135,7 @@ fn writes_reports(rt: HostRuntime) -> Result<(), Fail> {
 
 #[test]
 fn has_a_text_for_each_fault(rt: HostRuntime) {
-    let texts: [(u8, &str); 16] = [
+    let texts: [(u8, &str); 15] = [
         (1, "project file not found"),
         (2, "module file not found"),
         (3, "size limit passed"),
@@ -151,12 +151,11 @@ fn has_a_text_for_each_fault(rt: HostRuntime) {
         (13, "directive"),
         (14, "nesting deeper than 64"),
         (15, "class head not of its form"),
-        (99, "form not built yet"),
     ];
     for (kind, text) in texts {
         assert!(rt; fault_text(kind) == Some(text.as_bytes()), "F{kind:02}");
     }
-    for kind in [0, 16, 26, 98, 100, 255] {
+    for kind in [0, 16, 26, 98, 99, 100, 255] {
         assert!(rt; fault_text(kind).is_none(), "F{kind:02}");
     }
 }

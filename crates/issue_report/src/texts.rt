@@ -3,7 +3,7 @@ ghost use Rattle.std.specs.Prelude.{◌≡◌, ◌≤◌, IfSome, length};
 ghost use Rattle.std.specs.Option.{option_copied};
 ghost use Rattle.issue_report.specs.Texts.{fault_text, rule_text};
 
-/// The text of a fault, and none where no fault has this number. The faults have the numbers 1 to 15, and 99.
+/// The text of a fault, and none where no fault has this number. The faults have the numbers 1 to 15.
 pub fn fault_text(kind: u8) -> Option<&'static [u8]>
     ensures text { option_copied result ≡ fault_text kind }
     ensures short { IfSome result (λ text. length text.now ≤ 34) }
@@ -24,7 +24,6 @@ pub fn fault_text(kind: u8) -> Option<&'static [u8]>
         13 => b"directive",
         14 => b"nesting deeper than 64",
         15 => b"class head not of its form",
-        99 => b"form not built yet",
         _ => return None,
     };
     Some(text)

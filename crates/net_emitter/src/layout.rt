@@ -1,6 +1,6 @@
 //! What the lines of each written file share: their indentation, their ends and what stands between items.
 ghost use Rattle.std.specs.Prelude.{◌≡◌, ◌*◌, ◌++◌, ◌==◌, [], if◌then◌else◌, replicate, OnOk};
-ghost use Rattle.up_base.specs.Running.{line_end};
+ghost use Rattle.up_base.specs.LineEnd.{line_end};
 ghost use Rattle.net_tree.specs.Spelling.{at_depth};
 
 use up_base::{Bytes, Mem};

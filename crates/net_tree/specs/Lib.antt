@@ -3,7 +3,6 @@ pub mod Tree
 pub mod View
 pub mod Blocks
 pub mod FlatLines
-pub mod Run
 pub mod Spelling
 pub mod Comments
 pub mod Literals

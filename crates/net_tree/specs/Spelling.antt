@@ -4,7 +4,7 @@ use Rattle.std.specs.List.{list_all, list_any}
 use Rattle.std.specs.Fmt.{decimal}
 use Rattle.std.specs.Cmp.Lexicographic.{pointwise}
 use Rattle.up_base.specs.Names.{lower_case}
-use Rattle.up_base.specs.Running.{line_end}
+use Rattle.up_base.specs.LineEnd.{line_end}
 use Rattle.net_tree.specs.declared.line.NetLabel.{NetLabel}
 use Rattle.net_tree.specs.declared.line.NetLabel.TheVariants.{Word, Number}
 

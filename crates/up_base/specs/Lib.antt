@@ -1,10 +1,10 @@
 pub mod FileStore
 pub mod Issues
+pub mod LineEnd
 pub mod Limits
 pub mod MemoryTwins
 pub mod Names
 pub mod Outside
-pub mod Running
 pub mod Paths
 pub mod SureTwins
 pub mod Windows1252

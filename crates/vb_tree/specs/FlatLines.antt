@@ -1,9 +1,9 @@
 -- The lines of a procedure in order, and where control goes from each.
-use Rattle.std.specs.Prelude.{ℕ, ◌+◌, cond, nat_eq, Option, Some, None, List, [], ◌∷◌, ◌++◌, map, filter}
+use Rattle.std.specs.Prelude.{ℕ, ◌+◌, cond, nat_eq, Option, Some, None, List, [], ◌∷◌, ◌++◌, filter}
 use Rattle.std.specs.List.{flat_map}
 use Rattle.vb_tree.specs.declared.form_parts.ExitKind.{ExitKind}
 use Rattle.vb_tree.specs.declared.form_parts.ExitKind.TheVariants as leaving
-use Rattle.vb_tree.specs.Tree.{Form, variables, sub_head, function_head, get_head, let_head, set_head, if_head, else_if, line_if, select, case_line, for_head, for_each, next, do_head, do_while, do_until, loop, loop_while, loop_until, while_head, wend, exit, Line, Node, line, block, Nodes, no_nodes, next_node, Middles, no_middles, next_middle, Member, alone, group, proc, Module, Project}
+use Rattle.vb_tree.specs.Tree.{Form, sub_head, function_head, get_head, let_head, set_head, if_head, else_if, line_if, select, case_line, for_head, for_each, next, do_head, do_while, do_until, loop, loop_while, loop_until, while_head, wend, exit, Line, Node, line, block, Nodes, no_nodes, next_node, Middles, no_middles, next_middle, Member, alone, group, proc, Module}
 use Rattle.vb_tree.specs.Blocks.{is_code}
 
 -- the lines of a body in order, declarations included
@@ -146,38 +146,6 @@ abbrev pub flat_body : Nodes → List Flat
 flat_body body =
     let end = 1 + count_lines body in
     flat (record { for_end = None; do_end = None; procedure_end = end }) body 1 end
-
--- the names that a line declares as locals
-abbrev pub declared_by : Form → List (List ℕ)
-declared_by (variables w declarators) = map (λ d. d.name) declarators
-declared_by _ = []
-
--- the names that lines declare as locals, in order
-abbrev pub locals_in : List Line → List (List ℕ)
-locals_in lines = flat_map (λ l. declared_by l.form) lines
-
--- A procedure: its head, the names of its locals in declared order, the code lines of its body, and its closing line.
-pub record Procedure : Type 0 where
-  pub head : Line
-  pub locals : List (List ℕ)
-  pub lines : List Line
-  pub close : Line
-
-abbrev pub procedure_of : Line → Nodes → Line → Procedure
-procedure_of head body close = record { head = head; locals = locals_in (flat_lines body); lines = code_lines (flat_lines body); close = close }
-
--- the procedure that a member is, if it is one
-abbrev pub procedures_in : Member → List Procedure
-procedures_in (alone l) = []
-procedures_in (group head lines close) = []
-procedures_in (proc head body close) = procedure_of head body close ∷ []
-
-abbrev pub procedures_of_module : Module → List Procedure
-procedures_of_module m = flat_map procedures_in m.members
-
--- the procedures in project order, numbered from 0
-abbrev pub procedures_of : Project → List Procedure
-procedures_of p = flat_map procedures_of_module p.modules
 
 -- the lines of a member and of a module, heads and closing lines included, in the order in which they are read
 abbrev pub member_lines : Member → List Line

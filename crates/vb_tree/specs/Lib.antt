@@ -5,8 +5,6 @@ pub mod BoundView
 pub mod Blocks
 pub mod FlatLines
 pub mod ModuleTree
-pub mod Run
-pub mod Clean
 pub mod Tokens
 pub mod TokenClasses
 pub mod LogicalLines

@@ -2,7 +2,7 @@
 use Rattle.std.specs.Prelude.{◌≡◌, true, false, List, All}
 use Rattle.vb_tree.specs.declared.block.BlockKind.{BlockKind}
 use Rattle.vb_tree.specs.declared.block.Role.TheVariants.{Plain, Opens, Parts, Closes}
-use Rattle.vb_tree.specs.Tree.{Line, Node, line, block, Nodes, no_nodes, next_node, Middles, no_middles, next_middle, Member, alone, group, proc, Module, Project}
+use Rattle.vb_tree.specs.Tree.{Line, Node, line, block, Nodes, no_nodes, next_node, Middles, no_middles, next_middle, Member, alone, group, proc, Module}
 use Rattle.vb_tree.specs.Blocks.{role_of, is_procedure, is_group}
 use Rattle.vb_tree.specs.FlatLines.{module_lines}
 
@@ -34,10 +34,6 @@ IsNested (group head lines close) =
     (k : BlockKind) × (role_of head.form ≡ Opens k) × (is_group k ≡ true) × All IsPlain lines × (role_of close.form ≡ Closes k)
 IsNested (proc head body close) =
     (k : BlockKind) × (role_of head.form ≡ Opens k) × (is_procedure k ≡ true) × AreNested body × (role_of close.form ≡ Closes k)
-
--- each member of each module is nested
-abbrev pub IsNestedProject : Project → Type 0
-IsNestedProject P = All (λ m. All IsNested m.members) P.modules
 
 -- the module is a tree of these lines, read in order
 pub record IsTreeOf (m : Module) (lines : List Line) : Type 0 where

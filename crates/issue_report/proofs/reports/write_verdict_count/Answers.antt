@@ -1,7 +1,7 @@
 use Rattle.std.specs.Prelude.{codes}
 use Rattle.std.proofs.Common.{length}
 use Rattle.std.proofs.lemmas.Result.{on_ok_weaker}
-use Rattle.up_base.specs.Running.{line_end}
+use Rattle.up_base.specs.LineEnd.{line_end}
 use Rattle.issue_report.specs.Reports.{count_text, clean_count}
 use Rattle.issue_report.proofs.Pieces.{three_pieces}
 use Rattle.issue_report.proofs.reports.write_verdict_count.Goals as goal

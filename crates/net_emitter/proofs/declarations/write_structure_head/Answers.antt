@@ -1,6 +1,6 @@
 use Rattle.std.proofs.Common.{codes, replicate}
 use Rattle.std.proofs.lemmas.Result.{on_ok_weaker}
-use Rattle.up_base.specs.Running.{line_end}
+use Rattle.up_base.specs.LineEnd.{line_end}
 use Rattle.net_tree.specs.Spelling.{name_text}
 use Rattle.net_emitter.proofs.Emitting.{line_of_two}
 use Rattle.net_emitter.proofs.declarations.write_structure_head.Goals as goal
