@@ -12,11 +12,12 @@ use Rattle.vb_tree.specs.FlatLines.{Flat, flat_body, flat_lines, node_lines, mid
 use Rattle.vb_tree.specs.Tree.{Declarator, Form, assign, debug_print, Line, Node, Nodes, Middles, proc}
 use Rattle.vb_tree.specs.Tree as tree
 use Rattle.vb6_run.specs.Program.{Written, procedures_of, with_exprs, lines_from, bound_lines, locals_of}
-use Rattle.net_rewrite.specs.Marks.{is_among, taken_names, declared_by, is_scalar_name, declares_scalars, is_translated_declaration, has_fit_constants, is_translated_code, placed_lines, placed_in, placed_middles, first_exprs, later_exprs, marked, exprs_at, Place6, is_translated_head, is_kept}
+use Rattle.net_rewrite.specs.Marks.{is_among, taken_names, declared_by, is_scalar_name, declares_scalars, is_translated_declaration, has_fit_constants, is_translated_code, placed_lines, placed_in, placed_middles, first_exprs, later_exprs, marked, is_lost, marked_users, exprs_at, Place6, is_translated_head, is_kept}
 use Rattle.net_rewrite.specs.Modules.{dim_names, LocalsAreDeclared}
 use Rattle.net_rewrite.specs.Translated.{is_scalar, is_translated_form, is_translated_line, is_scalar_local, is_straight_form, is_straight, is_plain_sub, has_straight_body, are_translated, is_translated_procedure}
 use Rattle.net_rewrite.proofs.Characters.{not_of}
 use Rattle.net_rewrite.proofs.Lists.{both_true, and_true, all_first, all_rest, all_append, all_left, all_leads}
+use Rattle.net_rewrite.proofs.LostNames.{users_done}
 use Rattle.net_rewrite.proofs.Straight.{numbered, straight_body}
 
 -- ---- tests
@@ -164,7 +165,7 @@ code_translated taken locals n (x ∷ xs) ess e = of_line (first_line taken loca
         (rest n (declared_by x.1.form ++ taken) ess h.more)
 
 -- the lines of a procedure with what is bound in them
-lines_at_number : (ws : List Written) (bs : List Body) (p : ℕ) (w : Written) → slice_get ws p ≡ Some w
+pub lines_at_number : (ws : List Written) (bs : List Body) (p : ℕ) (w : Written) → slice_get ws p ≡ Some w
     → slice_get (lines_from ws bs) p ≡ Some (with_exprs (flat_body w.body) (exprs_at (slice_get bs p)))
 lines_at_number [] bs p w e = absurd (cc e)
 lines_at_number (v ∷ ws) [] zero w e = let same : v ≡ w = cc e in ap (λ x. Some (with_exprs (flat_body x.body) [])) same
@@ -174,14 +175,14 @@ lines_at_number (v ∷ ws) (b ∷ bs) (suc p) w e = lines_at_number ws bs p w e
 
 -- ---- names
 
-abbrev differs : List ℕ → List ℕ → Bool
+abbrev pub differs : List ℕ → List ℕ → Bool
 differs name other = not (is_same_name name other)
 
 abbrev is_apart : List (List ℕ) → List ℕ → Bool
 is_apart taken name = not (is_among taken name)
 
 -- no two names are one
-abbrev are_distinct : List (List ℕ) → Bool
+abbrev pub are_distinct : List (List ℕ) → Bool
 are_distinct [] = true
 are_distinct (n ∷ ns) = list_all (differs n) ns && are_distinct ns
 
@@ -268,10 +269,10 @@ lines_fresh taken locals (x ∷ xs) ess e = of_line (first_line taken locals x x
 
 -- ---- locals
 
-same_as_itself : (name : List ℕ) → is_same_name name name ≡ true
+pub same_as_itself : (name : List ℕ) → is_same_name name name ≡ true
 same_as_itself name = (bytes_eq-Decides (lower_case name) (lower_case name)).1 refl
 
-abbrev local_name_of : ℕ × Variable → List ℕ
+abbrev pub local_name_of : ℕ × Variable → List ℕ
 local_name_of x = x.1.name
 
 -- locals of distinct names, each of which is the name of a scalar
@@ -304,11 +305,14 @@ record KeptParts (P : Bound) (at : Place6) (head : Line) (body : Nodes) : Type 0
 
 kept_parts : (P : Bound) (at : Place6) (head : Line) (body : Nodes) (close : Line) → is_kept P at (proc head body close) ≡ true → KeptParts P at head body
 kept_parts P at head body close e =
-    let inside = marked (taken_names P.declarations.project.modules) (locals_of P at.procedure) (placed_lines body) (exprs_at (slice_get P.bodies at.procedure)) in
-    let both = both_true (not (at.class || not (is_translated_head at.taken head.form))) (list_all is_done (inside ++ (false, close) ∷ [])) e in
+    let locals = locals_of P at.procedure in
+    let ess = exprs_at (slice_get P.bodies at.procedure) in
+    let inside = marked (taken_names P.declarations.project.modules) locals (placed_lines body) ess in
+    let with_users = marked_users (is_lost inside) locals inside ess in
+    let both = both_true (not (at.class || not (is_translated_head at.taken head.form))) (list_all is_done (with_users ++ (false, close) ∷ [])) e in
     let heads = both_false at.class (not (is_translated_head at.taken head.form)) both.0 in
     let named = both_true (is_plain_sub head.form) (not (is_among at.taken (name_of head.form))) (not_not (is_translated_head at.taken head.form) heads.1) in
-    record { class = not_of at.class heads.0; plain = named.0; lines = all_left is_done inside ((false, close) ∷ []) both.1 }
+    record { class = not_of at.class heads.0; plain = named.0; lines = users_done (is_lost inside) locals inside ess (all_left is_done with_users ((false, close) ∷ []) both.1) }
 
 pub kept_is_plain : (P : Bound) (at : Place6) (head : Line) (body : Nodes) (close : Line) → is_kept P at (proc head body close) ≡ true → is_plain_sub head.form ≡ true
 kept_is_plain P at head body close e = (kept_parts P at head body close e).plain
@@ -332,17 +336,30 @@ kept_lines P at head body close e found =
     ∙ ap (λ ls. list_all (is_translated_line locals) (with_exprs (numbered 1 (code_lines ls)) ess)) (sym (placed_are body))
     ∙ code_translated (taken_names P.declarations.project.modules) locals 1 (placed_lines body) ess parts.lines
 
--- the locals are scalars
-kept_locals : (P : Bound) (at : Place6) (head : Line) (body : Nodes) (close : Line) → LocalsAreDeclared P → is_kept P at (proc head body close) ≡ true
+-- the names of the locals are distinct, each the name of a scalar
+kept_names : (P : Bound) (at : Place6) (head : Line) (body : Nodes) (close : Line) → LocalsAreDeclared P → is_kept P at (proc head body close) ≡ true
     → slice_get (procedures_of P.declarations.project) at.procedure ≡ Some (record { head = head; body = body })
-    → list_all is_scalar_local (locals_of P at.procedure) ≡ true
-kept_locals P at head body close are e found =
+    → (are_distinct (map local_name_of (locals_of P at.procedure)) ≡ true) × (list_all (is_scalar_name (locals_of P at.procedure)) (map local_name_of (locals_of P at.procedure)) ≡ true)
+kept_names P at head body close are e found =
     let parts = kept_parts P at head body close e in
     let locals = locals_of P at.procedure in
     let names : map local_name_of locals ≡ flat_map line_names (map placed_line (placed_lines body)) =
     are at.procedure (record { head = head; body = body }) found ∙ ap (flat_map line_names) (sym (placed_are body)) in
     let fresh = lines_fresh (taken_names P.declarations.project.modules) locals (placed_lines body) (exprs_at (slice_get P.bodies at.procedure)) parts.lines in
-    scalars_alone locals (ap are_distinct names ∙ fresh.distinct) (ap (list_all (is_scalar_name locals)) names ∙ fresh.scalars)
+    (ap are_distinct names ∙ fresh.distinct, ap (list_all (is_scalar_name locals)) names ∙ fresh.scalars)
+
+pub kept_distinct : (P : Bound) (at : Place6) (head : Line) (body : Nodes) (close : Line) → LocalsAreDeclared P → is_kept P at (proc head body close) ≡ true
+    → slice_get (procedures_of P.declarations.project) at.procedure ≡ Some (record { head = head; body = body })
+    → are_distinct (map local_name_of (locals_of P at.procedure)) ≡ true
+kept_distinct P at head body close are e found = (kept_names P at head body close are e found).0
+
+-- the locals are scalars
+kept_locals : (P : Bound) (at : Place6) (head : Line) (body : Nodes) (close : Line) → LocalsAreDeclared P → is_kept P at (proc head body close) ≡ true
+    → slice_get (procedures_of P.declarations.project) at.procedure ≡ Some (record { head = head; body = body })
+    → list_all is_scalar_local (locals_of P at.procedure) ≡ true
+kept_locals P at head body close are e found =
+    let names = kept_names P at head body close are e found in
+    scalars_alone (locals_of P at.procedure) names.0 names.1
 
 -- a procedure all of whose lines are translated is a translated one
 pub kept_is_translated : (P : Bound) (at : Place6) (head : Line) (body : Nodes) (close : Line) → LocalsAreDeclared P → is_kept P at (proc head body close) ≡ true

@@ -1,20 +1,21 @@
 pub mod Lists
+pub mod LocalLists
 pub mod Characters
 mod Agreeing
 mod Scalars
 mod Memories
-mod LocalNames
+pub mod LocalNames
 mod Rows
 mod Constants
 mod Decimals
 mod Expressions
 mod Lines
-mod Straight
+pub mod Straight
 mod Runs
-mod Kept
+pub mod Kept
 pub mod Placing
 mod WritableExpressions
-mod WritableModules
+pub mod WritableModules
 pub mod WritableProjects
 pub mod Amounts
 pub mod NumberRows
@@ -29,6 +30,7 @@ pub mod NameLists
 mod BodyViews
 pub mod PlacedBodies
 pub mod Marking
+pub mod LostNames
 pub mod SmallNames
 pub mod Walking
 pub mod WrittenProcedures

@@ -11,7 +11,7 @@ use Rattle.vb_tree.specs.Tree.{Declarator, Form, Line, Member, alone, group, pro
 use Rattle.vb_tree.specs.Tree as tree
 use Rattle.vb6_run.specs.Program.{locals_of}
 use Rattle.std.specs.Prelude.{slice_get}
-use Rattle.net_rewrite.specs.Marks.{is_among, is_dim, is_scalar_name, declares_scalars, declared_by, is_translated_code, is_translated_declaration, is_translated_head, marked, placed_lines, first_exprs, later_exprs, marked_lines, Place6, taken_names, exprs_at}
+use Rattle.net_rewrite.specs.Marks.{is_among, is_dim, is_scalar_name, declares_scalars, declared_by, is_translated_code, is_translated_declaration, is_translated_head, marked, placed_lines, first_exprs, later_exprs, is_lost, marked_users, marked_body, marked_lines, Place6, taken_names, exprs_at}
 use Rattle.net_rewrite.specs.MarkedMembers.{marked_member}
 use Rattle.net_rewrite.specs.Taken.{AreSame}
 use Rattle.net_rewrite.specs.View.{marked_of}
@@ -55,7 +55,7 @@ pub declaration_marked : (taken : List (List ℕ)) (locals : List (ℕ × Variab
 declaration_marked taken locals x xs ess e = rw e refl
 
 -- the marks of lines so far, and a further one
-behind_mark : (before : List (Bool × Line)) (m : Bool × Line) (rest all : List (Bool × Line)) → all ≡ m ∷ rest → (before ++ m ∷ []) ++ rest ≡ before ++ all
+pub behind_mark : (before : List (Bool × Line)) (m : Bool × Line) (rest all : List (Bool × Line)) → all ≡ m ∷ rest → (before ++ m ∷ []) ++ rest ≡ before ++ all
 behind_mark before m rest all e = append_assoc before (m ∷ []) rest ∙ ap (λ k. before ++ k) (sym e)
 
 -- one mark more
@@ -104,5 +104,5 @@ pub member_same : (class : Bool) (locals : List (ℕ × Variable)) (taken others
 member_same class locals taken others local_taken local_others ess (alone l) h g = refl
 member_same class locals taken others local_taken local_others ess (group head lines close) h g = refl
 member_same class locals taken others local_taken local_others ess (proc head body close) h g =
-    ap (λ p. (class || not p, head) ∷ marked local_taken locals (placed_lines body) ess ++ (false, close) ∷ []) (head_same taken others head.form h)
-    ∙ ap (λ k. (class || not (is_translated_head others head.form), head) ∷ k ++ (false, close) ∷ []) (marked_same local_taken local_others locals (placed_lines body) ess g)
+    ap (λ p. (class || not p, head) ∷ marked_body local_taken locals (placed_lines body) ess ++ (false, close) ∷ []) (head_same taken others head.form h)
+    ∙ ap (λ k. (class || not (is_translated_head others head.form), head) ∷ k ++ (false, close) ∷ []) (ap (λ ms. marked_users (is_lost ms) locals ms ess) (marked_same local_taken local_others locals (placed_lines body) ess g))

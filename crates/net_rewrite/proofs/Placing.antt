@@ -10,14 +10,14 @@ use Rattle.vb6_run.specs.Program.{Written, BoundLine, bound_lines, locals_of, pr
 use Rattle.net_tree.specs.Blocks as net_blocks
 use Rattle.net_tree.specs.FlatLines as net_flat
 use Rattle.net_tree.specs.Tree as net
-use Rattle.net_rewrite.specs.Match.{IsWrittenAs, SameRun}
+use Rattle.net_rewrite.specs.Match.{IsWrittenAs, SameLines, SameRun}
 use Rattle.net_rewrite.specs.Marks.{Place6, marked_lines, is_kept, behind, behind_all, first_place}
 use Rattle.net_rewrite.specs.Modules.{Comment, up_to, past, comment_lines, with_comments, lines_at, written_procedure, upgrade_comment, member_comments, left_out, all_left_out, written_member, end_of, written_members, written_module, written_modules, members_flags, flags_from, IsKept, AreWritten, LocalsAreDeclared}
 use Rattle.net_rewrite.specs.Translated.{has_straight_body, is_scalar_local, are_translated, is_translated_procedure}
 use Rattle.net_rewrite.specs.Written.{line_of, assign_line, written_line}
 use Rattle.net_rewrite.proofs.Kept as kept
 use Rattle.net_rewrite.proofs.Lists.{both_true}
-use Rattle.net_rewrite.proofs.Runs.{same_run}
+use Rattle.net_rewrite.proofs.Runs.{same_run, same_lines}
 use Rattle.net_rewrite.proofs.Scalars.{chosen}
 
 -- ---- places in lists
@@ -273,7 +273,7 @@ written_is_code locals l = of_form l.flat.line.form l.exprs
     of_form (debug_print items ended) es = refl
     of_form _ es = refl
 
-code_written : (locals : List (ℕ × Variable)) (cs : List Comment) (ls : List BoundLine) (close : ℕ) → filter net_blocks.is_code (with_comments locals cs ls close) ≡ map (written_line locals) ls
+pub code_written : (locals : List (ℕ × Variable)) (cs : List Comment) (ls : List BoundLine) (close : ℕ) → filter net_blocks.is_code (with_comments locals cs ls close) ≡ map (written_line locals) ls
 code_written locals cs [] close = no_code_in_comments (up_to close cs)
 code_written locals cs (l ∷ ls) close =
     filter-append net_blocks.is_code (comment_lines (up_to l.flat.line.place.line cs)) (written_line locals l ∷ with_comments locals (past l.flat.line.place.line cs) ls close)
@@ -281,7 +281,7 @@ code_written locals cs (l ∷ ls) close =
     ∙ chosen (net_blocks.is_code (written_line locals l)) _ _ (written_is_code locals l)
     ∙ ap (λ xs. written_line locals l ∷ xs) (code_written locals (past l.flat.line.place.line cs) ls close)
 
-lines_found : (ls : List (ℕ × Variable)) (o : Option (List BoundLine)) → are_translated ls o ≡ true → (lines : List BoundLine) × (o ≡ Some lines)
+pub lines_found : (ls : List (ℕ × Variable)) (o : Option (List BoundLine)) → are_translated ls o ≡ true → (lines : List BoundLine) × (o ≡ Some lines)
 lines_found ls None e = absurd (cc e)
 lines_found ls (Some lines) e = (lines, refl)
 
@@ -318,8 +318,10 @@ kept_is_written P N p declared are e =
       },
     )
 
--- and it does the same there
-pub kept_same : (P : Bound) (N : net.Project) → LocalsAreDeclared P → AreWritten P N → (p : ℕ) → IsKept P p → (q : ℕ) × IsWrittenAs P N p q × SameRun P N p q
+-- and it does the same there, line by line and as a whole
+pub kept_same : (P : Bound) (N : net.Project) → LocalsAreDeclared P → AreWritten P N → (p : ℕ) → IsKept P p
+    → (q : ℕ) × IsWrittenAs P N p q × SameLines P N p q × SameRun P N p q
 kept_same P N declared are p e =
     let written = kept_is_written P N p declared are e in
-    (written.0, written.1, same_run P N p written.0 (kept_is_translated P p declared e) written.1)
+    let translated = kept_is_translated P p declared e in
+    (written.0, written.1, same_lines P N p written.0 translated written.1, same_run P N p written.0 translated written.1)

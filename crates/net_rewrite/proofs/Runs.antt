@@ -1,5 +1,6 @@
 -- The one induction: turn by turn, a procedure does the same as what is written for it.
-use Rattle.std.proofs.Common.{◌≡◌, ℕ, zero, suc, true, ◌&&◌, List, [], ◌∷◌, map, Option, Some, None, refl, sym, ap, ◌∙◌, subst}
+use Rattle.std.proofs.Common.{◌≡◌, ℕ, zero, suc, Bool, true, ◌&&◌, List, [], ◌∷◌, map, Option, Some, None, refl, sym, ap, ◌∙◌, subst}
+use Rattle.std.proofs.lemmas.List.{length-map}
 use Rattle.std.proofs.lemmas.Option.{slice_get-map}
 use Rattle.std.specs.List.{list_all}
 use Rattle.std.specs.Prelude.{slice_get, option_map}
@@ -15,7 +16,7 @@ use Rattle.vb6_run.specs.Store.{Memory}
 use Rattle.vb6_run.specs.Run.{make_local, line_does, machine_of}
 use Rattle.net_run.specs.Store as net_store
 use Rattle.net_run.specs.Run as net_run
-use Rattle.net_rewrite.specs.Match.{Map, StoreMatch, MemoryMatch, VarsMatch, FrameMatch, NextMatch, ResultMatch, Agrees, IsWrittenAs, SameRun}
+use Rattle.net_rewrite.specs.Match.{Map, StoreMatch, MemoryMatch, VarsMatch, FrameMatch, NextMatch, ResultMatch, Agrees, IsWrittenAs, SameRun, SameLine, SameLines}
 use Rattle.net_rewrite.specs.Translated.{is_plain_sub, is_straight, has_straight_body, is_scalar_local, is_translated_line, are_translated, is_translated_procedure}
 use Rattle.net_rewrite.specs.Written.{written_line, written_flat, written_local}
 use Rattle.net_rewrite.proofs.Agreeing.{later_self, then_agrees}
@@ -141,9 +142,14 @@ body_found : (o : Option Written) → has_straight_body o ≡ true → (w : Writ
 body_found None e = absurd (cc e)
 body_found (Some w) e = (w, refl, (both_true (is_plain_sub w.head.form) (is_straight w.body) e).1)
 
--- a translated procedure does the same as what is written for it
-pub same_run : (P : Bound) (N : net.Project) (p q : ℕ) → is_translated_procedure P p ≡ true → IsWrittenAs P N p q → SameRun P N p q
-same_run P N p q e is m s t n h =
+-- what is known of a translated procedure and of what is written for it
+record Parts (P : Bound) (p : ℕ) (lines : List BoundLine) (written : net.Procedure) : Type 0 where
+  scalars : list_all is_scalar_local (locals_of P p) ≡ true
+  translated : list_all (is_translated_line (locals_of P p)) lines ≡ true
+  flats : net_flat.flat_lines written ≡ map (written_flat (locals_of P p)) lines
+
+parts_of : (P : Bound) (N : net.Project) (p q : ℕ) → is_translated_procedure P p ≡ true → (is : IsWrittenAs P N p q) → Parts P p is.lines is.procedure
+parts_of P N p q e is =
     let outer = both_true (has_straight_body (slice_get (procedures_of P.declarations.project) p) && list_all is_scalar_local (locals_of P p)) (are_translated (locals_of P p) (slice_get (bound_lines P) p)) e in
     let inner = both_true (has_straight_body (slice_get (procedures_of P.declarations.project) p)) (list_all is_scalar_local (locals_of P p)) outer.0 in
     let translated : list_all (is_translated_line (locals_of P p)) is.lines ≡ true = sym (ap (are_translated (locals_of P p)) is.source) ∙ outer.1 in
@@ -153,5 +159,36 @@ same_run P N p q e is m s t n h =
     targets_written (locals_of P p) found.0.body body.0 is.procedure found.2
     (ap (list_all (is_translated_line (locals_of P p))) (sym body.1) ∙ translated) (is.code ∙ ap (map (written_line (locals_of P p))) body.1)
     ∙ ap (map (written_flat (locals_of P p))) (sym body.1) in
+    record { scalars = inner.1; translated = translated; flats = flats }
+
+-- a translated procedure does the same as what is written for it
+pub same_run : (P : Bound) (N : net.Project) (p q : ℕ) → is_translated_procedure P p ≡ true → IsWrittenAs P N p q → SameRun P N p q
+same_run P N p q e is m s t n h =
+    let parts = parts_of P N p q e is in
     later_left m ResultMatch n s (go (machine_of P) (suc n) (enters p) (record s { left = n })) (go (net_run.machine_of N) (suc n) (enters q) (record t { left = n }))
-    (go_agrees m P N p q is inner.1 translated flats (suc n) (enters p) (enters q) (record s { left = n }) (record t { left = n }) (refl, refl) (left_match m n s t h))
+    (go_agrees m P N p q is parts.scalars parts.translated parts.flats (suc n) (enters p) (enters q) (record s { left = n }) (record t { left = n }) (refl, refl) (left_match m n s t h))
+
+-- ---- line by line
+
+item_at : {A : Type 0} (f : A → Bool) (xs : List A) (k : ℕ) (x : A) → list_all f xs ≡ true → slice_get xs k ≡ Some x → f x ≡ true
+item_at f [] k x h e = absurd (cc e)
+item_at f (y ∷ ys) zero x h e = let same : y ≡ x = cc e in subst (λ z. f z ≡ true) same (both_true (f y) (list_all f ys) h).0
+item_at f (y ∷ ys) (suc k) x h e = item_at f ys k x (both_true (f y) (list_all f ys) h).1 e
+
+image_at : {A B : Type 0} (f : A → B) (xs : List A) (k : ℕ) (x : A) (y : B) → slice_get xs k ≡ Some x → slice_get (map f xs) k ≡ Some y → f x ≡ y
+image_at f xs k x y e h = some_is (sym (ap (option_map f) e) ∙ sym (slice_get-map f xs k) ∙ h)
+
+pub same_lines : (P : Bound) (N : net.Project) (p q : ℕ) → is_translated_procedure P p ≡ true → IsWrittenAs P N p q → SameLines P N p q
+same_lines P N p q e is =
+    let parts = parts_of P N p q e is in
+    let locals = locals_of P p in
+    record {
+      lines = is.lines;
+      source = is.source;
+      written = map (written_flat locals) is.lines;
+      target = slice_get-map net_flat.flat_lines (net_flat.procedures_of N) q ∙ ap (option_map net_flat.flat_lines) is.target ∙ ap Some parts.flats;
+      as_many = length-map is.lines (written_flat locals);
+      same = λ k l w at there.
+          subst (SameLine locals l) (image_at (written_flat locals) is.lines k l w at there)
+          (λ m f g s t i h. line_agrees m locals l f g s t (item_at (is_translated_line locals) is.lines k l parts.translated at) i h);
+    }

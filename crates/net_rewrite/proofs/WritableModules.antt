@@ -19,11 +19,12 @@ use Rattle.net_tree.specs.Lines.{is_writable_line}
 use Rattle.net_tree.specs.Spelling.{is_identifier}
 use Rattle.net_tree.specs.Text.{is_writable_module}
 use Rattle.net_tree.specs.Tree as net
-use Rattle.net_rewrite.specs.Marks.{taken_names, declared_by, is_translated_declaration, is_translated_code, placed_lines, first_exprs, later_exprs, marked, exprs_at, Place6, marked_lines, is_kept, behind, behind_all, first_place}
+use Rattle.net_rewrite.specs.Marks.{taken_names, declared_by, is_translated_declaration, is_translated_code, placed_lines, first_exprs, later_exprs, marked, is_lost, marked_users, exprs_at, Place6, marked_lines, is_kept, behind, behind_all, first_place}
 use Rattle.net_rewrite.specs.Modules.{Comment, up_to, past, comment_lines, with_comments, lines_at, written_head, written_procedure, upgrade_text, upgrade_comment, member_comments, left_out, all_left_out, written_member, written_members, written_module, written_modules}
 use Rattle.net_rewrite.specs.Translated.{is_plain_sub, are_translated, is_translated_line}
 use Rattle.net_rewrite.specs.Writable.{are_comments, has_comment_text, names_sub, is_named_head, names_variables, is_named_module, is_named_variable, is_named}
 use Rattle.net_rewrite.specs.Written.{net_type, assign_line, line_of, written_line, written_local}
+use Rattle.net_rewrite.proofs.LostNames.{users_all}
 use Rattle.net_rewrite.proofs.Characters.{not_of, formed_behind}
 use Rattle.net_rewrite.proofs.Kept.{placed_line, placed_are, kept_is_plain, kept_lines}
 use Rattle.net_rewrite.proofs.Lists.{both_true, and_true, all_append, all_left, all_right}
@@ -217,10 +218,13 @@ member_texts P at (group head lines close) h =
 member_texts P at (proc head body close) h =
     let first = both_true (has_comment_text head) (list_all has_comment_text (flat.flat_lines body ++ close ∷ [])) h in
     let taken = taken_names P.declarations.project.modules in
-    let ms = marked taken (locals_of P at.procedure) (placed_lines body) (exprs_at (slice_get P.bodies at.procedure)) in
+    let locals = locals_of P at.procedure in
+    let ess = exprs_at (slice_get P.bodies at.procedure) in
+    let alone = marked taken locals (placed_lines body) ess in
+    let ms = marked_users (is_lost alone) locals alone ess in
     let inside = ap (list_all has_comment_text) (placed_are body) ∙ all_left has_comment_text (flat.flat_lines body) (close ∷ []) first.1 in
     and_true (has_comment_text head) (list_all has_text (ms ++ (false, close) ∷ [])) first.0
-    (all_append has_text ms ((false, close) ∷ []) (marked_texts taken (locals_of P at.procedure) (placed_lines body) (exprs_at (slice_get P.bodies at.procedure)) inside) (all_right has_comment_text (flat.flat_lines body) (close ∷ []) first.1))
+    (all_append has_text ms ((false, close) ∷ []) (users_all has_comment_text (is_lost alone) locals alone ess (marked_texts taken locals (placed_lines body) ess inside)) (all_right has_comment_text (flat.flat_lines body) (close ∷ []) first.1))
 
 -- ---- members and modules
 
@@ -235,10 +239,10 @@ locals_named p k (x ∷ vars) h =
     of_owner false e more = more
 
 -- the procedures of members stand in the project from the number p on
-abbrev Located : Bound → (p : ℕ) → List Written → Type 0
+abbrev pub Located : Bound → (p : ℕ) → List Written → Type 0
 Located P p ws = (j : ℕ) (w : Written) → slice_get ws j ≡ Some w → slice_get (procedures_of P.declarations.project) (p + j) ≡ Some w
 
-located_behind : (P : Bound) (p : ℕ) (w : Written) (ws : List Written) → Located P p (w ∷ ws) → Located P (1 + p) ws
+pub located_behind : (P : Bound) (p : ℕ) (w : Written) (ws : List Written) → Located P p (w ∷ ws) → Located P (1 + p) ws
 located_behind P p w ws h j v e =
     let there : (1 + p) + j ≡ p + suc j = omega arith in
     ap (slice_get (procedures_of P.declarations.project)) there ∙ h (suc j) v e

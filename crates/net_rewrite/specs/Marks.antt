@@ -1,9 +1,9 @@
--- Which lines of a project aren't translated so far: those of a form that isn't, those with an expression that isn't, and
--- those that declare a name that can't be written where they stand.
-use Rattle.std.specs.Prelude.{ℕ, ◌+◌, nat_le, Bool, true, false, not, ◌&&◌, ◌||◌, cond, codes, List, [], ◌∷◌, ◌++◌, map, length, filter, Option, Some, None, slice_get}
+-- Which lines of a project aren't translated so far: those of a form that isn't, those with an expression that isn't, those
+-- that declare a name that can't be written where they stand, and those that name what such a line declares.
+use Rattle.std.specs.Prelude.{ℕ, ◌+◌, nat_eq, nat_le, Bool, true, false, not, ◌&&◌, ◌||◌, cond, codes, List, [], ◌∷◌, ◌++◌, map, length, filter, Option, Some, None, slice_get}
 use Rattle.std.specs.List.{list_all, list_any, flat_map}
 use Rattle.up_base.specs.Names.{is_same_name}
-use Rattle.vb_tree.specs.BoundTree.{Ty, Variable, Expr, typed, Term, constant, unary, binary, convert, Body, Bound}
+use Rattle.vb_tree.specs.BoundTree.{Ty, Variable, Expr, typed, Term, constant, variable, unary, binary, convert, Body, Bound}
 use Rattle.vb_tree.specs.declared.form_parts.VarWord.{VarWord}
 use Rattle.vb_tree.specs.declared.form_parts.VarWord.TheVariants as var
 use Rattle.vb_tree.specs.declared.value.Value6.{Value6}
@@ -146,13 +146,48 @@ abbrev pub later_exprs : List (List Expr) → List (List Expr)
 later_exprs [] = []
 later_exprs (es ∷ more) = more
 
--- the lines of a body, each with whether it is untranslated, where these names are taken; code lines have bound expressions
+-- the lines of a body, each with whether it is untranslated by itself, where these names are taken; code lines have bound
+-- expressions
 abbrev pub marked : (taken : List (List ℕ)) → List (ℕ × Variable) → List (Bool × Line) → List (List Expr) → List (Bool × Line)
 marked taken locals [] ess = []
 marked taken locals (x ∷ xs) ess =
     cond (is_code x.1.form)
     ((not (x.0 && is_translated_code locals x.1.form (first_exprs ess)), x.1) ∷ marked taken locals xs (later_exprs ess))
     ((not (x.0 && is_translated_declaration taken locals x.1.form), x.1) ∷ marked (declared_by x.1.form ++ taken) locals xs ess)
+
+-- whether the line that declares a name first is untranslated
+abbrev pub is_lost : List (Bool × Line) → List ℕ → Bool
+is_lost [] name = false
+is_lost (x ∷ xs) name = cond (is_among (declared_by x.1.form) name) x.0 (is_lost xs name)
+
+-- whether the local of a number has a lost name
+abbrev pub is_lost_local : (lost : List ℕ → Bool) → List (ℕ × Variable) → ℕ → Bool
+is_lost_local lost [] id = false
+is_lost_local lost (x ∷ locals) id = cond (nat_eq x.0 id) (lost x.1.name) (is_lost_local lost locals id)
+
+abbrev mutual
+  -- whether an expression names a local with a lost name; terms that aren't looked into are untranslated themselves
+  pub names_lost : (lost : List ℕ → Bool) → List (ℕ × Variable) → Expr → Bool
+  names_lost lost locals (typed ty term) = term_names_lost lost locals term
+
+  pub term_names_lost : (lost : List ℕ → Bool) → List (ℕ × Variable) → Term → Bool
+  term_names_lost lost locals (variable id) = is_lost_local lost locals id.0
+  term_names_lost lost locals (unary u a) = names_lost lost locals a
+  term_names_lost lost locals (binary o a b) = names_lost lost locals a || names_lost lost locals b
+  term_names_lost lost locals (convert to a) = names_lost lost locals a
+  term_names_lost lost locals _ = false
+
+-- marked lines of a body, where code lines that name a local with a lost name are untranslated too
+abbrev pub marked_users : (lost : List ℕ → Bool) → List (ℕ × Variable) → List (Bool × Line) → List (List Expr) → List (Bool × Line)
+marked_users lost locals [] ess = []
+marked_users lost locals (x ∷ xs) ess =
+    cond (is_code x.1.form)
+    ((x.0 || list_any (names_lost lost locals) (first_exprs ess), x.1) ∷ marked_users lost locals xs (later_exprs ess))
+    (x ∷ marked_users lost locals xs ess)
+
+-- the lines of a body, each with whether it is untranslated, by itself or since it names what an untranslated line declares
+abbrev pub marked_body : (taken : List (List ℕ)) → List (ℕ × Variable) → List (Bool × Line) → List (List Expr) → List (Bool × Line)
+marked_body taken locals xs ess = marked_users (is_lost (marked taken locals xs ess)) locals (marked taken locals xs ess) ess
 
 abbrev pub is_attribute : Form → Bool
 is_attribute (tree.attribute tokens) = true
@@ -182,7 +217,7 @@ marked_lines P at (alone l) = (not (is_attribute l.form), l) ∷ []
 marked_lines P at (group head lines close) = (true, head) ∷ map (λ (l : Line). (true, l)) lines ++ (true, close) ∷ []
 marked_lines P at (proc head body close) =
     (at.class || not (is_translated_head at.taken head.form), head)
-    ∷ marked (taken_names P.declarations.project.modules) (locals_of P at.procedure) (placed_lines body) (exprs_at (slice_get P.bodies at.procedure))
+    ∷ marked_body (taken_names P.declarations.project.modules) (locals_of P at.procedure) (placed_lines body) (exprs_at (slice_get P.bodies at.procedure))
     ++ (false, close) ∷ []
 
 -- a member all of whose lines are translated

@@ -1,5 +1,5 @@
 -- When the stores and frames of both languages match, and when a procedure does the same in both.
-use Rattle.std.specs.Prelude.{◌≡◌, ℕ, ◌+◌, ◌≤◌, nat_eq, Bool, List, [], ◌∷◌, ◌++◌, map, slice_get, Option, Some, None}
+use Rattle.std.specs.Prelude.{◌≡◌, ℕ, ◌+◌, ◌≤◌, nat_eq, Bool, List, [], ◌∷◌, ◌++◌, map, length, slice_get, Option, Some, None}
 use Rattle.vb_tree.specs.BoundTree.{Variable, Bound}
 use Rattle.vb_tree.specs.declared.value.Value6.{Value6}
 use Rattle.net_tree.specs.Tree as net
@@ -9,7 +9,7 @@ use Rattle.net_tree.specs.FlatLines as net_flat
 use Rattle.vb6_run.specs.Program.{BoundLine, bound_lines, locals_of}
 use Rattle.vb6_run.specs.Running.{Output, Outcome, gives, raises, spent, outside, outputs, Frame, Next, goes_on, leaves, run}
 use Rattle.vb6_run.specs.Store.{Held, blank, single, Memory}
-use Rattle.vb6_run.specs.Run.{machine_of}
+use Rattle.vb6_run.specs.Run.{line_does, machine_of}
 use Rattle.net_run.specs.Store as net_store
 use Rattle.net_run.specs.Run as net_run
 use Rattle.net_rewrite.specs.Written.{net_type, written_local, written_line}
@@ -99,3 +99,19 @@ pub record IsWrittenAs (P : Bound) (N : net.Project) (p q : ℕ) : Type 0 where
   pub target : slice_get (net_flat.procedures_of N) q ≡ Some procedure
   pub locals : procedure.prologue ≡ map written_local (locals_of P p)
   pub code : net_flat.code_lines procedure ≡ map (written_line (locals_of P p)) lines
+
+-- A code line and a written line do the same: from matching frames and memories they lead to matching ones, with the same
+-- outputs and as many steps left, or raise the same number.
+abbrev pub SameLine : List (ℕ × Variable) → BoundLine → net_flat.Flat → Type 0
+SameLine locals l w =
+    (m : Map) (f : Frame ℕ) (g : Frame (List ℕ)) (s : Memory) (t : net_store.Memory) → FrameMatch m locals f g → MemoryMatch m s t
+    → Agrees m (NextMatch m locals) s (line_does f l s) (net_run.line_does g w t)
+
+-- Line by line, the procedure q of the written project does the same as the procedure p.
+pub record SameLines (P : Bound) (N : net.Project) (p q : ℕ) : Type 0 where
+  pub lines : List BoundLine
+  pub source : slice_get (bound_lines P) p ≡ Some lines
+  pub written : List net_flat.Flat
+  pub target : slice_get (map net_flat.flat_lines (net_flat.procedures_of N)) q ≡ Some written
+  pub as_many : length written ≡ length lines
+  pub same : (k : ℕ) (l : BoundLine) (w : net_flat.Flat) → slice_get lines k ≡ Some l → slice_get written k ≡ Some w → SameLine (locals_of P p) l w

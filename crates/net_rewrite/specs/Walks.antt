@@ -1,9 +1,9 @@
 -- What is written for members by the marks of their lines, and places by what is known of the names round them.
 use Rattle.std.specs.Prelude.{◌≡◌, ℕ, Bool, not, cond, List, [], ◌∷◌, ◌++◌, Option, Some, None, slice_get}
 use Rattle.std.specs.List.{list_all}
-use Rattle.vb_tree.specs.BoundTree.{Bound}
+use Rattle.vb_tree.specs.BoundTree.{Variable, Bound}
 use Rattle.vb_tree.specs.Tree.{Line, Member, alone, group, proc, Module}
-use Rattle.vb6_run.specs.Program.{procedures_of}
+use Rattle.vb6_run.specs.Program.{procedures_of, locals_of}
 use Rattle.net_tree.specs.Tree as net
 use Rattle.net_rewrite.specs.Marks.{Place6, number_behind, behind_all, first_place}
 use Rattle.net_rewrite.specs.Modules.{Comment, up_to, past, member_comments, all_left_out, written_procedure}
@@ -39,6 +39,10 @@ AreNumberedIn P p (m ∷ ms) = AreNumbered P p m.members × AreNumberedIn P (beh
 abbrev pub list_at : {A : Type 0} → Option (List A) → List A
 list_at None = []
 list_at (Some xs) = xs
+
+-- the locals of each procedure stand at its number
+abbrev pub HoldsLocals : Bound → List (List (ℕ × Variable)) → Type 0
+HoldsLocals P ls = (p : ℕ) → list_at (slice_get ls p) ≡ locals_of P p
 
 -- the number of the next procedure behind members, of which the first procedure has the number p
 abbrev pub numbers_behind : (p : ℕ) → List Member → ℕ

@@ -5,7 +5,7 @@ ghost use Rattle.std.specs.List.{list_all};
 ghost use Rattle.net_tree.specs.Text.{is_writable_module, IsWritable};
 ghost use Rattle.net_tree.specs.Tree.{Project};
 ghost use Rattle.net_rewrite.specs.Translated.{is_translated_procedure};
-ghost use Rattle.net_rewrite.specs.Match.{IsWrittenAs, SameRun};
+ghost use Rattle.net_rewrite.specs.Match.{IsWrittenAs, SameLines, SameRun};
 ghost use Rattle.net_rewrite.specs.Modules.{AreWritten, IsKept, LocalsAreDeclared, written_modules};
 ghost use Rattle.net_rewrite.specs.Projects.{written_project, can_be_named};
 ghost use Rattle.net_rewrite.specs.Writable.{is_named};
@@ -18,13 +18,20 @@ pub fn same_runs()
     ensures { (P : Bound) (N : Project) (p q : ℕ) → is_translated_procedure P p ≡ true → IsWrittenAs P N p q → SameRun P N p q }
 {}
 
+/// A law: and line by line they do the same. From frames and memories that match, each code line and the line that is written
+/// for it lead to matching ones, or raise the same number.
+#[tactic(auto, using(crate::proofs::Runs::same_lines))]
+pub fn same_lines()
+    ensures { (P : Bound) (N : Project) (p q : ℕ) → is_translated_procedure P p ≡ true → IsWrittenAs P N p q → SameLines P N p q }
+{}
+
 /// A law: where the modules of a project are what is written for another one's, comments and lines that are left out
-/// included, each procedure of that one all of whose lines are translated stands among them, and does the same. The locals
-/// are those that its lines declare.
+/// included, each procedure of that one all of whose lines are translated stands among them, and does the same, line by line
+/// and as a whole. The locals are those that its lines declare.
 #[tactic(auto, using(crate::proofs::Placing::kept_same))]
 pub fn same_runs_of_modules()
     ensures { (P : Bound) (N : Project) → LocalsAreDeclared P → AreWritten P N → (p : ℕ) → IsKept P p
-        → (q : ℕ) × IsWrittenAs P N p q × SameRun P N p q }
+        → (q : ℕ) × IsWrittenAs P N p q × SameLines P N p q × SameRun P N p q }
 {}
 
 /// A law: where the names of a project are identifiers and its texts can stand in comments, what is written for its modules

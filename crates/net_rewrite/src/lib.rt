@@ -14,6 +14,7 @@ mod laws;
 mod left_out;
 mod local;
 mod logical;
+mod lost_names;
 mod marked;
 mod members;
 mod names;
@@ -33,7 +34,9 @@ mod written_expression;
 mod written_line;
 
 pub use declared_names::add_member;
-pub use laws::{modules_can_be_written, project_can_be_written, same_runs, same_runs_of_modules};
+pub use laws::{
+    modules_can_be_written, project_can_be_written, same_lines, same_runs, same_runs_of_modules,
+};
 pub use local::Local;
 pub use marked::{MarkedLine, are_kept, marked_member};
 pub use names::NameSet;

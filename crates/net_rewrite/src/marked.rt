@@ -1,6 +1,6 @@
 //! Which lines aren't translated.
 ghost use Rattle.std.specs.Prelude.{◌≡◌, Bool, true, false, not, ◌∷◌, [], ◌++◌, ◌&&◌, ◌||◌, map, drop, List, IfOk, OnOk};
-ghost use Rattle.std.specs.List.{list_all};
+ghost use Rattle.std.specs.List.{list_all, list_any};
 ghost use Rattle.vb_tree.specs.BoundView.{expr_of};
 ghost use Rattle.vb_tree.specs.Tree.{Line};
 ghost use Rattle.vb_tree.specs.View.{form_of, line_of, nodes_of, member_of};
@@ -12,6 +12,7 @@ ghost use Rattle.net_rewrite.specs.View.{local_of, placed_of, marked_of};
 use crate::code_fits::is_translated_code;
 use crate::declared_names::{is_taken, take_declaration};
 use crate::local::Local;
+use crate::lost_names::name_lost;
 use crate::names::NameSet;
 use crate::placed::{PlacedLine, placed_lines};
 use std::alloc::Global;
@@ -119,6 +120,81 @@ fn mark_lines<'a>(
     Ok(())
 }
 
+// One line further, where some names are lost.
+fn push_user<'a>(
+    locals: &[Local],
+    ess: &[Sequence<BoundExpr>],
+    at: &mut usize,
+    found: &[MarkedLine],
+    mark: &MarkedLine<'a>,
+    marks: &mut Vec<MarkedLine<'a>>,
+) -> Result<(), Mem>
+    ensures { OnOk result ((xs : List (Bool × Line)) → map marked_of marks.new.items ++ rule.marked_users (rule.is_lost (map marked_of found.now)) (map local_of locals.now) xs (drop at.new (map (map expr_of) ess.now))
+        ≡ map marked_of marks.old.items ++ rule.marked_users (rule.is_lost (map marked_of found.now)) (map local_of locals.now) (marked_of mark.now ∷ xs) (drop at.old (map (map expr_of) ess.now))) }
+{
+    if mark.line.form.is_code() {
+        let user = MarkedLine {
+            untranslated: mark.untranslated || name_lost(found, locals, exprs_at(ess, *at)),
+            line: mark.line,
+        };
+        *at = behind(ess, *at);
+        marks.push(user)?;
+        return Ok(());
+    }
+    marks.push(*mark)?;
+    Ok(())
+}
+
+// Puts the marked lines of a body behind others, where some names are lost.
+fn push_users<'a>(
+    locals: &[Local],
+    ess: &[Sequence<BoundExpr>],
+    found: &[MarkedLine<'a>],
+    marks: &mut Vec<MarkedLine<'a>>,
+) -> Result<(), Mem>
+    ensures { OnOk result (map marked_of marks.new.items ≡ map marked_of marks.old.items ++ rule.marked_users (rule.is_lost (map marked_of found.now)) (map local_of locals.now) (map marked_of found.now) (map (map expr_of) ess.now)) }
+{
+    let mut at = 0;
+    for mark in found {
+        push_user(locals, ess, &mut at, found, mark, marks)?;
+    }
+    Ok(())
+}
+
+// Puts the lines of a body behind others, with those that name what an untranslated line declares.
+fn push_found<'a>(
+    locals: &[Local],
+    ess: &[Sequence<BoundExpr>],
+    found: &[MarkedLine<'a>],
+    marks: &mut Vec<MarkedLine<'a>>,
+) -> Result<(), Mem>
+    ensures { OnOk result (map marked_of marks.new.items ≡ map marked_of marks.old.items ++ rule.marked_users (rule.is_lost (map marked_of found.now)) (map local_of locals.now) (map marked_of found.now) (map (map expr_of) ess.now)) }
+{
+    if are_kept(found) {
+        marks.extend_from_slice(found)?;
+        return Ok(());
+    }
+    push_users(locals, ess, found, marks)?;
+    Ok(())
+}
+
+// Marks the lines of a body behind others, with those that name what an untranslated line declares.
+fn mark_body<'a>(
+    alloc: Global,
+    locals: &[Local],
+    taken: &NameSet,
+    ess: &[Sequence<BoundExpr>],
+    lines: &[PlacedLine<'a>],
+    marks: &mut Vec<MarkedLine<'a>>,
+) -> Result<(), Mem>
+    ensures { OnOk result (map marked_of marks.new.items ≡ map marked_of marks.old.items ++ rule.marked_body taken.now (map local_of locals.now) (map placed_of lines.now) (map (map expr_of) ess.now)) }
+{
+    let mut found = Vec::with_capacity(alloc, lines.len())?;
+    mark_lines(alloc, locals, taken, ess, lines, &mut found)?;
+    push_found(locals, ess, &found, marks)?;
+    Ok(())
+}
+
 fn is_attribute(form: &Form6) -> bool
     ensures { result ≡ rule.is_attribute (form_of form.now) }
 {
@@ -168,7 +244,7 @@ fn mark_procedure<'a>(
         class || !is_translated_head(own, taken, &head.form),
         head,
     )?;
-    mark_lines(alloc, locals, taken, ess, &lines, &mut marks)?;
+    mark_body(alloc, locals, taken, ess, &lines, &mut marks)?;
     push_mark(&mut marks, false, close)?;
     Ok(marks)
 }

@@ -7,6 +7,7 @@ ghost use Rattle.vb6_run.specs.Program.{Written, procedures_in};
 ghost use Rattle.net_tree.specs.View as net_view;
 ghost use Rattle.net_rewrite.specs.Projects.{is_main_head, declares_main, only, only_main, main_of, written_project, untranslated};
 
+use crate::procedure_locals::all_locals;
 use crate::taken_names::names_taken;
 use crate::walk::{MadeModules, make_modules};
 use net_tree::NetProject;
@@ -31,7 +32,8 @@ pub fn rewrite(alloc: Global, bound: &Bound) -> Result<Rewritten, Mem>
 {
     let given = bound.declared.project.modules.as_slice();
     let taken = names_taken(alloc, given)?;
-    let MadeModules { modules, places } = make_modules(alloc, bound, &taken, given)?;
+    let locals = all_locals(alloc, bound.declared.vars.as_slice())?;
+    let MadeModules { modules, places } = make_modules(alloc, bound, &locals, &taken, given)?;
     let main = main_module(alloc, &bound.declared.project)?;
     let support = support_module(alloc, &modules)?;
     Ok(Rewritten {

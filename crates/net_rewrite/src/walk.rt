@@ -7,7 +7,8 @@ ghost use Rattle.net_rewrite.specs.Marks.{marked_lines, member_names, taken_name
 ghost use Rattle.net_rewrite.specs.Modules.{member_comments, written_member, written_members, written_module, written_modules};
 ghost use Rattle.net_rewrite.specs.Projects.{untranslated_in, untranslated_members, untranslated_modules};
 ghost use Rattle.net_rewrite.specs.Taken.{AreSame};
-ghost use Rattle.net_rewrite.specs.Walks.{place_in, numbers_behind, IsNumbered, AreNumbered, AreNumberedIn};
+ghost use Rattle.net_rewrite.specs.View.{local_of};
+ghost use Rattle.net_rewrite.specs.Walks.{place_in, numbers_behind, IsNumbered, AreNumbered, AreNumberedIn, HoldsLocals};
 
 use crate::comments::{Comment, past};
 use crate::declared_names::add_member;
@@ -15,7 +16,7 @@ use crate::kept_procedure::exprs_of;
 use crate::marked::marked_member;
 use crate::members::{end_of, number_behind, push_member, push_places};
 use crate::names::NameSet;
-use crate::procedure_locals::locals_of;
+use crate::procedure_locals::LocalLists;
 use crate::taken_names::object_members;
 use net_tree::{NetMember, NetModule};
 use std::alloc::Global;
@@ -33,6 +34,7 @@ struct MadeMembers {
 fn make_member(
     alloc: Global,
     bound: &Bound,
+    locals: &LocalLists,
     class: bool,
     file: u32,
     number: usize,
@@ -42,6 +44,7 @@ fn make_member(
     member: &Member6,
     made: &mut MadeMembers,
 ) -> Result<(), Mem>
+    requires locals { HoldsLocals (bound_of bound.now) (map (λ v. map local_of v.items) locals.now.lists.items) }
     requires taken { AreSame taken.now (taken_names (bound_of bound.now).declarations.project.modules) }
     requires numbered { IsNumbered (bound_of bound.now) number (member_of member.now) }
     ensures members { OnOk result (map net_view.member_of made.new.members.items ≡ map net_view.member_of made.old.members.items
@@ -50,16 +53,16 @@ fn make_member(
         ++ untranslated_in file (marked_lines (bound_of bound.now) (place_in class number (own.old ++ taken.now)) (member_of member.now))) }
     ensures names { OnOk result (AreSame own.new (member_names (member_of member.now) ++ own.old)) }
 {
-    let locals = locals_of(alloc, bound.declared.vars.as_slice(), number)?;
+    let own_locals = locals.at(number);
     let exprs = exprs_of(bound, number);
-    let lines = marked_member(alloc, class, &locals, own, taken, exprs, member)?;
+    let lines = marked_member(alloc, class, own_locals, own, taken, exprs, member)?;
     push_places(&mut made.places, file, &lines)?;
     push_member(
         alloc,
         &mut made.members,
         bound,
         number,
-        &locals,
+        own_locals,
         comments,
         &lines,
         member,
@@ -83,6 +86,7 @@ fn push_rest(alloc: Global, members: &mut Vec<NetMember>, comments: &[Comment]) 
 fn make_members(
     alloc: Global,
     bound: &Bound,
+    locals: &LocalLists,
     class: bool,
     file: u32,
     first: usize,
@@ -91,6 +95,7 @@ fn make_members(
     comments: &[Comment],
     given: &[Member6],
 ) -> Result<MadeMembers, Mem>
+    requires locals { HoldsLocals (bound_of bound.now) (map (λ v. map local_of v.items) locals.now.lists.items) }
     requires taken { AreSame taken.now (taken_names (bound_of bound.now).declarations.project.modules) }
     requires numbered { AreNumbered (bound_of bound.now) first (map member_of given.now) }
     ensures members { IfOk result (λ made. map net_view.member_of made.members.items ≡ written_members (bound_of bound.now) (place_in class first (own.old ++ taken.now)) comments.now (map member_of given.now)) }
@@ -104,7 +109,7 @@ fn make_members(
     let mut number = first;
     for member in given {
         make_member(
-            alloc, bound, class, file, number, own, taken, rest, member, &mut made,
+            alloc, bound, locals, class, file, number, own, taken, rest, member, &mut made,
         )?;
         rest = past(rest, end_of(member));
         number = number_behind(number, member)?;
@@ -125,11 +130,13 @@ pub(crate) struct MadeModules {
 fn make_module(
     alloc: Global,
     bound: &Bound,
+    locals: &LocalLists,
     first: usize,
     taken: &NameSet,
     given: &Module6,
     made: &mut MadeModules,
 ) -> Result<(), Mem>
+    requires locals { HoldsLocals (bound_of bound.now) (map (λ v. map local_of v.items) locals.now.lists.items) }
     requires taken { AreSame taken.now (taken_names (bound_of bound.now).declarations.project.modules) }
     requires numbered { AreNumbered (bound_of bound.now) first (module_of given.now).members }
     ensures modules { OnOk result (map net_view.module_of made.new.modules.items ≡ map net_view.module_of made.old.modules.items
@@ -141,6 +148,7 @@ fn make_module(
     let MadeMembers { members, places } = make_members(
         alloc,
         bound,
+        locals,
         given.class,
         given.file,
         first,
@@ -173,9 +181,11 @@ fn numbers_behind(first: usize, members: &[Member6]) -> Result<usize, Mem>
 pub(crate) fn make_modules(
     alloc: Global,
     bound: &Bound,
+    locals: &LocalLists,
     taken: &NameSet,
     given: &[Module6],
 ) -> Result<MadeModules, Mem>
+    requires locals { HoldsLocals (bound_of bound.now) (map (λ v. map local_of v.items) locals.now.lists.items) }
     requires taken { AreSame taken.now (taken_names (bound_of bound.now).declarations.project.modules) }
     requires numbered { AreNumberedIn (bound_of bound.now) 0 (map module_of given.now) }
     ensures modules { IfOk result (λ made. map net_view.module_of made.modules.items ≡ written_modules (bound_of bound.now) 0 (map module_of given.now)) }
@@ -187,7 +197,7 @@ pub(crate) fn make_modules(
     };
     let mut number = 0;
     for one in given {
-        make_module(alloc, bound, number, taken, one, &mut made)?;
+        make_module(alloc, bound, locals, number, taken, one, &mut made)?;
         number = numbers_behind(number, one.members.as_slice())?;
     }
     Ok(made)

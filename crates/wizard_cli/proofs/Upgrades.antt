@@ -17,6 +17,9 @@ use Rattle.net_rewrite.specs.Marks.{first_place, behind_all}
 use Rattle.net_rewrite.specs.Modules.{written_modules}
 use Rattle.net_rewrite.specs.Projects.{written_project}
 use Rattle.net_rewrite.proofs.Placing.{kept_same}
+use Rattle.line_order.proofs.Projects.{ordered_grammar}
+use Rattle.correspondence.specs.Corresponds.{FilesCorrespond}
+use Rattle.correspondence.proofs.Corresponding.{corresponds}
 use Rattle.bound_locals.proofs.Locals.{locals_declared}
 use Rattle.wizard_cli.specs.declared.answer.Answer.{Answer}
 use Rattle.wizard_cli.specs.declared.answer.Answer.TheVariants.{Done, BadWords, Refused, ReadFault, WriteFault, OutOfMemory}
@@ -33,9 +36,12 @@ use Rattle.wizard_cli.proofs.Apart.{NamedAs, put_apart, put_stand}
 use Rattle.wizard_cli.proofs.Grammar.{AreOf, entries_are_apart, modules_are_of}
 
 -- what is written for a project is a translation of it
-pub translates : (P : Project) (N : net.Project) → N ≡ written_project (bound P) → IsTranslation P N
-translates P N e =
-    record { written = e; same_runs = λ p clean. kept_same (bound P) N (locals_declared P) (ap (λ (n : net.Project). n.modules) e) p clean.kept }
+pub translates : (P : Project) (N : net.Project) → IsOfGrammar P → N ≡ written_project (bound P) → IsTranslation P N
+translates P N grammar e = record {
+  written = e;
+  files_correspond = subst (FilesCorrespond (bound P)) (sym e) (corresponds (bound P) (locals_declared P) (ordered_grammar P grammar));
+  same_runs = λ p clean. kept_same (bound P) N (locals_declared P) (ap (λ (n : net.Project). n.modules) e) p clean.kept;
+}
 
 pub written_named : (P : Bound) (k p : ℕ) (es : List Entry) (ms : List Module) → AreOf k es ms → NamedAs es (written_modules P p ms)
 written_named P k p [] [] h = tt
@@ -78,12 +84,12 @@ reads_whole told name P held reads = (P.file, of_held told.held held, reads)
     of_held (Some files) h = h.file
 
 -- the files of a translation
-pub are_files : (name : List ℕ) (P : Project) (t : Translation) (u : WrittenFiles) → IsWritable (project_of t.tree) → IsTranslated name P t → u.issues ≡ t.issues → u.files.items ≡ put_order (project_of t.tree) t.report → AreFiles name P u
-are_files name P t u writable is count files =
+pub are_files : (name : List ℕ) (P : Project) (t : Translation) (u : WrittenFiles) → IsOfGrammar P → IsWritable (project_of t.tree) → IsTranslated name P t → u.issues ≡ t.issues → u.files.items ≡ put_order (project_of t.tree) t.report → AreFiles name P u
+are_files name P t u grammar writable is count files =
     record {
       upgrade = record {
         net_project = project_of t.tree;
-        translation = translates P (project_of t.tree) is.tree;
+        translation = translates P (project_of t.tree) grammar is.tree;
         issues = is.issues;
         are_issues = is.are_issues;
         count_is = count ∙ is.count;

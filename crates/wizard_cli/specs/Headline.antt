@@ -13,9 +13,10 @@ use Rattle.issue_report.specs.Reports.{report_text}
 use Rattle.project_loader.specs.Held.{HeldProject}
 use Rattle.project_loader.specs.Faults.{file_names}
 use Rattle.scalar_binder.specs.Scalars.{bound}
-use Rattle.net_rewrite.specs.Match.{IsWrittenAs, SameRun}
+use Rattle.net_rewrite.specs.Match.{IsWrittenAs, SameLines, SameRun}
 use Rattle.net_rewrite.specs.Modules.{IsKept}
 use Rattle.net_rewrite.specs.Projects.{written_project}
+use Rattle.correspondence.specs.Corresponds.{FilesCorrespond}
 use Rattle.wizard_cli.specs.Breaks.{broken_rules, AreIssues}
 
 -- ---- clean procedures
@@ -40,10 +41,16 @@ pub record IsClean (P : Project) (p : ℕ) : Type 0 where
 
 -- ---- the written project
 
--- N is what is written for a project, and each clean procedure stands in it and does the same.
+-- the clean procedure p stands in the written project, and does the same there line by line, and as a whole
+abbrev pub IsKeptIn : Project → net.Project → (p : ℕ) → Type 0
+IsKeptIn P N p = (q : ℕ) × IsWrittenAs (bound P) N p q × SameLines (bound P) N p q × SameRun (bound P) N p q
+
+-- N is what is written for a project. It corresponds to it part by part, and each clean procedure stands in it and does the
+-- same.
 pub record IsTranslation (P : Project) (N : net.Project) : Type 0 where
   pub written : N ≡ written_project (bound P)
-  pub same_runs : (p : ℕ) → IsClean P p → (q : ℕ) × IsWrittenAs (bound P) N p q × SameRun (bound P) N p q
+  pub files_correspond : FilesCorrespond (bound P) N
+  pub same_runs : (p : ℕ) → IsClean P p → IsKeptIn P N p
 
 -- ---- files
 

@@ -17,5 +17,5 @@ all_files-requires-clause-named c =
 
 pub returns : goal.returns
 returns c =
-    are_files c.args.name.now (project_of c.args.project) c.in_ok-tree.field-0 _
+    are_files c.args.name.now (project_of c.args.project) c.in_ok-tree.field-0 _ c.requires
     (subst IsWritable (sym c.in_ok-tree.ensures.tree) (grammar_can_be_written (project_of c.args.project) c.requires)) c.in_ok-tree.ensures refl c.in_ok-all_files.ensures

@@ -1,0 +1,3 @@
+mod Naming
+mod Distinct
+pub mod Corresponding

@@ -1,0 +1,6 @@
+mod Rising
+mod Readings
+mod Heads
+mod Lines
+mod Modules
+pub mod Projects
