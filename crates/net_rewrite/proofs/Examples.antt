@@ -25,7 +25,7 @@ use Rattle.net_tree.specs.Tree as net
 use Rattle.net_run.specs.Calls.{cur_path, print_num_path, print_line_path}
 use Rattle.net_run.specs.Store as net_store
 use Rattle.net_run.specs.Run as net_run
-use Rattle.net_rewrite.specs.Match.{Map, StoreMatch, ResultMatch, Agrees, IsWrittenAs, SameRun}
+use Rattle.net_rewrite.specs.Match.{Map, StoreMatch, ResultMatch, Agrees, IsWrittenAs, SameLines, SameRun}
 use Rattle.net_rewrite.specs.Modules.{written_modules, flags_from, IsKept, dim_names, LocalsAreDeclared}
 use Rattle.net_rewrite.specs.Translated.{is_translated_procedure}
 use Rattle.net_rewrite.specs.Written.{written_local, written_line}
@@ -348,7 +348,7 @@ hex_locals_declared : LocalsAreDeclared hex_declared
 hex_locals_declared zero w e = ap (λ (w : Written). flat_map (λ (l : Line). dim_names l.form) (flat_lines w.body)) (of_some _ w e)
 hex_locals_declared (suc p) w e = absurd (cc e)
 
-hex_kept_same : (q : ℕ) × IsWrittenAs hex_declared hex_modules 0 q × SameRun hex_declared hex_modules 0 q
+hex_kept_same : (q : ℕ) × IsWrittenAs hex_declared hex_modules 0 q × SameLines hex_declared hex_modules 0 q × SameRun hex_declared hex_modules 0 q
 hex_kept_same = kept_same hex_declared hex_modules hex_locals_declared refl 0 hex_kept
 
 -- ---- a Sub that isn't translated: a local with the name of the module, two with one name, and a constant that is no Integer
