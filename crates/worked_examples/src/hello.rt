@@ -1,5 +1,7 @@
 //! The project `hello`: what is written for it, and what is left where a call of its run fails.
-use crate::memory_run::{Failing, run_in_memory};
+use crate::memory_run::{Failing, Left, run_in_memory};
+use std::alloc::Global;
+use std::process::Abort;
 use std::test::Fail;
 use wizard_cli::Status;
 
@@ -11,12 +13,12 @@ pub(crate) const HELLO: [(&str, &str); 2] = [
     ),
     (
         "Main1.bas",
-        "Sub Main()\r\n    Debug.Print \"hi\"\r\nEnd Sub\r\n",
+        "Sub Main()\r\nDebug.Print \"hi\"\r\nEnd Sub\r\n",
     ),
 ];
 
-// The files that are written for it, in order.
-const WRITTEN: [(&str, &str); 4] = [
+/// The files that are written for it, in order.
+pub(crate) const WRITTEN: [(&str, &str); 4] = [
     (
         "upgraded/Main1.vb",
         "\u{feff}Option Explicit On\r\nOption Strict Off\r\nOption Compare Binary\r\nPublic Module Main1\r\n    Public Sub Main()\r\n        UpgradeSupport.PrintLine(\"hi\")\r\n    End Sub\r\nEnd Module\r\n",
@@ -74,20 +76,39 @@ const RUNS: [(Failing, Status, &str, usize); 8] = [
     (Failing::Say(1), Status::ConsoleFault, "", 4),
 ];
 
+/// Asserts that the first so many of the written files are held whole, and the others not at all.
+pub(crate) fn assert_written(
+    rt: &impl Abort,
+    alloc: Global,
+    left: &Left,
+    count: usize,
+) -> Result<(), Fail> {
+    for (i, (name, text)) in WRITTEN.iter().enumerate() {
+        let whole = (i < count).then_some(text.as_bytes());
+        assert_eq!(rt; left.held(alloc, name)?, whole, "{name}, of {count}");
+    }
+    Ok(())
+}
+
+// Asserts how a run with this failing call ends, what it says, and how many files it leaves.
+fn assert_run(
+    rt: &impl Abort,
+    alloc: Global,
+    failing: Failing,
+    status: Status,
+    said: &str,
+    count: usize,
+) -> Result<(), Fail> {
+    let left = run_in_memory(alloc, "upgrade Hello.vbp", &HELLO, failing)?;
+    assert_eq!(rt; left.status, status, "at {failing:?}");
+    assert_eq!(rt; left.console.said(), said.as_bytes(), "at {failing:?}");
+    assert_written(rt, alloc, &left, count)
+}
+
 #[test]
 fn upgrades_hello(rt: HostRuntime) -> Result<(), Fail> {
     for (failing, status, said, count) in RUNS {
-        let left = run_in_memory(rt.alloc(), "upgrade Hello.vbp", &HELLO, failing)?;
-        assert_eq!(rt; left.status, status, "at {failing:?}");
-        assert_eq!(rt; left.console.said(), said.as_bytes(), "at {failing:?}");
-        for (i, (name, text)) in WRITTEN.iter().enumerate() {
-            let whole = (i < count).then_some(text.as_bytes());
-            assert_eq!(rt;
-                left.held(rt.alloc(), name)?,
-                whole,
-                "{name} at {failing:?}"
-            );
-        }
+        assert_run(&rt, rt.alloc(), failing, status, said, count)?;
     }
     Ok(())
 }
@@ -97,14 +118,15 @@ fn upgrades_hello(rt: HostRuntime) -> Result<(), Fail> {
 #[test]
 fn wants_memory_or_upgrades_hello(rt: HostRuntime) -> Result<(), Fail> {
     let left = run_in_memory(rt.alloc(), "upgrade Hello.vbp", &HELLO, Failing::NoCall)?;
-    let upgraded = left.status == Status::Done;
-    if !upgraded {
-        assert_eq!(rt; left.status, Status::OutOfMemory);
-        assert_eq!(rt; left.console.said(), b"out of memory\n".as_slice());
+    assert_upgraded_or_not(&rt, rt.alloc(), &left)
+}
+
+// Asserts that the run did all, or wanted memory and left nothing.
+fn assert_upgraded_or_not(rt: &impl Abort, alloc: Global, left: &Left) -> Result<(), Fail> {
+    if left.status == Status::Done {
+        return assert_written(rt, alloc, left, WRITTEN.len());
     }
-    for (name, text) in WRITTEN {
-        let whole = upgraded.then_some(text.as_bytes());
-        assert_eq!(rt; left.held(rt.alloc(), name)?, whole, "{name}");
-    }
-    Ok(())
+    assert_eq!(rt; left.status, Status::OutOfMemory);
+    assert_eq!(rt; left.console.said(), b"out of memory\n".as_slice());
+    assert_written(rt, alloc, left, 0)
 }

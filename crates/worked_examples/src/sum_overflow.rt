@@ -1,7 +1,7 @@
 //! The project `sum-overflow`: what is written for a variable and for a sum that overflows in both meanings.
+use crate::assertions::{assert_held, assert_issues};
 use crate::memory_run::{Failing, run_in_memory};
 use std::test::Fail;
-use wizard_cli::Status;
 
 const PROJECT: [(&str, &str); 2] = [
     (
@@ -20,11 +20,6 @@ const WRITTEN: &str =
 #[test]
 fn upgrades_sums(rt: HostRuntime) -> Result<(), Fail> {
     let left = run_in_memory(rt.alloc(), "upgrade Sums.vbp", &PROJECT, Failing::NoCall)?;
-    assert_eq!(rt; left.status, Status::Done);
-    assert_eq!(rt; left.console.said(), b"issues: 0\n".as_slice());
-    assert_eq!(rt;
-        left.held(rt.alloc(), "upgraded/Main1.vb")?,
-        Some(WRITTEN.as_bytes())
-    );
-    Ok(())
+    assert_issues(&rt, rt.alloc(), &left, 0)?;
+    assert_held(&rt, rt.alloc(), &left, "upgraded/Main1.vb", WRITTEN)
 }
