@@ -90,11 +90,11 @@ first_is_named k (y ∷ xs) x rise distinct at id h =
     let both = both_true (list_all (differs y.1.name) (map local_name_of xs)) (are_distinct (map local_name_of xs)) distinct in
     by_test (nat_eq y.0 id)
     (λ b. cond b (is_same_name y.1.name (cond b y.1.name (local_name xs id))) (not (is_same_name y.1.name (cond b y.1.name (local_name xs id))) && is_first xs id (cond b y.1.name (local_name xs id))) ≡ true
-        → nat_eq x.0 id ≡ is_same_name (cond b y.1.name (local_name xs id)) x.1.name)
+    → nat_eq x.0 id ≡ is_same_name (cond b y.1.name (local_name xs id)) x.1.name)
     (λ e f. first_local y xs x id (eqb-true y.0 id e) rise.1 both.0 at)
     (λ e f.
-        let parts = both_true (not (is_same_name y.1.name (local_name xs id))) (is_first xs id (local_name xs id)) f in
-        later_local y xs x id e parts.0 (λ in_rest. first_is_named (suc y.0) xs x rise.1 both.1 in_rest id parts.1) at)
+    let parts = both_true (not (is_same_name y.1.name (local_name xs id))) (is_first xs id (local_name xs id)) f in
+    later_local y xs x id e parts.0 (λ in_rest. first_is_named (suc y.0) xs x rise.1 both.1 in_rest id parts.1) at)
     h
 
 -- so among the locals of a procedure
