@@ -1,5 +1,5 @@
 -- What is written for a project corresponds to it.
-use Rattle.std.proofs.Common.{◌≡◌, ℕ, zero, suc, ◌+◌, ◌≤◌, Bool, true, false, not, ◌&&◌, ◌||◌, cond, List, [], ◌∷◌, ◌++◌, map, length, Option, Some, None, refl, sym, ap, ◌∙◌, subst, append_assoc, arith}
+use Rattle.std.proofs.Common.{◌≡◌, ℕ, zero, suc, ◌+◌, ◌≤◌, Bool, true, false, not, ◌&&◌, ◌||◌, cond, List, [], ◌∷◌, ◌++◌, map, length, Option, Some, refl, sym, ap, ◌∙◌, subst, append_assoc, arith}
 use Rattle.std.proofs.lemmas.Bool.Decides.{nat_tests}
 use Rattle.std.proofs.lemmas.Grind.{flat_map-append}
 use Rattle.std.proofs.lemmas.List.{append-nil, map-append}
@@ -7,9 +7,8 @@ use Rattle.std.specs.List.{list_all, list_any, flat_map, filter}
 use Rattle.std.specs.Prelude.{nat_le, slice_get}
 use Rattle.vb_tree.specs.BoundTree.{Variable, Expr, Bound}
 use Rattle.vb_tree.specs.Blocks.{is_code}
-use Rattle.vb_tree.specs.FlatLines.{Flat, flat_body, flat_lines, code_lines, member_lines, module_lines}
+use Rattle.vb_tree.specs.FlatLines.{Flat, flat_body, flat_lines, code_lines, member_lines}
 use Rattle.vb_tree.specs.Tree.{Form, sub_head, assign, debug_print, Line, Nodes, Member, alone, group, proc, Module}
-use Rattle.vb_tree.specs.Tree as tree
 use Rattle.vb6_run.specs.Program.{Written, BoundLine, with_exprs, bound_lines, locals_of, procedures_in, procedures_of}
 use Rattle.net_tree.specs.Blocks as net_blocks
 use Rattle.net_tree.specs.FlatLines as net_flat
@@ -20,16 +19,15 @@ use Rattle.net_rewrite.specs.Marks.{Place6, marked_lines, is_kept, behind, behin
 use Rattle.net_rewrite.specs.Modules.{Comment, up_to, past, comment_lines, with_comments, lines_at, written_head, written_procedure, upgrade_comment, left_out, all_left_out, past_all, written_member, end_of, written_members, written_module, written_modules, LocalsAreDeclared}
 use Rattle.net_rewrite.specs.Modules as modules
 use Rattle.net_rewrite.specs.Projects.{written_project}
-use Rattle.net_rewrite.specs.Translated.{is_nil, is_plain_sub, is_assignment, is_item, is_translated_form, is_translated_line, are_translated}
-use Rattle.net_rewrite.specs.Written.{exp_of, items_exp, line_of, written_line, written_local}
+use Rattle.net_rewrite.specs.Translated.{is_nil, is_plain_sub, is_translated_form, is_translated_line, are_translated}
+use Rattle.net_rewrite.specs.Written.{items_exp, line_of, written_line, written_local}
 use Rattle.net_rewrite.proofs.Kept.{placed_line, placed_are, are_distinct, local_name_of, lines_at_number, kept_is_plain, kept_is_straight, kept_lines, kept_distinct}
-use Rattle.net_rewrite.proofs.Lists.{by_test, both_true, and_true, all_append}
+use Rattle.net_rewrite.proofs.Lists.{by_test, both_true, all_append}
 use Rattle.net_rewrite.proofs.Placing.{in_front, at_back, number_of_members, procedures_in_module, lines_found, code_written}
 use Rattle.net_rewrite.proofs.Straight.{numbered, straight_body}
 use Rattle.net_rewrite.proofs.WritableModules.{Located, located_behind}
 use Rattle.line_order.specs.Order.{AreRising, LinesAreInOrder, AreInOrder}
-use Rattle.correspondence.specs.Uses.{uses, names, total}
-use Rattle.correspondence.specs.Corresponds.{Pairwise, Merges, none, from_first, from_second, IsIn, SameUses, FormCorresponds, LineCorresponds, LocalCorresponds, HeadCorresponds, ProcedureCorresponds, kept_number, kept_numbers, upgrade_texts, all_upgrade_texts, line_comments, member_comments, is_procedure_or_comment, ModuleCorresponds, ModulesCorrespond, SupportCorresponds, FilesCorrespond}
+use Rattle.correspondence.specs.Corresponds.{Pairwise, Merges, none, from_first, from_second, IsIn, FormCorresponds, LineCorresponds, LocalCorresponds, HeadCorresponds, Source, ProcedureCorresponds, kept_in, all_kept, upgrade_texts, all_upgrade_texts, line_comments, texts, member_comments, is_procedure_or_comment, ModuleCorresponds, ModulesCorrespond, SupportCorresponds, FilesCorrespond}
 use Rattle.correspondence.proofs.Naming.{IsNamed, items_names, assigned_names}
 use Rattle.correspondence.proofs.Distinct.{locals_named}
 
@@ -55,9 +53,6 @@ merges_first (x ∷ xs) = from_first (merges_first xs)
 abbrev text_of : Comment → List ℕ
 text_of c = c.1
 
-abbrev texts : List Comment → List (List ℕ)
-texts cs = map text_of cs
-
 up_and_past : (n : ℕ) (cs : List Comment) → up_to n cs ++ past n cs ≡ cs
 up_and_past n [] = refl
 up_and_past n (c ∷ cs) =
@@ -74,6 +69,14 @@ past_twice n k [] h = refl
 past_twice n k (c ∷ cs) h =
     by_test (nat_le c.0 n) (λ b. past k (cond b (past n cs) (c ∷ cs)) ≡ past k (c ∷ cs))
     (λ e. past_twice n k cs h ∙ ap (λ b. cond b (past k cs) (c ∷ cs)) (sym (further c.0 n k e h)))
+    (λ e. refl)
+
+-- up to a line, and from there up to a later one
+up_to_twice : (n k : ℕ) (cs : List Comment) → n ≤ k → up_to n cs ++ up_to k (past n cs) ≡ up_to k cs
+up_to_twice n k [] h = refl
+up_to_twice n k (c ∷ cs) h =
+    by_test (nat_le c.0 n) (λ b. cond b (c ∷ up_to n cs) [] ++ up_to k (cond b (past n cs) (c ∷ cs)) ≡ up_to k (c ∷ cs))
+    (λ e. ap (λ ds. c ∷ ds) (up_to_twice n k cs h) ∙ ap (λ b. cond b (c ∷ up_to k cs) []) (sym (further c.0 n k e h)))
     (λ e. refl)
 
 split_texts : (n : ℕ) (cs : List Comment) → texts (up_to n cs) ++ texts (past n cs) ≡ texts cs
@@ -192,10 +195,6 @@ rising_left : (k : ℕ) (ms ns : List ℕ) → AreRising k (ms ++ ns) → AreRis
 rising_left k [] ns h = tt
 rising_left k (m ∷ ms) ns h = (h.0, rising_left m ms ns h.1)
 
-rising_right : (k : ℕ) (ms ns : List ℕ) → AreRising k (ms ++ ns) → AreRising k ns
-rising_right k [] ns h = h
-rising_right k (m ∷ ms) ns h = rising_lower m k ns h.0 (rising_right m ms ns h.1)
-
 last_is_least : (n last : ℕ) (ns : List ℕ) → AreRising n (ns ++ last ∷ []) → n ≤ last
 last_is_least n last [] h = h.0
 last_is_least n last (m ∷ ns) h = let more = last_is_least m last ns h.1 in let least = h.0 in omega (arith, more, least)
@@ -272,17 +271,17 @@ abbrev bound_line : BoundLine → Line
 bound_line l = l.flat.line
 
 lines_commented : (locals : List (ℕ × Variable)) (cs : List Comment) (from close : ℕ) (ls : List BoundLine) → AreRising from (numbers (map bound_line ls) ++ close ∷ [])
-    → TakesComments cs (past close cs) [] (flat_map line_comments (with_comments locals cs ls close))
-lines_commented locals cs from close [] h = subst (TakesComments cs (past close cs) []) (sym (comments_are (up_to close cs))) (takes_up_to close cs)
+    → flat_map line_comments (with_comments locals cs ls close) ≡ texts (up_to close cs)
+lines_commented locals cs from close [] h = comments_are (up_to close cs)
 lines_commented locals cs from close (l ∷ ls) h =
     let n = l.flat.line.place.line in
     let rest = with_comments locals (past n cs) ls close in
-    subst (TakesComments cs (past close cs) [])
-    (sym (flat_map-append line_comments (comment_lines (up_to n cs)) (written_line locals l ∷ rest)
+    flat_map-append line_comments (comment_lines (up_to n cs)) (written_line locals l ∷ rest)
     ∙ ap (λ ts. ts ++ flat_map line_comments (written_line locals l ∷ rest)) (comments_are (up_to n cs))
-    ∙ ap (λ ts. texts (up_to n cs) ++ (ts ++ flat_map line_comments rest)) (no_comment locals l.flat.line.form l.exprs)))
-    (subst (λ k. TakesComments cs k [] (texts (up_to n cs) ++ flat_map line_comments rest)) (past_twice n close cs (last_is_least n close (numbers (map bound_line ls)) h.1))
-    (takes_both cs (past n cs) (past close (past n cs)) [] (texts (up_to n cs)) [] (flat_map line_comments rest) (takes_up_to n cs) (lines_commented locals (past n cs) n close ls h.1)))
+    ∙ ap (λ ts. texts (up_to n cs) ++ (ts ++ flat_map line_comments rest)) (no_comment locals l.flat.line.form l.exprs)
+    ∙ ap (λ ts. texts (up_to n cs) ++ ts) (lines_commented locals (past n cs) n close ls h.1)
+    ∙ sym (map-append text_of (up_to n cs) (up_to close (past n cs)))
+    ∙ ap texts (up_to_twice n close cs (last_is_least n close (numbers (map bound_line ls)) h.1))
 
 same_uses : (P : Bound) (p : ℕ) → are_distinct (map local_name_of (locals_of P p)) ≡ true → (x : ℕ × Variable) → IsIn x (locals_of P p) → IsNamed (locals_of P p) x
 same_uses P p distinct x at = locals_named p P.declarations.vars x distinct at
@@ -356,9 +355,14 @@ module _ (P : Bound) (at : Place6) (head : Line) (body : Nodes) (close : Line) (
       subst (λ ls. AreRising head.place.line (numbers ls ++ close.place.line ∷ [])) (sym code_of_body)
       (rising_some (λ l. is_code l.form) head.place.line close.place.line (flat_lines body) body_rises)
 
-  procedure_corresponds : (cs : List Comment) → ProcedureCorresponds P at.procedure (written_procedure P at.procedure cs head close)
-  procedure_corresponds cs = record {
-    source = record { head = head; body = body };
+  its_comments : (cs : List Comment) → flat_map line_comments (written_procedure P at.procedure cs head close).lines ≡ texts (up_to close.place.line cs)
+  its_comments cs =
+      ap (λ o. flat_map line_comments (with_comments (locals_of P at.procedure) cs (lines_at o) close.place.line)) its_lines.1
+      ∙ lines_commented (locals_of P at.procedure) cs head.place.line close.place.line its_lines.0 code_rises
+
+  procedure_corresponds : (cs all : List Comment) → past head.place.line cs ≡ past head.place.line all
+      → ProcedureCorresponds P all (record { number = at.procedure; head = head; body = body; close = close }) (written_procedure P at.procedure (past head.place.line cs) head close)
+  procedure_corresponds cs all e = record {
     is_source = is.found;
     lines = its_lines.0;
     are_lines = its_lines.1;
@@ -366,16 +370,15 @@ module _ (P : Bound) (at : Place6) (head : Line) (body : Nodes) (close : Line) (
     locals = locals_correspond (locals_of P at.procedure);
     code =
         subst (Pairwise (LineCorresponds (locals_of P at.procedure)) its_lines.0)
-        (sym (ap (λ o. filter net_blocks.is_code (with_comments (locals_of P at.procedure) cs (lines_at o) close.place.line)) its_lines.1
-        ∙ code_written (locals_of P at.procedure) cs its_lines.0 close.place.line))
+        (sym (ap (λ o. filter net_blocks.is_code (with_comments (locals_of P at.procedure) (past head.place.line cs) (lines_at o) close.place.line)) its_lines.1
+        ∙ code_written (locals_of P at.procedure) (past head.place.line cs) its_lines.0 close.place.line))
         (lines_correspond (locals_of P at.procedure) (same_uses P at.procedure (kept_distinct P at head body close is.declared is.kept is.found)) its_lines.0 its_translated);
+    comments = its_comments (past head.place.line cs) ∙ ap (λ ds. texts (up_to close.place.line ds)) e;
     close = refl;
   }
 
   procedure_takes : (cs : List Comment) → TakesComments cs (past close.place.line cs) [] (flat_map line_comments (written_procedure P at.procedure cs head close).lines)
-  procedure_takes cs =
-      subst (λ o. TakesComments cs (past close.place.line cs) [] (flat_map line_comments (with_comments (locals_of P at.procedure) cs (lines_at o) close.place.line))) (sym its_lines.1)
-      (lines_commented (locals_of P at.procedure) cs head.place.line close.place.line its_lines.0 code_rises)
+  procedure_takes cs = subst (TakesComments cs (past close.place.line cs) []) (sym (its_comments cs)) (takes_up_to close.place.line cs)
 
   head_is_least : head.place.line ≤ close.place.line
   head_is_least = last_is_least head.place.line close.place.line (numbers (flat_lines body)) body_rises
@@ -390,19 +393,19 @@ no_upgrades ((false, l) ∷ xs) h = no_upgrades xs h
 
 -- ---- a member
 
-record MemberCorresponds (P : Bound) (at : Place6) (cs : List Comment) (m : Member) (ws : List net.Member) : Type 0 where
-  procedures : Pairwise (ProcedureCorresponds P) (kept_number P at m) (flat_map net_flat.procedures_in ws)
+record MemberCorresponds (P : Bound) (at : Place6) (all cs : List Comment) (m : Member) (ws : List net.Member) : Type 0 where
+  procedures : Pairwise (ProcedureCorresponds P all) (kept_in P at m) (flat_map net_flat.procedures_in ws)
   others : list_all is_procedure_or_comment ws ≡ true
   comments : TakesComments cs (past (end_of m) cs) (upgrade_texts (marked_lines P at m)) (flat_map member_comments ws)
 
 -- a member that is left out
-left_out_corresponds : (P : Bound) (at : Place6) (cs : List Comment) (m : Member) → kept_number P at m ≡ []
+left_out_corresponds : (P : Bound) (at : Place6) (all cs : List Comment) (m : Member) → kept_in P at m ≡ []
     → TakesComments cs (past (end_of m) cs) (upgrade_texts (marked_lines P at m)) (flat_map member_comments (all_left_out cs (marked_lines P at m)))
-    → MemberCorresponds P at cs m (all_left_out cs (marked_lines P at m))
-left_out_corresponds P at cs m e h = record {
+    → MemberCorresponds P at all cs m (all_left_out cs (marked_lines P at m))
+left_out_corresponds P at all cs m e h = record {
   procedures =
-      subst (λ ns. Pairwise (ProcedureCorresponds P) ns (flat_map net_flat.procedures_in (all_left_out cs (marked_lines P at m)))) (sym e)
-      (subst (Pairwise (ProcedureCorresponds P) []) (sym (no_procedure_left_out cs (marked_lines P at m))) tt);
+      subst (λ ns. Pairwise (ProcedureCorresponds P all) ns (flat_map net_flat.procedures_in (all_left_out cs (marked_lines P at m)))) (sym e)
+      (subst (Pairwise (ProcedureCorresponds P all) []) (sym (no_procedure_left_out cs (marked_lines P at m))) tt);
   others = others_left_out cs (marked_lines P at m);
   comments = h;
 }
@@ -419,17 +422,18 @@ proc_left_out P at cs from head body close h =
     )
 
 -- a procedure all of whose lines are translated
-kept_corresponds : (P : Bound) (at : Place6) (cs : List Comment) (head : Line) (body : Nodes) (close : Line) → KeptProcedure P at head body close
-    → MemberCorresponds P at cs (proc head body close) (modules.member_comments (up_to head.place.line cs) ++ net.proc (written_procedure P at.procedure (past head.place.line cs) head close) ∷ [])
-kept_corresponds P at cs head body close is =
+kept_corresponds : (P : Bound) (at : Place6) (all cs : List Comment) (head : Line) (body : Nodes) (close : Line) → past head.place.line cs ≡ past head.place.line all → KeptProcedure P at head body close
+    → MemberCorresponds P at all cs (proc head body close) (modules.member_comments (up_to head.place.line cs) ++ net.proc (written_procedure P at.procedure (past head.place.line cs) head close) ∷ [])
+kept_corresponds P at all cs head body close same is =
+    let source : List Source = record { number = at.procedure; head = head; body = body; close = close } ∷ [] in
     let written = net.proc (written_procedure P at.procedure (past head.place.line cs) head close) ∷ [] in
     let front = modules.member_comments (up_to head.place.line cs) in
     record {
       procedures =
-          subst (λ ns. Pairwise (ProcedureCorresponds P) ns (flat_map net_flat.procedures_in (front ++ written))) (sym (ap (λ b. cond b (at.procedure ∷ []) []) is.kept))
-          (subst (Pairwise (ProcedureCorresponds P) (at.procedure ∷ []))
+          subst (λ ns. Pairwise (ProcedureCorresponds P all) ns (flat_map net_flat.procedures_in (front ++ written))) (sym (ap (λ b. cond b source []) is.kept))
+          (subst (Pairwise (ProcedureCorresponds P all) source)
           (sym (flat_map-append net_flat.procedures_in front written ∙ ap (λ ps. ps ++ flat_map net_flat.procedures_in written) (no_procedure_in_comments (up_to head.place.line cs))))
-          (procedure_corresponds P at head body close is (past head.place.line cs), tt));
+          (procedure_corresponds P at head body close is cs all same, tt));
       others = all_append is_procedure_or_comment front written (others_in_comments (up_to head.place.line cs)) refl;
       comments =
           subst (λ ys. TakesComments cs (past close.place.line cs) ys (flat_map member_comments (front ++ written))) (sym (no_upgrades (marked_lines P at (proc head body close)) is.kept))
@@ -443,18 +447,18 @@ kept_corresponds P at cs head body close is =
           (takes_up_to head.place.line cs) (procedure_takes P at head body close is (past head.place.line cs)))));
     }
 
-member_corresponds : (P : Bound) → LocalsAreDeclared P → (at : Place6) (cs : List Comment) (from : ℕ) (m : Member) → Located P at.procedure (procedures_in m) → AreRising from (numbers (member_lines m))
-    → MemberCorresponds P at cs m (written_member P at cs m)
-member_corresponds P declared at cs from (alone l) found h = left_out_corresponds P at cs (alone l) refl (lines_left_out cs (marked_lines P at (alone l)))
-member_corresponds P declared at cs from (group head lines close) found h =
-    left_out_corresponds P at cs (group head lines close) refl
+member_corresponds : (P : Bound) → LocalsAreDeclared P → (at : Place6) (all cs : List Comment) (from : ℕ) → ((n : ℕ) → from ≤ n → past n cs ≡ past n all) → (m : Member) → Located P at.procedure (procedures_in m) → AreRising from (numbers (member_lines m))
+    → MemberCorresponds P at all cs m (written_member P at cs m)
+member_corresponds P declared at all cs from same (alone l) found h = left_out_corresponds P at all cs (alone l) refl (lines_left_out cs (marked_lines P at (alone l)))
+member_corresponds P declared at all cs from same (group head lines close) found h =
+    left_out_corresponds P at all cs (group head lines close) refl
     (member_left_out cs from ((true, head) ∷ map (λ (l : Line). (true, l)) lines) true close
     (h.0, subst (λ ls. AreRising head.place.line (numbers ls ++ close.place.line ∷ [])) (sym (group_are lines)) (subst (AreRising head.place.line) (map-append number_of lines (close ∷ [])) h.1)))
-member_corresponds P declared at cs from (proc head body close) found h =
+member_corresponds P declared at all cs from same (proc head body close) found h =
     by_test (is_kept P at (proc head body close))
-    (λ b. MemberCorresponds P at cs (proc head body close) (cond b (modules.member_comments (up_to head.place.line cs) ++ net.proc (written_procedure P at.procedure (past head.place.line cs) head close) ∷ []) (all_left_out cs (marked_lines P at (proc head body close)))))
-    (λ e. kept_corresponds P at cs head body close (record { declared = declared; kept = e; found = stands; from = from; rising = h }))
-    (λ e. left_out_corresponds P at cs (proc head body close) (ap (λ b. cond b (at.procedure ∷ []) []) e) (proc_left_out P at cs from head body close h))
+    (λ b. MemberCorresponds P at all cs (proc head body close) (cond b (modules.member_comments (up_to head.place.line cs) ++ net.proc (written_procedure P at.procedure (past head.place.line cs) head close) ∷ []) (all_left_out cs (marked_lines P at (proc head body close)))))
+    (λ e. kept_corresponds P at all cs head body close (same head.place.line h.0) (record { declared = declared; kept = e; found = stands; from = from; rising = h }))
+    (λ e. left_out_corresponds P at all cs (proc head body close) (ap (λ b. cond b (record { number = at.procedure; head = head; body = body; close = close } ∷ []) []) e) (proc_left_out P at cs from head body close h))
   where
     stands : slice_get (procedures_of P.declarations.project) at.procedure ≡ Some (record { head = head; body = body })
     stands =
@@ -463,24 +467,24 @@ member_corresponds P declared at cs from (proc head body close) found h =
 
 -- ---- members and modules
 
-record MembersCorrespond (P : Bound) (at : Place6) (cs : List Comment) (ms : List Member) (ws : List net.Member) : Type 0 where
-  procedures : Pairwise (ProcedureCorresponds P) (kept_numbers P at ms) (flat_map net_flat.procedures_in ws)
+record MembersCorrespond (P : Bound) (at : Place6) (all cs : List Comment) (ms : List Member) (ws : List net.Member) : Type 0 where
+  procedures : Pairwise (ProcedureCorresponds P all) (all_kept P at ms) (flat_map net_flat.procedures_in ws)
   others : list_all is_procedure_or_comment ws ≡ true
   comments : Merges (texts cs) (all_upgrade_texts P at ms) (flat_map member_comments ws)
 
-no_members : (P : Bound) (at : Place6) (cs : List Comment) → MembersCorrespond P at cs [] (modules.member_comments cs)
-no_members P at cs = record {
-  procedures = subst (Pairwise (ProcedureCorresponds P) []) (sym (no_procedure_in_comments cs)) tt;
+no_members : (P : Bound) (at : Place6) (all cs : List Comment) → MembersCorrespond P at all cs [] (modules.member_comments cs)
+no_members P at all cs = record {
+  procedures = subst (Pairwise (ProcedureCorresponds P all) []) (sym (no_procedure_in_comments cs)) tt;
   others = others_in_comments cs;
   comments = subst (Merges (texts cs) []) (sym (texts_of_comments cs)) (merges_first (texts cs));
 }
 
-more_members : (P : Bound) (at : Place6) (cs : List Comment) (m : Member) (ms : List Member) (ws vs : List net.Member) → MemberCorresponds P at cs m ws → MembersCorrespond P (behind at m) (past (end_of m) cs) ms vs
-    → MembersCorrespond P at cs (m ∷ ms) (ws ++ vs)
-more_members P at cs m ms ws vs h k = record {
+more_members : (P : Bound) (at : Place6) (all cs : List Comment) (m : Member) (ms : List Member) (ws vs : List net.Member) → MemberCorresponds P at all cs m ws → MembersCorrespond P (behind at m) all (past (end_of m) cs) ms vs
+    → MembersCorrespond P at all cs (m ∷ ms) (ws ++ vs)
+more_members P at all cs m ms ws vs h k = record {
   procedures =
-      subst (Pairwise (ProcedureCorresponds P) (kept_number P at m ++ kept_numbers P (behind at m) ms)) (sym (flat_map-append net_flat.procedures_in ws vs))
-      (pairs_append (ProcedureCorresponds P) (kept_number P at m) (kept_numbers P (behind at m) ms) (flat_map net_flat.procedures_in ws) (flat_map net_flat.procedures_in vs) h.procedures k.procedures);
+      subst (Pairwise (ProcedureCorresponds P all) (kept_in P at m ++ all_kept P (behind at m) ms)) (sym (flat_map-append net_flat.procedures_in ws vs))
+      (pairs_append (ProcedureCorresponds P all) (kept_in P at m) (all_kept P (behind at m) ms) (flat_map net_flat.procedures_in ws) (flat_map net_flat.procedures_in vs) h.procedures k.procedures);
   others = all_append is_procedure_or_comment ws vs h.others k.others;
   comments =
       subst (Merges (texts cs) (upgrade_texts (marked_lines P at m) ++ all_upgrade_texts P (behind at m) ms)) (sym (flat_map-append member_comments ws vs))
@@ -495,18 +499,41 @@ later_located P at (alone l) ws found = found
 later_located P at (group head lines close) ws found = found
 later_located P at (proc head body close) ws found = located_behind P at.procedure (record { head = head; body = body }) ws found
 
-members_correspond : (P : Bound) → LocalsAreDeclared P → (at : Place6) (cs : List Comment) (from : ℕ) (ms : List Member) → Located P at.procedure (flat_map procedures_in ms) → AreRising from (numbers (flat_map member_lines ms))
-    → MembersCorrespond P at cs ms (written_members P at cs ms)
-members_correspond P declared at cs from [] found h = no_members P at cs
-members_correspond P declared at cs from (m ∷ ms) found h =
+-- what follows a line of numbers in order rises from it
+rising_behind : (k last : ℕ) (ns ms : List ℕ) → AreRising k ((ns ++ last ∷ []) ++ ms) → AreRising last ms
+rising_behind k last [] ms h = h.1
+rising_behind k last (n ∷ ns) ms h = rising_behind n last ns ms h.1
+
+-- the last line of a member is the one that it ends with
+behind_member : (from : ℕ) (m : Member) (ns : List ℕ) → AreRising from (numbers (member_lines m) ++ ns) → AreRising (end_of m) ns
+behind_member from (alone l) ns h = h.1
+behind_member from (group head lines close) ns h =
+    rising_behind head.place.line close.place.line (numbers lines) ns (subst (λ ks. AreRising head.place.line (ks ++ ns)) (map-append number_of lines (close ∷ [])) h.1)
+behind_member from (proc head body close) ns h =
+    rising_behind head.place.line close.place.line (numbers (flat_lines body)) ns (subst (λ ks. AreRising head.place.line (ks ++ ns)) (map-append number_of (flat_lines body) (close ∷ [])) h.1)
+
+from_end : (from : ℕ) (m : Member) → AreRising from (numbers (member_lines m)) → from ≤ end_of m
+from_end from (alone l) h = h.0
+from_end from (group head lines close) h =
+    last_is_least from close.place.line (head.place.line ∷ numbers lines) (h.0, subst (AreRising head.place.line) (map-append number_of lines (close ∷ [])) h.1)
+from_end from (proc head body close) h =
+    last_is_least from close.place.line (head.place.line ∷ numbers (flat_lines body)) (h.0, subst (AreRising head.place.line) (map-append number_of (flat_lines body) (close ∷ [])) h.1)
+
+members_correspond : (P : Bound) → LocalsAreDeclared P → (at : Place6) (all cs : List Comment) (from : ℕ) → ((n : ℕ) → from ≤ n → past n cs ≡ past n all) → (ms : List Member) → Located P at.procedure (flat_map procedures_in ms) → AreRising from (numbers (flat_map member_lines ms))
+    → MembersCorrespond P at all cs ms (written_members P at cs ms)
+members_correspond P declared at all cs from same [] found h = no_members P at all cs
+members_correspond P declared at all cs from same (m ∷ ms) found h =
     let parts = subst (AreRising from) (map-append number_of (member_lines m) (flat_map member_lines ms)) h in
-    more_members P at cs m ms (written_member P at cs m) (written_members P (behind at m) (past (end_of m) cs) ms)
-    (member_corresponds P declared at cs from m (own_located P at.procedure m (flat_map procedures_in ms) found) (rising_left from (numbers (member_lines m)) (numbers (flat_map member_lines ms)) parts))
-    (members_correspond P declared (behind at m) (past (end_of m) cs) from ms (later_located P at m (flat_map procedures_in ms) found) (rising_right from (numbers (member_lines m)) (numbers (flat_map member_lines ms)) parts))
+    let own = rising_left from (numbers (member_lines m)) (numbers (flat_map member_lines ms)) parts in
+    more_members P at all cs m ms (written_member P at cs m) (written_members P (behind at m) (past (end_of m) cs) ms)
+    (member_corresponds P declared at all cs from same m (own_located P at.procedure m (flat_map procedures_in ms) found) own)
+    (members_correspond P declared (behind at m) all (past (end_of m) cs) (end_of m)
+    (λ n e. past_twice (end_of m) n cs e ∙ same n (let least = from_end from m own in omega (arith, least, e)))
+    ms (later_located P at m (flat_map procedures_in ms) found) (behind_member from m (numbers (flat_map member_lines ms)) parts))
 
 module_corresponds : (P : Bound) → LocalsAreDeclared P → (at : Place6) (m : Module) → Located P at.procedure (procedures_in_module m) → LinesAreInOrder m → ModuleCorresponds P at m (written_module P at m)
 module_corresponds P declared at m found h =
-    let members = members_correspond P declared at m.comments 0 m.members found h in
+    let members = members_correspond P declared at m.comments m.comments 0 (λ n e. refl) m.members found h in
     record { name = refl; class = refl; procedures = members.procedures; others = members.others; comments = members.comments }
 
 modules_correspond : (P : Bound) → LocalsAreDeclared P → (p : ℕ) (ms : List Module) → Located P p (flat_map procedures_in_module ms) → AreInOrder ms → ModulesCorrespond P p ms (written_modules P p ms)

@@ -1,9 +1,9 @@
 -- When what is written corresponds to a project: part by part, and apart from how it is made.
-use Rattle.std.specs.Prelude.{◌≡◌, ℕ, Bool, true, false, ◌||◌, cond, List, [], ◌∷◌, ◌++◌, map, Option, Some, None, slice_get, is_none}
+use Rattle.std.specs.Prelude.{◌≡◌, ℕ, Bool, true, false, cond, List, [], ◌∷◌, ◌++◌, map, Some, None, slice_get, is_none}
 use Rattle.std.specs.List.{list_all, flat_map, filter}
 use Rattle.vb_tree.specs.BoundTree.{Variable, Expr, Bound}
-use Rattle.vb_tree.specs.Tree.{Form, sub_head, assign, debug_print, Line, Member, alone, group, proc, Module, Signature}
-use Rattle.vb6_run.specs.Program.{Written, BoundLine, bound_lines, locals_of, procedures_of}
+use Rattle.vb_tree.specs.Tree.{Form, sub_head, assign, debug_print, Line, Nodes, Member, alone, group, proc, Module}
+use Rattle.vb6_run.specs.Program.{BoundLine, bound_lines, locals_of, procedures_of}
 use Rattle.net_tree.specs.declared.declaration.NetClose.TheVariants.{EndSub}
 use Rattle.net_tree.specs.FlatLines as net_flat
 use Rattle.net_tree.specs.Tree as net
@@ -11,7 +11,7 @@ use Rattle.support_text.specs.declared.row.SupportRow.{SupportRow}
 use Rattle.support_text.specs.Needs.{IsLeast, uses}
 use Rattle.support_text.specs.Rows.{all_rows, row_procedure, support_name}
 use Rattle.net_rewrite.specs.Marks.{Place6, marked_lines, is_kept, behind, behind_all, first_place}
-use Rattle.net_rewrite.specs.Modules.{written_visibility, upgrade_text}
+use Rattle.net_rewrite.specs.Modules.{Comment, up_to, past, written_visibility, upgrade_text}
 use Rattle.net_rewrite.specs.Projects.{main_of}
 use Rattle.net_rewrite.specs.Written.{net_type, print_path}
 use Rattle.correspondence.specs.Uses as count
@@ -60,28 +60,45 @@ abbrev pub HeadCorresponds : Form → net.Head → Type 0
 HeadCorresponds (sub_head s) (net.sub v name params) = (v ≡ written_visibility s.visibility) × (name ≡ s.name) × (s.params ≡ []) × (params ≡ [])
 HeadCorresponds _ h = ⊥
 
--- A procedure is written for the one of a number: under its head, with its locals, and one line for each code line.
-pub record ProcedureCorresponds (P : Bound) (p : ℕ) (w : net.Procedure) : Type 0 where
-  pub source : Written
-  pub is_source : slice_get (procedures_of P.declarations.project) p ≡ Some source
+-- a procedure of the source: its number in the project, its head, its body and its closing line
+pub record Source : Type 0 where
+  pub number : ℕ
+  pub head : Line
+  pub body : Nodes
+  pub close : Line
+
+-- the comments of a written line
+abbrev pub line_comments : net.Line → List (List ℕ)
+line_comments (net.comment text) = text ∷ []
+line_comments _ = []
+
+abbrev pub texts : List Comment → List (List ℕ)
+texts cs = map (λ (c : Comment). c.1) cs
+
+-- A procedure is written for one of a module with these comments: under its head, with its locals, one line for each code
+-- line, and the comments behind its head up to its closing line.
+pub record ProcedureCorresponds (P : Bound) (cs : List Comment) (s : Source) (w : net.Procedure) : Type 0 where
+  pub is_source : slice_get (procedures_of P.declarations.project) s.number ≡ Some (record { head = s.head; body = s.body })
   pub lines : List BoundLine
-  pub are_lines : slice_get (bound_lines P) p ≡ Some lines
-  pub head : HeadCorresponds source.head.form w.head
-  pub locals : Pairwise LocalCorresponds (locals_of P p) w.prologue
-  pub code : Pairwise (LineCorresponds (locals_of P p)) lines (net_flat.code_lines w)
+  pub are_lines : slice_get (bound_lines P) s.number ≡ Some lines
+  pub head : HeadCorresponds s.head.form w.head
+  pub locals : Pairwise LocalCorresponds (locals_of P s.number) w.prologue
+  pub code : Pairwise (LineCorresponds (locals_of P s.number)) lines (net_flat.code_lines w)
+  pub comments : flat_map line_comments w.lines ≡ texts (up_to s.close.place.line (past s.head.place.line cs))
   pub close : w.close ≡ EndSub
 
 -- ---- modules
 
--- the numbers of the procedures all of whose lines are translated
-abbrev pub kept_number : Bound → Place6 → Member → List ℕ
-kept_number P at (alone l) = []
-kept_number P at (group head lines close) = []
-kept_number P at (proc head body close) = cond (is_kept P at (proc head body close)) (at.procedure ∷ []) []
+-- the procedures all of whose lines are translated
+abbrev pub kept_in : Bound → Place6 → Member → List Source
+kept_in P at (alone l) = []
+kept_in P at (group head lines close) = []
+kept_in P at (proc head body close) =
+    cond (is_kept P at (proc head body close)) (record { number = at.procedure; head = head; body = body; close = close } ∷ []) []
 
-abbrev pub kept_numbers : Bound → Place6 → List Member → List ℕ
-kept_numbers P at [] = []
-kept_numbers P at (m ∷ ms) = kept_number P at m ++ kept_numbers P (behind at m) ms
+abbrev pub all_kept : Bound → Place6 → List Member → List Source
+all_kept P at [] = []
+all_kept P at (m ∷ ms) = kept_in P at m ++ all_kept P (behind at m) ms
 
 -- the comments for untranslated lines
 abbrev pub upgrade_texts : List (Bool × Line) → List (List ℕ)
@@ -93,10 +110,6 @@ all_upgrade_texts P at [] = []
 all_upgrade_texts P at (m ∷ ms) = upgrade_texts (marked_lines P at m) ++ all_upgrade_texts P (behind at m) ms
 
 -- the comments of a written module, in order
-abbrev pub line_comments : net.Line → List (List ℕ)
-line_comments (net.comment text) = text ∷ []
-line_comments _ = []
-
 abbrev pub member_comments : net.Member → List (List ℕ)
 member_comments (net.member_comment text) = text ∷ []
 member_comments (net.proc p) = flat_map line_comments p.lines
@@ -113,9 +126,9 @@ is_procedure_or_comment _ = false
 pub record ModuleCorresponds (P : Bound) (at : Place6) (m : Module) (w : net.Module) : Type 0 where
   pub name : w.name ≡ m.name
   pub class : w.class ≡ m.class
-  pub procedures : Pairwise (ProcedureCorresponds P) (kept_numbers P at m.members) (flat_map net_flat.procedures_in w.members)
+  pub procedures : Pairwise (ProcedureCorresponds P m.comments) (all_kept P at m.members) (flat_map net_flat.procedures_in w.members)
   pub others : list_all is_procedure_or_comment w.members ≡ true
-  pub comments : Merges (map (λ (c : ℕ × List ℕ). c.1) m.comments) (all_upgrade_texts P at m.members) (flat_map member_comments w.members)
+  pub comments : Merges (texts m.comments) (all_upgrade_texts P at m.members) (flat_map member_comments w.members)
 
 -- modules in order, of which the first procedure has the number p
 abbrev pub ModulesCorrespond : Bound → (p : ℕ) → List Module → List net.Module → Type 0

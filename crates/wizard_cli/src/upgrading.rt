@@ -8,6 +8,9 @@ ghost use Rattle.net_tree.specs.View.{project_of as net_project_of};
 ghost use Rattle.net_tree.specs.Text.{IsWritable, files_of};
 ghost use Rattle.project_loader.specs.Faults.{file_names};
 ghost use Rattle.project_loader.specs.Held.{IsOfGrammar};
+ghost use Rattle.scalar_binder.specs.Scalars.{bound};
+ghost use Rattle.net_rewrite.specs.Projects.{written_project};
+ghost use Rattle.wizard_cli.specs.Breaks.{broken_rules, AreIssues};
 ghost use Rattle.wizard_cli.specs.Headline.{in_folder, report_file, put_order};
 ghost use Rattle.wizard_cli.specs.Runs.{IsAnswer, OnFault, PutAnswer};
 ghost use Rattle.wizard_cli.specs.Upgrading.{AreFiles, IsTranslated};
@@ -23,7 +26,7 @@ use net_tree::NetProject;
 use project_loader::load_project;
 use scalar_binder::bind_scalars;
 use std::alloc::Global;
-use up_base::{Bytes, Folder, Mem, Name, Names, Outlet};
+use up_base::{Bytes, Folder, Issues, Mem, Name, Names, Outlet};
 use vb_tree::{Entry, Project6};
 
 /// Upgrades the project that the words ask for. All is translated before the first file is put, and from then on no
@@ -91,18 +94,33 @@ fn translated(alloc: Global, name: &Name, project: Project6) -> Result<Translati
     ensures { IfOk result (IsTranslated name.now (project_of project)) }
 {
     let names = file_names(alloc, name, project.file.entries.as_slice())?;
-    let bound = bind_scalars(alloc, project)?;
-    let Rewritten {
-        project: tree,
-        untranslated,
-    } = rewrite(alloc, &bound)?;
-    let issues = found_issues(alloc, &bound, &untranslated)?;
+    let Rewriting { tree, issues } = rewritten(alloc, project)?;
     let report = report(alloc, &issues, &names)?;
     Ok(Translation {
         tree,
         report,
         issues: issues.len(),
     })
+}
+
+/// The tree that is written for a project, and its issues.
+#[derive(Drop)]
+pub(crate) struct Rewriting {
+    tree: NetProject,
+    issues: Issues,
+}
+
+// Both. The project's own tree is let go of here, with what is bound in it.
+fn rewritten(alloc: Global, project: Project6) -> Result<Rewriting, Mem>
+    ensures { IfOk result (λ made. (net_project_of made.tree ≡ written_project (bound (project_of project))) × AreIssues (broken_rules (project_of project)) made.issues) }
+{
+    let bound = bind_scalars(alloc, project)?;
+    let Rewritten {
+        project: tree,
+        untranslated,
+    } = rewrite(alloc, &bound)?;
+    let issues = found_issues(alloc, &bound, &untranslated)?;
+    Ok(Rewriting { tree, issues })
 }
 
 // The files that stand for a project with the report, which goes before the last one.
