@@ -1,3 +1,4 @@
 pub mod Tests
 pub mod Units
 pub mod CutLines
+pub mod Openings
