@@ -120,7 +120,7 @@ digits_more : (a b : List ℕ) → begins_digit a ≡ true → begins_digit (a +
 digits_more [] b h = never h
 digits_more (c ∷ cs) b h = h
 
-digit_is_part : (c : ℕ) → is_digit c ≡ true → is_word_part c ≡ true
+pub digit_is_part : (c : ℕ) → is_digit c ≡ true → is_word_part c ≡ true
 digit_is_part c h = grind (arith, nat_tests)
 
 pub digit_opens : (text : List ℕ) → begins_digit text ≡ true → Opens text
