@@ -5,3 +5,5 @@ pub mod Openings
 pub mod Colons
 pub mod ItemsRead
 pub mod Assumed
+pub mod LinesRead
+pub mod LineTexts

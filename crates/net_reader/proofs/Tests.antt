@@ -36,3 +36,10 @@ module _ {A : Type 0} (f : A → Bool) where
   all_more g (x ∷ xs) more h =
       let both = both_true (f x) (list_all f xs) h in
       and_true (g x) (list_all g xs) (more x both.0) (all_more g xs more both.1)
+
+  pub all_both : (g : A → Bool) (xs : List A) → list_all f xs ≡ true → list_all g xs ≡ true → list_all (λ x. f x && g x) xs ≡ true
+  all_both g [] h k = refl
+  all_both g (x ∷ xs) h k =
+      let first = both_true (f x) (list_all f xs) h in
+      let second = both_true (g x) (list_all g xs) k in
+      and_true (f x && g x) (list_all (λ x. f x && g x) xs) (and_true (f x) (g x) first.0 second.0) (all_both g xs first.1 second.1)

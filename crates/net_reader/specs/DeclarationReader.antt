@@ -70,7 +70,7 @@ param_at text = param_by (keyword_at text) (drop 6 text)
 -- parameters between parentheses
 abbrev pub params_at : List ℕ → Option (List Param × List ℕ)
 params_at text = cond (begins_with 41 (drop 1 text)) (Some ([], drop 2 text))
-    (option_map (λ (r : List Param × List ℕ). (r.0, drop 1 r.1)) (items_at param_at (suc (length text)) (drop 1 text)))
+    (option_map (λ (r : List Param × List ℕ). (r.0, drop 1 r.1)) (items_at param_at (suc (length (drop 1 text))) (drop 1 text)))
 
 -- a name with parameters
 pub record Signature : Type 0 where
