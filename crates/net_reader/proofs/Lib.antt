@@ -7,3 +7,4 @@ pub mod ItemsRead
 pub mod Assumed
 pub mod LinesRead
 pub mod LineTexts
+pub mod DeclarationsRead

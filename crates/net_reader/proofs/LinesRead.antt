@@ -173,11 +173,11 @@ case_item_reads (case_range a b) rest h ends =
 case_item_reads (case_is o e) rest h ends = case_is_reads o e rest h (both_true (ends_expression rest) _ ends).0
 
 -- what stands behind the first item
-abbrev behind_first : {X : Type 0} → (X → List ℕ) → List X → List ℕ
+abbrev pub behind_first : {X : Type 0} → (X → List ℕ) → List X → List ℕ
 behind_first text_of [] = []
 behind_first text_of (y ∷ ys) = 44 ∷ 32 ∷ separated (codes ", ") (map text_of (y ∷ ys))
 
-first_item : {X : Type 0} (text_of : X → List ℕ) (x : X) (xs : List X) → separated (codes ", ") (map text_of (x ∷ xs)) ≡ text_of x ++ behind_first text_of xs
+pub first_item : {X : Type 0} (text_of : X → List ℕ) (x : X) (xs : List X) → separated (codes ", ") (map text_of (x ∷ xs)) ≡ text_of x ++ behind_first text_of xs
 first_item text_of x [] = sym (append-nil (text_of x))
 first_item text_of x (y ∷ ys) = append_assoc (text_of x) (codes ", ") (separated (codes ", ") (map text_of (y ∷ ys)))
 
