@@ -8,3 +8,6 @@ pub mod Assumed
 pub mod LinesRead
 pub mod LineTexts
 pub mod DeclarationsRead
+pub mod Taking
+pub mod Bodies
+pub mod ModulesRead
