@@ -1,0 +1,4 @@
+use Rattle.net_exprs.proofs.laws.expressions_are_read.Goals as goal
+
+pub returns : goal.returns
+returns c = ?

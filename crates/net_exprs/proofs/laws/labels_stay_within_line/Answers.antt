@@ -1,0 +1,4 @@
+use Rattle.net_exprs.proofs.laws.labels_stay_within_line.Goals as goal
+
+pub returns : goal.returns
+returns c = ?
