@@ -1,0 +1,117 @@
+-- Words, names and paths are read back.
+use Rattle.std.proofs.Common.{◌≡◌, ℕ, zero, suc, ◌≤◌, Bool, true, false, not, ◌&&◌, ◌==◌, if◌then◌else◌, List, [], ◌∷◌, ◌++◌, length, map, codes, refl, sym, ap, ◌∙◌, arith, append_assoc, length-append, map-id, eqb-true, true≢false, Option, Some}
+use Rattle.std.specs.List.{list_all}
+use Rattle.std.proofs.lemmas.Bool.{not-true}
+use Rattle.std.specs.Cmp.Lexicographic.{bytes_decides}
+use Rattle.net_tree.specs.Spelling.{is_word_part, is_identifier, is_bracketed, is_library_path, is_path, is_same_text, name_text, path_text, separated}
+use Rattle.net_exprs.specs.Readers.{behind, look_up, word_at, with_first}
+use Rattle.net_exprs.specs.Ends.{begins_with, ends_name, ends_path}
+use Rattle.net_exprs.specs.Names.{is_digit, bracketed_name, name_at, path_at, path_behind, path_from, plain_name}
+use Rattle.net_exprs.specs.Laws.{NamesAreRead, PathsAreRead}
+
+-- ---- tests
+
+pub by_test : (b : Bool) (P : Bool → Type 0) → (b ≡ true → P true) → (b ≡ false → P false) → P b
+by_test true P y n = y refl
+by_test false P y n = n refl
+
+pub both_true : (a b : Bool) → (a && b) ≡ true → (a ≡ true) × (b ≡ true)
+both_true true b h = (refl, h)
+both_true false b h = absurd (true≢false (sym h))
+
+pub never : {A : Type 0} → false ≡ true → A
+never h = absurd (true≢false (sym h))
+
+-- a character of a word is none that is not
+pub is_other : (c d : ℕ) → is_word_part c ≡ true → is_word_part d ≡ false → (c == d) ≡ false
+is_other c d h k = by_test (c == d) (λ b. b ≡ false) (λ e. absurd (true≢false (sym h ∙ ap is_word_part (eqb-true c d e) ∙ k))) (λ e. refl)
+
+-- ---- words
+
+pub word_reads : (w rest : List ℕ) → list_all is_word_part w ≡ true → ends_name rest ≡ true → word_at (w ++ rest) ≡ (w, rest)
+word_reads [] [] a e = refl
+word_reads [] (c ∷ s) a e = rw (not-true (is_word_part c) e) refl
+word_reads (c ∷ w) rest a e =
+    let parts = both_true (is_word_part c) (list_all is_word_part w) a in
+    rw parts.0 (ap (with_first c) (word_reads w rest parts.1 e))
+
+-- a word that is written in brackets is none that isn't
+pub is_unlike : (w k : List ℕ) → is_bracketed w ≡ false → is_bracketed k ≡ true → is_same_text w k ≡ false
+is_unlike w k h b =
+    by_test (is_same_text w k) (λ t. t ≡ false) (λ e. absurd (true≢false (sym b ∙ ap is_bracketed (sym ((bytes_decides w k).0 e)) ∙ h))) (λ e. refl)
+
+-- so a table of such words has nothing for it
+pub not_in_table : {A : Type 0} (w : List ℕ) (rows : List (List ℕ × A)) → is_bracketed w ≡ false → list_all (λ row. is_bracketed row.0) rows ≡ true → look_up w rows ≡ Option.None
+not_in_table w [] h all = refl
+not_in_table w (row ∷ rows) h all =
+    let parts = both_true (is_bracketed row.0) (list_all (λ row. is_bracketed row.0) rows) all in
+    rw (is_unlike w row.0 h parts.0) (not_in_table w rows h parts.1)
+
+-- ---- names
+
+pub is_word : (n : List ℕ) → is_identifier n ≡ true → list_all is_word_part n ≡ true
+is_word [] h = never h
+is_word (c ∷ cs) h = (both_true (not (is_digit c)) (list_all is_word_part (c ∷ cs)) h).1
+
+pub plain_name_reads : (n rest : List ℕ) → is_identifier n ≡ true → ends_name rest ≡ true → name_at (n ++ rest) ≡ Some (n, rest)
+plain_name_reads [] rest h e = never h
+plain_name_reads (c ∷ cs) rest h e =
+    let all = is_word (c ∷ cs) h in
+    let first = both_true (is_word_part c) (list_all is_word_part cs) all in
+    let plain : name_at (c ∷ cs ++ rest) ≡ plain_name (word_at (c ∷ cs ++ rest)).0 (word_at (c ∷ cs ++ rest)).1 = rw (is_other c 91 first.0 refl) refl in
+    plain ∙ ap (λ parts. plain_name parts.0 parts.1) (word_reads (c ∷ cs) rest all e)
+
+pub bracketed_name_reads : (n rest : List ℕ) → is_identifier n ≡ true → name_at ((codes "[" ++ n ++ codes "]") ++ rest) ≡ Some (n, rest)
+bracketed_name_reads n rest h =
+    ap (λ s. name_at (91 ∷ s)) (append_assoc n (codes "]") rest) ∙ ap (λ parts. bracketed_name parts.0 parts.1) (word_reads n (93 ∷ rest) (is_word n h) refl)
+
+pub name_reads : NamesAreRead
+name_reads n rest h e =
+    by_test (is_bracketed n) (λ b. name_at ((if b then codes "[" ++ n ++ codes "]" else n) ++ rest) ≡ Some (n, rest))
+    (λ b. bracketed_name_reads n rest h) (λ b. plain_name_reads n rest h e)
+
+-- ---- paths
+
+-- what a name of a path is written as
+abbrev IsSpelling : (List ℕ → List ℕ) → Type 0
+IsSpelling spell = (n rest : List ℕ) → is_identifier n ≡ true → ends_name rest ≡ true → name_at (spell n ++ rest) ≡ Some (n, rest)
+
+path_ends : (go : List ℕ → Option (List (List ℕ) × List ℕ)) (n rest : List ℕ) → ends_path rest ≡ true → path_behind go n rest ≡ Some (n ∷ [], rest)
+path_ends go n [] h = refl
+path_ends go n (c ∷ s) h = rw (not-true (c == 46) (both_true (not (is_word_part c)) (not (c == 46)) h).1, path_behind) refl
+
+path_reads_from : (spell : List ℕ → List ℕ) → IsSpelling spell → (k : ℕ) (n : List ℕ) (names : List (List ℕ)) (rest : List ℕ)
+    → list_all is_identifier (n ∷ names) ≡ true → ends_path rest ≡ true → length names ≤ k
+    → path_from (suc k) (separated (codes ".") (map spell (n ∷ names)) ++ rest) ≡ Some (n ∷ names, rest)
+path_reads_from spell each k n [] rest h e long =
+    let name = (both_true (is_identifier n) true h).0 in
+    let ends = (both_true (ends_name rest) (not (begins_with 46 rest)) e).0 in
+    ap (λ o. behind o (path_behind (path_from k))) (each n rest name ends) ∙ path_ends (path_from k) n rest e
+path_reads_from spell each zero n (m ∷ names) rest h e long = absurd (omega arith)
+path_reads_from spell each (suc k) n (m ∷ names) rest h e long =
+    let parts = both_true (is_identifier n) (list_all is_identifier (m ∷ names)) h in
+    let more = separated (codes ".") (map spell (m ∷ names)) in
+    let again : (spell n ++ codes "." ++ more) ++ rest ≡ spell n ++ (46 ∷ (more ++ rest)) = simp append_assoc in
+    ap (path_from (suc (suc k))) again
+    ∙ ap (λ o. behind o (path_behind (path_from (suc k)))) (each n (46 ∷ (more ++ rest)) parts.0 refl)
+    ∙ ap (λ o. behind o (λ names rest. Some (n ∷ names, rest))) (path_reads_from spell each k m names rest parts.1 e (omega arith))
+
+names_no_more : (spell : List ℕ → List ℕ) (names : List (List ℕ)) (rest : List ℕ) → length names ≤ suc (length (separated (codes ".") (map spell names) ++ rest))
+names_no_more spell [] rest = omega arith
+names_no_more spell (n ∷ []) rest = omega arith
+names_no_more spell (n ∷ m ∷ names) rest =
+    let more = separated (codes ".") (map spell (m ∷ names)) in
+    let again : (spell n ++ codes "." ++ more) ++ rest ≡ spell n ++ (46 ∷ (more ++ rest)) = simp append_assoc in
+    omega (arith, ap length again, length-append (spell n) (46 ∷ (more ++ rest)), names_no_more spell (m ∷ names) rest)
+
+path_reads_spelt : (spell : List ℕ → List ℕ) → IsSpelling spell → (names : List (List ℕ)) (rest : List ℕ)
+    → is_path names ≡ true → ends_path rest ≡ true → path_at (separated (codes ".") (map spell names) ++ rest) ≡ Some (names, rest)
+path_reads_spelt spell each [] rest h e = never h
+path_reads_spelt spell each (n ∷ names) rest h e =
+    path_reads_from spell each (length (separated (codes ".") (map spell (n ∷ names)) ++ rest)) n names rest (both_true (list_all is_identifier (n ∷ names)) _ h).0 e
+    (omega (arith, names_no_more spell (n ∷ names) rest))
+
+pub path_reads : PathsAreRead
+path_reads names rest h e =
+    by_test (is_library_path names) (λ b. path_at (separated (codes ".") (if b then names else map name_text names) ++ rest) ≡ Some (names, rest))
+    (λ b. ap (λ texts. path_at (separated (codes ".") texts ++ rest)) (sym (map-id names)) ∙ path_reads_spelt (λ n. n) plain_name_reads names rest h e) (λ b. path_reads_spelt name_text name_reads names rest h e)
