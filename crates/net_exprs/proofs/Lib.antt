@@ -1,4 +1,5 @@
 pub mod Words
 pub mod Numbers
 pub mod LiteralsRead
+pub mod TypesRead
 mod Examples

@@ -186,11 +186,11 @@ amount_reads n rest small = ap literal_at again ∙ by_test (r == 0) (λ b. lite
         let none : n % 10000 ≡ 0 = eqb-true (n % 10000) 0 t in
         let back : n / 10000 * 10000 ≡ n = omega arith in
         digits_first (n / 10000) (68 ∷ rest) less refl ∙ ap (λ m. Some (tree.decimal (pos m), rest)) back
-    broken : (r == 0) ≡ false → literal_at (decimal (n / 10000) ++ (codes "." ++ places_text (n % 10000)) ++ 68 ∷ rest) ≡ Some (tree.decimal (pos n), rest)
+    broken : (r == 0) ≡ false → literal_at (decimal (n / 10000) ++ ((codes "." ++ places_text (n % 10000)) ++ 68 ∷ rest)) ≡ Some (tree.decimal (pos n), rest)
     broken t =
         let places = places_read (n % 10000) rest (omega arith) in
         let back : n / 10000 * 10000 + n % 10000 ≡ n = omega arith in
-        digits_first (n / 10000) (46 ∷ places_text (n % 10000) ++ 68 ∷ rest) less refl
+        digits_first (n / 10000) (46 ∷ (places_text (n % 10000) ++ 68 ∷ rest)) less refl
         ∙ point (n / 10000) (places_text (n % 10000) ++ 68 ∷ rest) places.1
         ∙ ap (fraction_literal (n / 10000)) places.0
         ∙ ap (λ m. Some (tree.decimal (pos m), rest)) back
@@ -263,7 +263,7 @@ literal_begins (integer (negsuc n) false) k h f = never h
 literal_begins (long (pos n)) k h f = begins_digits n (codes "L") (lt_of_lt_of_le (ltb-true n (2 ^ 63) f) (lit≤ tt))
 literal_begins (long (negsuc n)) k h f = never h
 literal_begins (tree.decimal (pos n)) k h f =
-    begins_text ((decimal (n / 10000) ++ fraction_text (n % 10000)) ++ codes "D") (decimal (n / 10000) ++ fraction_text (n % 10000) ++ codes "D") (append_assoc (decimal (n / 10000)) (fraction_text (n % 10000)) (codes "D"))
+    begins_text ((decimal (n / 10000) ++ fraction_text (n % 10000)) ++ codes "D") (decimal (n / 10000) ++ (fraction_text (n % 10000) ++ codes "D")) (append_assoc (decimal (n / 10000)) (fraction_text (n % 10000)) (codes "D"))
     (begins_digits (n / 10000) (fraction_text (n % 10000) ++ codes "D") (lt_of_le_of_lt (div-le_self n 10000) (lt_of_lt_of_le (ltb-true n (2 ^ 127) f) (lit≤ tt))))
 literal_begins (tree.decimal (negsuc n)) k h f = never h
 literal_begins (str units) k h f = record { first = 34; others = flat_map quoted_unit units ++ codes "\""; are = refl; starts = refl }

@@ -1,9 +1,9 @@
 -- Words, names and paths are read back.
-use Rattle.std.proofs.Common.{◌≡◌, ℕ, zero, suc, ◌≤◌, Bool, true, false, not, ◌&&◌, ◌==◌, if◌then◌else◌, List, [], ◌∷◌, ◌++◌, length, map, codes, refl, sym, ap, ◌∙◌, arith, append_assoc, length-append, map-id, eqb-true, true≢false, Option, Some}
+use Rattle.std.proofs.Common.{◌≡◌, ℕ, zero, suc, ◌≤◌, Bool, true, false, not, ◌&&◌, ◌==◌, if◌then◌else◌, List, [], ◌∷◌, ◌++◌, length, map, codes, refl, sym, ap, ◌∙◌, arith, append_assoc, length-append, map-id, eqb-true, true≢false, ⊎_elim, Option, Some}
 use Rattle.std.specs.List.{list_all}
-use Rattle.std.proofs.lemmas.Bool.{not-true}
+use Rattle.std.proofs.lemmas.Bool.{not-true, or_cases}
 use Rattle.std.specs.Cmp.Lexicographic.{bytes_decides}
-use Rattle.net_tree.specs.Spelling.{is_word_part, is_identifier, is_bracketed, is_library_path, is_path, is_same_text, name_text, path_text, separated}
+use Rattle.net_tree.specs.Spelling.{is_word_part, is_identifier, is_bracketed, is_library_path, is_path, is_same_path, is_same_text, name_text, path_text, separated}
 use Rattle.net_exprs.specs.Readers.{behind, look_up, word_at, with_first}
 use Rattle.net_exprs.specs.Ends.{begins_with, ends_name, ends_path}
 use Rattle.net_exprs.specs.Names.{is_digit, bracketed_name, name_at, path_at, path_behind, path_from, plain_name}
@@ -104,14 +104,60 @@ names_no_more spell (n ∷ m ∷ names) rest =
     let again : (spell n ++ codes "." ++ more) ++ rest ≡ spell n ++ (46 ∷ (more ++ rest)) = simp append_assoc in
     omega (arith, ap length again, length-append (spell n) (46 ∷ (more ++ rest)), names_no_more spell (m ∷ names) rest)
 
-path_reads_spelt : (spell : List ℕ → List ℕ) → IsSpelling spell → (names : List (List ℕ)) (rest : List ℕ)
-    → is_path names ≡ true → ends_path rest ≡ true → path_at (separated (codes ".") (map spell names) ++ rest) ≡ Some (names, rest)
-path_reads_spelt spell each [] rest h e = never h
-path_reads_spelt spell each (n ∷ names) rest h e =
-    path_reads_from spell each (length (separated (codes ".") (map spell (n ∷ names)) ++ rest)) n names rest (both_true (list_all is_identifier (n ∷ names)) _ h).0 e
+path_reads_spelt : (spell : List ℕ → List ℕ) → IsSpelling spell → (n : List ℕ) (names : List (List ℕ)) (rest : List ℕ)
+    → list_all is_identifier (n ∷ names) ≡ true → ends_path rest ≡ true → path_at (separated (codes ".") (map spell (n ∷ names)) ++ rest) ≡ Some (n ∷ names, rest)
+path_reads_spelt spell each n names rest h e =
+    path_reads_from spell each (length (separated (codes ".") (map spell (n ∷ names)) ++ rest)) n names rest h e
     (omega (arith, names_no_more spell (n ∷ names) rest))
 
+pub names_read : (n : List ℕ) (names : List (List ℕ)) (rest : List ℕ)
+    → list_all is_identifier (n ∷ names) ≡ true → ends_path rest ≡ true → path_at (path_text (n ∷ names) ++ rest) ≡ Some (n ∷ names, rest)
+names_read n names rest h e =
+    by_test (is_library_path (n ∷ names)) (λ b. path_at (separated (codes ".") (if b then n ∷ names else map name_text (n ∷ names)) ++ rest) ≡ Some (n ∷ names, rest))
+    (λ b. ap (λ texts. path_at (separated (codes ".") texts ++ rest)) (sym (map-id (n ∷ names))) ∙ path_reads_spelt (λ n. n) plain_name_reads n names rest h e)
+    (λ b. path_reads_spelt name_text name_reads n names rest h e)
+
+pub are_identifiers : (n : List ℕ) (names : List (List ℕ)) → is_path (n ∷ names) ≡ true → list_all is_identifier (n ∷ names) ≡ true
+are_identifiers n names h = (both_true (list_all is_identifier (n ∷ names)) (not (is_same_path (n ∷ names) (codes "System" ∷ codes "Array" ∷ []))) h).0
+
 pub path_reads : PathsAreRead
-path_reads names rest h e =
-    by_test (is_library_path names) (λ b. path_at (separated (codes ".") (if b then names else map name_text names) ++ rest) ≡ Some (names, rest))
-    (λ b. ap (λ texts. path_at (separated (codes ".") texts ++ rest)) (sym (map-id names)) ∙ path_reads_spelt (λ n. n) plain_name_reads names rest h e) (λ b. path_reads_spelt name_text name_reads names rest h e)
+path_reads [] rest h e = never h
+path_reads (n ∷ names) rest h e = names_read n names rest (are_identifiers n names h) e
+
+-- ---- how a path begins
+
+first_word : (w : List ℕ) (texts : List (List ℕ)) (rest : List ℕ) → list_all is_word_part w ≡ true → ends_path rest ≡ true
+    → (word_at (separated (codes ".") (w ∷ texts) ++ rest)).0 ≡ w
+first_word w [] rest all e = ap (λ parts. parts.0) (word_reads w rest all (both_true (ends_name rest) (not (begins_with 46 rest)) e).0)
+first_word w (t ∷ texts) rest all e =
+    let more = separated (codes ".") (t ∷ texts) in
+    let again : (w ++ codes "." ++ more) ++ rest ≡ w ++ (46 ∷ (more ++ rest)) = simp append_assoc in
+    ap (λ s. (word_at s).0) again ∙ ap (λ parts. parts.0) (word_reads w (46 ∷ (more ++ rest)) all refl)
+
+no_word : (s : List ℕ) (texts : List (List ℕ)) (rest : List ℕ) → (word_at (separated (codes ".") ((91 ∷ s) ∷ texts) ++ rest)).0 ≡ []
+no_word s [] rest = refl
+no_word s (t ∷ texts) rest = refl
+
+library_word : (n : List ℕ) (names : List (List ℕ)) → is_library_path (n ∷ names) ≡ true → is_bracketed n ≡ false
+unfolding is_bracketed
+library_word n names h =
+    ⊎_elim (λ e. ap is_bracketed ((bytes_decides n (codes "System")).0 e) ∙ refl) (λ e. ap is_bracketed ((bytes_decides n (codes "Microsoft")).0 e) ∙ refl)
+    (or_cases (is_same_text n (codes "System")) (is_same_text n (codes "Microsoft")) h)
+
+nothing_bracketed : is_bracketed [] ≡ false
+unfolding is_bracketed
+nothing_bracketed = refl
+
+-- The word that a path begins with is none that is written in brackets.
+pub path_word : (n : List ℕ) (names : List (List ℕ)) (rest : List ℕ) → list_all is_identifier (n ∷ names) ≡ true → ends_path rest ≡ true
+    → is_bracketed (word_at (path_text (n ∷ names) ++ rest)).0 ≡ false
+path_word n names rest h e =
+    by_test (is_library_path (n ∷ names)) (λ b. is_bracketed (word_at (separated (codes ".") (if b then n ∷ names else map name_text (n ∷ names)) ++ rest)).0 ≡ false)
+    (λ b. ap is_bracketed (first_word n names rest word e) ∙ library_word n names b)
+    (λ b. by_test (is_bracketed n)
+        (λ t. is_bracketed n ≡ t → is_bracketed (word_at (separated (codes ".") ((if t then codes "[" ++ n ++ codes "]" else n) ∷ map name_text names) ++ rest)).0 ≡ false)
+        (λ t same. ap is_bracketed (no_word (n ++ codes "]") (map name_text names) rest) ∙ nothing_bracketed)
+        (λ t same. ap is_bracketed (first_word n (map name_text names) rest word e) ∙ same) refl)
+  where
+    word : list_all is_word_part n ≡ true
+    word = is_word n (both_true (is_identifier n) (list_all is_identifier names) h).0
