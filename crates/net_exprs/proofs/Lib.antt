@@ -2,4 +2,5 @@ pub mod Words
 pub mod Numbers
 pub mod LiteralsRead
 pub mod TypesRead
+pub mod Heads
 mod Examples

@@ -113,7 +113,7 @@ hexadecimal_reads n rest e =
 -- ---- labels
 
 -- what a name is written as begins with no digit
-begins_no_digit : (n rest : List ℕ) → is_identifier n ≡ true → begins_digit (name_text n ++ rest) ≡ false
+pub begins_no_digit : (n rest : List ℕ) → is_identifier n ≡ true → begins_digit (name_text n ++ rest) ≡ false
 begins_no_digit n rest h =
     by_test (is_bracketed n) (λ b. begins_digit ((if b then codes "[" ++ n ++ codes "]" else n) ++ rest) ≡ false) (λ b. refl) (λ b. plain n h)
   where

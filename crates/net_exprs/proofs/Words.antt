@@ -1,7 +1,7 @@
 -- Words, names and paths are read back.
-use Rattle.std.proofs.Common.{◌≡◌, ℕ, zero, suc, ◌≤◌, Bool, true, false, not, ◌&&◌, ◌==◌, if◌then◌else◌, List, [], ◌∷◌, ◌++◌, length, map, codes, refl, sym, ap, ◌∙◌, arith, append_assoc, length-append, map-id, eqb-true, true≢false, ⊎_elim, Option, Some}
+use Rattle.std.proofs.Common.{◌≡◌, ℕ, zero, suc, ◌≤◌, Bool, true, false, not, ◌&&◌, ◌||◌, ◌==◌, if◌then◌else◌, List, [], ◌∷◌, ◌++◌, length, map, codes, refl, sym, ap, ◌∙◌, arith, append_assoc, length-append, map-id, eqb-true, true≢false, ⊎_elim, Option, Some}
 use Rattle.std.specs.List.{list_all}
-use Rattle.std.proofs.lemmas.Bool.{not-true, or_cases}
+use Rattle.std.proofs.lemmas.Bool.{and_from, not-true, or_cases}
 use Rattle.std.specs.Cmp.Lexicographic.{bytes_decides}
 use Rattle.net_tree.specs.Spelling.{is_word_part, is_identifier, is_bracketed, is_library_path, is_path, is_same_path, is_same_text, name_text, path_text, separated}
 use Rattle.net_exprs.specs.Readers.{behind, look_up, word_at, with_first}
@@ -161,3 +161,42 @@ path_word n names rest h e =
   where
     word : list_all is_word_part n ≡ true
     word = is_word n (both_true (is_identifier n) (list_all is_identifier names) h).0
+
+-- ---- first characters
+
+abbrev pub is_path_start : ℕ → Bool
+is_path_start c = c == 91 || (is_word_part c && not (is_digit c))
+
+pub record BeginsPath (text : List ℕ) : Type 0 where
+  pub first : ℕ
+  pub others : List ℕ
+  pub are : text ≡ first ∷ others
+  pub starts : is_path_start first ≡ true
+
+identifier_start : (c : ℕ) (cs : List ℕ) → is_identifier (c ∷ cs) ≡ true → is_path_start c ≡ true
+identifier_start c cs h =
+    let parts = both_true (not (is_digit c)) (list_all is_word_part (c ∷ cs)) h in
+    let word = (both_true (is_word_part c) (list_all is_word_part cs) parts.1).0 in
+    let both : (is_word_part c && not (is_digit c)) ≡ true = and_from (is_word_part c) (not (is_digit c)) word parts.0 in
+    by_test (c == 91) (λ b. (b || (is_word_part c && not (is_digit c))) ≡ true) (λ t. refl) (λ t. both)
+
+-- texts that are joined begin as the first does
+joined_start : (text : List ℕ) (texts : List (List ℕ)) → BeginsPath text → BeginsPath (separated (codes ".") (text ∷ texts))
+joined_start text [] b = b
+joined_start text (t ∷ texts) b =
+    record { first = b.first; others = b.others ++ codes "." ++ separated (codes ".") (t ∷ texts); are = ap (λ s. s ++ codes "." ++ separated (codes ".") (t ∷ texts)) b.are; starts = b.starts }
+
+plain_start : (n : List ℕ) → is_identifier n ≡ true → BeginsPath n
+plain_start [] h = never h
+plain_start (c ∷ cs) h = record { first = c; others = cs; are = refl; starts = identifier_start c cs h }
+
+pub name_start : (n : List ℕ) → is_identifier n ≡ true → BeginsPath (name_text n)
+name_start n h =
+    by_test (is_bracketed n) (λ b. BeginsPath (if b then codes "[" ++ n ++ codes "]" else n))
+    (λ t. record { first = 91; others = n ++ codes "]"; are = refl; starts = refl }) (λ t. plain_start n h)
+
+pub path_start : (n : List ℕ) (names : List (List ℕ)) → list_all is_identifier (n ∷ names) ≡ true → BeginsPath (path_text (n ∷ names))
+path_start n names h =
+    let first = (both_true (is_identifier n) (list_all is_identifier names) h).0 in
+    by_test (is_library_path (n ∷ names)) (λ b. BeginsPath (separated (codes ".") (if b then n ∷ names else map name_text (n ∷ names))))
+    (λ b. joined_start n names (plain_start n first)) (λ b. joined_start (name_text n) (map name_text names) (name_start n first))

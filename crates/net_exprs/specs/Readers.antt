@@ -11,7 +11,7 @@ behind (Some part) go = go part.0 part.1
 abbrev pub after : (text : List ℕ) → List ℕ → Option (List ℕ)
 after [] s = Some s
 after (c ∷ text) [] = None
-after (c ∷ text) (d ∷ s) = if c == d then after text s else None
+after (c ∷ text) (d ∷ s) = if d == c then after text s else None
 
 -- what is read behind a text
 abbrev pub past : {B : Type 0} → Option (List ℕ) → (List ℕ → Option B) → Option B
