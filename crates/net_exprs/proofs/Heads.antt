@@ -16,7 +16,7 @@ use Rattle.net_exprs.specs.Readers.{after, behind, word_at}
 use Rattle.net_exprs.specs.Ends.{begins_braces, begins_with, ends_expression, ends_name, ends_path, ends_type}
 use Rattle.net_exprs.specs.Names.{begins_digit, is_digit, path_at}
 use Rattle.net_exprs.specs.Literals.{literal_at}
-use Rattle.net_exprs.specs.Expressions.{Front, Group, Keyword, Stage, Start, Suffix, braces, closing, comma, false_word, front_of, head_at, keyword_of, keywords, literal_start, me_word, member, minus, negation, no_suffix, nothing_word, operand, path_stage, start_of, started, suffix_of, true_word, type_test, whole, word_front, word_start, worded}
+use Rattle.net_exprs.specs.Expressions.{Front, Group, Keyword, Stage, Start, Suffix, braces, braces_or_none, bracket_start, closing, comma, false_word, front_of, head_at, keyword_of, keywords, literal_start, me_word, member, minus, negation, no_suffix, nothing_word, operand, path_stage, start_of, started, suffix_of, true_word, type_test, whole, word_front, word_start, worded}
 use Rattle.net_exprs.specs.Fitting.{fits_exp, fits_exps, fits_literal}
 use Rattle.net_exprs.proofs.Words.{BeginsPath, are_identifiers, both_true, by_test, is_other, is_path_start, is_unlike, never, not_in_table, path_start, path_word, word_reads, names_read}
 use Rattle.net_exprs.proofs.Numbers.{begins_no_digit, is_word_digit}
@@ -213,3 +213,77 @@ operand_front (paren x) rest h f e = opening_front _
 operand_front (new_object t args) rest h f e = new_front _
 operand_front (new_array t bounds) rest h f e = new_front _
 operand_front (type_of x t) rest h f e = opening_front _
+
+-- ---- heads
+
+literal_start_is : (c : ℕ) → is_literal_start c ≡ true → start_of c ≡ literal_start
+unfolding start_of
+literal_start_is c h =
+    ⊎_elim (λ t. rw t refl) (λ t. ⊎_elim (λ e. ap start_of (eqb-true c 34 e) ∙ refl) (λ e. ap start_of (eqb-true c 38 e) ∙ refl) (or_cases (c == 34) (c == 38) t))
+    (or_cases (is_digit c) (c == 34 || c == 38) h)
+
+word_start_is : (c : ℕ) → is_word_part c ≡ true → is_digit c ≡ false → start_of c ≡ word_start
+unfolding start_of
+word_start_is c h k = rw (h, k) refl
+
+bracket_start_is : start_of 91 ≡ bracket_start
+unfolding start_of
+bracket_start_is = refl
+
+-- a literal in front
+pub literal_head : (read : List ℕ → Option (Exp × List ℕ)) (l : Literal) (rest : List ℕ) → is_no_word l ≡ true → is_writable_literal l ≡ true → fits_literal l ≡ true
+    → ends_literal rest ≡ true → head_at read (literal_text l ++ rest) ≡ Some (whole (lit l), rest)
+literal_head read l rest k h f e =
+    let b = literal_begins l k h f in
+    let s = literal_text l ++ rest in
+    let again : s ≡ b.first ∷ (b.others ++ rest) = ap (λ t. t ++ rest) b.are in
+    ap (head_at read) again
+    ∙ ap (started read (b.first ∷ (b.others ++ rest)) (b.others ++ rest)) (literal_start_is b.first b.starts)
+    ∙ ap (λ t. behind (literal_at t) (λ l rest. Some (whole (lit l), rest))) (sym again)
+    ∙ ap (λ o. behind o (λ l rest. Some (whole (lit l), rest))) (literal_reads l rest k h f e)
+
+-- a word in front
+pub word_head : (read : List ℕ → Option (Exp × List ℕ)) (c : ℕ) (w rest : List ℕ) (o : Option Keyword) → list_all is_word_part (c ∷ w) ≡ true → is_digit c ≡ false → ends_name rest ≡ true
+    → keyword_of (c ∷ w) ≡ o → head_at read (c ∷ w ++ rest) ≡ worded read rest (c ∷ w ++ rest) o
+word_head read c w rest o all d e k =
+    ap (started read (c ∷ w ++ rest) (w ++ rest)) (word_start_is c (both_true (is_word_part c) (list_all is_word_part w) all).0 d)
+    ∙ ap (λ (parts : List ℕ × List ℕ). worded read parts.1 (c ∷ w ++ rest) (keyword_of parts.0)) (word_reads (c ∷ w) rest all e)
+    ∙ ap (worded read rest (c ∷ w ++ rest)) k
+
+-- a path in front
+path_head_from : (read : List ℕ → Option (Exp × List ℕ)) (s : List ℕ) → BeginsPath s → is_bracketed (word_at s).0 ≡ false → head_at read s ≡ path_stage s
+path_head_from read s b h =
+    ap (head_at read) b.are
+    ∙ ⊎_elim (λ e. ap (λ d. started read (b.first ∷ b.others) b.others (start_of d)) (eqb-true b.first 91 e) ∙ ap (started read (b.first ∷ b.others) b.others) bracket_start_is)
+        (λ t.
+            let parts = both_true (is_word_part b.first) (not (is_digit b.first)) t in
+            ap (started read (b.first ∷ b.others) b.others) (word_start_is b.first parts.0 (not-true (is_digit b.first) parts.1))
+            ∙ ap (worded read (word_at (b.first ∷ b.others)).1 (b.first ∷ b.others)) (no_keyword (word_at (b.first ∷ b.others)).0 (ap (λ s. is_bracketed (word_at s).0) (sym b.are) ∙ h)))
+        (or_cases (b.first == 91) (is_word_part b.first && not (is_digit b.first)) b.starts)
+    ∙ ap path_stage (sym b.are)
+
+pub path_head : (read : List ℕ → Option (Exp × List ℕ)) (n : List ℕ) (names : List (List ℕ)) (rest : List ℕ) → list_all is_identifier (n ∷ names) ≡ true → ends_path rest ≡ true
+    → head_at read (path_text (n ∷ names) ++ rest) ≡ Some (whole (path (n ∷ names)), rest)
+path_head read n names rest h e =
+    path_head_from read (path_text (n ∷ names) ++ rest) (more_start (path_text (n ∷ names)) rest (path_start n names h)) (path_word n names rest h e)
+    ∙ ap (λ o. behind o (λ names rest. Some (whole (path names), rest))) (names_read n names rest h e)
+
+-- ---- where suffixes end
+
+no_braces : (s : List ℕ) → begins_braces s ≡ false → after (codes " {}") s ≡ None
+no_braces [] h = refl
+no_braces (c ∷ s) h = by_test (c == 32) (λ b. (b && begins_with 123 s) ≡ false → (if b then after (codes "{}") s else None) ≡ None) (λ t k. second s k) (λ t k. refl) h
+  where
+    second : (s : List ℕ) → begins_with 123 s ≡ false → after (codes "{}") s ≡ None
+    second [] k = refl
+    second (d ∷ s) k = rw k refl
+
+pub suffix_ends : (s : List ℕ) → ends_expression s ≡ true → suffix_of s ≡ no_suffix
+unfolding suffix_of
+suffix_ends [] h = refl
+suffix_ends (c ∷ s) h =
+    let a = both_true (ends_type (c ∷ s) && not (c == 34)) (not (begins_braces (c ∷ s))) h in
+    let b = both_true (ends_type (c ∷ s)) (not (c == 34)) a.0 in
+    let t = both_true (ends_path (c ∷ s)) (not (c == 40)) b.0 in
+    let p = both_true (ends_name (c ∷ s)) (not (c == 46)) t.0 in
+    rw (not-true (c == 46) p.1, not-true (c == 40) t.1) (ap braces_or_none (no_braces (c ∷ s) (not-true (begins_braces (c ∷ s)) a.1)))

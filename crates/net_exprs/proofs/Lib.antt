@@ -3,4 +3,6 @@ pub mod Numbers
 pub mod LiteralsRead
 pub mod TypesRead
 pub mod Heads
+pub mod ExpressionsRead
+pub mod ReadBack
 mod Examples

@@ -95,7 +95,7 @@ abbrev pub ranks_text : TypeName → List ℕ
 ranks_text (ty.array_of element rank) = ranks_text element ++ rank_text rank
 ranks_text _ = []
 
-ranks_last : (element : TypeName) (rank : ℕ) (rest : List ℕ) → ranks_text (ty.array_of element rank) ++ rest ≡ ranks_text element ++ (rank_text rank ++ rest)
+pub ranks_last : (element : TypeName) (rank : ℕ) (rest : List ℕ) → ranks_text (ty.array_of element rank) ++ rest ≡ ranks_text element ++ (rank_text rank ++ rest)
 ranks_last element rank rest = append_assoc (ranks_text element) (rank_text rank) rest
 
 pub type_parts : (t : TypeName) → type_text t ≡ type_text (base_of t) ++ ranks_text t
