@@ -1,10 +1,10 @@
 -- What is read from small texts.
-use Rattle.std.proofs.Common.{◌≡◌, ℕ, true, false, pos, negsuc, List, [], ◌∷◌, codes, refl, Option, Some, None}
+use Rattle.std.proofs.Common.{◌≡◌, ℕ, true, false, pos, negsuc, List, [], ◌∷◌, codes, refl, Some}
 use Rattle.net_tree.specs.declared.expression.NetBin.TheVariants as op
 use Rattle.net_tree.specs.declared.expression.NetUn.TheVariants as un
 use Rattle.net_tree.specs.declared.expression.CastWord.TheVariants as word
 use Rattle.net_tree.specs.Types as ty
-use Rattle.net_tree.specs.Tree.{Exp, Exps, binary, boolean, call_of, cast, ctype, decimal, dot, integer, lit, long, me, new_array, new_object, next_exp, no_exps, nothing, paren, path, short, str, type_of, unary, with_dot}
+use Rattle.net_tree.specs.Tree.{Exp, Exps, binary, call_of, cast, ctype, decimal, dot, integer, lit, long, me, new_array, new_object, next_exp, no_exps, path, short, str, type_of, unary, with_dot}
 use Rattle.net_exprs.specs.Types.{basic_type_of}
 use Rattle.net_exprs.specs.Expressions.{exp_at, front_of, keyword_of, operator_at, start_of, suffix_of, word_front}
 

@@ -1,6 +1,5 @@
 -- Expressions are read back: each form, given that its parts are.
-use Rattle.std.proofs.Common.{◌≡◌, ℕ, zero, suc, ◌+◌, ◌-◌, ◌<◌, ◌≤◌, negsuc, Bool, true, false, not, ◌&&◌, ◌==◌, List, [], ◌∷◌, ◌++◌, length, replicate, codes, refl, sym, ap, ◌∙◌, arith, append_assoc, length-append, zero-add, Option, Some, None}
-use Rattle.std.specs.List.{list_all}
+use Rattle.std.proofs.Common.{◌≡◌, ℕ, zero, suc, ◌+◌, ◌-◌, ◌<◌, ◌≤◌, negsuc, Bool, true, false, not, ◌==◌, List, [], ◌∷◌, ◌++◌, replicate, codes, refl, sym, ap, ◌∙◌, arith, append_assoc, zero-add, Option, Some}
 use Rattle.std.specs.Fmt.{digits}
 use Rattle.std.proofs.lemmas.Bool.{not-true}
 use Rattle.net_tree.specs.declared.expression.CastWord.{CastWord}
@@ -12,17 +11,17 @@ use Rattle.net_tree.specs.declared.expression.NetUn.TheVariants as un
 use Rattle.net_tree.specs.Types as ty
 use Rattle.net_tree.specs.Types.{TypeName}
 use Rattle.net_tree.specs.Tree.{Exp, Exps, Literal, binary, boolean, call_of, cast, ctype, decimal, dot, integer, lit, long, me, new_array, new_object, next_exp, no_exps, nothing, paren, path, short, str, type_of, unary, with_dot}
-use Rattle.net_tree.specs.Spelling.{is_identifier, is_path, is_word_part, name_text, path_text, separated}
+use Rattle.net_tree.specs.Spelling.{is_identifier, is_path, name_text, separated}
 use Rattle.net_tree.specs.Literals.{is_writable_literal, literal_text}
-use Rattle.net_tree.specs.Expressions.{arguments_text, cast_text, exp_text, exp_texts, is_no_bound, is_path_exp, is_writable_exp, is_writable_type, operator_text, rank_text, type_text, unary_text}
+use Rattle.net_tree.specs.Expressions.{arguments_text, cast_text, exp_text, exp_texts, is_no_bound, is_path_exp, is_writable_type, operator_text, rank_text, type_text, unary_text}
 use Rattle.net_exprs.specs.Readers.{after, behind, past}
-use Rattle.net_exprs.specs.Ends.{ends_expression, ends_name, ends_path}
+use Rattle.net_exprs.specs.Ends.{ends_expression, ends_name}
 use Rattle.net_exprs.specs.Names.{name_at}
-use Rattle.net_exprs.specs.Types.{base_at, commas_from, type_at}
-use Rattle.net_exprs.specs.Expressions.{Front, Group, Stage, Suffix, array_made, bounded, braces_behind, closed, closed_type, closing, comma, exp_from, false_word, front_of, group_at, group_by, head_at, items, items_behind, items_from, keyword_of, me_word, minus, negation, nothing_word, object_of, object_with, operand, operand_behind, operator_at, parenthesized, rank, ranked, start_of, started, suffix_by, suffix_of, suffixes, true_word, type_test, value_of, whole, with_group, with_ranks, word_front}
-use Rattle.net_exprs.specs.Fitting.{fits_exp, fits_literal}
-use Rattle.net_exprs.proofs.Words.{are_identifiers, both_true, by_test, name_reads, never}
-use Rattle.net_exprs.proofs.LiteralsRead.{ends_literal, is_no_word}
+use Rattle.net_exprs.specs.Types.{base_at, type_at}
+use Rattle.net_exprs.specs.Expressions.{Front, Group, Stage, bounded, closed, closed_type, closing, comma, exp_from, false_word, front_of, group_at, group_by, head_at, items, items_behind, items_from, keyword_of, me_word, minus, negation, nothing_word, operand, operand_behind, operator_at, parenthesized, rank, ranked, start_of, suffix_by, suffix_of, suffixes, true_word, type_test, value_of, whole, with_group, with_ranks, word_front}
+use Rattle.net_exprs.specs.Fitting.{fits_literal}
+use Rattle.net_exprs.proofs.Words.{are_identifiers, both_true, name_reads, never}
+use Rattle.net_exprs.proofs.LiteralsRead.{ends_literal}
 use Rattle.net_exprs.proofs.TypesRead.{array_depth, base_is_none, base_is_writable, base_of, base_reads, ends_ranks, is_array, rank_inside, ranks_last, ranks_text, type_parts, type_reads}
 use Rattle.net_exprs.proofs.Heads.{follows, follows_end, follows_member, literal_ends, literal_head, name_ends, path_ends, path_head, suffix_ends, word_head}
 

@@ -1,26 +1,22 @@
 -- How expressions begin, and where their suffixes end.
-use Rattle.std.proofs.Common.{◌≡◌, ℕ, zero, suc, Bool, true, false, not, ◌&&◌, ◌||◌, ◌==◌, if◌then◌else◌, List, [], ◌∷◌, ◌++◌, codes, refl, sym, ap, ◌∙◌, append_assoc, eqb-true, ⊎_elim, Option, Some, None}
+use Rattle.std.proofs.Common.{◌≡◌, ℕ, Bool, true, false, not, ◌&&◌, ◌||◌, ◌==◌, if◌then◌else◌, List, [], ◌∷◌, ◌++◌, codes, refl, sym, ap, ◌∙◌, append_assoc, eqb-true, ⊎_elim, Option, Some, None}
 use Rattle.std.specs.List.{list_all}
 use Rattle.std.proofs.lemmas.Bool.{not-true, or_cases}
 use Rattle.net_tree.specs.declared.expression.CastWord.{CastWord}
 use Rattle.net_tree.specs.declared.expression.CastWord.TheVariants as word
-use Rattle.net_tree.specs.declared.expression.NetBin.{NetBin}
-use Rattle.net_tree.specs.declared.expression.NetBin.TheVariants as op
-use Rattle.net_tree.specs.declared.expression.NetUn.{NetUn}
-use Rattle.net_tree.specs.declared.expression.NetUn.TheVariants as un
-use Rattle.net_tree.specs.Tree.{Exp, Exps, Literal, binary, boolean, call_of, cast, ctype, decimal, dot, integer, lit, long, me, new_array, new_object, next_exp, no_exps, nothing, paren, path, short, str, type_of, unary, with_dot}
-use Rattle.net_tree.specs.Spelling.{is_bracketed, is_identifier, is_path, is_same_text, is_word_part, name_text, path_text}
+use Rattle.net_tree.specs.Tree.{Exp, Literal, binary, boolean, call_of, cast, ctype, decimal, dot, integer, lit, long, me, new_array, new_object, nothing, paren, path, short, str, type_of, unary, with_dot}
+use Rattle.net_tree.specs.Spelling.{is_bracketed, is_identifier, is_word_part, name_text, path_text}
 use Rattle.net_tree.specs.Literals.{is_writable_literal, literal_text}
-use Rattle.net_tree.specs.Expressions.{arguments_text, cast_text, exp_text, exp_texts, is_path_exp, is_writable_exp, are_writable_exps, operator_text}
+use Rattle.net_tree.specs.Expressions.{arguments_text, cast_text, exp_text, is_path_exp, is_writable_exp, are_writable_exps}
 use Rattle.net_exprs.specs.Readers.{after, behind, word_at}
 use Rattle.net_exprs.specs.Ends.{begins_braces, begins_with, ends_expression, ends_name, ends_path, ends_type}
-use Rattle.net_exprs.specs.Names.{begins_digit, is_digit, path_at}
+use Rattle.net_exprs.specs.Names.{begins_digit, is_digit}
 use Rattle.net_exprs.specs.Literals.{literal_at}
-use Rattle.net_exprs.specs.Expressions.{Front, Group, Keyword, Stage, Start, Suffix, braces, braces_or_none, bracket_start, closing, comma, false_word, front_of, head_at, keyword_of, keywords, literal_start, me_word, member, minus, negation, no_suffix, nothing_word, operand, path_stage, start_of, started, suffix_of, true_word, type_test, whole, word_front, word_start, worded}
+use Rattle.net_exprs.specs.Expressions.{Keyword, braces_or_none, bracket_start, front_of, head_at, keyword_of, keywords, literal_start, no_suffix, operand, path_stage, start_of, started, suffix_of, whole, word_front, word_start, worded}
 use Rattle.net_exprs.specs.Fitting.{fits_exp, fits_exps, fits_literal}
-use Rattle.net_exprs.proofs.Words.{BeginsPath, are_identifiers, both_true, by_test, is_other, is_path_start, is_unlike, never, not_in_table, path_start, path_word, word_reads, names_read}
+use Rattle.net_exprs.proofs.Words.{BeginsPath, are_identifiers, both_true, by_test, is_other, is_unlike, never, not_in_table, path_start, path_word, word_reads, names_read}
 use Rattle.net_exprs.proofs.Numbers.{begins_no_digit, is_word_digit}
-use Rattle.net_exprs.proofs.LiteralsRead.{BeginsLiteral, begins_places, ends_literal, is_literal_start, is_no_word, literal_begins, literal_reads}
+use Rattle.net_exprs.proofs.LiteralsRead.{begins_places, ends_literal, is_literal_start, is_no_word, literal_begins, literal_reads}
 
 -- ---- what may follow
 

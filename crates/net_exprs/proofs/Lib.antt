@@ -5,4 +5,5 @@ pub mod TypesRead
 pub mod Heads
 pub mod ExpressionsRead
 pub mod ReadBack
+pub mod Printable
 mod Examples

@@ -1,21 +1,19 @@
 -- Literals are read back.
-use Rattle.std.proofs.Common.{◌≡◌, ℕ, zero, suc, ◌+◌, ◌-◌, ◌*◌, ◌^◌, ◌/◌, ◌%◌, ◌<◌, ◌≤◌, ℤ, pos, negsuc, Bool, true, false, not, ◌&&◌, ◌||◌, ◌==◌, nat_le, nat_lt, if◌then◌else◌, List, [], ◌∷◌, ◌++◌, codes, refl, sym, ap, ◌∙◌, arith, append_assoc, eqb-true, lt-ltb, le-ltb, le-leb, leb-true, ltb-true, lt_of_lt_of_le, lt_of_le_of_lt, div-le_self, decimal, Option, Some, lit≤}
+use Rattle.std.proofs.Common.{◌≡◌, ℕ, suc, ◌+◌, ◌-◌, ◌*◌, ◌^◌, ◌/◌, ◌%◌, ◌<◌, ℤ, pos, negsuc, Bool, true, false, not, ◌&&◌, ◌||◌, ◌==◌, nat_le, nat_lt, if◌then◌else◌, List, [], ◌∷◌, ◌++◌, codes, refl, sym, ap, ◌∙◌, arith, append_assoc, eqb-true, lt-ltb, le-ltb, le-leb, leb-true, ltb-true, lt_of_lt_of_le, lt_of_le_of_lt, div-le_self, decimal, Some, lit≤}
 use Rattle.std.specs.Char.{encode_utf8}
 use Rattle.std.specs.List.{flat_map, list_all}
 use Rattle.std.proofs.lemmas.Bool.{not-true}
-use Rattle.std.proofs.lemmas.Bool.Decides.{nat_tests}
 use Rattle.up_base.specs.Names.{is_printable}
 use Rattle.net_tree.specs.Tree as tree
 use Rattle.net_tree.specs.Tree.{Literal, boolean, integer, long, short, str}
 use Rattle.net_tree.specs.Spelling.{is_word_part}
 use Rattle.net_tree.specs.Literals.{amount_text, bit_pattern, fraction_text, hexadecimal, is_writable_literal, literal_text, places_text, quoted_unit}
-use Rattle.net_exprs.specs.Readers.{past}
 use Rattle.net_exprs.specs.Ends.{begins_with, ends_name}
 use Rattle.net_exprs.specs.Names.{begins_digit, is_digit, numeral_from}
 use Rattle.net_exprs.specs.Literals.{decimal_literal, fraction_literal, hexadecimal_literal, literal_at, places_from, signed_number, text_literal, units_at, with_unit}
 use Rattle.net_exprs.specs.Fitting.{fits_half, fits_literal}
-use Rattle.net_exprs.proofs.Words.{both_true, by_test, is_other, never}
-use Rattle.net_exprs.proofs.Numbers.{BeginsDigit, decimal_begins, decimal_reads, ends_decimal, ends_numeral, hexadecimal_reads}
+use Rattle.net_exprs.proofs.Words.{both_true, by_test, never}
+use Rattle.net_exprs.proofs.Numbers.{decimal_begins, decimal_reads, ends_decimal, ends_numeral, hexadecimal_reads}
 
 -- whether a decimal point and a digit stand at the front
 abbrev pub begins_places : List ℕ → Bool

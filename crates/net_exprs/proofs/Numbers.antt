@@ -1,10 +1,10 @@
 -- Numbers and labels are read back.
-use Rattle.std.proofs.Common.{◌≡◌, ℕ, zero, suc, ◌+◌, ◌*◌, ◌^◌, ◌/◌, ◌%◌, ◌<◌, ◌≤◌, Bool, true, false, not, ◌&&◌, ◌==◌, nat_le, nat_lt, cond, if◌then◌else◌, List, [], ◌∷◌, ◌++◌, length, map, codes, refl, sym, ap, ◌∙◌, arith, eqb-true, lt-ltb, le-ltb, ltb-true, ltb-false, lt_of_lt_of_le, decimal, Option, Some, lit≤}
+use Rattle.std.proofs.Common.{◌≡◌, ℕ, ◌+◌, ◌*◌, ◌^◌, ◌<◌, Bool, true, false, not, ◌==◌, nat_lt, cond, if◌then◌else◌, List, [], ◌∷◌, ◌++◌, length, map, codes, refl, sym, ap, ◌∙◌, arith, eqb-true, lt-ltb, le-ltb, ltb-true, ltb-false, lt_of_lt_of_le, decimal, Some, lit≤}
 use Rattle.std.specs.Char.{digit_value}
 use Rattle.std.specs.Fmt.{digit_glyph}
-use Rattle.std.specs.Int.Digits.{AllBelowBase, digits_of, number_from_digits_after, number_from_digits}
+use Rattle.std.specs.Int.Digits.{AllBelowBase, digits_of, number_from_digits_after}
 use Rattle.std.specs.List.{list_all}
-use Rattle.std.specs.Str.Parse.{AllDigits, digits_value, digits_value_after}
+use Rattle.std.specs.Str.Parse.{AllDigits, digits_value_after}
 use Rattle.std.proofs.lemmas.Bool.{not-true}
 use Rattle.std.proofs.lemmas.Bool.Decides.{nat_tests}
 use Rattle.std.proofs.lemmas.Fmt.{decimal_is_IsNumeral_wide}
@@ -15,9 +15,9 @@ use Rattle.net_tree.specs.Spelling.{is_bracketed, is_identifier, is_word_part, n
 use Rattle.net_tree.specs.Literals.{hexadecimal}
 use Rattle.net_exprs.specs.Readers.{behind}
 use Rattle.net_exprs.specs.Ends.{ends_name}
-use Rattle.net_exprs.specs.Names.{begins_digit, is_digit, label_at, name_at, number_at, numeral_from}
+use Rattle.net_exprs.specs.Names.{begins_digit, is_digit, number_at, numeral_from}
 use Rattle.net_exprs.specs.Laws.{LabelsAreRead}
-use Rattle.net_exprs.proofs.Words.{both_true, by_test, is_other, is_word, name_reads, never}
+use Rattle.net_exprs.proofs.Words.{both_true, by_test, name_reads, never}
 
 -- whether no digit of a base stands at the front
 abbrev pub ends_numeral : (base : ℕ) → List ℕ → Bool

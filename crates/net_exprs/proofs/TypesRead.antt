@@ -1,17 +1,16 @@
 -- Ranks and types are read back.
-use Rattle.std.proofs.Common.{◌≡◌, ℕ, zero, suc, ◌+◌, ◌-◌, ◌≤◌, Bool, true, false, not, ◌&&◌, ◌==◌, if◌then◌else◌, List, [], ◌∷◌, ◌++◌, length, replicate, codes, refl, sym, ap, ◌∙◌, arith, append_assoc, length-append, append-nil, zero-add, eq-eqb, true≢false, Option, Some, None}
+use Rattle.std.proofs.Common.{◌≡◌, ℕ, zero, suc, ◌+◌, ◌-◌, ◌≤◌, Bool, true, false, not, ◌==◌, List, [], ◌∷◌, ◌++◌, length, replicate, codes, refl, sym, ap, ◌∙◌, arith, append_assoc, length-append, append-nil, zero-add, Some, None}
 use Rattle.std.specs.List.{list_all}
 use Rattle.std.proofs.lemmas.Bool.{not-true}
 use Rattle.net_tree.specs.Types as ty
 use Rattle.net_tree.specs.Types.{TypeName}
-use Rattle.net_tree.specs.Spelling.{is_bracketed, is_identifier, is_library_path, is_path, is_same_path, is_word_part, name_text, path_text, separated}
+use Rattle.net_tree.specs.Spelling.{is_bracketed, is_identifier, is_same_path, is_word_part, path_text}
 use Rattle.net_tree.specs.Expressions.{is_writable_type, rank_text, type_text}
 use Rattle.net_exprs.specs.Readers.{behind, word_at}
 use Rattle.net_exprs.specs.Ends.{begins_with, ends_name, ends_path, ends_type}
-use Rattle.net_exprs.specs.Names.{path_at}
 use Rattle.net_exprs.specs.Types.{arrays_behind, arrays_from, base_at, base_by, basic_type_of, basic_types, commas_from, path_type, rank_at, type_at}
 use Rattle.net_exprs.specs.Laws.{RanksAreRead, TypesAreRead}
-use Rattle.net_exprs.proofs.Words.{both_true, by_test, is_word, never, names_read, not_in_table, path_word, word_reads}
+use Rattle.net_exprs.proofs.Words.{both_true, never, names_read, not_in_table, path_word, word_reads}
 
 -- ---- ranks
 

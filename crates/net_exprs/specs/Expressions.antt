@@ -1,10 +1,9 @@
 -- How expressions and their arguments are read.
-use Rattle.std.specs.Prelude.{ℕ, zero, suc, negsuc, Bool, true, false, ◌||◌, ◌==◌, if◌then◌else◌, List, [], ◌∷◌, length, codes, Option, Some, None}
+use Rattle.std.specs.Prelude.{ℕ, zero, suc, negsuc, true, false, ◌||◌, ◌==◌, if◌then◌else◌, List, [], ◌∷◌, length, codes, Option, Some, None}
 use Rattle.net_tree.specs.declared.expression.CastWord.{CastWord}
 use Rattle.net_tree.specs.declared.expression.CastWord.TheVariants as word
 use Rattle.net_tree.specs.declared.expression.NetBin.{NetBin}
 use Rattle.net_tree.specs.declared.expression.NetBin.TheVariants as op
-use Rattle.net_tree.specs.declared.expression.NetUn.{NetUn}
 use Rattle.net_tree.specs.declared.expression.NetUn.TheVariants as un
 use Rattle.net_tree.specs.Types.{TypeName, array_of}
 use Rattle.net_tree.specs.Tree.{Exp, Exps, binary, boolean, call_of, cast, ctype, dot, integer, lit, me, new_array, new_object, next_exp, no_exps, nothing, paren, path, type_of, unary, with_dot}

@@ -1,5 +1,5 @@
 -- Whether the numbers of labels and expressions fit their types.
-use Rattle.std.specs.Prelude.{ℕ, suc, ◌^◌, ℤ, pos, negsuc, Bool, true, ◌&&◌, nat_lt, nat_le}
+use Rattle.std.specs.Prelude.{ℕ, ◌^◌, ℤ, pos, negsuc, Bool, true, ◌&&◌, nat_lt}
 use Rattle.net_tree.specs.declared.line.NetLabel.{NetLabel}
 use Rattle.net_tree.specs.declared.line.NetLabel.TheVariants.{Word, Number}
 use Rattle.net_tree.specs.Tree.{Literal, Exp, Exps, binary, boolean, call_of, cast, ctype, decimal, dot, integer, lit, long, me, new_array, new_object, next_exp, no_exps, nothing, paren, path, short, str, type_of, unary, with_dot}

@@ -4,7 +4,7 @@ use Rattle.std.specs.List.{list_all}
 use Rattle.up_base.specs.Names.{is_printable}
 use Rattle.net_tree.specs.declared.line.NetLabel.{NetLabel}
 use Rattle.net_tree.specs.Types.{TypeName}
-use Rattle.net_tree.specs.Tree.{Exp, Exps, Literal}
+use Rattle.net_tree.specs.Tree.{Exp, Exps}
 use Rattle.net_tree.specs.Spelling.{is_identifier, is_label, is_path, label_text, name_text, path_text}
 use Rattle.net_tree.specs.Expressions.{are_writable_exps, arguments_text, exp_text, is_writable_exp, is_writable_type, rank_text, type_text}
 use Rattle.net_exprs.specs.Ends.{ends_expression, ends_name, ends_path, ends_type}
