@@ -1,12 +1,11 @@
 -- Procedures are read back behind their heads.
-use Rattle.std.proofs.Common.{◌≡◌, ℕ, suc, Bool, true, false, cond, not, ◌&&◌, List, [], ◌∷◌, ◌++◌, map, codes, refl, sym, ap, subst, ◌∙◌, append_assoc, append-nil, Option, Some}
+use Rattle.std.proofs.Common.{◌≡◌, ℕ, suc, Bool, true, false, ◌&&◌, List, [], ◌∷◌, ◌++◌, codes, refl, sym, ap, subst, ◌∙◌, append_assoc, append-nil, Option, Some}
 use Rattle.std.specs.Prelude.{drop, option_map}
 use Rattle.std.specs.List.{flat_map, list_all}
-use Rattle.net_tree.specs.declared.declaration.NetClose.{NetClose}
 use Rattle.net_tree.specs.declared.declaration.NetClose.TheVariants as close
 use Rattle.net_tree.specs.declared.line.NetExit.{NetExit}
 use Rattle.net_tree.specs.declared.line.NetExit.TheVariants as leaving
-use Rattle.net_tree.specs.Tree.{Dim, Exp, Head, Line, Procedure, assign, call, call_of, exit, label, redim}
+use Rattle.net_tree.specs.Tree.{Dim, Head, Line, Procedure, assign, call, call_of, exit, label, redim}
 use Rattle.net_tree.specs.Blocks.{depth_at, depth_behind, role_of}
 use Rattle.net_tree.specs.Spelling.{at_depth, label_text}
 use Rattle.net_tree.specs.Expressions.{exp_text, is_writable_exp}
@@ -15,9 +14,8 @@ use Rattle.net_tree.specs.Declarations.{close_text, dim_text, head_text, is_writ
 use Rattle.net_exprs.proofs.Words.{both_true}
 use Rattle.net_reader.specs.DeclarationReader.{close_at, close_by, dim_at, dim_by}
 use Rattle.net_reader.specs.Fits.{fits_dim, fits_line}
-use Rattle.net_reader.specs.LineReader.{line_at}
 use Rattle.net_reader.specs.ModuleReader.{Grown, State, closed, going, grown, grown_by, grown_by_line, headed, step, with_dim, with_line}
-use Rattle.net_reader.specs.Words.{behind_word, keyword_at, line_words}
+use Rattle.net_reader.specs.Words.{behind_word, line_words}
 use Rattle.net_reader.proofs.DeclarationsRead.{close_reads, dim_closes_none, dim_reads}
 use Rattle.net_reader.proofs.LinesRead.{label_opens, line_reads, no_keyword}
 use Rattle.net_reader.proofs.LineTexts.{close_is, dim_is, line_is}

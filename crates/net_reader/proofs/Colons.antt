@@ -1,5 +1,5 @@
 -- No expression has a colon at its end.
-use Rattle.std.proofs.Common.{◌≡◌, ℕ, Bool, true, false, not, ◌&&◌, ◌==◌, pos, negsuc, if◌then◌else◌, List, [], ◌∷◌, ◌++◌, map, codes, refl, sym, ap, subst, ◌∙◌, map-id, decimal}
+use Rattle.std.proofs.Common.{◌≡◌, ℕ, true, false, not, ◌&&◌, pos, negsuc, if◌then◌else◌, List, [], ◌∷◌, ◌++◌, map, codes, refl, subst, ◌∙◌, map-id, decimal}
 use Rattle.std.specs.List.{list_all, flat_map}
 use Rattle.net_tree.specs.Tree.{Exp, Exps, Literal, binary, boolean, call_of, cast, ctype, dot, integer, lit, long, me, new_array, new_object, nothing, paren, path, short, str, type_of, unary, with_dot}
 use Rattle.net_tree.specs.Tree as tree

@@ -1,11 +1,11 @@
 -- A written line is the next line of its file.
-use Rattle.std.proofs.Common.{◌≡◌, ℕ, zero, suc, ◌*◌, Bool, true, false, cond, not, ◌&&◌, ◌||◌, List, [], ◌∷◌, ◌++◌, refl, ap, ◌∙◌, eqb, replicate, map}
+use Rattle.std.proofs.Common.{◌≡◌, ℕ, zero, suc, ◌*◌, Bool, true, false, not, ◌||◌, List, [], ◌∷◌, ◌++◌, refl, ap, ◌∙◌, eqb, replicate, map}
 use Rattle.std.specs.List.{list_all}
 use Rattle.up_base.specs.LineEnd.{line_end}
 use Rattle.net_tree.specs.Comments.{is_within_line}
 use Rattle.net_tree.specs.Spelling.{at_depth}
-use Rattle.net_reader.specs.FileLines.{before_lines, cut_lines, lines_in, onto_first, without_indent, without_return}
-use Rattle.net_reader.proofs.Tests.{both_true, and_true, if_true, if_false, all_append}
+use Rattle.net_reader.specs.FileLines.{before_lines, cut_lines, lines_in, without_indent, without_return}
+use Rattle.net_reader.proofs.Tests.{both_true, if_false, all_append}
 
 neither : (a b : Bool) → not (a || b) ≡ true → (a ≡ false) × (b ≡ false)
 neither false false h = (refl, refl)

@@ -1,5 +1,5 @@
 -- The lines of declarations are read back.
-use Rattle.std.proofs.Common.{◌≡◌, ℕ, zero, suc, Bool, true, false, cond, not, ◌&&◌, ◌==◌, List, [], ◌∷◌, ◌++◌, length, map, codes, refl, sym, ap, subst, ◌∙◌, append_assoc, append-nil, Option, Some}
+use Rattle.std.proofs.Common.{◌≡◌, ℕ, true, false, not, ◌&&◌, ◌==◌, List, [], ◌∷◌, ◌++◌, map, codes, refl, sym, ap, ◌∙◌, append_assoc, append-nil, Option, Some}
 use Rattle.std.specs.Prelude.{drop, option_map, option_and_then}
 use Rattle.std.specs.List.{list_all}
 use Rattle.std.proofs.lemmas.Bool.{not-true}
@@ -8,29 +8,25 @@ use Rattle.net_tree.specs.declared.declaration.NetClose.TheVariants as close
 use Rattle.net_tree.specs.declared.declaration.NetPassing.{NetPassing}
 use Rattle.net_tree.specs.declared.declaration.NetPassing.TheVariants as passing
 use Rattle.net_tree.specs.declared.declaration.NetVisibility.{NetVisibility}
-use Rattle.net_tree.specs.declared.declaration.NetVisibility.TheVariants.{Public, Private, Friend}
 use Rattle.net_tree.specs.Types as ty
 use Rattle.net_tree.specs.Types.{TypeName}
-use Rattle.net_tree.specs.Tree.{Constant, Dim, Exp, Field, Head, Param, Property, Variable, constant, field, field_comment, function, get_part, local, set_part, static_local, sub, sub_new}
+use Rattle.net_tree.specs.Tree.{Constant, Dim, Exp, Field, Param, Property, Variable, constant, field, field_comment, function, local, set_part, static_local, sub}
 use Rattle.net_tree.specs.Spelling.{is_identifier, name_text, separated}
 use Rattle.net_tree.specs.Expressions.{exp_text, is_writable_exp, is_writable_type, rank_text, type_text}
 use Rattle.net_tree.specs.Lines.{is_writable_option}
-use Rattle.net_tree.specs.Declarations.{close_text, constant_text, declared_text, dim_text, field_text, is_writable_constant, is_writable_dim, is_writable_field, is_writable_param, is_writable_variable, param_text, params_text, passing_text, value_text, variable_text}
-use Rattle.net_exprs.specs.Ends.{begins_with, ends_name, ends_type}
-use Rattle.net_exprs.specs.Fitting.{fits_exp}
-use Rattle.net_exprs.specs.Names.{name_at}
-use Rattle.net_exprs.specs.Types.{rank_at, type_at}
-use Rattle.net_exprs.proofs.Words.{both_true, never}
+use Rattle.net_tree.specs.Declarations.{close_text, declared_text, dim_text, field_text, is_writable_constant, is_writable_dim, is_writable_field, is_writable_param, is_writable_variable, param_text, params_text, passing_text, value_text, variable_text}
+use Rattle.net_exprs.specs.Ends.{begins_with, ends_type}
+use Rattle.net_exprs.specs.Types.{type_at}
+use Rattle.net_exprs.proofs.Words.{both_true, name_reads}
+use Rattle.net_exprs.proofs.TypesRead.{rank_reads, type_reads}
 use Rattle.net_reader.specs.DeclarationReader.{Declared, Signature, close_at, constant_in, declared_at, declared_behind, dim_at, field_at, function_in, param_at, param_of, params_at, property_in, set_in, signature_at, sub_by, sub_in, value_in, variable_in}
 use Rattle.net_reader.specs.Fits.{fits_constant, fits_dim, fits_field, fits_option, fits_variable}
-use Rattle.net_reader.specs.Items.{items_at}
 use Rattle.net_reader.specs.LineReader.{exp_in}
 use Rattle.net_reader.specs.Words.{line_words}
-use Rattle.net_reader.proofs.Assumed.{name_reads, rank_reads, type_reads}
 use Rattle.net_reader.proofs.ItemsRead.{all_items_read}
 use Rattle.net_reader.proofs.LinesRead.{exp_reads, first_item, behind_first}
 use Rattle.net_reader.proofs.Openings.{name_is_no_word}
-use Rattle.net_reader.proofs.Tests.{if_false, if_true}
+use Rattle.net_reader.proofs.Tests.{if_false}
 use Rattle.net_reader.proofs.Units.{units_read}
 
 -- ---- what a name is declared as

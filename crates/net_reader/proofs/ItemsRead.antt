@@ -1,10 +1,10 @@
 -- Items with a comma and a blank between them are read back.
-use Rattle.std.proofs.Common.{◌≡◌, ℕ, zero, suc, ◌≤◌, Bool, true, false, cond, ◌&&◌, List, [], ◌∷◌, ◌++◌, length, map, codes, refl, sym, ap, ◌∙◌, arith, append_assoc, length-append, Option, Some}
+use Rattle.std.proofs.Common.{◌≡◌, ℕ, zero, suc, ◌≤◌, Bool, true, false, cond, List, [], ◌∷◌, ◌++◌, length, map, codes, ap, ◌∙◌, arith, append_assoc, length-append, Option, Some}
 use Rattle.std.specs.Prelude.{drop, option_map, option_and_then}
 use Rattle.std.specs.List.{list_all}
 use Rattle.net_tree.specs.Spelling.{separated}
 use Rattle.net_exprs.specs.Ends.{begins_with}
-use Rattle.net_exprs.proofs.Words.{both_true, never}
+use Rattle.net_exprs.proofs.Words.{both_true}
 use Rattle.net_reader.specs.Items.{items_at}
 use Rattle.net_reader.proofs.Tests.{if_false}
 

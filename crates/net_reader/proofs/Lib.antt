@@ -4,7 +4,6 @@ pub mod CutLines
 pub mod Openings
 pub mod Colons
 pub mod ItemsRead
-pub mod Assumed
 pub mod LinesRead
 pub mod LineTexts
 pub mod DeclarationsRead

@@ -1,5 +1,5 @@
 -- Written lines are lines: they hold no line end, and begin with no blank.
-use Rattle.std.proofs.Common.{◌≡◌, ℕ, zero, suc, ◌-◌, Bool, true, false, not, ◌&&◌, ◌||◌, ◌==◌, List, [], ◌∷◌, ◌++◌, map, codes, replicate, refl, sym, ap, subst, arith, append_assoc, Option, Some}
+use Rattle.std.proofs.Common.{◌≡◌, ℕ, zero, suc, ◌-◌, Bool, true, false, not, ◌&&◌, ◌==◌, List, [], ◌∷◌, ◌++◌, map, codes, replicate, refl, subst, arith, append_assoc, Option, Some}
 use Rattle.std.specs.List.{list_all}
 use Rattle.std.proofs.lemmas.Bool.Decides.{nat_tests}
 use Rattle.up_base.specs.Names.{is_printable}
@@ -22,13 +22,13 @@ use Rattle.net_tree.specs.Spelling.{is_handler_label, is_identifier, is_label, l
 use Rattle.net_tree.specs.Comments.{comment_text, is_comment, is_within_line}
 use Rattle.net_tree.specs.Expressions.{exp_text, is_writable_exp, is_writable_type, rank_text, sign_text, type_text}
 use Rattle.net_tree.specs.Lines.{case_item_text, is_writable_case, is_writable_line, is_writable_option, is_writable_redim, line_text, redim_item_text, step_text}
-use Rattle.net_tree.specs.Declarations.{access_text, close_text, constant_text, declared_text, dim_text, field_text, head_text, is_writable_constant, is_writable_dim, is_writable_field, is_writable_head, is_writable_param, is_writable_variable, param_text, params_text, passing_text, property_head_text, value_text, variable_text, visibility_text}
+use Rattle.net_tree.specs.Declarations.{access_text, close_text, constant_text, declared_text, dim_text, field_text, head_text, is_writable_constant, is_writable_dim, is_writable_field, is_writable_head, is_writable_param, is_writable_variable, param_text, params_text, passing_text, value_text, variable_text, visibility_text}
 use Rattle.net_exprs.proofs.Words.{both_true, never}
-use Rattle.net_reader.proofs.Assumed.{expression_stays, label_stays, name_stays, type_stays}
+use Rattle.net_exprs.proofs.Printable.{expression_stays, label_stays, name_stays, type_stays}
 use Rattle.net_reader.proofs.CutLines.{IsLine, begins_line}
 use Rattle.net_reader.proofs.LinesRead.{label_opens}
-use Rattle.net_reader.proofs.Openings.{Opens, begins_text, exp_opens, name_opens}
-use Rattle.net_reader.proofs.Tests.{all_append, all_more, and_true}
+use Rattle.net_reader.proofs.Openings.{begins_text, exp_opens}
+use Rattle.net_reader.proofs.Tests.{all_append, all_more}
 use Rattle.net_reader.proofs.Units.{utf8_within}
 
 -- ---- parts

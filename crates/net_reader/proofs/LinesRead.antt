@@ -1,5 +1,5 @@
 -- Lines of procedures are read back.
-use Rattle.std.proofs.Common.{◌≡◌, ℕ, zero, suc, Bool, true, false, cond, not, ◌&&◌, ◌==◌, List, [], ◌∷◌, ◌++◌, length, map, codes, refl, sym, ap, subst, ◌∙◌, append_assoc, append-nil, Option, Some}
+use Rattle.std.proofs.Common.{◌≡◌, ℕ, zero, suc, Bool, true, false, not, ◌&&◌, ◌==◌, List, [], ◌∷◌, ◌++◌, length, map, codes, refl, sym, ap, ◌∙◌, append_assoc, append-nil, Option, Some}
 use Rattle.std.specs.Prelude.{drop, option_map, option_and_then}
 use Rattle.std.specs.List.{list_all}
 use Rattle.std.proofs.lemmas.Bool.{not-true}
@@ -11,19 +11,19 @@ use Rattle.net_tree.specs.declared.line.NetLabel.{NetLabel}
 use Rattle.net_tree.specs.declared.line.NetLabel.TheVariants.{Word, Number}
 use Rattle.net_tree.specs.Tree.{CaseItem, Exp, Line, ReDimItem, assign, call, call_of, case_else, case_is, case_line, case_range, case_value, comment, do_head, do_until, do_while, else_if, else_line, end_if, end_select, end_while, end_with, exit, for_head, goto, if_head, label, loop, loop_until, loop_while, next, on_error_goto, on_error_goto_zero, on_error_resume_next, redim, resume, resume_at, resume_next, select, while_head, with_head}
 use Rattle.net_tree.specs.Spelling.{label_text, separated, is_handler_label, is_label}
-use Rattle.net_tree.specs.Expressions.{arguments_text, exp_text, is_writable_exp}
-use Rattle.net_tree.specs.Lines.{case_item_text, is_writable_case, is_writable_line, is_writable_option, is_writable_redim, line_text, redim_item_text, step_text}
+use Rattle.net_tree.specs.Expressions.{exp_text, is_writable_exp}
+use Rattle.net_tree.specs.Lines.{case_item_text, is_writable_case, is_writable_option, is_writable_redim, line_text, redim_item_text, step_text}
 use Rattle.net_exprs.specs.Ends.{begins_with, ends_expression, ends_name}
 use Rattle.net_exprs.specs.Expressions.{exp_at}
 use Rattle.net_exprs.specs.Fitting.{fits_exp, fits_label}
 use Rattle.net_exprs.proofs.Words.{both_true, never}
-use Rattle.net_reader.specs.Fits.{fits_case, fits_line, fits_option, fits_redim}
+use Rattle.net_exprs.proofs.Numbers.{label_reads}
+use Rattle.net_exprs.proofs.ReadBack.{expression_reads}
+use Rattle.net_reader.specs.Fits.{fits_case, fits_option, fits_redim}
 use Rattle.net_reader.specs.Items.{items_at}
 use Rattle.net_reader.specs.Laws.{LinesAreRead}
 use Rattle.net_reader.specs.LineReader.{case_item_at, case_item_by, case_of, case_value_of, exp_in, for_in, handler_of, label_in, line_at, line_by, plain_line, redim_by, redim_in, redim_item_at, redim_item_of, resume_of, statement_of, step_in}
-use Rattle.net_reader.specs.Words as w
 use Rattle.net_reader.specs.Words.{ends_with, keyword_at, line_words}
-use Rattle.net_reader.proofs.Assumed.{expression_reads, label_reads}
 use Rattle.net_reader.proofs.Colons.{ends_both, ends_last, exp_ends}
 use Rattle.net_reader.proofs.ItemsRead.{all_items_read}
 use Rattle.net_reader.proofs.Openings.{Opens, begins_text, decimal_begins, digit_opens, exp_opens, name_opens, then_opens}

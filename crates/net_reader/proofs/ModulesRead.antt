@@ -1,6 +1,6 @@
 -- Modules are read back from their files.
-use Rattle.std.proofs.Common.{◌≡◌, ℕ, suc, Bool, true, false, cond, not, ◌&&◌, ◌||◌, nat_le, List, [], ◌∷◌, ◌++◌, length, map, codes, refl, sym, ap, subst, ◌∙◌, append_assoc, append-nil, Option, Some}
-use Rattle.std.specs.Prelude.{drop, option_map, option_and_then, is_some}
+use Rattle.std.proofs.Common.{◌≡◌, ℕ, Bool, true, false, not, ◌&&◌, ◌||◌, nat_le, List, [], ◌∷◌, ◌++◌, length, codes, refl, sym, ap, subst, ◌∙◌, append_assoc, append-nil, Option, Some}
+use Rattle.std.specs.Prelude.{option_map, option_and_then, is_some}
 use Rattle.std.specs.List.{flat_map, list_all}
 use Rattle.std.proofs.lemmas.Bool.{not-true}
 use Rattle.up_base.specs.Names.{is_printable}
@@ -8,29 +8,27 @@ use Rattle.net_tree.specs.declared.declaration.NetVisibility.{NetVisibility}
 use Rattle.net_tree.specs.declared.declaration.NetVisibility.TheVariants.{Public, Private, Friend}
 use Rattle.net_tree.specs.Types as ty
 use Rattle.net_tree.specs.Types.{TypeName}
-use Rattle.net_tree.specs.Tree.{Constant, Exp, Field, Head, Member, Module, Param, Procedure, Property, Structure, Variable, const_member, field, field_comment, function, get_part, member_comment, proc, property, set_part, structure, sub, sub_new, variable}
+use Rattle.net_tree.specs.Tree.{Constant, Exp, Field, Head, Member, Procedure, Property, Structure, Variable, const_member, field, field_comment, function, get_part, member_comment, proc, property, set_part, structure, sub, sub_new, variable}
 use Rattle.net_tree.specs.Spelling.{at_depth, is_identifier, name_text}
 use Rattle.net_tree.specs.Comments.{comment_text, is_comment}
 use Rattle.net_tree.specs.Blocks.{nests}
-use Rattle.net_tree.specs.Expressions.{exp_text, is_writable_type, rank_text, type_text}
+use Rattle.net_tree.specs.Expressions.{is_writable_type, rank_text, type_text}
 use Rattle.net_tree.specs.Lines.{is_writable_line}
-use Rattle.net_tree.specs.Declarations.{access_text, closes, constant_text, declared_text, field_text, head_text, is_get, is_set, is_writable_constant, is_writable_dim, is_writable_field, is_writable_head, is_writable_member, is_writable_param, is_writable_part, is_writable_procedure, is_writable_property, is_writable_structure, is_writable_variable, member_text, params_text, part_text, procedure_text, property_head_text, property_text, structure_text, value_text, variable_text, visibility_text}
-use Rattle.net_tree.specs.Text.{byte_order_mark, is_note, is_writable_module, kind_text, module_text, note_text, options_text}
+use Rattle.net_tree.specs.Declarations.{access_text, closes, constant_text, declared_text, field_text, head_text, is_get, is_set, is_writable_constant, is_writable_dim, is_writable_field, is_writable_head, is_writable_member, is_writable_param, is_writable_part, is_writable_procedure, is_writable_property, is_writable_structure, is_writable_variable, member_text, params_text, part_text, procedure_text, property_head_text, value_text, variable_text, visibility_text}
+use Rattle.net_tree.specs.Text.{is_note, kind_text, note_text, options_text}
 use Rattle.net_exprs.specs.Ends.{ends_name}
 use Rattle.net_exprs.specs.Names.{name_at}
-use Rattle.net_exprs.proofs.Words.{both_true, never}
-use Rattle.net_reader.specs.DeclarationReader.{constant_in, field_at, function_in, property_in, set_in, sub_in, variable_in}
+use Rattle.net_exprs.proofs.Words.{both_true, name_reads, never}
+use Rattle.net_reader.specs.DeclarationReader.{field_at, property_in}
 use Rattle.net_reader.specs.FileLines.{lines_in}
-use Rattle.net_reader.specs.Fits.{fits_constant, fits_dim, fits_field, fits_line, fits_member, fits_module, fits_part, fits_procedure, fits_variable}
+use Rattle.net_reader.specs.Fits.{fits_constant, fits_dim, fits_field, fits_line, fits_member, fits_part, fits_procedure, fits_variable}
 use Rattle.net_reader.specs.Laws.{ModulesAreRead}
-use Rattle.net_reader.specs.ModuleReader.{Grown, NotedModule, State, among_members, behind_part, behind_procedure, closed, ended, going, headed, heading, in_part, in_procedure, in_property, in_structure, member_of, module_head, module_in, module_of, run, step, structure_by, with_field, with_get, with_member, with_part, with_set}
+use Rattle.net_reader.specs.ModuleReader.{NotedModule, State, among_members, behind_part, behind_procedure, ended, headed, heading, in_part, in_procedure, in_property, in_structure, member_of, module_of, run, step, with_field, with_get, with_member, with_set}
 use Rattle.net_reader.specs.Words.{keyword_at, line_words, name_words}
-use Rattle.net_reader.proofs.Assumed.{name_reads}
 use Rattle.net_reader.proofs.Bodies.{HoldsProcedure, procedure_taken}
-use Rattle.net_reader.proofs.CutLines.{IsLine}
-use Rattle.net_reader.proofs.DeclarationsRead.{constant_reads, field_reads, function_reads, property_reads, set_reads, sub_reads, variable_reads, without_parts}
+use Rattle.net_reader.proofs.DeclarationsRead.{constant_reads, field_reads, function_reads, property_reads, set_reads, sub_reads, variable_reads}
 use Rattle.net_reader.proofs.LineTexts.{comment_is, constant_is, field_is, function_again, head_is, name_within, printable, property_again, property_head_is, sub_again, variable_is}
-use Rattle.net_reader.proofs.Openings.{Opens, name_opens, then_opens}
+use Rattle.net_reader.proofs.Openings.{name_opens}
 use Rattle.net_reader.proofs.Taking.{Takes, all_taken, both_taken, line_taken, none_taken}
 use Rattle.net_reader.proofs.Tests.{all_both, if_false, if_true}
 use Rattle.net_reader.proofs.Units.{units_read}

@@ -1,5 +1,5 @@
 -- How written names and expressions begin and end: they open with no word of lines, and no colon stands at their end.
-use Rattle.std.proofs.Common.{◌≡◌, ℕ, zero, suc, ◌/◌, ◌%◌, ◌<◌, Bool, true, false, cond, not, ◌&&◌, ◌||◌, ◌==◌, pos, negsuc, nat_le, if◌then◌else◌, List, [], ◌∷◌, ◌++◌, map, codes, refl, sym, ap, subst, ◌∙◌, arith, append_assoc, map-id, decimal, true≢false, None}
+use Rattle.std.proofs.Common.{◌≡◌, ℕ, zero, suc, ◌/◌, ◌%◌, ◌<◌, Bool, true, false, not, ◌&&◌, ◌||◌, ◌==◌, pos, negsuc, if◌then◌else◌, List, [], ◌∷◌, ◌++◌, map, codes, refl, sym, ap, subst, ◌∙◌, arith, append_assoc, decimal, None}
 use Rattle.std.specs.Prelude.{Option}
 use Rattle.std.specs.List.{list_all}
 use Rattle.std.specs.Fmt.{digits, digit_glyph, digits_onto}
@@ -10,16 +10,15 @@ use Rattle.net_tree.specs.declared.expression.CastWord.{CastWord}
 use Rattle.net_tree.specs.declared.expression.CastWord.TheVariants as word
 use Rattle.net_tree.specs.Tree.{Exp, Exps, Literal, binary, boolean, call_of, cast, ctype, dot, integer, lit, long, me, new_array, new_object, nothing, paren, path, short, str, type_of, unary, with_dot}
 use Rattle.net_tree.specs.Tree as tree
-use Rattle.net_tree.specs.Types.{TypeName}
 use Rattle.net_tree.specs.Spelling.{is_bracketed, is_identifier, is_library_path, is_path, is_same_text, is_word_part, name_text, path_text, separated}
 use Rattle.net_tree.specs.Literals.{amount_text, fraction_text, is_writable_literal, literal_text}
-use Rattle.net_tree.specs.Expressions.{arguments_text, cast_text, exp_text, is_path_exp, is_writable_exp, type_text}
+use Rattle.net_tree.specs.Expressions.{arguments_text, cast_text, exp_text, is_path_exp, is_writable_exp}
 use Rattle.net_exprs.specs.Ends.{ends_name}
 use Rattle.net_exprs.specs.Names.{begins_digit, is_digit}
 use Rattle.net_exprs.specs.Readers.{look_up}
-use Rattle.net_exprs.proofs.Words.{both_true, by_test, is_other, is_word, never, not_in_table}
+use Rattle.net_exprs.proofs.Words.{both_true, by_test, is_other, never, not_in_table}
 use Rattle.net_reader.proofs.Tests.{if_false}
-use Rattle.net_reader.specs.Words.{Word, ends_with, first_word, keyword_at, line_words, name_words, word_front}
+use Rattle.net_reader.specs.Words.{first_word, keyword_at, line_words, name_words, word_front}
 
 -- ---- beginnings
 

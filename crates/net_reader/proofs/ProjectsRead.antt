@@ -1,19 +1,19 @@
 -- Projects are read back from their files, which so stand for one project.
-use Rattle.std.proofs.Common.{◌≡◌, ℕ, Bool, true, false, not, ◌&&◌, ◌||◌, ◌==◌, List, [], ◌∷◌, ◌++◌, map, codes, refl, sym, ap, ◌∙◌, arith, append_assoc, Option, Some}
+use Rattle.std.proofs.Common.{◌≡◌, ℕ, Bool, true, false, ◌&&◌, List, [], ◌∷◌, ◌++◌, map, codes, refl, sym, ap, ◌∙◌, arith, append_assoc, Option, Some}
 use Rattle.std.specs.Prelude.{option_map, option_and_then, unwrap_or}
 use Rattle.std.specs.List.{flat_map, list_all}
 use Rattle.std.proofs.lemmas.Bool.Decides.{nat_tests}
 use Rattle.net_tree.specs.Tree.{Module, Project}
 use Rattle.net_tree.specs.Comments.{is_within_line}
-use Rattle.net_tree.specs.Spelling.{at_depth, is_identifier, is_word_part}
-use Rattle.net_tree.specs.Text.{IsWritable, StandForOne, file_name, files_of, is_main, is_note, is_writable_module, main_text, module_text, response_text, target_text, written_modules}
+use Rattle.net_tree.specs.Spelling.{at_depth, is_word_part}
+use Rattle.net_tree.specs.Text.{StandForOne, file_name, is_main, is_note, is_writable_module, main_text, module_text, response_text, target_text, written_modules}
 use Rattle.net_exprs.specs.Readers.{after}
 use Rattle.net_exprs.proofs.Words.{both_true, is_word}
 use Rattle.net_reader.specs.FileLines.{lines_in}
 use Rattle.net_reader.specs.Fits.{fits_module, fits_project}
 use Rattle.net_reader.specs.Laws.{ProjectsAreRead}
 use Rattle.net_reader.specs.ModuleReader.{NotedModule, module_in}
-use Rattle.net_reader.specs.ProjectReader.{Modules, Parts, Response, last_module, parts_in, project_in, project_with, response_in, response_of, with_module}
+use Rattle.net_reader.specs.ProjectReader.{Parts, Response, last_module, parts_in, project_in, project_with, response_in, response_of, with_module}
 use Rattle.net_reader.proofs.CutLines.{IsLine, line_cut}
 use Rattle.net_reader.proofs.ModulesRead.{module_reads}
 use Rattle.net_reader.proofs.Tests.{all_both, all_more}

@@ -1,5 +1,5 @@
 -- How parts of a file are taken, line after line.
-use Rattle.std.proofs.Common.{◌≡◌, ℕ, Bool, true, ◌&&◌, List, [], ◌∷◌, ◌++◌, refl, sym, ap, subst, ◌∙◌, append_assoc, append-nil, Some}
+use Rattle.std.proofs.Common.{◌≡◌, ℕ, Bool, true, List, [], ◌∷◌, ◌++◌, refl, sym, ap, subst, ◌∙◌, append_assoc, append-nil, Some}
 use Rattle.std.specs.Prelude.{option_and_then}
 use Rattle.std.specs.List.{flat_map, list_all}
 use Rattle.net_tree.specs.Spelling.{at_depth}

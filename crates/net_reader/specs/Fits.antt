@@ -1,7 +1,7 @@
 -- Which projects have numbers that fit their types: what a tree of the code always has.
-use Rattle.std.specs.Prelude.{ℕ, ◌^◌, Bool, true, ◌&&◌, nat_lt, List, Option, Some, None}
+use Rattle.std.specs.Prelude.{ℕ, Bool, true, ◌&&◌, nat_lt, List, Option, Some, None}
 use Rattle.std.specs.List.{list_all}
-use Rattle.net_tree.specs.Tree.{CaseItem, Constant, Dim, Exp, Field, Line, Member, Module, Procedure, Project, Property, ReDimItem, Structure, Variable, assign, call, case_is, case_line, case_range, case_value, comment, const_member, constant, do_until, do_while, else_if, field, field_comment, for_head, goto, if_head, label, local, loop_until, loop_while, member_comment, on_error_goto, proc, property, redim, resume_at, select, static_local, structure, variable, while_head, with_head}
+use Rattle.net_tree.specs.Tree.{CaseItem, Constant, Dim, Exp, Field, Line, Member, Module, Procedure, Project, ReDimItem, Variable, assign, call, case_is, case_line, case_range, case_value, comment, const_member, constant, do_until, do_while, else_if, field, field_comment, for_head, goto, if_head, label, local, loop_until, loop_while, member_comment, on_error_goto, proc, property, redim, resume_at, select, static_local, structure, variable, while_head, with_head}
 use Rattle.net_tree.specs.Text.{written_modules}
 use Rattle.net_exprs.specs.Fitting.{fits_exp, fits_exps, fits_label}
 

@@ -1,5 +1,5 @@
 -- How the file of a module is read, line by line.
-use Rattle.std.specs.Prelude.{ℕ, Bool, true, false, cond, List, [], ◌∷◌, ◌++◌, drop, Option, Some, None, option_map, option_and_then}
+use Rattle.std.specs.Prelude.{ℕ, true, false, cond, List, [], ◌∷◌, ◌++◌, drop, Option, Some, None, option_map, option_and_then}
 use Rattle.net_tree.specs.declared.declaration.NetClose.{NetClose}
 use Rattle.net_tree.specs.declared.declaration.NetClose.TheVariants as close
 use Rattle.net_tree.specs.declared.declaration.NetVisibility.{NetVisibility}

@@ -1,5 +1,5 @@
 -- The words that written lines are told apart by, and how a text is cut behind its first word.
-use Rattle.std.specs.Prelude.{ℕ, Bool, false, cond, not, ◌&&◌, ◌==◌, nat_le, List, [], ◌∷◌, length, drop, codes, Option, Some, None}
+use Rattle.std.specs.Prelude.{ℕ, Bool, false, cond, ◌&&◌, ◌==◌, nat_le, List, [], ◌∷◌, length, drop, codes, Option}
 use Rattle.net_tree.specs.Spelling.{is_word_part}
 use Rattle.net_exprs.specs.Readers.{look_up}
 
