@@ -11,3 +11,4 @@ pub mod Taking
 pub mod Bodies
 pub mod ModulesRead
 pub mod ProjectsRead
+mod Examples
