@@ -3,16 +3,23 @@ use Rattle.std.proofs.Common.{◌≡◌, ℕ, true, false, pos, List, [], ◌∷
 use Rattle.std.specs.Char.{encode_utf8}
 use Rattle.std.specs.Fmt.{digits}
 use Rattle.std.specs.Str.{chars}
+use Rattle.net_tree.specs.declared.declaration.NetClose.TheVariants as close
+use Rattle.net_tree.specs.declared.declaration.NetPassing.TheVariants as passing
+use Rattle.net_tree.specs.declared.declaration.NetVisibility.TheVariants.{Public, Private, Friend}
 use Rattle.net_tree.specs.declared.expression.NetBin.TheVariants as op
 use Rattle.net_tree.specs.declared.line.NetExit.TheVariants as leaving
 use Rattle.net_tree.specs.declared.line.NetLabel.TheVariants.{Word, Number}
-use Rattle.net_tree.specs.Tree.{Exp, Line, assign, call, case_else, case_is, case_line, case_range, case_value, comment, do_head, do_until, do_while, else_if, else_line, end_if, end_select, end_while, end_with, exit, for_head, goto, if_head, integer, label, lit, loop, loop_until, loop_while, next, next_exp, no_exps, on_error_goto, on_error_goto_zero, on_error_resume_next, path, redim, resume, resume_at, resume_next, select, while_head, with_head}
+use Rattle.net_tree.specs.Types as ty
+use Rattle.net_tree.specs.Tree.{Exp, Line, Member, Module, Procedure, Project, Property, assign, call, case_else, case_is, case_line, case_range, case_value, comment, const_member, constant, do_head, do_until, do_while, else_if, else_line, end_if, end_select, end_while, end_with, exit, field, field_comment, for_head, function, get_part, goto, if_head, integer, label, lit, local, loop, loop_until, loop_while, member_comment, next, next_exp, no_exps, on_error_goto, on_error_goto_zero, on_error_resume_next, path, proc, property, redim, resume, resume_at, resume_next, select, set_part, structure, sub, sub_new, variable, while_head, with_head}
 use Rattle.net_tree.specs.Spelling.{is_bracketed}
 use Rattle.net_tree.specs.Lines.{line_text}
+use Rattle.net_tree.specs.Text.{files_of, module_text}
 use Rattle.net_exprs.specs.Expressions.{front_of, keyword_of, operator_at, start_of, suffix_of, word_front}
 use Rattle.net_exprs.specs.Types.{basic_type_of}
 use Rattle.net_reader.specs.LineReader.{line_at}
-use Rattle.net_reader.specs.Words.{line_words}
+use Rattle.net_reader.specs.ModuleReader.{module_in}
+use Rattle.net_reader.specs.ProjectReader.{project_in}
+use Rattle.net_reader.specs.Words.{line_words, name_words}
 
 abbrev named : List ℕ → Exp
 named name = path (name ∷ [])
@@ -173,3 +180,74 @@ redim_line = refl
 redim_preserve_line : reads (redim true (record { array = a; bounds = next_exp one no_exps } ∷ []))
 unfolding line_words basic_type_of front_of keyword_of operator_at start_of suffix_of word_front digits is_bracketed
 redim_preserve_line = refl
+
+-- ---- files
+
+abbrev fields_of : Member
+fields_of = structure (record { name = codes "R"; fields = field_comment (codes "f") ∷ field (codes "b") (ty.array_of ty.byte 2) ∷ [] })
+
+abbrev nested : Procedure
+nested = record {
+  head = sub Private (codes "S") (record { passing = passing.Value; name = codes "a"; ty = ty.integer } ∷ record { passing = passing.Reference; name = codes "Set"; ty = ty.array_of ty.str 1 } ∷ []);
+  prologue = local (record { name = codes "i"; ty = ty.short; value = Option.None }) ∷ constant (record { name = codes "c"; ty = ty.long; value = one }) ∷ [];
+  lines = comment (codes "l") ∷ if_head a ∷ do_head ∷ loop ∷ end_if ∷ [];
+  close = close.EndSub;
+}
+
+abbrev both_parts : Property
+both_parts = record {
+  visibility = Public;
+  name = codes "P";
+  params = [];
+  ty = ty.object;
+  get = Some (record { head = get_part; prologue = []; lines = []; close = close.EndGet });
+  set = Some (record { head = set_part (codes "v") ty.object; prologue = []; lines = exit leaving.Property ∷ []; close = close.EndSet });
+}
+
+abbrev alone : List Member → Module
+alone members = record { name = codes "M"; class = false; members = members }
+
+abbrev reads_module : Option (List ℕ) → Module → Type 0
+reads_module noted m = module_in (module_text noted m) ≡ Some (record { note = noted; tree = m })
+
+abbrev only : List Member → Type 0
+only members = reads_module Option.None (alone members)
+
+empty_module : reads_module (Some (codes "n")) (record { name = codes "Class"; class = true; members = [] })
+unfolding line_words is_bracketed
+empty_module = refl
+
+structure_read : only (member_comment (codes "m") ∷ fields_of ∷ [])
+unfolding line_words name_words basic_type_of is_bracketed encode_utf8 chars
+structure_read = refl
+
+variables_read : only (variable Friend (record { name = codes "x"; ty = ty.integer; value = Some one }) ∷ const_member Public (record { name = codes "y"; ty = ty.integer; value = a }) ∷ [])
+unfolding line_words basic_type_of front_of keyword_of operator_at start_of suffix_of word_front digits is_bracketed
+variables_read = refl
+
+procedure_read : only (proc nested ∷ [])
+unfolding line_words name_words basic_type_of front_of keyword_of operator_at start_of suffix_of word_front digits is_bracketed encode_utf8 chars
+procedure_read = refl
+
+property_read : only (property both_parts ∷ [])
+unfolding line_words basic_type_of is_bracketed
+property_read = refl
+
+heads_read : only (proc (record { head = sub_new; prologue = []; lines = []; close = close.EndSub })
+    ∷ proc (record { head = function Public (codes "F") [] ty.byte; prologue = []; lines = []; close = close.EndFunction }) ∷ [])
+unfolding line_words name_words basic_type_of is_bracketed
+heads_read = refl
+
+abbrev program : Project
+program = record { library = false; main = Some (codes "M"); note = Option.None; modules = alone [] ∷ []; support = record { name = codes "U"; class = false; members = [] } }
+
+project_read : project_in (files_of program) ≡ Some program
+unfolding line_words is_bracketed
+project_read = refl
+
+abbrev library_alone : Project
+library_alone = record { library = true; main = Option.None; note = Some []; modules = []; support = record { name = codes "U"; class = false; members = [] } }
+
+library_read : project_in (files_of library_alone) ≡ Some library_alone
+unfolding line_words is_bracketed
+library_read = refl
