@@ -47,8 +47,8 @@ line_body : (l : Line) → is_writable_line l ≡ true → IsBody (line_text l)
 unfolding line_words
 line_body (assign a b) h =
     subst IsBody (sym (append_assoc (exp_text a) (codes " = ") (exp_text b)))
-        (opened_body (exp_text a ++ (codes " = " ++ exp_text b))
-            (then_opens (exp_text a) (codes " = " ++ exp_text b) (exp_opens a (both_true (is_writable_exp a) (is_writable_exp b) h).0) (λ rest. refl)))
+    (opened_body (exp_text a ++ (codes " = " ++ exp_text b))
+    (then_opens (exp_text a) (codes " = " ++ exp_text b) (exp_opens a (both_true (is_writable_exp a) (is_writable_exp b) h).0) (λ rest. refl)))
 line_body (call callee arguments) h = opened_body (exp_text (call_of callee arguments)) (exp_opens (call_of callee arguments) h)
 line_body (label l) h = opened_body (label_text l ++ codes ":") (then_opens (label_text l) (codes ":") (label_opens l h) (λ rest. refl))
 line_body (exit what) h = exit_body what
@@ -88,16 +88,16 @@ module _ (here : Procedure → State) (behind : Grown → State) where
   dim_taken holds depth head before d h =
       let can = both_true (is_writable_dim d) (fits_dim d) h in
       line_taken depth (dim_text d) (here (body head before [])) (here (body head (before ++ d ∷ []) [])) (dim_is d can.0)
-          (holds.steps (body head before []) (dim_text d) ∙ ap (option_map behind) (dim_grows (body head before []) d can.0 can.1)
-              ∙ ap (λ (s : State). Some s) (holds.goes (body head (before ++ d ∷ []) [])))
+      (holds.steps (body head before []) (dim_text d) ∙ ap (option_map behind) (dim_grows (body head before []) d can.0 can.1)
+      ∙ ap (λ (s : State). Some s) (holds.goes (body head (before ++ d ∷ []) [])))
 
   one_line_taken : HoldsProcedure → (depth : ℕ) (head : Head) (dims : List Dim) (before : List Line) (l : Line) → is_read_line l ≡ true →
       Takes (here (body head dims before)) (at_depth depth (line_text l)) (here (body head dims (before ++ l ∷ [])))
   one_line_taken holds depth head dims before l h =
       let can = both_true (is_writable_line l) (fits_line l) h in
       line_taken depth (line_text l) (here (body head dims before)) (here (body head dims (before ++ l ∷ []))) (line_is l can.0)
-          (holds.steps (body head dims before) (line_text l) ∙ ap (option_map behind) (line_grows (body head dims before) l can.0 can.1)
-              ∙ ap (λ (s : State). Some s) (holds.goes (body head dims (before ++ l ∷ []))))
+      (holds.steps (body head dims before) (line_text l) ∙ ap (option_map behind) (line_grows (body head dims before) l can.0 can.1)
+      ∙ ap (λ (s : State). Some s) (holds.goes (body head dims (before ++ l ∷ []))))
 
   lines_taken : HoldsProcedure → (depth : ℕ) (head : Head) (dims : List Dim) (before lines : List Line) → list_all is_read_line lines ≡ true →
       Takes (here (body head dims before)) (lines_text depth lines) (here (body head dims (before ++ lines)))
@@ -108,9 +108,9 @@ module _ (here : Procedure → State) (behind : Grown → State) where
       let first = at_depth (depth_at (role_of l) depth) (line_text l) in
       let more = lines_text (depth_behind (role_of l) depth) lines in
       subst (λ (all : List Line). Takes (here (body head dims before)) (first ++ more) (here (body head dims all))) (append_assoc before (l ∷ []) lines)
-          (both_taken first more (here (body head dims before)) (here (body head dims (before ++ l ∷ []))) (here (body head dims (before ++ l ∷ [] ++ lines)))
-              (one_line_taken holds (depth_at (role_of l) depth) head dims before l both.0)
-              (lines_taken holds (depth_behind (role_of l) depth) head dims (before ++ l ∷ []) lines both.1))
+      (both_taken first more (here (body head dims before)) (here (body head dims (before ++ l ∷ []))) (here (body head dims (before ++ l ∷ [] ++ lines)))
+      (one_line_taken holds (depth_at (role_of l) depth) head dims before l both.0)
+      (lines_taken holds (depth_behind (role_of l) depth) head dims (before ++ l ∷ []) lines both.1))
 
   -- a procedure, from the state before its head
   pub procedure_taken : HoldsProcedure → (depth : ℕ) (p : Procedure) (s : State) →
@@ -121,11 +121,11 @@ module _ (here : Procedure → State) (behind : Grown → State) where
       let dims = flat_map (λ (d : Dim). at_depth (suc depth) (dim_text d)) p.prologue in
       let lines = lines_text (suc depth) p.lines in
       both_taken (head ++ dims ++ lines) (at_depth depth (close_text p.close)) s (here (body p.head p.prologue p.lines)) (behind (closed p))
-          (both_taken (head ++ dims) lines s (here (body p.head p.prologue [])) (here (body p.head p.prologue p.lines))
-              (both_taken head dims s (here (headed p.head)) (here (body p.head p.prologue [])) first
-                  (all_taken (λ (d : Dim). at_depth (suc depth) (dim_text d)) is_read_dim (λ (dims : List Dim). here (body p.head dims []))
-                      (dim_taken holds (suc depth) p.head) [] p.prologue (all_both is_writable_dim fits_dim p.prologue h k)))
-              (lines_taken holds (suc depth) p.head p.prologue [] p.lines (all_both is_writable_line fits_line p.lines i l)))
-          (line_taken depth (close_text p.close) (here (body p.head p.prologue p.lines)) (behind (closed p)) (close_is p.close)
-              (holds.steps (body p.head p.prologue p.lines) (close_text p.close)
-                  ∙ ap (λ c. option_map behind (grown_by (body p.head p.prologue p.lines) c (close_text p.close))) (close_reads p.close)))
+      (both_taken (head ++ dims) lines s (here (body p.head p.prologue [])) (here (body p.head p.prologue p.lines))
+      (both_taken head dims s (here (headed p.head)) (here (body p.head p.prologue [])) first
+      (all_taken (λ (d : Dim). at_depth (suc depth) (dim_text d)) is_read_dim (λ (dims : List Dim). here (body p.head dims []))
+      (dim_taken holds (suc depth) p.head) [] p.prologue (all_both is_writable_dim fits_dim p.prologue h k)))
+      (lines_taken holds (suc depth) p.head p.prologue [] p.lines (all_both is_writable_line fits_line p.lines i l)))
+      (line_taken depth (close_text p.close) (here (body p.head p.prologue p.lines)) (behind (closed p)) (close_is p.close)
+      (holds.steps (body p.head p.prologue p.lines) (close_text p.close)
+      ∙ ap (λ c. option_map behind (grown_by (body p.head p.prologue p.lines) c (close_text p.close))) (close_reads p.close)))

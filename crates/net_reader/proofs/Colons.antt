@@ -46,7 +46,7 @@ names_end spell each [] h = refl
 names_end spell each (n ∷ []) h = each n (both_true (is_identifier n) true h).0
 names_end spell each (n ∷ m ∷ names) h =
     ends_both (spell n ++ codes ".") (separated (codes ".") (map spell (m ∷ names))) (ends_last (spell n) 46 [])
-        (names_end spell each (m ∷ names) (both_true (is_identifier n) (list_all is_identifier (m ∷ names)) h).1)
+    (names_end spell each (m ∷ names) (both_true (is_identifier n) (list_all is_identifier (m ∷ names)) h).1)
 
 path_ends : (names : List (List ℕ)) → is_path names ≡ true → EndsOther (path_text names)
 path_ends [] h = never h

@@ -1,11 +1,13 @@
 -- A written line is the next line of its file.
 use Rattle.std.proofs.Common.{◌≡◌, ℕ, zero, suc, ◌*◌, Bool, true, false, not, ◌||◌, List, [], ◌∷◌, ◌++◌, refl, ap, ◌∙◌, eqb, replicate, map}
 use Rattle.std.specs.List.{list_all}
+use Rattle.std.proofs.lemmas.Bool.{not-true}
 use Rattle.up_base.specs.LineEnd.{line_end}
 use Rattle.net_tree.specs.Comments.{is_within_line}
 use Rattle.net_tree.specs.Spelling.{at_depth}
+use Rattle.net_exprs.proofs.Words.{both_true}
 use Rattle.net_reader.specs.FileLines.{before_lines, cut_lines, lines_in, without_indent, without_return}
-use Rattle.net_reader.proofs.Tests.{both_true, if_false, all_append}
+use Rattle.net_reader.proofs.Tests.{if_false, all_append}
 
 neither : (a b : Bool) → not (a || b) ≡ true → (a ≡ false) × (b ≡ false)
 neither false false h = (refl, refl)
@@ -28,13 +30,9 @@ abbrev pub begins_line : List ℕ → Bool
 begins_line [] = false
 begins_line (c ∷ cs) = not (eqb c 32)
 
-is_no : (b : Bool) → not b ≡ true → b ≡ false
-is_no false h = refl
-is_no true h = absurd (cc h)
-
 unindented : (line : List ℕ) → begins_line line ≡ true → without_indent line ≡ line
 unindented [] h = refl
-unindented (c ∷ cs) h = if_false (eqb c 32) _ _ (is_no (eqb c 32) h)
+unindented (c ∷ cs) h = if_false (eqb c 32) _ _ (not-true (eqb c 32) h)
 
 indent_left : (n : ℕ) (line : List ℕ) → begins_line line ≡ true → without_indent (replicate n 32 ++ line) ≡ line
 indent_left zero line h = unindented line h
@@ -52,6 +50,6 @@ pub record IsLine (text : List ℕ) : Type 0 where
 pub line_cut : (depth : ℕ) (text rest : List ℕ) → IsLine text → lines_in (at_depth depth text ++ rest) ≡ text ∷ lines_in rest
 line_cut depth text rest is =
     ap (map (λ line. without_indent (without_return line))) (cut_line (replicate (4 * depth) 32 ++ text) rest
-        (all_append is_within_line (replicate (4 * depth) 32) text (blanks_within (4 * depth)) is.within))
+    (all_append is_within_line (replicate (4 * depth) 32) text (blanks_within (4 * depth)) is.within))
     ∙ ap (λ line. without_indent line ∷ lines_in rest) (return_left (replicate (4 * depth) 32 ++ text))
     ∙ ap (λ line. line ∷ lines_in rest) (indent_left (4 * depth) text is.begins)

@@ -54,8 +54,8 @@ declared_reads name (ty.array_of element rank) rest h k ends =
     ap declared_at (array_again (name_text name) (rank_text rank) (type_text element) rest)
     ∙ ap (option_and_then (λ (r : List ℕ × List ℕ). declared_behind r.0 r.1)) (name_reads name (rank_text rank ++ (codes " As " ++ (type_text element ++ rest))) h refl)
     ∙ ap (option_and_then {U = Declared × List ℕ} (λ (rank : ℕ × List ℕ).
-        option_map {U = Declared × List ℕ} (λ (t : TypeName × List ℕ). (declares name (ty.array_of t.0 rank.0), t.1)) (type_at (drop 4 rank.1))))
-        (rank_reads rank (codes " As " ++ (type_text element ++ rest)) (not-true (rank == 0) can.1))
+    option_map {U = Declared × List ℕ} (λ (t : TypeName × List ℕ). (declares name (ty.array_of t.0 rank.0), t.1)) (type_at (drop 4 rank.1))))
+    (rank_reads rank (codes " As " ++ (type_text element ++ rest)) (not-true (rank == 0) can.1))
     ∙ ap (option_map {U = Declared × List ℕ} (λ (t : TypeName × List ℕ). (declares name (ty.array_of t.0 rank), t.1))) (type_reads element rest can.0 ends)
 declared_reads name t rest h k ends = plain_reads name t rest h k ends
 
@@ -74,8 +74,8 @@ variable_reads v h k =
     let two = both_true (is_identifier v.name && is_writable_type v.ty) (is_writable_option v.value) h in
     let one = both_true (is_identifier v.name) (is_writable_type v.ty) two.0 in
     ap (option_and_then (λ (d : Declared × List ℕ).
-        option_map {U = Variable} (λ (value : Option Exp). record { name = d.0.name; ty = d.0.ty; value = value }) (value_in d.1)))
-        (declared_reads v.name v.ty (value_text v.value) one.0 one.1 (value_ends v.value))
+    option_map {U = Variable} (λ (value : Option Exp). record { name = d.0.name; ty = d.0.ty; value = value }) (value_in d.1)))
+    (declared_reads v.name v.ty (value_text v.value) one.0 one.1 (value_ends v.value))
     ∙ ap (option_map {U = Variable} (λ (value : Option Exp). record { name = v.name; ty = v.ty; value = value })) (value_reads v.value two.1 k)
 
 -- a constant behind its word
@@ -86,8 +86,8 @@ constant_reads c h k =
     let one = both_true (is_identifier c.name) (is_writable_type c.ty) two.0 in
     ap constant_in (append_assoc (declared_text c.name c.ty) (codes " = ") (exp_text c.value))
     ∙ ap (option_and_then (λ (d : Declared × List ℕ).
-        option_map {U = Constant} (λ (value : Exp). record { name = d.0.name; ty = d.0.ty; value = value }) (exp_in (drop 3 d.1))))
-        (declared_reads c.name c.ty (codes " = " ++ exp_text c.value) one.0 one.1 refl)
+    option_map {U = Constant} (λ (value : Exp). record { name = d.0.name; ty = d.0.ty; value = value }) (exp_in (drop 3 d.1))))
+    (declared_reads c.name c.ty (codes " = " ++ exp_text c.value) one.0 one.1 refl)
     ∙ ap (option_map {U = Constant} (λ (value : Exp). record { name = c.name; ty = c.ty; value = value })) (exp_reads c.value two.1 k)
 
 pub dim_reads : (d : Dim) → is_writable_dim d ≡ true → fits_dim d ≡ true → dim_at (dim_text d) ≡ Some d
@@ -127,7 +127,7 @@ passing_opens passing.Reference more = refl
 param_opens : (x : Param) (xs : List Param) (rest : List ℕ) → begins_with 41 (separated (codes ", ") (map param_text (x ∷ xs)) ++ rest) ≡ false
 param_opens x xs rest =
     let again : passing_text x.passing ++ declared_text x.name x.ty ++ behind_first param_text xs ++ rest
-        ≡ passing_text x.passing ++ (declared_text x.name x.ty ++ (behind_first param_text xs ++ rest)) = simp append_assoc in
+    ≡ passing_text x.passing ++ (declared_text x.name x.ty ++ (behind_first param_text xs ++ rest)) = simp append_assoc in
     ap (λ text. begins_with 41 (text ++ rest)) (first_item param_text x xs)
     ∙ ap (begins_with 41) again
     ∙ passing_opens x.passing (declared_text x.name x.ty ++ (behind_first param_text xs ++ rest))
@@ -139,7 +139,7 @@ params_read (x ∷ xs) rest h =
     ap (λ z. params_at (40 ∷ z)) (append_assoc text (codes ")") rest)
     ∙ if_false (begins_with 41 (text ++ (41 ∷ rest))) _ _ (param_opens x xs (41 ∷ rest))
     ∙ ap (option_map {U = List Param × List ℕ} (λ (r : List Param × List ℕ). (r.0, drop 1 r.1)))
-        (all_items_read param_at param_text is_writable_param ends_type param_reads (λ more. refl) x xs (41 ∷ rest) h refl refl)
+    (all_items_read param_at param_text is_writable_param ends_type param_reads (λ more. refl) x xs (41 ∷ rest) h refl refl)
 
 -- ---- heads
 
@@ -151,8 +151,8 @@ pub signature_reads : (name : List ℕ) (params : List Param) (rest : List ℕ) 
 signature_reads name params rest h k =
     ap signature_at (append_assoc (name_text name) (params_text params) rest)
     ∙ ap (option_and_then {U = Signature × List ℕ} (λ (n : List ℕ × List ℕ).
-        option_map {U = Signature × List ℕ} (λ (r : List Param × List ℕ). (signs n.0 r.0, r.1)) (params_at n.1)))
-        (name_reads name (params_text params ++ rest) h refl)
+    option_map {U = Signature × List ℕ} (λ (r : List Param × List ℕ). (signs n.0 r.0, r.1)) (params_at n.1)))
+    (name_reads name (params_text params ++ rest) h refl)
     ∙ ap (option_map {U = Signature × List ℕ} (λ (r : List Param × List ℕ). (signs name r.0, r.1))) (params_read params rest k)
 
 pub sub_reads : (v : NetVisibility) (name : List ℕ) (params : List Param) → is_identifier name ≡ true → list_all is_writable_param params ≡ true →
@@ -174,7 +174,7 @@ pub function_reads : (v : NetVisibility) (name : List ℕ) (params : List Param)
 function_reads v name params t h k l =
     ap (function_in v) (typed_again (name_text name) (params_text params) (type_text t))
     ∙ ap (option_and_then (λ (s : Signature × List ℕ). option_map (λ (t : TypeName × List ℕ). function v s.0.name s.0.params t.0) (type_at (drop 4 s.1))))
-        (signature_reads name params (codes " As " ++ type_text t) h k)
+    (signature_reads name params (codes " As " ++ type_text t) h k)
     ∙ ap (option_map (λ (t : TypeName × List ℕ). function v name params t.0)) (type_reads_all t l)
 
 abbrev pub without_parts : NetVisibility → List ℕ → List Param → TypeName → Property
@@ -186,7 +186,7 @@ pub property_reads : (v : NetVisibility) (name : List ℕ) (params : List Param)
 property_reads v name params t h k l =
     ap (property_in v) (typed_again (name_text name) (params_text params) (type_text t))
     ∙ ap (option_and_then (λ (s : Signature × List ℕ). option_map (λ (t : TypeName × List ℕ). without_parts v s.0.name s.0.params t.0) (type_at (drop 4 s.1))))
-        (signature_reads name params (codes " As " ++ type_text t) h k)
+    (signature_reads name params (codes " As " ++ type_text t) h k)
     ∙ ap (option_map (λ (t : TypeName × List ℕ). without_parts v name params t.0)) (type_reads_all t l)
 
 -- a Set behind its word

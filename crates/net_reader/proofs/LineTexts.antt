@@ -27,7 +27,7 @@ use Rattle.net_exprs.proofs.Words.{both_true, never}
 use Rattle.net_exprs.proofs.Printable.{expression_stays, label_stays, name_stays, type_stays}
 use Rattle.net_reader.proofs.CutLines.{IsLine, begins_line}
 use Rattle.net_reader.proofs.LinesRead.{label_opens}
-use Rattle.net_reader.proofs.Openings.{begins_text, exp_opens}
+use Rattle.net_reader.proofs.Openings.{begins_more, begins_text, exp_opens}
 use Rattle.net_reader.proofs.Tests.{all_append, all_more}
 use Rattle.net_reader.proofs.Units.{utf8_within}
 
@@ -68,10 +68,6 @@ line_begins : (a b : List ℕ) → begins_text a ≡ true → begins_line (a ++ 
 line_begins [] b h = never h
 line_begins (c ∷ cs) b h = text_begins (c ∷ cs) h
 
-begins_front : (a b : List ℕ) → begins_text a ≡ true → begins_text (a ++ b) ≡ true
-begins_front [] b h = never h
-begins_front (c ∷ cs) b h = h
-
 items_within : {X : Type 0} (text_of : X → List ℕ) (can : X → Bool) → ((x : X) → can x ≡ true → Within (text_of x)) → (xs : List X) →
     list_all can xs ≡ true → Within (separated (codes ", ") (map text_of xs))
 items_within text_of can each [] h = refl
@@ -79,7 +75,7 @@ items_within text_of can each (x ∷ []) h = each x (both_true (can x) true h).0
 items_within text_of can each (x ∷ y ∷ xs) h =
     let both = both_true (can x) (list_all can (y ∷ xs)) h in
     both_within (text_of x ++ codes ", ") (separated (codes ", ") (map text_of (y ∷ xs)))
-        (both_within (text_of x) (codes ", ") (each x both.0) refl) (items_within text_of can each (y ∷ xs) both.1)
+    (both_within (text_of x) (codes ", ") (each x both.0) refl) (items_within text_of can each (y ∷ xs) both.1)
 
 -- ---- lines of procedures
 
@@ -123,11 +119,11 @@ for_within c from to step h =
     let two = both_true (is_writable_exp c && is_writable_exp from) (is_writable_exp to) three.0 in
     let one = both_true (is_writable_exp c) (is_writable_exp from) two.0 in
     both_within (exp_text c ++ codes " = " ++ exp_text from ++ codes " To " ++ exp_text to) (step_text step)
-        (both_within (exp_text c ++ codes " = " ++ exp_text from ++ codes " To ") (exp_text to)
-            (both_within (exp_text c ++ codes " = " ++ exp_text from) (codes " To ")
-                (both_within (exp_text c ++ codes " = ") (exp_text from) (both_within (exp_text c) (codes " = ") (exp_within c one.0) refl) (exp_within from one.1)) refl)
-            (exp_within to two.1))
-        (step_within step three.1)
+    (both_within (exp_text c ++ codes " = " ++ exp_text from ++ codes " To ") (exp_text to)
+    (both_within (exp_text c ++ codes " = " ++ exp_text from) (codes " To ")
+    (both_within (exp_text c ++ codes " = ") (exp_text from) (both_within (exp_text c) (codes " = ") (exp_within c one.0) refl) (exp_within from one.1)) refl)
+    (exp_within to two.1))
+    (step_within step three.1)
 
 handler_within : (l : NetLabel) → is_handler_label l ≡ true → Within (label_text l)
 handler_within (Word name) h = label_within (Word name) h
@@ -149,7 +145,7 @@ line_is (assign a b) h =
     let both = both_true (is_writable_exp a) (is_writable_exp b) h in
     record {
       within = both_within (exp_text a ++ codes " = ") (exp_text b) (both_within (exp_text a) (codes " = ") (exp_within a both.0) refl) (exp_within b both.1);
-      begins = line_begins (exp_text a ++ codes " = ") (exp_text b) (begins_front (exp_text a) (codes " = ") (exp_opens a both.0).begins);
+      begins = line_begins (exp_text a ++ codes " = ") (exp_text b) (begins_more (exp_text a) (codes " = ") (exp_opens a both.0).begins);
     }
 line_is (call callee arguments) h = record {
   within = exp_within (call_of callee arguments) h;
@@ -205,9 +201,9 @@ plain_within name t h k = both_within (name_text name ++ codes " As ") (type_tex
 declared_within : (name : List ℕ) (t : TypeName) → is_identifier name ≡ true → is_writable_type t ≡ true → Within (declared_text name t)
 declared_within name (ty.array_of element rank) h k =
     both_within (name_text name ++ rank_text rank ++ codes " As ") (type_text element)
-        (both_within (name_text name ++ rank_text rank) (codes " As ")
-            (both_within (name_text name) (rank_text rank) (name_within name h) (both_within (replicate (rank - 1) 44) (codes ")") (commas_within (rank - 1)) refl)) refl)
-        (type_within element (both_true (is_writable_type element) (not (rank == 0)) k).0)
+    (both_within (name_text name ++ rank_text rank) (codes " As ")
+    (both_within (name_text name) (rank_text rank) (name_within name h) (both_within (replicate (rank - 1) 44) (codes ")") (commas_within (rank - 1)) refl)) refl)
+    (type_within element (both_true (is_writable_type element) (not (rank == 0)) k).0)
 declared_within name t h k = plain_within name t h k
 
 value_within : (value : Option Exp) → is_writable_option value ≡ true → Within (value_text value)
@@ -225,7 +221,7 @@ constant_within c h =
     let two = both_true (is_identifier c.name && is_writable_type c.ty) (is_writable_exp c.value) h in
     let one = both_true (is_identifier c.name) (is_writable_type c.ty) two.0 in
     both_within (declared_text c.name c.ty ++ codes " = ") (exp_text c.value)
-        (both_within (declared_text c.name c.ty) (codes " = ") (declared_within c.name c.ty one.0 one.1) refl) (exp_within c.value two.1)
+    (both_within (declared_text c.name c.ty) (codes " = ") (declared_within c.name c.ty one.0 one.1) refl) (exp_within c.value two.1)
 
 pub dim_is : (d : Dim) → is_writable_dim d ≡ true → IsLine (dim_text d)
 dim_is (local v) h = record { within = variable_within v h; begins = refl }
@@ -264,7 +260,7 @@ typed_within : (name : List ℕ) (params : List Param) (t : TypeName) → is_ide
     Within (name_text name ++ params_text params ++ codes " As " ++ type_text t)
 typed_within name params t h k l =
     both_within (name_text name ++ params_text params ++ codes " As ") (type_text t)
-        (both_within (name_text name ++ params_text params) (codes " As ") (signature_within name params h k) refl) (type_within t l)
+    (both_within (name_text name ++ params_text params) (codes " As ") (signature_within name params h k) refl) (type_within t l)
 
 pub sub_again : (v n p : List ℕ) → v ++ (codes "Sub " ++ n ++ p) ≡ v ++ codes "Sub " ++ n ++ p
 sub_again v n p = simp append_assoc
@@ -285,7 +281,7 @@ head_is (function v name params t) h =
     let two = both_true (is_identifier name && list_all is_writable_param params) (is_writable_type t) h in
     let one = both_true (is_identifier name) (list_all is_writable_param params) two.0 in
     subst IsLine (function_again (visibility_text v) (name_text name) (params_text params) (type_text t))
-        (visible_is v (codes "Function " ++ name_text name ++ params_text params ++ codes " As " ++ type_text t) (typed_within name params t one.0 one.1 two.1))
+    (visible_is v (codes "Function " ++ name_text name ++ params_text params ++ codes " As " ++ type_text t) (typed_within name params t one.0 one.1 two.1))
 head_is sub_new h = record { within = refl; begins = refl }
 head_is get_part h = record { within = refl; begins = refl }
 head_is (set_part name t) h =
@@ -313,6 +309,6 @@ pub property_head_is : (p : Property) (get set : Bool) → is_identifier p.name 
     IsLine (visibility_text p.visibility ++ access_text get set ++ codes "Property " ++ name_text p.name ++ params_text p.params ++ codes " As " ++ type_text p.ty)
 property_head_is p get set h k l =
     subst IsLine (property_again (visibility_text p.visibility) (access_text get set) (name_text p.name) (params_text p.params) (type_text p.ty))
-        (visible_is p.visibility (access_text get set ++ (codes "Property " ++ name_text p.name ++ params_text p.params ++ codes " As " ++ type_text p.ty))
-            (both_within (access_text get set) (codes "Property " ++ name_text p.name ++ params_text p.params ++ codes " As " ++ type_text p.ty)
-                (access_within get set) (typed_within p.name p.params p.ty h k l)))
+    (visible_is p.visibility (access_text get set ++ (codes "Property " ++ name_text p.name ++ params_text p.params ++ codes " As " ++ type_text p.ty))
+    (both_within (access_text get set) (codes "Property " ++ name_text p.name ++ params_text p.params ++ codes " As " ++ type_text p.ty)
+    (access_within get set) (typed_within p.name p.params p.ty h k l)))

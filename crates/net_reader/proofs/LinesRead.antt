@@ -72,7 +72,7 @@ assign_reads a b h i k l =
     let again : exp_text a ++ codes " = " ++ exp_text b ≡ exp_text a ++ (codes " = " ++ exp_text b) = append_assoc (exp_text a) (codes " = ") (exp_text b) in
     ap line_at again
     ∙ statement_reads (exp_text a ++ (codes " = " ++ exp_text b)) (then_opens (exp_text a) (codes " = " ++ exp_text b) (exp_opens a h) (λ rest. refl))
-        (ends_both (exp_text a) (codes " = " ++ exp_text b) (exp_ends a h) (ends_both (codes " = ") (exp_text b) refl (exp_ends b i)))
+    (ends_both (exp_text a) (codes " = " ++ exp_text b) (exp_ends a h) (ends_both (codes " = ") (exp_text b) refl (exp_ends b i)))
     ∙ ap (option_and_then (λ (r : Exp × List ℕ). statement_of r.0 r.1)) (expression_reads a (codes " = " ++ exp_text b) h k refl)
     ∙ ap (option_map (assign a)) (exp_reads b i l)
 
@@ -115,13 +115,13 @@ for_reads c from to step h k =
     let fit = both_true (fits_exp c) (fits_exp from) fit_two.0 in
     ap for_in (for_again (exp_text c) (exp_text from) (exp_text to) (step_text step))
     ∙ ap (option_and_then (λ (c : Exp × List ℕ). option_and_then (λ (from : Exp × List ℕ). option_and_then (λ (to : Exp × List ℕ).
-        option_map (for_head c.0 from.0 to.0) (step_in to.1)) (exp_at (drop 4 from.1))) (exp_at (drop 3 c.1))))
-        (expression_reads c (codes " = " ++ (exp_text from ++ (codes " To " ++ (exp_text to ++ step_text step)))) writable.0 fit.0 refl)
+    option_map (for_head c.0 from.0 to.0) (step_in to.1)) (exp_at (drop 4 from.1))) (exp_at (drop 3 c.1))))
+    (expression_reads c (codes " = " ++ (exp_text from ++ (codes " To " ++ (exp_text to ++ step_text step)))) writable.0 fit.0 refl)
     ∙ ap (option_and_then (λ (from : Exp × List ℕ). option_and_then (λ (to : Exp × List ℕ).
-        option_map (for_head c from.0 to.0) (step_in to.1)) (exp_at (drop 4 from.1))))
-        (expression_reads from (codes " To " ++ (exp_text to ++ step_text step)) writable.1 fit.1 refl)
+    option_map (for_head c from.0 to.0) (step_in to.1)) (exp_at (drop 4 from.1))))
+    (expression_reads from (codes " To " ++ (exp_text to ++ step_text step)) writable.1 fit.1 refl)
     ∙ ap (option_and_then (λ (to : Exp × List ℕ). option_map (for_head c from to.0) (step_in to.1)))
-        (expression_reads to (step_text step) writable_two.1 fit_two.1 (step_ends step))
+    (expression_reads to (step_text step) writable_two.1 fit_two.1 (step_ends step))
     ∙ ap (option_map (for_head c from to)) (step_reads step writable_three.1 fit_three.1)
 
 -- ---- Case
@@ -228,7 +228,7 @@ redim_reads preserve x xs h k =
     let all = all_both is_writable_redim fits_redim (x ∷ xs) h k in
     ap (redim_in preserve) (sym (append-nil (separated (codes ", ") (map redim_item_text (x ∷ xs)))))
     ∙ ap (option_map (λ (r : List ReDimItem × List ℕ). redim preserve r.0))
-        (all_items_read redim_item_at redim_item_text is_read_redim ends_expression redim_item_reads (λ more. refl) x xs [] all refl refl)
+    (all_items_read redim_item_at redim_item_text is_read_redim ends_expression redim_item_reads (λ more. refl) x xs [] all refl refl)
 
 redim_begins : (x : ReDimItem) (xs : List ReDimItem) → is_writable_redim x ≡ true → keyword_at (separated (codes ", ") (map redim_item_text (x ∷ xs))) ≡ Option.None
 redim_begins x xs h =

@@ -42,7 +42,7 @@ comment_taken : (m : NotedModule) (units : List ℕ) → is_comment units ≡ tr
     Takes (among_members m) (member_text (member_comment units)) (among_members (with_member m (member_comment units)))
 comment_taken m units h k =
     line_taken 1 (comment_text units) (among_members m) (among_members (with_member m (member_comment units))) (comment_is units h)
-        (ap (λ (units : List ℕ). Some (among_members (with_member m (member_comment units)))) (units_read units h k))
+    (ap (λ (units : List ℕ). Some (among_members (with_member m (member_comment units)))) (units_read units h k))
 
 -- a line that begins with a visibility, by the word behind it
 visible_step : (m : NotedModule) (v : NetVisibility) (text : List ℕ) → step (among_members m) (visibility_text v ++ text) ≡ member_of m v (keyword_at text) text
@@ -71,17 +71,17 @@ variable_taken : (m : NotedModule) (v : NetVisibility) (x : Variable) → is_wri
 variable_taken m v x h k =
     let name = (both_true _ _ (both_true _ _ h).0).0 in
     line_taken 1 (visibility_text v ++ variable_text x) (among_members m) (among_members (with_member m (variable v x))) (variable_is v x h)
-        (visible_step m v (variable_text x)
-        ∙ ap (λ word. member_of m v word (variable_text x)) (declared_keyword x.name x.ty (value_text x.value) name (value_ends_name x.value))
-        ∙ ap (option_map (λ (x : Variable). among_members (with_member m (variable v x)))) (variable_reads x h k))
+    (visible_step m v (variable_text x)
+    ∙ ap (λ word. member_of m v word (variable_text x)) (declared_keyword x.name x.ty (value_text x.value) name (value_ends_name x.value))
+    ∙ ap (option_map (λ (x : Variable). among_members (with_member m (variable v x)))) (variable_reads x h k))
 
 constant_taken : (m : NotedModule) (v : NetVisibility) (c : Constant) → is_writable_constant c ≡ true → fits_constant c ≡ true →
     Takes (among_members m) (member_text (const_member v c)) (among_members (with_member m (const_member v c)))
 unfolding line_words
 constant_taken m v c h k =
     line_taken 1 (visibility_text v ++ constant_text c) (among_members m) (among_members (with_member m (const_member v c))) (constant_is v c h)
-        (visible_step m v (constant_text c)
-        ∙ ap (option_map (λ (c : Constant). among_members (with_member m (const_member v c)))) (constant_reads c h k))
+    (visible_step m v (constant_text c)
+    ∙ ap (option_map (λ (c : Constant). among_members (with_member m (const_member v c)))) (constant_reads c h k))
 
 -- ---- structures
 
@@ -101,8 +101,8 @@ field_taken : (m : NotedModule) (name : List ℕ) (before : List Field) (f : Fie
 field_taken m name before f h =
     let can = both_true (is_writable_field f) (fits_field f) h in
     line_taken 2 (field_text f) (with_fields m name before) (with_fields m name (before ++ f ∷ [])) (field_is f can.0)
-        (field_step m (record { name = name; fields = before }) f
-        ∙ ap (option_map (λ (f : Field). with_fields m name (before ++ f ∷ []))) (field_reads f can.0 can.1))
+    (field_step m (record { name = name; fields = before }) f
+    ∙ ap (option_map (λ (f : Field). with_fields m name (before ++ f ∷ []))) (field_reads f can.0 can.1))
 
 structure_taken : (m : NotedModule) (s : Structure) → is_writable_structure s ≡ true → list_all fits_field s.fields ≡ true →
     Takes (among_members m) (member_text (structure s)) (among_members (with_member m (structure s)))
@@ -112,13 +112,13 @@ structure_taken m s h k =
     let head = at_depth 1 (codes "Public Structure " ++ name_text s.name) in
     let fields = flat_map (λ (f : Field). at_depth 2 (field_text f)) s.fields in
     both_taken (head ++ fields) (at_depth 1 (codes "End Structure")) (among_members m) (with_fields m s.name s.fields) (among_members (with_member m (structure s)))
-        (both_taken head fields (among_members m) (with_fields m s.name []) (with_fields m s.name s.fields)
-            (line_taken 1 (codes "Public Structure " ++ name_text s.name) (among_members m) (with_fields m s.name [])
-                (record { within = name_within s.name can.0; begins = refl })
-                (ap (option_map (λ (n : List ℕ × List ℕ). with_fields m n.0 [])) (name_reads_all s.name can.0)))
-            (all_taken (λ (f : Field). at_depth 2 (field_text f)) is_read_field (with_fields m s.name) (field_taken m s.name) [] s.fields
-                (all_both is_writable_field fits_field s.fields can.1 k)))
-        (line_taken 1 (codes "End Structure") (with_fields m s.name s.fields) (among_members (with_member m (structure s))) (record { within = refl; begins = refl }) refl)
+    (both_taken head fields (among_members m) (with_fields m s.name []) (with_fields m s.name s.fields)
+    (line_taken 1 (codes "Public Structure " ++ name_text s.name) (among_members m) (with_fields m s.name [])
+    (record { within = name_within s.name can.0; begins = refl })
+    (ap (option_map (λ (n : List ℕ × List ℕ). with_fields m n.0 [])) (name_reads_all s.name can.0)))
+    (all_taken (λ (f : Field). at_depth 2 (field_text f)) is_read_field (with_fields m s.name) (field_taken m s.name) [] s.fields
+    (all_both is_writable_field fits_field s.fields can.1 k)))
+    (line_taken 1 (codes "End Structure") (with_fields m s.name s.fields) (among_members (with_member m (structure s))) (record { within = refl; begins = refl }) refl)
 
 -- ---- procedures
 
@@ -163,8 +163,8 @@ proc_taken m p h k =
     let written = is_written p can.1 in
     let fit = both_true (list_all fits_dim p.prologue) (list_all fits_line p.lines) k in
     procedure_taken (in_procedure m) (behind_procedure m) (member_procedures m) 1 p (among_members m) written.dims fit.0 written.lines fit.1
-        (line_taken 1 (head_text p.head) (among_members m) (in_procedure m (headed p.head)) (head_is p.head written.head)
-            (head_step m p.head written.head (not-true (is_get p.head || is_set p.head) can.0)))
+    (line_taken 1 (head_text p.head) (among_members m) (in_procedure m (headed p.head)) (head_is p.head written.head)
+    (head_step m p.head written.head (not-true (is_get p.head || is_set p.head) can.0)))
 
 -- ---- properties
 
@@ -201,9 +201,9 @@ get_taken m p (Some part) h k =
     let fit = both_true (list_all fits_dim part.prologue) (list_all fits_line part.lines) k in
     let before = with_parts p Option.None Option.None in
     subst (λ (q : Property). Takes (in_property m before) (procedure_text 2 part) (in_property m q)) (if_true (is_get part.head) (with_get before part) (with_set before part) can.0)
-        (procedure_taken (in_part m before) (behind_part m before) (part_procedures m before) 2 part (in_property m before) written.dims fit.0 written.lines fit.1
-            (line_taken 2 (head_text part.head) (in_property m before) (in_part m before (headed part.head)) (head_is part.head written.head)
-                (get_head_step m before part.head can.0)))
+    (procedure_taken (in_part m before) (behind_part m before) (part_procedures m before) 2 part (in_property m before) written.dims fit.0 written.lines fit.1
+    (line_taken 2 (head_text part.head) (in_property m before) (in_part m before (headed part.head)) (head_is part.head written.head)
+    (get_head_step m before part.head can.0)))
 
 set_taken : (m : NotedModule) (p : Property) (get set : Option Procedure) → is_writable_part is_set set ≡ true → fits_part set ≡ true →
     Takes (in_property m (with_parts p get Option.None)) (part_text set) (in_property m (with_parts p get set))
@@ -214,10 +214,10 @@ set_taken m p get (Some part) h k =
     let fit = both_true (list_all fits_dim part.prologue) (list_all fits_line part.lines) k in
     let before = with_parts p get Option.None in
     subst (λ (q : Property). Takes (in_property m before) (procedure_text 2 part) (in_property m q))
-        (if_false (is_get part.head) (with_get before part) (with_set before part) (set_is_no_get part.head can.0))
-        (procedure_taken (in_part m before) (behind_part m before) (part_procedures m before) 2 part (in_property m before) written.dims fit.0 written.lines fit.1
-            (line_taken 2 (head_text part.head) (in_property m before) (in_part m before (headed part.head)) (head_is part.head written.head)
-                (set_head_step m before part.head can.0 written.head)))
+    (if_false (is_get part.head) (with_get before part) (with_set before part) (set_is_no_get part.head can.0))
+    (procedure_taken (in_part m before) (behind_part m before) (part_procedures m before) 2 part (in_property m before) written.dims fit.0 written.lines fit.1
+    (line_taken 2 (head_text part.head) (in_property m before) (in_part m before (headed part.head)) (head_is part.head written.head)
+    (set_head_step m before part.head can.0 written.head)))
 
 access_step : (m : NotedModule) (v : NetVisibility) (get set : Bool) (text : List ℕ) →
     step (among_members m) (visibility_text v ++ (access_text get set ++ (codes "Property " ++ text))) ≡ option_map (in_property m) (property_in v text)
@@ -247,13 +247,13 @@ property_taken m p h k =
     let head = at_depth 1 (property_head_text p) in
     let bare = in_property m (with_parts p Option.None Option.None) in
     both_taken (head ++ part_text p.get ++ part_text p.set) (at_depth 1 (codes "End Property")) (among_members m) (in_property m p) (among_members (with_member m (property p)))
-        (both_taken (head ++ part_text p.get) (part_text p.set) (among_members m) (in_property m (with_parts p p.get Option.None)) (in_property m p)
-            (both_taken head (part_text p.get) (among_members m) bare (in_property m (with_parts p p.get Option.None))
-                (line_taken 1 (property_head_text p) (among_members m) bare (property_head_is p (is_some p.get) (is_some p.set) one.0 one.1 two.1)
-                    (property_head_step m p (is_some p.get) (is_some p.set) one.0 one.1 two.1))
-                (get_taken m p p.get four.1 fit.0))
-            (set_taken m p p.get p.set five.1 fit.1))
-        (line_taken 1 (codes "End Property") (in_property m p) (among_members (with_member m (property p))) (record { within = refl; begins = refl }) refl)
+    (both_taken (head ++ part_text p.get) (part_text p.set) (among_members m) (in_property m (with_parts p p.get Option.None)) (in_property m p)
+    (both_taken head (part_text p.get) (among_members m) bare (in_property m (with_parts p p.get Option.None))
+    (line_taken 1 (property_head_text p) (among_members m) bare (property_head_is p (is_some p.get) (is_some p.set) one.0 one.1 two.1)
+    (property_head_step m p (is_some p.get) (is_some p.set) one.0 one.1 two.1))
+    (get_taken m p p.get four.1 fit.0))
+    (set_taken m p p.get p.set five.1 fit.1))
+    (line_taken 1 (codes "End Property") (in_property m p) (among_members (with_member m (property p))) (record { within = refl; begins = refl }) refl)
 
 -- ---- modules
 
@@ -282,7 +282,7 @@ note_taken : (noted : Option (List ℕ)) → is_note noted ≡ true → Takes (h
 note_taken Option.None h = none_taken (heading Option.None)
 note_taken (Some text) h =
     line_taken 0 (codes "' " ++ text) (heading Option.None) (heading (Some text))
-        (record { within = printable text (both_true (nat_le (length text) 200) (list_all is_printable text) h).1; begins = refl }) refl
+    (record { within = printable text (both_true (nat_le (length text) 200) (list_all is_printable text) h).1; begins = refl }) refl
 
 options_taken : (noted : Option (List ℕ)) → Takes (heading noted) options_text (heading noted)
 unfolding line_words
@@ -292,20 +292,20 @@ options_taken noted =
     let three = at_depth 0 (codes "Option Compare Binary") in
     let same = heading noted in
     both_taken (one ++ two) three same same same
-        (both_taken one two same same same
-            (line_taken 0 (codes "Option Explicit On") same same (record { within = refl; begins = refl }) refl)
-            (line_taken 0 (codes "Option Strict Off") same same (record { within = refl; begins = refl }) refl))
-        (line_taken 0 (codes "Option Compare Binary") same same (record { within = refl; begins = refl }) refl)
+    (both_taken one two same same same
+    (line_taken 0 (codes "Option Explicit On") same same (record { within = refl; begins = refl }) refl)
+    (line_taken 0 (codes "Option Strict Off") same same (record { within = refl; begins = refl }) refl))
+    (line_taken 0 (codes "Option Compare Binary") same same (record { within = refl; begins = refl }) refl)
 
 head_taken : (noted : Option (List ℕ)) (class : Bool) (name : List ℕ) → is_identifier name ≡ true →
     Takes (heading noted) (at_depth 0 (codes "Public " ++ kind_text class ++ codes " " ++ name_text name)) (among_members (so_far noted name class []))
 unfolding line_words
 head_taken noted true name h =
     line_taken 0 (codes "Public Class " ++ name_text name) (heading noted) (among_members (so_far noted name true [])) (record { within = name_within name h; begins = refl })
-        (ap (option_map (λ (n : List ℕ × List ℕ). among_members (so_far noted n.0 true []))) (name_reads_all name h))
+    (ap (option_map (λ (n : List ℕ × List ℕ). among_members (so_far noted n.0 true []))) (name_reads_all name h))
 head_taken noted false name h =
     line_taken 0 (codes "Public Module " ++ name_text name) (heading noted) (among_members (so_far noted name false [])) (record { within = name_within name h; begins = refl })
-        (ap (option_map (λ (n : List ℕ × List ℕ). among_members (so_far noted n.0 false []))) (name_reads_all name h))
+    (ap (option_map (λ (n : List ℕ × List ℕ). among_members (so_far noted n.0 false []))) (name_reads_all name h))
 
 end_taken : (m : NotedModule) (class : Bool) → Takes (among_members m) (at_depth 0 (codes "End " ++ kind_text class)) (ended m)
 unfolding line_words
@@ -327,11 +327,11 @@ module_reads noted m h k l =
     let read = among_members (so_far noted m.name m.class m.members) in
     let start = heading Option.None in
     read_whole (note ++ options_text ++ head ++ members ++ end) (record { note = noted; tree = m })
-        (both_taken (note ++ options_text ++ head ++ members) end start read (ended (so_far noted m.name m.class m.members))
-            (both_taken (note ++ options_text ++ head) members start begun read
-                (both_taken (note ++ options_text) head start (heading noted) begun
-                    (both_taken note options_text start (heading noted) (heading noted) (note_taken noted h) (options_taken noted))
-                    (head_taken noted m.class m.name can.0))
-                (all_taken member_text is_read_member (λ (members : List Member). among_members (so_far noted m.name m.class members))
-                    (each_member_taken noted m.name m.class) [] m.members (all_both is_writable_member fits_member m.members can.1 l)))
-            (end_taken (so_far noted m.name m.class m.members) m.class))
+    (both_taken (note ++ options_text ++ head ++ members) end start read (ended (so_far noted m.name m.class m.members))
+    (both_taken (note ++ options_text ++ head) members start begun read
+    (both_taken (note ++ options_text) head start (heading noted) begun
+    (both_taken note options_text start (heading noted) (heading noted) (note_taken noted h) (options_taken noted))
+    (head_taken noted m.class m.name can.0))
+    (all_taken member_text is_read_member (λ (members : List Member). among_members (so_far noted m.name m.class members))
+    (each_member_taken noted m.name m.class) [] m.members (all_both is_writable_member fits_member m.members can.1 l)))
+    (end_taken (so_far noted m.name m.class m.members) m.class))

@@ -31,7 +31,7 @@ pub record Opens (text : List ℕ) : Type 0 where
   pub begins : begins_text text ≡ true
   pub word : (rest : List ℕ) → ends_name rest ≡ true → keyword_at (text ++ rest) ≡ None
 
-begins_more : (a b : List ℕ) → begins_text a ≡ true → begins_text (a ++ b) ≡ true
+pub begins_more : (a b : List ℕ) → begins_text a ≡ true → begins_text (a ++ b) ≡ true
 begins_more [] b h = never h
 begins_more (c ∷ cs) b h = h
 
@@ -155,7 +155,7 @@ separated_opens : (t : List ℕ) (ts : List (List ℕ)) → Opens t → Opens (s
 separated_opens t [] o = o
 separated_opens t (u ∷ ts) o =
     subst Opens (sym (append_assoc t (codes ".") (separated (codes ".") (u ∷ ts))))
-        (then_opens t (46 ∷ separated (codes ".") (u ∷ ts)) o (λ rest. refl))
+    (then_opens t (46 ∷ separated (codes ".") (u ∷ ts)) o (λ rest. refl))
 
 library_opens : (n : List ℕ) → is_same_text n (codes "System") || is_same_text n (codes "Microsoft") ≡ true → Opens n
 unfolding line_words
@@ -200,7 +200,7 @@ exp_opens (with_dot name) h = record { begins = refl; word = λ rest e. refl }
 exp_opens (dot e name) h =
     let parts = both_true (not (is_path_exp e) && is_writable_exp e) (is_identifier name) h in
     subst Opens (sym (append_assoc (exp_text e) (codes ".") (name_text name)))
-        (then_opens (exp_text e) (46 ∷ name_text name) (exp_opens e (both_true (not (is_path_exp e)) (is_writable_exp e) parts.0).1) (λ rest. refl))
+    (then_opens (exp_text e) (46 ∷ name_text name) (exp_opens e (both_true (not (is_path_exp e)) (is_writable_exp e) parts.0).1) (λ rest. refl))
 exp_opens (call_of e args) h =
     then_opens (exp_text e) (arguments_text args) (exp_opens e (both_true (is_writable_exp e) _ h).0) (λ rest. refl)
 exp_opens (cast w e) h = subst Opens (reassociated (cast_text w) (codes "(") (exp_text e) (codes ")")) (cast_opens w (exp_text e ++ codes ")"))

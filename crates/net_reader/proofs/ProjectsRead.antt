@@ -42,8 +42,8 @@ main_read library Option.None rest h =
     ∙ target_read library (codes "/optionexplicit+") (lines_in rest)
 main_read library (Some name) rest h =
     ap (λ lines. response_of (target_text library ∷ lines))
-        (line_cut 0 (codes "/main:" ++ name) (at_depth 0 (codes "/optionexplicit+") ++ rest)
-            (record { within = all_more is_word_part is_within_line name part_within (is_word name h); begins = refl }))
+    (line_cut 0 (codes "/main:" ++ name) (at_depth 0 (codes "/optionexplicit+") ++ rest)
+    (record { within = all_more is_word_part is_within_line name part_within (is_word name h); begins = refl }))
     ∙ target_read library (codes "/main:" ++ name) (lines_in (at_depth 0 (codes "/optionexplicit+") ++ rest))
 
 response_again : (t m e s f : List ℕ) → t ++ m ++ e ++ s ++ f ≡ t ++ (m ++ (e ++ (s ++ f)))
@@ -88,7 +88,7 @@ parts_read : (noted : Option (List ℕ)) (ms : List Module) (support : Module) (
     list_all is_read_module (ms ++ support ∷ []) ≡ true → response_in response.1 ≡ Some r → parts_in (files_with noted ms support response) ≡ Some (parts noted ms support r)
 parts_read noted [] support response r h k e =
     ap (option_and_then (λ (m : NotedModule). option_map {U = Parts} (λ (r : Response). record { modules = last_module m; response = r }) (response_in response.1)))
-        (one_read noted support h (both_true (is_read_module support) true k).0)
+    (one_read noted support h (both_true (is_read_module support) true k).0)
     ∙ ap (option_map {U = Parts} (λ (r : Response). parts noted [] support r)) e
 parts_read noted (m ∷ ms) support response r h k e =
     let both = both_true (is_read_module m) (list_all is_read_module (ms ++ support ∷ [])) k in
@@ -99,10 +99,10 @@ parts_read noted (m ∷ ms) support response r h k e =
 pub project_reads : ProjectsAreRead
 project_reads N w h =
     ap (option_map (λ (parts : Parts). project_with parts.modules parts.response))
-        (parts_read N.note N.modules N.support (codes "upgrade.rsp", response_text N) (says N.library N.main) w.note
-            (all_both is_writable_module fits_module (written_modules N) w.modules h) (response_read N w.main))
+    (parts_read N.note N.modules N.support (codes "upgrade.rsp", response_text N) (says N.library N.main) w.note
+    (all_both is_writable_module fits_module (written_modules N) w.modules h) (response_read N w.main))
 
 pub stand_for_one : StandForOne (λ N. fits_project N ≡ true)
 stand_for_one M N files h k a b =
     ap (λ (o : Option Project). unwrap_or o M)
-        (sym (ap project_in a.are_files ∙ project_reads M a.writable h) ∙ ap project_in b.are_files ∙ project_reads N b.writable k)
+    (sym (ap project_in a.are_files ∙ project_reads M a.writable h) ∙ ap project_in b.are_files ∙ project_reads N b.writable k)

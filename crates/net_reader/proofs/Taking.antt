@@ -14,7 +14,7 @@ pub record Takes (s : State) (text : List ℕ) (after : State) : Type 0 where
 
 pub line_taken : (depth : ℕ) (text : List ℕ) (s after : State) → IsLine text → step s text ≡ Some after → Takes s (at_depth depth text) after
 line_taken depth text s after is e = record {
-  takes = λ rest. ap (run s) (line_cut depth text rest is) ∙ ap (option_and_then (λ (s : State). run s (lines_in rest))) e
+  takes = λ rest. ap (run s) (line_cut depth text rest is) ∙ ap (option_and_then (λ (s : State). run s (lines_in rest))) e;
 }
 
 pub none_taken : (s : State) → Takes s [] s
@@ -22,7 +22,7 @@ none_taken s = record { takes = λ rest. refl }
 
 pub both_taken : (a b : List ℕ) (s t u : State) → Takes s a t → Takes t b u → Takes s (a ++ b) u
 both_taken a b s t u x y = record {
-  takes = λ rest. ap (λ z. run s (lines_in z)) (append_assoc a b rest) ∙ x.takes (b ++ rest) ∙ y.takes rest
+  takes = λ rest. ap (λ z. run s (lines_in z)) (append_assoc a b rest) ∙ x.takes (b ++ rest) ∙ y.takes rest;
 }
 
 -- parts one after another, each of which is added to those before it
@@ -35,5 +35,5 @@ module _ {X : Type 0} (text_of : X → List ℕ) (can : X → Bool) (with : List
   all_taken each before (x ∷ xs) h =
       let both = both_true (can x) (list_all can xs) h in
       subst (λ (items : List X). Takes (with before) (text_of x ++ flat_map text_of xs) (with items)) (append_assoc before (x ∷ []) xs)
-          (both_taken (text_of x) (flat_map text_of xs) (with before) (with (before ++ x ∷ [])) (with (before ++ x ∷ [] ++ xs))
-              (each before x both.0) (all_taken each (before ++ x ∷ []) xs both.1))
+      (both_taken (text_of x) (flat_map text_of xs) (with before) (with (before ++ x ∷ [])) (with (before ++ x ∷ [] ++ xs))
+      (each before x both.0) (all_taken each (before ++ x ∷ []) xs both.1))

@@ -1,18 +1,11 @@
--- Tests by cases.
+-- Conditions, and tests of all items of a list.
 use Rattle.std.proofs.Common.{◌≡◌, Bool, true, false, cond, ◌&&◌, List, [], ◌∷◌, ◌++◌, refl}
 use Rattle.std.specs.List.{list_all}
-
-pub both_true : (a b : Bool) → a && b ≡ true → (a ≡ true) × (b ≡ true)
-both_true true b e = (refl, e)
-both_true false b e = absurd (cc e)
+use Rattle.net_exprs.proofs.Words.{both_true}
 
 pub and_true : (a b : Bool) → a ≡ true → b ≡ true → a && b ≡ true
 and_true true b h k = k
 and_true false b h k = absurd (cc h)
-
-pub by_test : {X : Type 0} (b : Bool) → (b ≡ true → X) → (b ≡ false → X) → X
-by_test true f g = f refl
-by_test false f g = g refl
 
 pub if_true : {X : Type 0} (b : Bool) (x y : X) → b ≡ true → cond b x y ≡ x
 if_true true x y h = refl
@@ -21,10 +14,6 @@ if_true false x y h = absurd (cc h)
 pub if_false : {X : Type 0} (b : Bool) (x y : X) → b ≡ false → cond b x y ≡ y
 if_false false x y h = refl
 if_false true x y h = absurd (cc h)
-
-pub is_false : (b : Bool) → (b ≡ true → ⊥) → b ≡ false
-is_false false h = refl
-is_false true h = absurd (h refl)
 
 module _ {A : Type 0} (f : A → Bool) where
   pub all_append : (xs ys : List A) → list_all f xs ≡ true → list_all f ys ≡ true → list_all f (xs ++ ys) ≡ true

@@ -1,5 +1,6 @@
 -- The units of a text are read back from its UTF-8, which holds no line end.
 use Rattle.std.proofs.Common.{◌≡◌, ℕ, ◌+◌, ◌-◌, ◌*◌, ◌/◌, ◌%◌, ◌<◌, ◌≤◌, Bool, true, false, cond, not, ◌&&◌, ◌||◌, List, [], ◌∷◌, ◌++◌, refl, sym, ap, subst, ◌∙◌, arith, append-nil}
+use Rattle.std.proofs.lemmas.Bool.{not-true}
 use Rattle.std.proofs.lemmas.Bool.Decides.{nat_tests}
 use Rattle.std.specs.Prelude.{nat_lt, nat_le, encode_utf8_all}
 use Rattle.std.specs.List.{flat_map, list_all}
@@ -12,7 +13,8 @@ use borrow.Author.Tests.{leb-true, ltb-true}
 use Rattle.net_tree.specs.Comments.{is_comment, is_surrogate, is_well_formed, is_within_line, utf8_of}
 use Rattle.net_reader.specs.FileLines.{units_in}
 use Rattle.net_reader.specs.Fits.{fits_text}
-use Rattle.net_reader.proofs.Tests.{both_true, and_true, by_test, if_true, if_false, all_append}
+use Rattle.net_exprs.proofs.Words.{both_true, by_test}
+use Rattle.net_reader.proofs.Tests.{and_true, if_true, if_false, all_append}
 
 -- the characters of units
 abbrev chars_of : List ℕ → List ℕ
@@ -38,12 +40,8 @@ all_scalars_one c = cond (nat_lt c 55296) true (nat_le 57344 c && nat_lt c 11141
 high_scalar : (c : ℕ) → 57344 ≤ c → c < 1114112 → all_scalars_one c ≡ true
 high_scalar c low high = grind (arith, nat_tests)
 
-is_false_not : (b : Bool) → not b ≡ true → b ≡ false
-is_false_not false h = refl
-is_false_not true h = absurd (cc h)
-
 neither : (a b : Bool) → a ≡ false → not b ≡ true → a || b ≡ false
-neither false b h k = is_false_not b k
+neither false b h k = not-true b k
 neither true b h k = absurd (cc h)
 
 pair_equal : (a b u v : ℕ) → a ≡ u → b ≡ v → a ∷ b ∷ [] ≡ u ∷ v ∷ []
@@ -89,19 +87,19 @@ also c front cs units one more = record {
 read_as : (units : List ℕ) → is_well_formed units ≡ true → fits_text units ≡ true → ReadAs (chars_of units) units
 read_as [] h k = record { scalars = refl; spelt = refl }
 read_as (u ∷ []) h k =
-    also u (u ∷ []) [] [] (lone_spells u (is_false_not (is_surrogate u) h) (both_true (nat_lt u 0x1_0000) true k).0) (record { scalars = refl; spelt = refl })
+    also u (u ∷ []) [] [] (lone_spells u (not-true (is_surrogate u) h) (both_true (nat_lt u 0x1_0000) true k).0) (record { scalars = refl; spelt = refl })
 read_as (u ∷ v ∷ units) h k =
     let small = both_true (nat_lt u 0x1_0000) (fits_text (v ∷ units)) k in
     let more = both_true (nat_lt v 0x1_0000) (fits_text units) small.1 in
-    by_test (is_high_surrogate u)
+    by_test (is_high_surrogate u) (λ b. ReadAs (chars_of (u ∷ v ∷ units)) (u ∷ v ∷ units))
     (λ e.
-      let well = both_true (is_low_surrogate v) (is_well_formed units) (sym (if_true (is_high_surrogate u) _ _ e) ∙ h) in
-      subst (λ (cs : List ℕ). ReadAs cs (u ∷ v ∷ units)) (sym (if_true (is_high_surrogate u) _ _ e))
-        (also (surrogate_pair_char u v) (u ∷ v ∷ []) (chars_of units) units (pair_spells u v e well.0) (read_as units well.1 more.1)))
+    let well = both_true (is_low_surrogate v) (is_well_formed units) (sym (if_true (is_high_surrogate u) _ _ e) ∙ h) in
+    subst (λ (cs : List ℕ). ReadAs cs (u ∷ v ∷ units)) (sym (if_true (is_high_surrogate u) _ _ e))
+    (also (surrogate_pair_char u v) (u ∷ v ∷ []) (chars_of units) units (pair_spells u v e well.0) (read_as units well.1 more.1)))
     (λ e.
-      let well = both_true (not (is_low_surrogate u)) (is_well_formed (v ∷ units)) (sym (if_false (is_high_surrogate u) _ _ e) ∙ h) in
-      subst (λ (cs : List ℕ). ReadAs cs (u ∷ v ∷ units)) (sym (if_false (is_high_surrogate u) _ _ e))
-        (also u (u ∷ []) (chars_of (v ∷ units)) (v ∷ units) (lone_spells u (neither (is_high_surrogate u) (is_low_surrogate u) e well.0) small.0) (read_as (v ∷ units) well.1 small.1)))
+    let well = both_true (not (is_low_surrogate u)) (is_well_formed (v ∷ units)) (sym (if_false (is_high_surrogate u) _ _ e) ∙ h) in
+    subst (λ (cs : List ℕ). ReadAs cs (u ∷ v ∷ units)) (sym (if_false (is_high_surrogate u) _ _ e))
+    (also u (u ∷ []) (chars_of (v ∷ units)) (v ∷ units) (lone_spells u (neither (is_high_surrogate u) (is_low_surrogate u) e well.0) small.0) (read_as (v ∷ units) well.1 small.1)))
 
 pub units_read : (units : List ℕ) → is_comment units ≡ true → fits_text units ≡ true → units_in (utf8_of units) ≡ units
 units_read units h k =
@@ -110,7 +108,6 @@ units_read units h k =
     ap (λ bytes. flat_map encode_utf16 (chars bytes)) (utf8_chars units)
     ∙ ap (flat_map encode_utf16) (chars-encodes (chars_of units) read.scalars)
     ∙ read.spelt
-
 
 high_within : (b : ℕ) → 128 ≤ b → is_within_line b ≡ true
 high_within b h = grind (arith, nat_tests)
@@ -133,8 +130,8 @@ bytes_within c h =
     either_within (nat_lt c 128) _ _ (λ e. and_true (is_within_line c) true h refl)
     (λ e. either_within (nat_lt c 2048) _ _ (λ e. two_within (192 + c / 64) (128 + c % 64) (omega arith) (omega arith))
     (λ e. either_within (nat_lt c 65536) _ _
-      (λ e. more_within (224 + c / 4096) ((128 + c / 64 % 64) ∷ (128 + c % 64) ∷ []) (omega arith) (two_within (128 + c / 64 % 64) (128 + c % 64) (omega arith) (omega arith)))
-      (λ e. more_within (240 + c / 262144) ((128 + c / 4096 % 64) ∷ (128 + c / 64 % 64) ∷ (128 + c % 64) ∷ []) (omega arith) (more_within (128 + c / 4096 % 64) ((128 + c / 64 % 64) ∷ (128 + c % 64) ∷ []) (omega arith) (two_within (128 + c / 64 % 64) (128 + c % 64) (omega arith) (omega arith))))))
+    (λ e. more_within (224 + c / 4096) ((128 + c / 64 % 64) ∷ (128 + c % 64) ∷ []) (omega arith) (two_within (128 + c / 64 % 64) (128 + c % 64) (omega arith) (omega arith)))
+    (λ e. more_within (240 + c / 262144) ((128 + c / 4096 % 64) ∷ (128 + c / 64 % 64) ∷ (128 + c % 64) ∷ []) (omega arith) (more_within (128 + c / 4096 % 64) ((128 + c / 64 % 64) ∷ (128 + c % 64) ∷ []) (omega arith) (two_within (128 + c / 64 % 64) (128 + c % 64) (omega arith) (omega arith))))))
 
 all_bytes_within : (cs : List ℕ) → list_all is_within_line cs ≡ true → list_all is_within_line (encode_utf8_all cs) ≡ true
 all_bytes_within [] h = refl

@@ -26,7 +26,7 @@ pub record Declared : Type 0 where
 abbrev pub declared_behind : List ℕ → List ℕ → Option (Declared × List ℕ)
 declared_behind name text = cond (begins_with 40 text)
     (option_and_then (λ (rank : ℕ × List ℕ).
-        option_map (λ (t : TypeName × List ℕ). (record { name = name; ty = array_of t.0 rank.0 }, t.1)) (type_at (drop 4 rank.1))) (rank_at text))
+    option_map (λ (t : TypeName × List ℕ). (record { name = name; ty = array_of t.0 rank.0 }, t.1)) (type_at (drop 4 rank.1))) (rank_at text))
     (option_map (λ (t : TypeName × List ℕ). (record { name = name; ty = t.0 }, t.1)) (type_at (drop 4 text)))
 
 abbrev pub declared_at : List ℕ → Option (Declared × List ℕ)
@@ -101,7 +101,7 @@ set_in text = option_map (λ (d : Declared × List ℕ). set_part d.0.name d.0.t
 abbrev pub property_in : NetVisibility → List ℕ → Option Property
 property_in visibility text = option_and_then (λ (s : Signature × List ℕ).
     option_map (λ (t : TypeName × List ℕ). record { visibility = visibility; name = s.0.name; params = s.0.params; ty = t.0; get = None; set = None })
-        (type_at (drop 4 s.1))) (signature_at text)
+    (type_at (drop 4 s.1))) (signature_at text)
 
 abbrev pub visibility_of : Option w.Word → Option NetVisibility
 visibility_of (Some w.public_word) = Some Public
