@@ -1,10 +1,14 @@
 -- What is read from small texts.
-use Rattle.std.proofs.Common.{◌≡◌, ℕ, true, false, pos, negsuc, List, [], ◌∷◌, codes, refl, Some}
+use Rattle.std.specs.Fmt.{digits}
+use Rattle.std.proofs.Common.{◌^◌, ◌≡◌, ℕ, true, false, pos, negsuc, List, [], ◌∷◌, codes, refl, Some}
 use Rattle.net_tree.specs.declared.expression.NetBin.TheVariants as op
 use Rattle.net_tree.specs.declared.expression.NetUn.TheVariants as un
 use Rattle.net_tree.specs.declared.expression.CastWord.TheVariants as word
 use Rattle.net_tree.specs.Types as ty
 use Rattle.net_tree.specs.Tree.{Exp, Exps, binary, call_of, cast, ctype, decimal, dot, integer, lit, long, me, new_array, new_object, next_exp, no_exps, path, short, str, type_of, unary, with_dot}
+use Rattle.net_tree.specs.declared.line.NetLabel.TheVariants.{Number}
+use Rattle.net_tree.specs.Spelling.{label_text}
+use Rattle.net_exprs.specs.Names.{label_at}
 use Rattle.net_exprs.specs.Types.{basic_type_of}
 use Rattle.net_exprs.specs.Expressions.{exp_at, front_of, keyword_of, operator_at, start_of, suffix_of, word_front}
 
@@ -126,3 +130,8 @@ type_tested = refl
 ended : exp_at (codes "a Then") ≡ Some (a, codes " Then")
 unfolding basic_type_of front_of keyword_of operator_at start_of suffix_of word_front
 ended = refl
+
+-- Of a number of more than 64 digits the last 64 are written, so a number that fits no type may not be read back.
+long_label : label_at (label_text (Number (10 ^ 64))) ≡ Some (Number 0, [])
+unfolding digits
+long_label = refl

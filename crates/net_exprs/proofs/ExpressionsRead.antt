@@ -202,7 +202,7 @@ point_head read s = refl
 pub with_dot_reads : (name : List ℕ) → is_identifier name ≡ true → Reads (with_dot name)
 with_dot_reads name h =
     reads_head (with_dot name) refl refl (λ k rest m e.
-        point_head (exp_from k) (name_text name ++ rest) ∙ ap (λ o. behind o (λ name rest. Some (whole (with_dot name), rest))) (name_reads name rest h (name_ends (with_dot name) rest e)))
+    point_head (exp_from k) (name_text name ++ rest) ∙ ap (λ o. behind o (λ name rest. Some (whole (with_dot name), rest))) (name_reads name rest h (name_ends (with_dot name) rest e)))
 
 -- ---- forms in parentheses
 
@@ -220,8 +220,8 @@ cast_head word.CObj read s = refl
 pub cast_reads : (w : CastWord) (a : Exp) → ReadsWhole a → Reads (cast w a)
 cast_reads w a inner =
     reads_head (cast w a) refl refl (λ k rest h e.
-        let again : exp_text (cast w a) ++ rest ≡ cast_text w ++ (40 ∷ (exp_text a ++ (41 ∷ rest))) = simp append_assoc in
-        ap (head_at (exp_from k)) again ∙ cast_head w (exp_from k) (exp_text a ++ (41 ∷ rest)) ∙ ap (λ o. behind o (closed (cast w))) (inner k (41 ∷ rest) (omega arith) refl))
+    let again : exp_text (cast w a) ++ rest ≡ cast_text w ++ (40 ∷ (exp_text a ++ (41 ∷ rest))) = simp append_assoc in
+    ap (head_at (exp_from k)) again ∙ cast_head w (exp_from k) (exp_text a ++ (41 ∷ rest)) ∙ ap (λ o. behind o (closed (cast w))) (inner k (41 ∷ rest) (omega arith) refl))
 
 -- an expression, a text and a type, up to the closing parenthesis
 typed_inside : (make : Exp → TypeName → Exp) (text : List ℕ) (a : Exp) (t : TypeName) (k : ℕ) (rest : List ℕ) → ReadsWhole a → needs a ≤ k → is_writable_type t ≡ true
@@ -241,8 +241,8 @@ ctype_head read s = refl
 pub ctype_reads : (a : Exp) (t : TypeName) → ReadsWhole a → is_writable_type t ≡ true → Reads (ctype a t)
 ctype_reads a t inner w =
     reads_head (ctype a t) refl refl (λ k rest h e.
-        let again : exp_text (ctype a t) ++ rest ≡ codes "CType(" ++ (exp_text a ++ (codes ", " ++ (type_text t ++ (41 ∷ rest)))) = simp append_assoc in
-        ap (head_at (exp_from k)) again ∙ ctype_head (exp_from k) _ ∙ typed_inside ctype (codes ", ") a t k rest inner (omega arith) w (λ s. refl) (λ s. refl))
+    let again : exp_text (ctype a t) ++ rest ≡ codes "CType(" ++ (exp_text a ++ (codes ", " ++ (type_text t ++ (41 ∷ rest)))) = simp append_assoc in
+    ap (head_at (exp_from k)) again ∙ ctype_head (exp_from k) _ ∙ typed_inside ctype (codes ", ") a t k rest inner (omega arith) w (λ s. refl) (λ s. refl))
 
 type_of_head : (read : List ℕ → Option (Exp × List ℕ)) (s : List ℕ) → head_at read (codes "(TypeOf " ++ s) ≡ behind (read s) (closed_type (codes " Is ") type_of)
 unfolding start_of front_of word_front
@@ -251,8 +251,8 @@ type_of_head read s = refl
 pub type_of_reads : (a : Exp) (t : TypeName) → ReadsWhole a → is_writable_type t ≡ true → Reads (type_of a t)
 type_of_reads a t inner w =
     reads_head (type_of a t) refl refl (λ k rest h e.
-        let again : exp_text (type_of a t) ++ rest ≡ codes "(TypeOf " ++ (exp_text a ++ (codes " Is " ++ (type_text t ++ (41 ∷ rest)))) = simp append_assoc in
-        ap (head_at (exp_from k)) again ∙ type_of_head (exp_from k) _ ∙ typed_inside type_of (codes " Is ") a t k rest inner (omega arith) w (λ s. refl) (λ s. refl))
+    let again : exp_text (type_of a t) ++ rest ≡ codes "(TypeOf " ++ (exp_text a ++ (codes " Is " ++ (type_text t ++ (41 ∷ rest)))) = simp append_assoc in
+    ap (head_at (exp_from k)) again ∙ type_of_head (exp_from k) _ ∙ typed_inside type_of (codes " Is ") a t k rest inner (omega arith) w (λ s. refl) (λ s. refl))
 
 unary_head : (o : NetUn) (read : List ℕ → Option (Exp × List ℕ)) (s : List ℕ) → head_at read (40 ∷ (unary_text o ++ s)) ≡ behind (read s) (closed (unary o))
 unfolding start_of front_of word_front
@@ -262,8 +262,8 @@ unary_head un.Not read s = refl
 pub unary_reads : (o : NetUn) (a : Exp) → ReadsWhole a → Reads (unary o a)
 unary_reads o a inner =
     reads_head (unary o a) refl refl (λ k rest h e.
-        let again : exp_text (unary o a) ++ rest ≡ 40 ∷ (unary_text o ++ (exp_text a ++ (41 ∷ rest))) = simp append_assoc in
-        ap (head_at (exp_from k)) again ∙ unary_head o (exp_from k) (exp_text a ++ (41 ∷ rest)) ∙ ap (λ x. behind x (closed (unary o))) (inner k (41 ∷ rest) (omega arith) refl))
+    let again : exp_text (unary o a) ++ rest ≡ 40 ∷ (unary_text o ++ (exp_text a ++ (41 ∷ rest))) = simp append_assoc in
+    ap (head_at (exp_from k)) again ∙ unary_head o (exp_from k) (exp_text a ++ (41 ∷ rest)) ∙ ap (λ x. behind x (closed (unary o))) (inner k (41 ∷ rest) (omega arith) refl))
 
 -- an expression begins as an operand in parentheses
 abbrev pub IsOperand : Exp → Type 0
@@ -276,10 +276,10 @@ opening_head read s = refl
 pub paren_reads : (a : Exp) → IsOperand a → ReadsWhole a → Reads (paren a)
 paren_reads a front inner =
     reads_head (paren a) refl refl (λ k rest h e.
-        let s = exp_text a ++ (41 ∷ rest) in
-        let again : exp_text (paren a) ++ rest ≡ 40 ∷ s = simp append_assoc in
-        ap (head_at (exp_from k)) again ∙ opening_head (exp_from k) s ∙ ap (parenthesized (exp_from k) s) (front (41 ∷ rest) (follows_end a (41 ∷ rest) refl))
-        ∙ ap (λ x. behind x (operand_behind (exp_from k))) (inner k (41 ∷ rest) (omega arith) refl))
+    let s = exp_text a ++ (41 ∷ rest) in
+    let again : exp_text (paren a) ++ rest ≡ 40 ∷ s = simp append_assoc in
+    ap (head_at (exp_from k)) again ∙ opening_head (exp_from k) s ∙ ap (parenthesized (exp_from k) s) (front (41 ∷ rest) (follows_end a (41 ∷ rest) refl))
+    ∙ ap (λ x. behind x (operand_behind (exp_from k))) (inner k (41 ∷ rest) (omega arith) refl))
 
 operator_ends : (o : NetBin) (s : List ℕ) → ends_expression (operator_text o ++ s) ≡ true
 operator_ends op.Add s = refl
@@ -324,13 +324,13 @@ binary_text x o y rest = simp append_assoc
 pub binary_reads : (o : NetBin) (a b : Exp) → IsOperand a → ReadsWhole a → ReadsWhole b → Reads (binary o a b)
 binary_reads o a b front left right =
     reads_head (binary o a b) refl refl (λ k rest h e.
-        let tail = exp_text b ++ (41 ∷ rest) in
-        let s = exp_text a ++ (operator_text o ++ tail) in
-        let again : exp_text (binary o a b) ++ rest ≡ 40 ∷ s = binary_text (exp_text a) (operator_text o) (exp_text b) rest in
-        ap (head_at (exp_from k)) again ∙ opening_head (exp_from k) s ∙ ap (parenthesized (exp_from k) s) (front (operator_text o ++ tail) (follows_end a (operator_text o ++ tail) (operator_ends o tail)))
-        ∙ ap (λ x. behind x (operand_behind (exp_from k))) (left k (operator_text o ++ tail) (omega arith) (operator_ends o tail))
-        ∙ operator_behind o (exp_from k) a tail
-        ∙ ap (λ x. behind x (closed (binary o a))) (right k (41 ∷ rest) (omega arith) refl))
+    let tail = exp_text b ++ (41 ∷ rest) in
+    let s = exp_text a ++ (operator_text o ++ tail) in
+    let again : exp_text (binary o a b) ++ rest ≡ 40 ∷ s = binary_text (exp_text a) (operator_text o) (exp_text b) rest in
+    ap (head_at (exp_from k)) again ∙ opening_head (exp_from k) s ∙ ap (parenthesized (exp_from k) s) (front (operator_text o ++ tail) (follows_end a (operator_text o ++ tail) (operator_ends o tail)))
+    ∙ ap (λ x. behind x (operand_behind (exp_from k))) (left k (operator_text o ++ tail) (omega arith) (operator_ends o tail))
+    ∙ operator_behind o (exp_from k) a tail
+    ∙ ap (λ x. behind x (closed (binary o a))) (right k (41 ∷ rest) (omega arith) refl))
 
 -- ---- suffixes
 
@@ -499,11 +499,11 @@ array_reads t bounds w are k n rest enough fuel f =
     let count : k ≡ array_depth t + suc (suc n) = omega arith in
     let tail = 40 ∷ inside bounds (codes " {}" ++ rest) in
     let again : exp_text (new_array t bounds) ++ rest ≡ codes "New " ++ (type_text (base_of t) ++ (ranks_text t ++ tail))
-        = ap (λ s. (codes "New " ++ s ++ arguments_text bounds ++ codes " {}") ++ rest) (type_parts t) ∙ array_text (type_text (base_of t)) (ranks_text t) (separated (codes ", ") (exp_texts bounds)) rest in
+    = ap (λ s. (codes "New " ++ s ++ arguments_text bounds ++ codes " {}") ++ rest) (type_parts t) ∙ array_text (type_text (base_of t)) (ranks_text t) (separated (codes ", ") (exp_texts bounds)) rest in
     ap (exp_from (suc k)) again
     ∙ ap (λ o. behind o (Behind k k))
-        (new_head (exp_from k) (type_text (base_of t) ++ (ranks_text t ++ tail))
-        ∙ ap (λ o. behind o (λ t rest. Some (ranked t [], rest))) (base_reads (base_of t) (ranks_text t ++ tail) (base_is_none t) (base_is_writable t w) (ends_ranks t tail refl)))
+    (new_head (exp_from k) (type_text (base_of t) ++ (ranks_text t ++ tail))
+    ∙ ap (λ o. behind o (λ t rest. Some (ranked t [], rest))) (base_reads (base_of t) (ranks_text t ++ tail) (base_is_none t) (base_is_writable t w) (ends_ranks t tail refl)))
     ∙ ap (λ m. Behind k m (ranked (base_of t) []) (ranks_text t ++ tail)) count
     ∙ ranks_read t k (suc (suc n)) tail w
     ∙ group_step k (suc n) (ranked (base_of t) (ranks_of t)) bounds (codes " {}" ++ rest) are (omega arith)
@@ -526,8 +526,8 @@ minus_front s = refl
 
 bound_is_item : IsItem (lit (integer (negsuc 0) false))
 bound_is_item = record {
-    read = reads_whole (lit (integer (negsuc 0) false)) (reads_head (lit (integer (negsuc 0) false)) refl refl (λ k rest h e. ap (λ s. head_at (exp_from k) (s ++ rest)) bound_text ∙ minus_head (exp_from k) rest));
-    begins = λ rest e. ap (λ s. is_item (front_of (s ++ rest))) bound_text ∙ ap is_item (minus_front (49 ∷ rest));
+  read = reads_whole (lit (integer (negsuc 0) false)) (reads_head (lit (integer (negsuc 0) false)) refl refl (λ k rest h e. ap (λ s. head_at (exp_from k) (s ++ rest)) bound_text ∙ minus_head (exp_from k) rest));
+  begins = λ rest e. ap (λ s. is_item (front_of (s ++ rest))) bound_text ∙ ap is_item (minus_front (49 ∷ rest));
 }
 
 pub no_bound_is_item : (e : Exp) → is_no_bound e ≡ true → IsItem e

@@ -102,7 +102,7 @@ bracket_front : (s : List ℕ) → front_of (91 ∷ s) ≡ operand
 unfolding front_of word_front
 bracket_front s = refl
 
-first_taken : (c : ℕ) (s : List ℕ) → is_word_part c ≡ true → word_at (c ∷ s) ≡ (c ∷ (word_at s).0, (word_at s).1)
+pub first_taken : (c : ℕ) (s : List ℕ) → is_word_part c ≡ true → word_at (c ∷ s) ≡ (c ∷ (word_at s).0, (word_at s).1)
 first_taken c s h = rw h refl
 
 pub more_start : (s t : List ℕ) → BeginsPath s → BeginsPath (s ++ t)
@@ -111,8 +111,8 @@ more_start s t b = record { first = b.first; others = b.others ++ t; are = ap (�
 literal_front : (c : ℕ) (s : List ℕ) → is_literal_start c ≡ true → front_of (c ∷ s) ≡ operand
 literal_front c s h =
     ⊎_elim digit
-        (λ t. ⊎_elim (λ e. ap (λ d. front_of (d ∷ s)) (eqb-true c 34 e) ∙ quote_front s) (λ e. ap (λ d. front_of (d ∷ s)) (eqb-true c 38 e) ∙ ampersand_front s) (or_cases (c == 34) (c == 38) t))
-        (or_cases (is_digit c) (c == 34 || c == 38) h)
+    (λ t. ⊎_elim (λ e. ap (λ d. front_of (d ∷ s)) (eqb-true c 34 e) ∙ quote_front s) (λ e. ap (λ d. front_of (d ∷ s)) (eqb-true c 38 e) ∙ ampersand_front s) (or_cases (c == 34) (c == 38) t))
+    (or_cases (is_digit c) (c == 34 || c == 38) h)
   where
     digit : is_digit c ≡ true → front_of (c ∷ s) ≡ operand
     digit t =
@@ -123,8 +123,8 @@ path_front : (s : List ℕ) → BeginsPath s → is_bracketed (word_at s).0 ≡ 
 path_front s b h =
     ap front_of b.are
     ∙ ⊎_elim (λ e. ap (λ d. front_of (d ∷ b.others)) (eqb-true b.first 91 e) ∙ bracket_front b.others)
-        (λ t. word_front_is b.first b.others (both_true (is_word_part b.first) (not (is_digit b.first)) t).0 ∙ ap (λ s. word_front (word_at s).0) (sym b.are) ∙ front_of_name (word_at s).0 h)
-        (or_cases (b.first == 91) (is_word_part b.first && not (is_digit b.first)) b.starts)
+    (λ t. word_front_is b.first b.others (both_true (is_word_part b.first) (not (is_digit b.first)) t).0 ∙ ap (λ s. word_front (word_at s).0) (sym b.are) ∙ front_of_name (word_at s).0 h)
+    (or_cases (b.first == 91) (is_word_part b.first && not (is_digit b.first)) b.starts)
 
 -- ---- operands
 
@@ -176,6 +176,7 @@ operand_front (lit l) rest h f e = of_literal l h f
     of_spelt l k h f =
         let b = literal_begins l k h f in
         ap (λ s. front_of (s ++ rest)) b.are ∙ literal_front b.first (b.others ++ rest) b.starts
+
     of_literal : (l : Literal) → is_writable_literal l ≡ true → fits_literal l ≡ true → front_of (literal_text l ++ rest) ≡ operand
     of_literal (boolean b) h f = boolean_front b rest (name_ends (lit l) rest e)
     of_literal (short z x) h f = of_spelt (short z x) refl h f
@@ -251,11 +252,11 @@ path_head_from : (read : List ℕ → Option (Exp × List ℕ)) (s : List ℕ) �
 path_head_from read s b h =
     ap (head_at read) b.are
     ∙ ⊎_elim (λ e. ap (λ d. started read (b.first ∷ b.others) b.others (start_of d)) (eqb-true b.first 91 e) ∙ ap (started read (b.first ∷ b.others) b.others) bracket_start_is)
-        (λ t.
-            let parts = both_true (is_word_part b.first) (not (is_digit b.first)) t in
-            ap (started read (b.first ∷ b.others) b.others) (word_start_is b.first parts.0 (not-true (is_digit b.first) parts.1))
-            ∙ ap (worded read (word_at (b.first ∷ b.others)).1 (b.first ∷ b.others)) (no_keyword (word_at (b.first ∷ b.others)).0 (ap (λ s. is_bracketed (word_at s).0) (sym b.are) ∙ h)))
-        (or_cases (b.first == 91) (is_word_part b.first && not (is_digit b.first)) b.starts)
+    (λ t.
+    let parts = both_true (is_word_part b.first) (not (is_digit b.first)) t in
+    ap (started read (b.first ∷ b.others) b.others) (word_start_is b.first parts.0 (not-true (is_digit b.first) parts.1))
+    ∙ ap (worded read (word_at (b.first ∷ b.others)).1 (b.first ∷ b.others)) (no_keyword (word_at (b.first ∷ b.others)).0 (ap (λ s. is_bracketed (word_at s).0) (sym b.are) ∙ h)))
+    (or_cases (b.first == 91) (is_word_part b.first && not (is_digit b.first)) b.starts)
     ∙ ap path_stage (sym b.are)
 
 pub path_head : (read : List ℕ → Option (Exp × List ℕ)) (n : List ℕ) (names : List (List ℕ)) (rest : List ℕ) → list_all is_identifier (n ∷ names) ≡ true → ends_path rest ≡ true

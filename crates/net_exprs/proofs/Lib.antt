@@ -5,5 +5,6 @@ pub mod TypesRead
 pub mod Heads
 pub mod ExpressionsRead
 pub mod ReadBack
+pub mod FirstWords
 pub mod Printable
 mod Examples

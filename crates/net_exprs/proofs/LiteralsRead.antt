@@ -49,8 +49,8 @@ units_read (u ∷ units) rest h e =
         let again : ((quoted_unit u ++ flat_map quoted_unit units) ++ codes "\"") ++ rest ≡ quoted_unit u ++ tail = simp append_assoc in
         ap (λ s. units_at s false) again
         ∙ by_test (u == 34) (λ b. units_at ((if b then codes "\"\"" else encode_utf8 u) ++ tail) false ≡ Some (u ∷ units, rest))
-            (λ t. ap (with_unit 34) more ∙ ap (λ v. Some (v ∷ units, rest)) (sym (eqb-true u 34 t)))
-            (λ t. ap (λ bytes. units_at (bytes ++ tail) false) (one_byte u h) ∙ plain u tail t ∙ ap (with_unit u) more)
+        (λ t. ap (with_unit 34) more ∙ ap (λ v. Some (v ∷ units, rest)) (sym (eqb-true u 34 t)))
+        (λ t. ap (λ bytes. units_at (bytes ++ tail) false) (one_byte u h) ∙ plain u tail t ∙ ap (with_unit u) more)
       where
         plain : (u : ℕ) (s : List ℕ) → (u == 34) ≡ false → units_at (u ∷ s) false ≡ with_unit u (units_at s false)
         plain u s t = rw (t, units_at) refl
@@ -64,9 +64,6 @@ place_step : (w m x : ℕ) (s : List ℕ) → x < 10 → places_from w m ((48 + 
 place_step w m x s h =
     let value : 48 + x - 48 ≡ x = omega arith in
     rw (digit_of x h) (ap (λ d. places_from (w / 10) (m + d * w) s) value)
-
-places_end : (w m : ℕ) (rest : List ℕ) → places_from w m (68 ∷ rest) ≡ (m, 68 ∷ rest)
-places_end w m rest = refl
 
 one_place : (a : ℕ) (rest : List ℕ) → a < 10 → places_from 1000 0 ((48 + a) ∷ 68 ∷ rest) ≡ (0 + a * 1000, 68 ∷ rest)
 one_place a rest h = place_step 1000 0 a (68 ∷ rest) h
@@ -97,28 +94,37 @@ pub places_read : (r : ℕ) (rest : List ℕ) → r < 10000 → ArePlaces r rest
 places_read r rest small =
     by_test (r % 10 == 0) (λ t. ArePlaces r rest (if t then (if r % 100 == 0 then (if r % 1000 == 0 then a ∷ [] else a ∷ b ∷ []) else a ∷ b ∷ c ∷ []) else a ∷ b ∷ c ∷ d ∷ []))
     (λ x. by_test (r % 100 == 0) (λ t. ArePlaces r rest (if t then (if r % 1000 == 0 then a ∷ [] else a ∷ b ∷ []) else a ∷ b ∷ c ∷ []))
-        (λ y. by_test (r % 1000 == 0) (λ t. ArePlaces r rest (if t then a ∷ [] else a ∷ b ∷ []))
-            (λ z. let none = eqb-true (r % 1000) 0 z in
-                (same_places r (0 + (r / 1000) * 1000) rest (a ∷ 68 ∷ rest) (omega arith) (one_place (r / 1000) rest first), starts))
-            (λ z. let none = eqb-true (r % 100) 0 y in
-                (same_places r (0 + (r / 1000) * 1000 + (r / 100 % 10) * 100) rest (a ∷ b ∷ 68 ∷ rest) (omega arith) (two_places (r / 1000) (r / 100 % 10) rest first (omega arith)), starts)))
-        (λ y. let none = eqb-true (r % 10) 0 x in
-            (same_places r (0 + (r / 1000) * 1000 + (r / 100 % 10) * 100 + (r / 10 % 10) * 10) rest (a ∷ b ∷ c ∷ 68 ∷ rest) (omega arith)
-                (three_places (r / 1000) (r / 100 % 10) (r / 10 % 10) rest first (omega arith) (omega arith)), starts)))
-    (λ x.
-        (same_places r (0 + (r / 1000) * 1000 + (r / 100 % 10) * 100 + (r / 10 % 10) * 10 + (r % 10) * 1) rest (a ∷ b ∷ c ∷ d ∷ 68 ∷ rest) (omega arith)
-            (four_places (r / 1000) (r / 100 % 10) (r / 10 % 10) (r % 10) rest first (omega arith) (omega arith) (omega arith)), starts))
+    (λ y. by_test (r % 1000 == 0) (λ t. ArePlaces r rest (if t then a ∷ [] else a ∷ b ∷ []))
+    (λ z. let none = eqb-true (r % 1000) 0 z in
+    (same_places r (0 + (r / 1000) * 1000) rest (a ∷ 68 ∷ rest) (omega arith) (one_place (r / 1000) rest first), starts))
+    (λ z. let none = eqb-true (r % 100) 0 y in
+    (same_places r (0 + (r / 1000) * 1000 + (r / 100 % 10) * 100) rest (a ∷ b ∷ 68 ∷ rest) (omega arith) (two_places (r / 1000) (r / 100 % 10) rest first (omega arith)), starts)))
+    (λ y. let none = eqb-true (r % 10) 0 x in (
+      same_places r (0 + (r / 1000) * 1000 + (r / 100 % 10) * 100 + (r / 10 % 10) * 10) rest (a ∷ b ∷ c ∷ 68 ∷ rest) (omega arith)
+          (three_places (r / 1000) (r / 100 % 10) (r / 10 % 10) rest first (omega arith) (omega arith)),
+      starts,
+    )))
+    (λ x. (
+      same_places r (0 + (r / 1000) * 1000 + (r / 100 % 10) * 100 + (r / 10 % 10) * 10 + (r % 10) * 1) rest (a ∷ b ∷ c ∷ d ∷ 68 ∷ rest) (omega arith)
+          (four_places (r / 1000) (r / 100 % 10) (r / 10 % 10) (r % 10) rest first (omega arith) (omega arith) (omega arith)),
+      starts,
+    ))
   where
     a : ℕ
     a = 48 + r / 1000
+
     b : ℕ
     b = 48 + r / 100 % 10
+
     c : ℕ
     c = 48 + r / 10 % 10
+
     d : ℕ
     d = 48 + r % 10
+
     first : r / 1000 < 10
     first = omega arith
+
     starts : is_digit (48 + r / 1000) ≡ true
     starts = digit_of (r / 1000) first
 
@@ -141,7 +147,7 @@ digits_first : (n : ℕ) (tail : List ℕ) → n < 10 ^ 64 → ends_numeral 10 t
 digits_first n tail small e =
     let shape = decimal_begins n small in
     let start : literal_at (decimal n ++ tail) ≡ decimal_literal (numeral_from 10 0 (decimal n ++ tail)).0 (numeral_from 10 0 (decimal n ++ tail)).1
-        = rw shape.are (rw shape.digit refl) in
+    = rw shape.are (rw shape.digit refl) in
     start ∙ ap (λ (parts : ℕ × List ℕ). decimal_literal parts.0 parts.1) (decimal_reads n tail small e)
 
 sign_of_pos : (half n : ℕ) → nat_lt n half ≡ true → signed_number half n ≡ pos n
@@ -173,17 +179,22 @@ amount_reads n rest small = ap literal_at again ∙ by_test (r == 0) (λ b. lite
   where
     q : ℕ
     q = n / 10000
+
     r : ℕ
     r = n % 10000
+
     again : (amount_text n ++ codes "D") ++ rest ≡ decimal (n / 10000) ++ (fraction_text (n % 10000) ++ 68 ∷ rest)
     again = append_assoc (decimal (n / 10000) ++ fraction_text (n % 10000)) (codes "D") rest ∙ append_assoc (decimal (n / 10000)) (fraction_text (n % 10000)) (68 ∷ rest)
+
     less : n / 10000 < 10 ^ 64
     less = lt_of_le_of_lt (div-le_self n 10000) small
+
     whole : (r == 0) ≡ true → literal_at (decimal (n / 10000) ++ 68 ∷ rest) ≡ Some (tree.decimal (pos n), rest)
     whole t =
         let none : n % 10000 ≡ 0 = eqb-true (n % 10000) 0 t in
         let back : n / 10000 * 10000 ≡ n = omega arith in
         digits_first (n / 10000) (68 ∷ rest) less refl ∙ ap (λ m. Some (tree.decimal (pos m), rest)) back
+
     broken : (r == 0) ≡ false → literal_at (decimal (n / 10000) ++ ((codes "." ++ places_text (n % 10000)) ++ 68 ∷ rest)) ≡ Some (tree.decimal (pos n), rest)
     broken t =
         let places = places_read (n % 10000) rest (omega arith) in

@@ -83,6 +83,7 @@ glyph_value d small = by_test (nat_lt d 10) (λ b. digit_value (cond b (48 + d) 
         let low : nat_lt (48 + d) 48 ≡ false = le-ltb (48 + d) 48 (omega arith) in
         let high : nat_lt (48 + d) 58 ≡ true = lt-ltb (48 + d) 58 (omega arith) in
         rw (low, high) (omega arith)
+
     above : nat_lt d 10 ≡ false → digit_value (55 + d) ≡ d
     above t =
         let more = ltb-false d 10 t in
@@ -107,6 +108,7 @@ hexadecimal_reads n rest e =
   where
     none : (n == 0) ≡ true → numeral_from 16 0 (48 ∷ rest) ≡ (n, rest)
     none t = numeral_reads 16 0 [] rest tt e ∙ ap (λ m. (m, rest)) (sym (eqb-true n 0 t))
+
     some : (n == 0) ≡ false → numeral_from 16 0 (map (digit_glyph true) (digits_of 16 n) ++ rest) ≡ (n, rest)
     some t = glyphs_read 0 (digits_of 16 n) rest (all_below_base_digits_of 16 n (omega arith)) e ∙ ap (λ m. (m, rest)) (number_digits_of 16 n (omega arith))
 

@@ -82,6 +82,7 @@ glyph_stays upper d h = by (nat_lt d 10) upper
   where
     within : (c : ℕ) → 32 ≤ c → c ≤ 126 → is_printable c ≡ true
     within c low high = rw (le-leb 32 c low, le-leb c 126 high) refl
+
     by : (a b : Bool) → is_printable (cond a (48 + d) (cond b (55 + d) (87 + d))) ≡ true
     by true b = within (48 + d) (omega arith) (omega arith)
     by false true = within (55 + d) (omega arith) (omega arith)
@@ -92,7 +93,7 @@ digits_stay zero n acc h = h
 digits_stay (suc k) n acc h =
     let more : stays_within_line (digit_glyph false (n % 10) ∷ acc) ≡ true = ap (λ b. b && stays_within_line acc) (glyph_stays false (n % 10) (omega arith)) ∙ h in
     either_stays (n / 10 == 0) (digit_glyph false (n % 10) ∷ acc) (digits_onto k 10 false (n / 10) (digit_glyph false (n % 10) ∷ acc)) more
-        (digits_stay k (n / 10) (digit_glyph false (n % 10) ∷ acc) more)
+    (digits_stay k (n / 10) (digit_glyph false (n % 10) ∷ acc) more)
 
 pub decimal_stays : (n : ℕ) → stays_within_line (decimal n) ≡ true
 unfolding digits
@@ -116,17 +117,20 @@ whole_stays places false z = number_stays z
 places_stay : (r : ℕ) → r < 10000 → stays_within_line (places_text r) ≡ true
 places_stay r small =
     either_stays (r % 10 == 0) _ _
-        (either_stays (r % 100 == 0) _ _
-            (either_stays (r % 1000 == 0) _ _ (rw a refl) (rw (a, b) refl))
-            (rw (a, b, c) refl))
-        (rw (a, b, c, d) refl)
+    (either_stays (r % 100 == 0) _ _
+    (either_stays (r % 1000 == 0) _ _ (rw a refl) (rw (a, b) refl))
+    (rw (a, b, c) refl))
+    (rw (a, b, c, d) refl)
   where
     a : is_printable (48 + r / 1000) ≡ true
     a = digit_stays (r / 1000) (omega arith)
+
     b : is_printable (48 + r / 100 % 10) ≡ true
     b = digit_stays (r / 100 % 10) (omega arith)
+
     c : is_printable (48 + r / 10 % 10) ≡ true
     c = digit_stays (r / 10 % 10) (omega arith)
+
     d : is_printable (48 + r % 10) ≡ true
     d = digit_stays (r % 10) (omega arith)
 

@@ -70,9 +70,10 @@ mutual
   are_items no_exps h f = tt
   are_items (next_exp e more) h f =
       let parts = both_true (is_no_bound e || is_writable_exp e) (are_writable_bounds more) h in
-      let fit = both_true (fits_exp e) (fits_exps more) f in
-      (⊎_elim (no_bound_is_item e) (λ w. is_operand_item e (λ rest. operand_front e rest w fit.0) (reads_whole e (reads e w fit.0))) (or_cases (is_no_bound e) (is_writable_exp e) parts.0),
-       are_items more parts.1 fit.1)
+      let fit = both_true (fits_exp e) (fits_exps more) f in (
+        ⊎_elim (no_bound_is_item e) (λ w. is_operand_item e (λ rest. operand_front e rest w fit.0) (reads_whole e (reads e w fit.0))) (or_cases (is_no_bound e) (is_writable_exp e) parts.0),
+        are_items more parts.1 fit.1,
+      )
 
 -- ---- fuel
 

@@ -155,9 +155,9 @@ path_word n names rest h e =
     by_test (is_library_path (n ∷ names)) (λ b. is_bracketed (word_at (separated (codes ".") (if b then n ∷ names else map name_text (n ∷ names)) ++ rest)).0 ≡ false)
     (λ b. ap is_bracketed (first_word n names rest word e) ∙ library_word n names b)
     (λ b. by_test (is_bracketed n)
-        (λ t. is_bracketed n ≡ t → is_bracketed (word_at (separated (codes ".") ((if t then codes "[" ++ n ++ codes "]" else n) ∷ map name_text names) ++ rest)).0 ≡ false)
-        (λ t same. ap is_bracketed (no_word (n ++ codes "]") (map name_text names) rest) ∙ nothing_bracketed)
-        (λ t same. ap is_bracketed (first_word n (map name_text names) rest word e) ∙ same) refl)
+    (λ t. is_bracketed n ≡ t → is_bracketed (word_at (separated (codes ".") ((if t then codes "[" ++ n ++ codes "]" else n) ∷ map name_text names) ++ rest)).0 ≡ false)
+    (λ t same. ap is_bracketed (no_word (n ++ codes "]") (map name_text names) rest) ∙ nothing_bracketed)
+    (λ t same. ap is_bracketed (first_word n (map name_text names) rest word e) ∙ same) refl)
   where
     word : list_all is_word_part n ≡ true
     word = is_word n (both_true (is_identifier n) (list_all is_identifier names) h).0

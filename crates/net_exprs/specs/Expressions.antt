@@ -87,8 +87,8 @@ abbrev pub items_behind : (List ℕ → Option (Exps × List ℕ)) → Exp → L
 items_behind go e [] = None
 items_behind go e (c ∷ s) =
     elim (c == 41) [
-      true ↦ Some (next_exp e no_exps, s)
-    | false ↦ past (after (codes ", ") (c ∷ s)) (λ s. behind (go s) (λ es rest. Some (next_exp e es, rest)))
+      | true ↦ Some (next_exp e no_exps, s)
+      | false ↦ past (after (codes ", ") (c ∷ s)) (λ s. behind (go s) (λ es rest. Some (next_exp e es, rest)))
     ]
 
 -- at least one expression and at most so many, up to the closing parenthesis
@@ -173,8 +173,8 @@ abbrev pub operand_behind : (read : List ℕ → Option (Exp × List ℕ)) → E
 operand_behind read e [] = None
 operand_behind read e (c ∷ s) =
     elim (c == 41) [
-      true ↦ Some (whole (paren e), s)
-    | false ↦ behind (operator_at (c ∷ s)) (λ o s. behind (read s) (closed (binary o e)))
+      | true ↦ Some (whole (paren e), s)
+      | false ↦ behind (operator_at (c ∷ s)) (λ o s. behind (read s) (closed (binary o e)))
     ]
 
 -- what stands behind an opening parenthesis that an expression begins with
