@@ -251,3 +251,8 @@ library_alone = record { library = true; main = Option.None; note = Some []; mod
 library_read : project_in (files_of library_alone) ≡ Some library_alone
 unfolding line_words is_bracketed
 library_read = refl
+
+-- a unit past 16 bits would be written as a pair of surrogates is, so that a comment of such units does not fit
+wide_unit : line_text (comment (0x1_0000 ∷ [])) ≡ line_text (comment (0xD800 ∷ 0xDC00 ∷ []))
+unfolding encode_utf8
+wide_unit = refl
