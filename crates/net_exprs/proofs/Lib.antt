@@ -1,0 +1,10 @@
+pub mod Words
+pub mod Numbers
+pub mod LiteralsRead
+pub mod TypesRead
+pub mod Heads
+pub mod ExpressionsRead
+pub mod ReadBack
+pub mod FirstWords
+pub mod Printable
+mod Examples

@@ -1,0 +1,274 @@
+-- How expressions and their arguments are read.
+use Rattle.std.specs.Prelude.{ℕ, zero, suc, negsuc, true, false, ◌||◌, ◌==◌, if◌then◌else◌, List, [], ◌∷◌, length, codes, Option, Some, None}
+use Rattle.net_tree.specs.declared.expression.CastWord.{CastWord}
+use Rattle.net_tree.specs.declared.expression.CastWord.TheVariants as word
+use Rattle.net_tree.specs.declared.expression.NetBin.{NetBin}
+use Rattle.net_tree.specs.declared.expression.NetBin.TheVariants as op
+use Rattle.net_tree.specs.declared.expression.NetUn.TheVariants as un
+use Rattle.net_tree.specs.Types.{TypeName, array_of}
+use Rattle.net_tree.specs.Tree.{Exp, Exps, binary, boolean, call_of, cast, ctype, dot, integer, lit, me, new_array, new_object, next_exp, no_exps, nothing, paren, path, type_of, unary, with_dot}
+use Rattle.net_tree.specs.Spelling.{is_word_part, is_same_text}
+use Rattle.net_tree.specs.Expressions.{operator_text}
+use Rattle.net_exprs.specs.Readers.{after, behind, look_up, past, word_at}
+use Rattle.net_exprs.specs.Names.{is_digit, name_at, path_at}
+use Rattle.net_exprs.specs.Literals.{literal_at}
+use Rattle.net_exprs.specs.Types.{base_at, commas_from, type_at}
+
+-- ---- what is read so far
+
+-- An expression; or New, a type and parentheses. While these hold nothing but commas, they may be ranks, and the last ones
+-- stand first; behind expressions the braces decide whether these are the bounds of an array.
+pub data Stage : Type 0 where
+  whole : Exp → Stage
+  ranked : TypeName → (ranks : List ℕ) → Stage
+  bounded : TypeName → (ranks : List ℕ) → (bounds : Exps) → Stage
+
+-- what stands in parentheses: commas alone, as a rank, or expressions
+pub data Group : Type 0 where
+  rank : ℕ → Group
+  items : Exps → Group
+
+-- the array type with these ranks, of which the last stands first
+abbrev pub with_ranks : TypeName → List ℕ → TypeName
+with_ranks t [] = t
+with_ranks t (r ∷ ranks) = array_of (with_ranks t ranks) r
+
+-- an object of a type, with a call for each of the parentheses behind the first
+abbrev pub object_of : TypeName → List ℕ → Exp
+object_of t [] = new_object t no_exps
+object_of t (r ∷ []) = new_object t no_exps
+object_of t (r ∷ q ∷ ranks) = call_of (object_of t (q ∷ ranks)) no_exps
+
+abbrev pub object_with : TypeName → List ℕ → Exps → Exp
+object_with t [] args = new_object t args
+object_with t (r ∷ ranks) args = call_of (object_of t (r ∷ ranks)) args
+
+-- the expression that ends here
+abbrev pub value_of : Stage → Exp
+value_of (whole e) = e
+value_of (ranked t ranks) = object_of t ranks
+value_of (bounded t ranks bounds) = object_with t ranks bounds
+
+-- the array that is made where braces follow
+abbrev pub array_made : Stage → Option Exp
+array_made (whole e) = None
+array_made (ranked t []) = None
+array_made (ranked t (r ∷ ranks)) = Some (new_array (with_ranks t ranks) no_exps)
+array_made (bounded t ranks bounds) = Some (new_array (with_ranks t ranks) bounds)
+
+abbrev pub with_group : Stage → Group → Stage
+with_group (whole e) (rank r) = whole (call_of e no_exps)
+with_group (whole e) (items es) = whole (call_of e es)
+with_group (ranked t ranks) (rank r) = ranked t (r ∷ ranks)
+with_group (ranked t ranks) (items es) = bounded t ranks es
+with_group (bounded t ranks bounds) (rank r) = whole (call_of (object_with t ranks bounds) no_exps)
+with_group (bounded t ranks bounds) (items es) = whole (call_of (object_with t ranks bounds) es)
+
+-- ---- what stands in parentheses
+
+-- what may stand behind an opening parenthesis
+pub data Front : Type 0 where
+  closing : Front
+  comma : Front
+  minus : Front
+  negation : Front
+  type_test : Front
+  operand : Front
+
+unfoldable pub word_front : List ℕ → Front
+word_front word = if is_same_text word (codes "Not") then negation else (if is_same_text word (codes "TypeOf") then type_test else operand)
+
+unfoldable pub front_of : List ℕ → Front
+front_of [] = operand
+front_of (c ∷ s) = if c == 41 then closing else (if c == 44 then comma else (if c == 45 then minus else word_front (word_at (c ∷ s)).0))
+
+-- what follows an expression of a list: the closing parenthesis, or a comma and more
+abbrev pub items_behind : (List ℕ → Option (Exps × List ℕ)) → Exp → List ℕ → Option (Exps × List ℕ)
+items_behind go e [] = None
+items_behind go e (c ∷ s) =
+    elim (c == 41) [
+      | true ↦ Some (next_exp e no_exps, s)
+      | false ↦ past (after (codes ", ") (c ∷ s)) (λ s. behind (go s) (λ es rest. Some (next_exp e es, rest)))
+    ]
+
+-- at least one expression and at most so many, up to the closing parenthesis
+abbrev pub items_from : (read : List ℕ → Option (Exp × List ℕ)) → ℕ → List ℕ → Option (Exps × List ℕ)
+items_from read zero s = None
+items_from read (suc n) s = behind (read s) (items_behind (items_from read n))
+
+abbrev pub group_by : (read : List ℕ → Option (Exp × List ℕ)) → ℕ → List ℕ → Front → Option (Group × List ℕ)
+group_by read n s closing = behind (commas_from 1 s) (λ r rest. Some (rank r, rest))
+group_by read n s comma = behind (commas_from 1 s) (λ r rest. Some (rank r, rest))
+group_by read n s minus = behind (items_from read n s) (λ es rest. Some (items es, rest))
+group_by read n s negation = behind (items_from read n s) (λ es rest. Some (items es, rest))
+group_by read n s type_test = behind (items_from read n s) (λ es rest. Some (items es, rest))
+group_by read n s operand = behind (items_from read n s) (λ es rest. Some (items es, rest))
+
+-- what stands behind an opening parenthesis of a call, an element or an array, up to the closing one
+abbrev pub group_at : (read : List ℕ → Option (Exp × List ℕ)) → ℕ → List ℕ → Option (Group × List ℕ)
+group_at read n s = group_by read n s (front_of s)
+
+-- ---- suffixes
+
+-- what follows an expression, and what stands behind its sign
+pub data Suffix : Type 0 where
+  member : List ℕ → Suffix
+  group : List ℕ → Suffix
+  braces : List ℕ → Suffix
+  no_suffix : Suffix
+
+abbrev pub braces_or_none : Option (List ℕ) → Suffix
+braces_or_none (Some s) = braces s
+braces_or_none None = no_suffix
+
+unfoldable pub suffix_of : List ℕ → Suffix
+suffix_of [] = no_suffix
+suffix_of (c ∷ s) = if c == 46 then member s else (if c == 40 then group s else braces_or_none (after (codes " {}") (c ∷ s)))
+
+-- what follows the braces, if an array was made
+abbrev pub braces_behind : (Stage → List ℕ → Option (Exp × List ℕ)) → Stage → (s behind_braces : List ℕ) → Option Exp → Option (Exp × List ℕ)
+braces_behind go stage s behind_braces (Some e) = go (whole e) behind_braces
+braces_behind go stage s behind_braces None = Some (value_of stage, s)
+
+abbrev pub suffix_by : (Stage → List ℕ → Option (Exp × List ℕ)) → (List ℕ → Option (Group × List ℕ)) → Stage → List ℕ → Suffix → Option (Exp × List ℕ)
+suffix_by go read_group stage s (member rest) = behind (name_at rest) (λ name. go (whole (dot (value_of stage) name)))
+suffix_by go read_group stage s (group rest) = behind (read_group rest) (λ g. go (with_group stage g))
+suffix_by go read_group stage s (braces rest) = braces_behind go stage s rest (array_made stage)
+suffix_by go read_group stage s no_suffix = Some (value_of stage, s)
+
+-- what is read so far, with at most so many suffixes
+abbrev pub suffixes : (read_group : List ℕ → Option (Group × List ℕ)) → ℕ → Stage → List ℕ → Option (Exp × List ℕ)
+suffixes read_group zero stage s = Some (value_of stage, s)
+suffixes read_group (suc n) stage s = suffix_by (suffixes read_group n) read_group stage s (suffix_of s)
+
+-- ---- what an expression begins with
+
+-- an expression up to the closing parenthesis
+abbrev pub closed : (Exp → Exp) → Exp → List ℕ → Option (Stage × List ℕ)
+closed make e s = past (after (codes ")") s) (λ rest. Some (whole (make e), rest))
+
+-- an expression, a text and a type, up to the closing parenthesis
+abbrev pub closed_type : (text : List ℕ) → (Exp → TypeName → Exp) → Exp → List ℕ → Option (Stage × List ℕ)
+closed_type text make e s = past (after text s) (λ s. behind (type_at s) (λ t s. past (after (codes ")") s) (λ rest. Some (whole (make e t), rest))))
+
+abbrev pub operators : List NetBin
+operators =
+    op.Add ∷ op.Sub ∷ op.Mul ∷ op.IntDiv ∷ op.Mod ∷ op.Concat ∷ op.Equal ∷ op.NotEqual ∷ op.Less ∷ op.Greater ∷ op.LessEqual ∷ op.GreaterEqual ∷ op.And ∷ op.Or ∷ op.Xor
+    ∷ op.Is ∷ []
+
+abbrev pub operator_or : NetBin → Option (List ℕ) → Option (NetBin × List ℕ) → Option (NetBin × List ℕ)
+operator_or o (Some rest) more = Some (o, rest)
+operator_or o None more = more
+
+-- the first of these operators that stands at the front, with the blanks around it
+abbrev pub operator_from : List NetBin → List ℕ → Option (NetBin × List ℕ)
+operator_from [] s = None
+operator_from (o ∷ os) s = operator_or o (after (operator_text o) s) (operator_from os s)
+
+unfoldable pub operator_at : List ℕ → Option (NetBin × List ℕ)
+operator_at s = operator_from operators s
+
+-- what follows the first operand in parentheses
+abbrev pub operand_behind : (read : List ℕ → Option (Exp × List ℕ)) → Exp → List ℕ → Option (Stage × List ℕ)
+operand_behind read e [] = None
+operand_behind read e (c ∷ s) =
+    elim (c == 41) [
+      | true ↦ Some (whole (paren e), s)
+      | false ↦ behind (operator_at (c ∷ s)) (λ o s. behind (read s) (closed (binary o e)))
+    ]
+
+-- what stands behind an opening parenthesis that an expression begins with
+abbrev pub parenthesized : (read : List ℕ → Option (Exp × List ℕ)) → List ℕ → Front → Option (Stage × List ℕ)
+parenthesized read s closing = None
+parenthesized read s comma = None
+parenthesized read s minus = past (after (codes "-") s) (λ s. behind (read s) (closed (unary un.Neg)))
+parenthesized read s negation = past (after (codes "Not ") s) (λ s. behind (read s) (closed (unary un.Not)))
+parenthesized read s type_test = past (after (codes "TypeOf ") s) (λ s. behind (read s) (closed_type (codes " Is ") type_of))
+parenthesized read s operand = behind (read s) (operand_behind read)
+
+-- the words of the language that an expression begins with
+pub data Keyword : Type 0 where
+  nothing_word : Keyword
+  me_word : Keyword
+  true_word : Keyword
+  false_word : Keyword
+  cast_word : CastWord → Keyword
+  ctype_word : Keyword
+  new_word : Keyword
+
+abbrev pub keywords : List (List ℕ × Keyword)
+keywords =
+    (codes "Nothing", nothing_word) ∷ (codes "Me", me_word) ∷ (codes "True", true_word) ∷ (codes "False", false_word)
+    ∷ (codes "CBool", cast_word word.CBool) ∷ (codes "CByte", cast_word word.CByte) ∷ (codes "CShort", cast_word word.CShort) ∷ (codes "CInt", cast_word word.CInt)
+    ∷ (codes "CLng", cast_word word.CLng) ∷ (codes "CDec", cast_word word.CDec) ∷ (codes "CStr", cast_word word.CStr) ∷ (codes "CObj", cast_word word.CObj)
+    ∷ (codes "CType", ctype_word) ∷ (codes "New", new_word) ∷ []
+
+unfoldable pub keyword_of : List ℕ → Option Keyword
+keyword_of word = look_up word keywords
+
+abbrev pub path_stage : List ℕ → Option (Stage × List ℕ)
+path_stage s = behind (path_at s) (λ names rest. Some (whole (path names), rest))
+
+-- what stands behind a word of the language; where there is none, a path begins
+abbrev pub worded : (read : List ℕ → Option (Exp × List ℕ)) → (rest s : List ℕ) → Option Keyword → Option (Stage × List ℕ)
+worded read rest s (Some nothing_word) = Some (whole nothing, rest)
+worded read rest s (Some me_word) = Some (whole me, rest)
+worded read rest s (Some true_word) = Some (whole (lit (boolean true)), rest)
+worded read rest s (Some false_word) = Some (whole (lit (boolean false)), rest)
+worded read rest s (Some (cast_word w)) = past (after (codes "(") rest) (λ s. behind (read s) (closed (cast w)))
+worded read rest s (Some ctype_word) = past (after (codes "(") rest) (λ s. behind (read s) (closed_type (codes ", ") ctype))
+worded read rest s (Some new_word) = past (after (codes " ") rest) (λ s. behind (base_at s) (λ t rest. Some (ranked t [], rest)))
+worded read rest s None = path_stage s
+
+-- what the first character tells
+pub data Start : Type 0 where
+  literal_start : Start
+  word_start : Start
+  bracket_start : Start
+  point_start : Start
+  opening_start : Start
+  minus_start : Start
+  no_start : Start
+
+unfoldable pub start_of : ℕ → Start
+start_of c =
+    if is_digit c then literal_start
+    else (if is_word_part c then word_start
+    else (if c == 34 || c == 38 then literal_start
+    else (if c == 91 then bracket_start
+    else (if c == 46 then point_start
+    else (if c == 40 then opening_start
+    else (if c == 45 then minus_start else no_start))))))
+
+-- The one number with a sign is the bound -1.
+abbrev pub started : (read : List ℕ → Option (Exp × List ℕ)) → (s rest : List ℕ) → Start → Option (Stage × List ℕ)
+started read s rest literal_start = behind (literal_at s) (λ l rest. Some (whole (lit l), rest))
+started read s rest word_start = worded read (word_at s).1 s (keyword_of (word_at s).0)
+started read s rest bracket_start = path_stage s
+started read s rest point_start = behind (name_at rest) (λ name rest. Some (whole (with_dot name), rest))
+started read s rest opening_start = parenthesized read rest (front_of rest)
+started read s rest minus_start = past (after (codes "1") rest) (λ rest. Some (whole (lit (integer (negsuc 0) false)), rest))
+started read s rest no_start = None
+
+-- what an expression begins with, up to its suffixes
+abbrev pub head_at : (read : List ℕ → Option (Exp × List ℕ)) → List ℕ → Option (Stage × List ℕ)
+head_at read [] = None
+head_at read (c ∷ s) = started read (c ∷ s) s (start_of c)
+
+-- ---- expressions
+
+-- an expression in which at most so many are nested
+abbrev pub exp_from : ℕ → List ℕ → Option (Exp × List ℕ)
+exp_from zero s = None
+exp_from (suc k) s = behind (head_at (exp_from k) s) (suffixes (group_at (exp_from k) k) k)
+
+abbrev pub exp_at : List ℕ → Option (Exp × List ℕ)
+exp_at s = exp_from (suc (length s)) s
+
+abbrev pub arguments_of : Group → Exps
+arguments_of (rank r) = no_exps
+arguments_of (items es) = es
+
+-- arguments, or the bounds of an array, with their parentheses
+abbrev pub arguments_at : List ℕ → Option (Exps × List ℕ)
+arguments_at s = past (after (codes "(") s) (λ inner. behind (group_at (exp_from (suc (length s))) (suc (length s)) inner) (λ g rest. Some (arguments_of g, rest)))

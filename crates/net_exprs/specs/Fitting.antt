@@ -1,0 +1,44 @@
+-- Whether the numbers of labels and expressions fit their types.
+use Rattle.std.specs.Prelude.{ℕ, ◌^◌, ℤ, pos, negsuc, Bool, true, ◌&&◌, nat_lt}
+use Rattle.net_tree.specs.declared.line.NetLabel.{NetLabel}
+use Rattle.net_tree.specs.declared.line.NetLabel.TheVariants.{Word, Number}
+use Rattle.net_tree.specs.Tree.{Literal, Exp, Exps, binary, boolean, call_of, cast, ctype, decimal, dot, integer, lit, long, me, new_array, new_object, next_exp, no_exps, nothing, paren, path, short, str, type_of, unary, with_dot}
+
+-- whether a number is one of 2 * half, of which half are negative
+abbrev pub fits_half : (half : ℕ) → ℤ → Bool
+fits_half half (pos n) = nat_lt n half
+fits_half half (negsuc n) = nat_lt n half
+
+abbrev pub fits_label : NetLabel → Bool
+fits_label (Word name) = true
+fits_label (Number n) = nat_lt n (2 ^ 32)
+
+abbrev pub fits_literal : Literal → Bool
+fits_literal (boolean b) = true
+fits_literal (short z hexadecimal) = fits_half (2 ^ 15) z
+fits_literal (integer z hexadecimal) = fits_half (2 ^ 31) z
+fits_literal (long z) = fits_half (2 ^ 63) z
+fits_literal (decimal ten_thousandths) = fits_half (2 ^ 127) ten_thousandths
+fits_literal (str units) = true
+
+abbrev mutual
+  pub fits_exp : Exp → Bool
+  fits_exp (lit l) = fits_literal l
+  fits_exp nothing = true
+  fits_exp me = true
+  fits_exp (path names) = true
+  fits_exp (with_dot name) = true
+  fits_exp (dot e name) = fits_exp e
+  fits_exp (call_of e args) = fits_exp e && fits_exps args
+  fits_exp (cast w e) = fits_exp e
+  fits_exp (ctype e t) = fits_exp e
+  fits_exp (unary o e) = fits_exp e
+  fits_exp (binary o a b) = fits_exp a && fits_exp b
+  fits_exp (paren e) = fits_exp e
+  fits_exp (new_object t args) = fits_exps args
+  fits_exp (new_array t bounds) = fits_exps bounds
+  fits_exp (type_of e t) = fits_exp e
+
+  pub fits_exps : Exps → Bool
+  fits_exps no_exps = true
+  fits_exps (next_exp e more) = fits_exp e && fits_exps more

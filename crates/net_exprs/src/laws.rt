@@ -1,0 +1,62 @@
+//! Laws of reading: what was written within a line is read back.
+ghost use Rattle.net_exprs.specs.Laws.{ArgumentsAreRead, ArgumentsStayWithinLine, ExpressionsAreRead, ExpressionsStayWithinLine, LabelsAreRead, LabelsStayWithinLine, NamesAreRead, NamesStayWithinLine, PathsAreRead, RanksAreRead, TypesAreRead, TypesStayWithinLine};
+
+/// A law: a name is read back.
+pub fn names_are_read()
+    ensures { NamesAreRead }
+{}
+
+/// A law: a path is read back.
+pub fn paths_are_read()
+    ensures { PathsAreRead }
+{}
+
+/// A law: a label is read back.
+pub fn labels_are_read()
+    ensures { LabelsAreRead }
+{}
+
+/// A law: the parentheses of an array are read back.
+pub fn ranks_are_read()
+    ensures { RanksAreRead }
+{}
+
+/// A law: a type is read back.
+pub fn types_are_read()
+    ensures { TypesAreRead }
+{}
+
+/// A law: an expression is read back.
+pub fn expressions_are_read()
+    ensures { ExpressionsAreRead }
+{}
+
+/// A law: arguments are read back.
+pub fn arguments_are_read()
+    ensures { ArgumentsAreRead }
+{}
+
+/// A law: a name stays within its line.
+pub fn names_stay_within_line()
+    ensures { NamesStayWithinLine }
+{}
+
+/// A law: a label stays within its line.
+pub fn labels_stay_within_line()
+    ensures { LabelsStayWithinLine }
+{}
+
+/// A law: a type stays within its line.
+pub fn types_stay_within_line()
+    ensures { TypesStayWithinLine }
+{}
+
+/// A law: an expression stays within its line.
+pub fn expressions_stay_within_line()
+    ensures { ExpressionsStayWithinLine }
+{}
+
+/// A law: arguments stay within their line.
+pub fn arguments_stay_within_line()
+    ensures { ArgumentsStayWithinLine }
+{}

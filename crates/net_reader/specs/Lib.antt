@@ -1,0 +1,9 @@
+pub mod Words
+pub mod FileLines
+pub mod Items
+pub mod LineReader
+pub mod DeclarationReader
+pub mod ModuleReader
+pub mod ProjectReader
+pub mod Fits
+pub mod Laws
