@@ -5,7 +5,7 @@ ghost use Rattle.form_parts.specs.Answer.{Answers};
 ghost use Rattle.form_parts.specs.Cuts.{pieces, Each};
 ghost use Rattle.form_parts.specs.Items.{deepest, one_more, IsOrMem};
 
-use form_parts::{PartFail, Separator, both, parted};
+use form_parts::{PartFail, Separator, both, fitted, parted};
 use std::alloc::Global;
 use up_base::Sequence;
 use vb_tree::Token;
@@ -51,5 +51,5 @@ pub fn list<T: Item>(alloc: Global, tokens: &[Token]) -> Result<Sequence<T>, Par
         so_far = one_more(so_far, T::read(alloc, piece));
         rest = after;
     }
-    one_more(so_far, T::read(alloc, rest))
+    fitted(one_more(so_far, T::read(alloc, rest)))
 }

@@ -17,7 +17,7 @@ pub use answer::{Part, PartFail, both};
 pub use chains::{Link, callee_length, is_callee, is_target, last_link};
 pub use cuts::{Separator, parted};
 pub use expressions::{before_word, callee, expression, target};
-pub use lists::items;
+pub use lists::{fitted, items};
 pub use parts::{label, name_of};
 pub use tokens::copied;
 pub use words::is_key;

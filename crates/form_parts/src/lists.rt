@@ -61,5 +61,18 @@ pub fn items<T: Part>(
         so_far = one_more(so_far, T::read(alloc, piece));
         rest = after;
     }
-    one_more(so_far, T::read(alloc, rest))
+    fitted(one_more(so_far, T::read(alloc, rest)))
+}
+
+/// The same answer, with its list in no more memory than it fills.
+pub fn fitted<T: Drop>(read: Result<Sequence<T>, PartFail>) -> Result<Sequence<T>, PartFail>
+    ensures { result ≡ read }
+{
+    match read {
+        Ok(mut items) => {
+            items.shrink_to_fit();
+            Ok(items)
+        }
+        Err(fail) => Err(fail),
+    }
 }

@@ -1,12 +1,11 @@
 //! Procedures.
-ghost use Rattle.std.specs.Prelude.{◌≡◌, ◌++◌, ◌∷◌, [], drop, map, IfOk, OnOk};
+ghost use Rattle.std.specs.Prelude.{◌≡◌, ◌++◌, ◌∷◌, [], map, IfOk, OnOk};
 ghost use Rattle.vb_tree.specs.Tree.{sub_head};
 ghost use Rattle.vb_tree.specs.View.{signature_of};
 ghost use Rattle.vb_tree.specs.View as view;
 ghost use Rattle.vb_tree.specs.BoundView.{type_of, expr_of};
 ghost use Rattle.net_tree.specs.View.{line_of, dim_of, head_of, procedure_of, type_name_of};
 ghost use Rattle.net_rewrite.specs.View.{local_of};
-ghost use Rattle.net_rewrite.specs.Marks.{first_exprs};
 ghost use Rattle.net_rewrite.specs.Modules.{written_visibility, written_head, comment_lines, up_to};
 ghost use Rattle.net_rewrite.specs.Procedures.{commented, procedure_on};
 ghost use Rattle.net_rewrite.specs.Written as written;
@@ -14,6 +13,7 @@ ghost use Rattle.net_rewrite.specs.Written.{net_type, written_local};
 
 use crate::comments::{Comment, past, push_lines};
 use crate::local::Local;
+use crate::marked::exprs_at;
 use crate::written_line::line;
 use net_tree::{NetClose, NetDim, NetHead, NetLine, NetProc, NetType, NetVariable, NetVisibility};
 use std::alloc::Global;
@@ -74,16 +74,6 @@ fn head(alloc: Global, signature: &Signature6) -> Result<NetHead, Mem>
 {
     let name = signature.name.copy(alloc)?;
     Ok(NetHead::Sub(visibility(signature.visibility), name, Vec::new(alloc)))
-}
-
-// The expressions of the line of a number, and none behind the last.
-fn exprs_at(exprs: &[Sequence<BoundExpr>], number: usize) -> &[BoundExpr]
-    ensures { map expr_of result.now ≡ first_exprs (map (map expr_of) (drop number exprs.now)) }
-{
-    match exprs.get(number) {
-        Some(es) => es.as_slice(),
-        None => &[],
-    }
 }
 
 // Puts what is written for a code line, with the comments before it, behind other lines.

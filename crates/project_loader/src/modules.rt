@@ -3,6 +3,7 @@ ghost use Rattle.std.specs.Prelude.{◌≡◌, ◌⊎◌, ◌≤◌, ◌<◌, �
 ghost use Rattle.up_base.specs.Outside.{Rose, CountsCall, IfTold};
 ghost use Rattle.vb_tree.specs.ProjectLines.{entry_limit};
 ghost use Rattle.vb_tree.specs.View.{module_of};
+ghost use Rattle.vb_lexer.specs.Answers.{Answers};
 ghost use Rattle.project_loader.specs.Texts.{HeldText, decoded, file_limit, total_limit};
 ghost use Rattle.project_loader.specs.Modules.{TextIsModule, TextFault};
 ghost use Rattle.project_loader.specs.Held.{AreModules, HeldEntries};
@@ -13,10 +14,10 @@ ghost use Rattle.project_loader.specs.Steps.{OnStop, OnFault, first_of, fail_of,
 use crate::loading::LoadFail;
 use crate::texts::{Stop, TOO_LONG, bytes_or_fault, decoded, fault_at};
 use std::alloc::Global;
-use up_base::{Bytes, Fault, Folder, Name, ReadFail, Sequence, Wide};
+use up_base::{Bytes, Fault, Folder, Mem, Name, ReadFail, Sequence, Wide};
 use vb_lexer::{LexFail, logical_lines};
-use vb_lines::read_module;
-use vb_tree::{Entry, Module6};
+use vb_lines::read_owned_module;
+use vb_tree::{Entry, Lines, Module6};
 
 // The most bytes that all files of a project may have together.
 const TOTAL_LIMIT: u64 = 16_777_216;
@@ -48,9 +49,10 @@ impl ModuleList {
     {
         let number = self.count + 1;
         let bytes = entry_bytes(alloc, folder, entry, self.bytes)?;
-        let module = entry_module(alloc, entry, number, bytes.as_slice())?;
+        let length = bytes.len() as u64;
+        let module = entry_module(alloc, entry, number, bytes)?;
         self.modules.push(module)?;
-        self.bytes += bytes.len() as u64;
+        self.bytes += length;
         self.count = number;
         Ok(())
     }
@@ -145,34 +147,50 @@ fn entry_bytes<F: Folder>(
     Ok(bytes)
 }
 
-// The module that the bytes of an entry's file are.
+// The module that the bytes of an entry's file are. The bytes, the text and its lines are each let go of as soon as they
+// are read, so that a module takes little memory beside its tree.
 fn entry_module(
     alloc: Global,
     entry: &Entry,
     number: u32,
-    bytes: &[u8],
+    bytes: Bytes,
 ) -> Result<Module6, ReadFail>
-    requires { length bytes.now < 2 ^ 32 }
-    ensures is { IfOk result (λ m. TextIsModule entry.now number (decoded bytes.now) (module_of m)) }
-    ensures fault { OnFault result (TextFault entry.now number (decoded bytes.now)) }
+    requires { length bytes < 2 ^ 32 }
+    ensures is { IfOk result (λ m. TextIsModule entry.now number (decoded bytes) (module_of m)) }
+    ensures fault { OnFault result (TextFault entry.now number (decoded bytes)) }
 {
-    let text = decoded(alloc, bytes)?;
-    Ok(text_module(alloc, entry, number, &text)?)
+    let text = text_of(alloc, bytes)?;
+    Ok(text_module(alloc, entry, number, text)?)
+}
+
+fn text_of(alloc: Global, bytes: Bytes) -> Result<Wide, Mem>
+    requires { length bytes < 2 ^ 32 }
+    ensures { IfOk result (λ text. text ≡ decoded bytes) }
+{
+    decoded(alloc, bytes.as_slice())
 }
 
 // The module that a text is.
-fn text_module(alloc: Global, entry: &Entry, number: u32, text: &Wide) -> Result<Module6, ReadFail>
-    requires { length text.now < 2 ^ 32 }
-    ensures is { IfOk result (λ m. TextIsModule entry.now number text.now (module_of m)) }
-    ensures fault { OnFault result (TextFault entry.now number text.now) }
+fn text_module(alloc: Global, entry: &Entry, number: u32, text: Wide) -> Result<Module6, ReadFail>
+    requires { length text < 2 ^ 32 }
+    ensures is { IfOk result (λ m. TextIsModule entry.now number text (module_of m)) }
+    ensures fault { OnFault result (TextFault entry.now number text) }
 {
-    match logical_lines(alloc, number, text) {
-        Ok(lines) => Ok(read_module(alloc, entry, number, &lines)?),
-        Err(LexFail::Fault(lexical, before)) => {
-            Err(first_of(lexical, read_module(alloc, entry, number, &before)))
-        }
+    match lines_of(alloc, number, text) {
+        Ok(lines) => Ok(read_owned_module(alloc, entry, number, lines)?),
+        Err(LexFail::Fault(lexical, before)) => Err(first_of(
+            lexical,
+            read_owned_module(alloc, entry, number, before),
+        )),
         Err(LexFail::Mem) => Err(ReadFail::Mem),
     }
+}
+
+fn lines_of(alloc: Global, number: u32, text: Wide) -> Result<Lines, LexFail>
+    requires { length text < 2 ^ 32 }
+    ensures { Answers number text result }
+{
+    logical_lines(alloc, number, &text)
 }
 
 // What is answered behind a lexical fault, by what the lines before it are read as.

@@ -70,6 +70,13 @@ impl<T> Sequence<T> {
     {
         self.items.get(at)
     }
+
+    /// Gives back the memory that no item takes.
+    pub fn shrink_to_fit(&mut self)
+        ensures { self.new ≡ self.old }
+    {
+        self.items.shrink_to_fit();
+    }
 }
 
 impl<T: Drop> Sequence<T> {

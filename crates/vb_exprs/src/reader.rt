@@ -360,6 +360,7 @@ fn arguments(alloc: Global, tokens: &[Token], room: u8) -> Result<(Listed, &[Tok
         let Some(after) = after_closing(beyond) else {
             return Err(ExprFail::NotExpr);
         };
+        args.shrink_to_fit();
         return Ok((Listed { args, depth }, after));
     }
 }

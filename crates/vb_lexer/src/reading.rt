@@ -49,7 +49,7 @@ pub(crate) fn read_line(
 fn fitted(tokens: Tokens) -> Tokens
     ensures { result ≡ tokens }
 {
-    let mut items = tokens.into_vec();
-    items.shrink_to_fit();
-    Tokens::from_vec(items)
+    let mut fitted = tokens;
+    fitted.shrink_to_fit();
+    fitted
 }

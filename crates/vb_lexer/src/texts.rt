@@ -50,7 +50,10 @@ pub(crate) fn text_at(alloc: Global, units: &[u16]) -> Result<Option<(TokenKind,
     ensures within { IfOk result (λ found. IsWithin (length units.now + 1) found) }
 {
     match text_from(alloc, units)? {
-        Some((text, n)) => Ok(Some((TokenKind::Lit(Literal6::Str(text)), 1 + n))),
+        Some((mut text, n)) => {
+            text.shrink_to_fit();
+            Ok(Some((TokenKind::Lit(Literal6::Str(text)), 1 + n)))
+        }
         None => Ok(None),
     }
 }

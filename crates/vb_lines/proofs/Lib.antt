@@ -8,6 +8,8 @@ pub mod Adds
 pub mod Readings
 pub mod Passing
 pub mod Taking
+pub mod Heads
+pub mod Owned
 pub mod FormFacts
 pub mod Meanings
 pub mod OneTree

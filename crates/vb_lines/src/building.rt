@@ -145,7 +145,8 @@ impl ModuleBuild {
             return Ok(());
         };
         let Some(mut outer) = self.frames.pop() else {
-            let Frame { head, body, .. } = frame;
+            let Frame { head, mut body, .. } = frame;
+            body.shrink_to_fit();
             self.members
                 .push(Member6::Proc(head, Sequence::from_vec(body), line))?;
             return Ok(());

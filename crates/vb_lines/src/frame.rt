@@ -45,10 +45,11 @@ impl Frame {
     {
         let Frame {
             head,
-            body,
+            mut body,
             branches,
             ..
         } = self;
+        body.shrink_to_fit();
         let middles = middles_from(alloc, branches)?;
         let block = Block6 {
             head,

@@ -14,4 +14,4 @@ mod tests;
 mod texts;
 mod words;
 
-pub use module::{one_module_answer, read_module};
+pub use module::{one_module_answer, read_module, read_owned_module};

@@ -310,8 +310,8 @@ fn take_cuts(
     Ok(())
 }
 
-// Reads a logical line.
-fn take_line(build: &mut ModuleBuild, alloc: Global, line: &Line) -> Result<(), ReadFail>
+/// Reads a logical line.
+pub(crate) fn take_line(build: &mut ModuleBuild, alloc: Global, line: &Line) -> Result<(), ReadFail>
     ensures ok { OnOk result (AddsParts (parts_of line.now) build.old build.new) }
     ensures fault { OnFault result (λ f. FaultOfParts (parts_of line.now) build.old f) }
 {

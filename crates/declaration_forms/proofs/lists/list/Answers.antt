@@ -29,4 +29,5 @@ returns g c =
     let known = c.loop-piece.invariant in
     let all = known.1 ∙ ap (λ z. known.0 ++ z) (pieces_last Comma c.loop-piece.rest.now cut) in
     let last = more_or_mem g.T.Item.view g.T.Item.Is g.T.Item.depth known.0 c.loop-piece.rest.now c.loop-piece.so_far c.read-2.result c.one_more.result known.2 c.read-2.ensures c.one_more.ensures in
-    subst (λ z. Answers (map g.T.Item.view) (Each g.T.Item.Is z) (deepest g.T.Item.depth) c.one_more.result) (sym all) last
+    subst (Answers (map g.T.Item.view) (Each g.T.Item.Is (pieces Comma c.args.tokens.now)) (deepest g.T.Item.depth)) (sym c.fitted.ensures)
+    (subst (λ z. Answers (map g.T.Item.view) (Each g.T.Item.Is z) (deepest g.T.Item.depth) c.one_more.result) (sym all) last)

@@ -28,4 +28,5 @@ returns g c =
     let known = c.loop-piece.invariant in
     let all = known.1 ∙ ap (λ z. known.0 ++ z) (pieces_last c.args.separator c.loop-piece.rest.now cut) in
     let last = more_or_mem g.T.Part.view g.T.Part.Is g.T.Part.depth known.0 c.loop-piece.rest.now c.loop-piece.so_far c.read-2.result c.one_more.result known.2 c.read-2.ensures c.one_more.ensures in
-    subst (λ z. Answers (map g.T.Part.view) (Each g.T.Part.Is z) (deepest g.T.Part.depth) c.one_more.result) (sym all) last
+    subst (Answers (map g.T.Part.view) (Each g.T.Part.Is (pieces c.args.separator c.args.tokens.now)) (deepest g.T.Part.depth)) (sym c.fitted.ensures)
+    (subst (λ z. Answers (map g.T.Part.view) (Each g.T.Part.Is z) (deepest g.T.Part.depth) c.one_more.result) (sym all) last)

@@ -1,9 +1,10 @@
 use Rattle.std.proofs.Common.{◌∷◌, ◌+◌, drop, map, sym, ap, ◌∙◌}
-use Rattle.std.proofs.lemmas.List.{drop_more}
+use Rattle.std.proofs.lemmas.List.{drop_more, drop-map}
 use Rattle.vb_tree.specs.BoundView.{expr_of}
 use Rattle.vb_tree.specs.View as view
 use Rattle.net_tree.specs.View.{line_of}
 use Rattle.net_rewrite.specs.View.{local_of}
+use Rattle.net_rewrite.specs.Marks.{first_exprs}
 use Rattle.net_rewrite.proofs.WrittenProcedures.{later_at, line_turn}
 use Rattle.net_rewrite.proofs.procedure.body.Goals as goal
 
@@ -16,4 +17,4 @@ loop-number-preserved c =
     line_turn (map local_of c.args.locals.now) c.loop-number.rest.now c.past-rest.result.now (view.line_of x.now) _ _ (map (map expr_of) (drop n c.args.exprs.now)) _ c.args.close
     (map line_of c.loop-number.lines.items) (map line_of c.push_line.new.lines.items) _
     left c.past-rest.ensures (later_at (map expr_of) n c.args.exprs.now) c.loop-number.invariant
-    (rw c.exprs_at.ensures at c.in_ok-push_line.ensures)
+    (rw (c.exprs_at.ensures ∙ ap first_exprs (drop-map (map expr_of) n c.args.exprs.now)) at c.in_ok-push_line.ensures)

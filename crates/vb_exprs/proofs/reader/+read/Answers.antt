@@ -176,7 +176,7 @@ arguments-returns-in_default-after_closing-clause-given t c = λ args rest h.
 
 pub arguments-returns-in-listed-clause-measured : goal.arguments-returns-in-listed-clause-measured
 arguments-returns-in-listed-clause-measured t c = (
-  omega (arith, args_depth_push c.listed.args.items c.in_ok-read.read.arg, ap (λ x. args_depth (args_of x)) c.in_ok-push.ensures.items, c.in_ok-read.ensures.measured.0),
+  omega (arith, args_depth_push c.listed.args.items c.in_ok-read.read.arg, ap (λ x. args_depth (args_of x)) (c.shrink_to_fit.ensures.items ∙ c.in_ok-push.ensures.items), c.in_ok-read.ensures.measured.0),
   omega (arith, c.in_ok-read.ensures.measured.1),
 )
 
@@ -185,7 +185,7 @@ arguments-returns-in-listed-clause-given t c = λ args rest h.
     let r = c.listed.invariant.remains args rest h in
     let g = c.in_ok-read.ensures.given r.name r.mark r.value _ (argument_stands _ _ rest args r) in
     let e = after_last _ _ rest (symbols c.in-Some-after_closing.after.now) args _ r g.0 (sym g.1 ∙ c.in-Some-after_closing.ensures) in
-    (ap args_of c.in_ok-push.ensures.items ∙ e.0, e.1)
+    (ap args_of (c.shrink_to_fit.ensures.items ∙ c.in_ok-push.ensures.items) ∙ e.0, e.1)
 
 pub argument-returns-then-ends_argument-clause-given : goal.argument-returns-then-ends_argument-clause-given
 argument-returns-then-ends_argument-clause-given t c = λ name mark value rest h.

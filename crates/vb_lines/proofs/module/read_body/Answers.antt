@@ -1,9 +1,8 @@
-use Rattle.std.proofs.Common.{refl, sym, ◌∙◌}
 use Rattle.vb_lines.specs.Modules.{IsFirstFault}
 use Rattle.vb_lines.specs.Parts.{all_parts}
 use Rattle.vb_lines.specs.Reading.{FaultOfParts}
 use Rattle.vb_lines.proofs.Passing.{fault_passed}
-use Rattle.vb_lines.proofs.Taking.{module_fault, unclosed_fault, module_read, fault_answered}
+use Rattle.vb_lines.proofs.Taking.{module_fault, fault_answered}
 use Rattle.vb_lines.proofs.module.read_body.Goals as goal
 
 pub returns-in_err-take_lines : goal.returns-in_err-take_lines
@@ -17,10 +16,5 @@ returns-in_err-take_lines c =
     (λ f p. module_fault parts c.new-build.result f c.new-build.ensures p)
     c.take_lines.ensures.fault)
 
-pub returns-in-Some : goal.returns-in-Some
-returns-in-Some c = rw c.fault.ensures (unclosed_fault (all_parts c.args.body.now) c.new-build.result c.take_lines.new.build c.in-Some.place c.new-build.ensures c.in_ok-take_lines.ensures.ok (sym c.unclosed.ensures ∙ c.in-Some.is))
-
 pub returns : goal.returns
-returns c =
-    module_read c.args.entry.now c.args.file c.args.body.now c.new-build.result c.take_lines.new.build _ c.new-build.ensures c.in_ok-take_lines.ensures.ok
-    (sym c.unclosed.ensures ∙ c.in_default.is) refl c.in_ok-name.ensures refl c.in_ok-comments.ensures refl
+returns c = c.closed_module.ensures c.args.body.now c.new-build.result c.new-build.ensures c.in_ok-take_lines.ensures.ok c.in_ok-comments.ensures

@@ -18,15 +18,13 @@ returns-in_err-bytes-clause-fault g c =
 pub returns-in_err-module-clause-fault : goal.returns-in_err-module-clause-fault
 returns-in_err-module-clause-fault g c =
     let number = c.args.self.now.count + 1 in
-    let fault = rw c.as_slice.ensures at c.entry_module.ensures.fault in
     text_stopped (g.F.Folder.held c.args.folder.now) c.args.self.now.bytes number c.args.entry.now c.in_ok-bytes.bytes c.from_residual-in_err-module.result
     c.in_ok-bytes.ensures.within c.in_ok-bytes.ensures.bytes
     (reading_stopped (TextFault c.args.entry.now number (decoded c.in_ok-bytes.bytes)) c.entry_module.result c.from_residual-in_err-module.result
-    c.in_err-module.field-0.0 c.in_err-module.was c.from_residual-in_err-module.ensures.1 fault)
+    c.in_err-module.field-0.0 c.in_err-module.was c.from_residual-in_err-module.ensures.1 c.entry_module.ensures.fault)
 
 pub returns-clause-takes : goal.returns-clause-takes
 returns-clause-takes g c =
-    let is = rw c.as_slice.ensures at c.in_ok-module.ensures.is in
     takes_entry (g.F.Folder.held c.args.folder.now) c.args.entry.now c.args.self.now _ (module_of c.in_ok-module.module) c.in_ok-bytes.bytes
     (ap (map module_of) c.in_ok-push.ensures.ok ∙ map_push module_of c.args.self.now.modules c.in_ok-module.module)
-    refl (ap (λ n. c.args.self.now.bytes + n) c.len.ensures) c.in_ok-bytes.ensures.within is c.in_ok-bytes.ensures.bytes
+    refl (ap (λ n. c.args.self.now.bytes + n) c.len-length.ensures) c.in_ok-bytes.ensures.within c.in_ok-module.ensures.is c.in_ok-bytes.ensures.bytes

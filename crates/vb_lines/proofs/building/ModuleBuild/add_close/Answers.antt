@@ -12,7 +12,7 @@ returns-in_default-pop-2 c =
     let frame = c.in-Some-pop.frame in
     λ lines old. adds_procedure_end c.args.line c.args.kind c.args.self.now.members _ c.args.self.now.group _ _ _ _ frame lines (sym c.take.ensures.value ∙ c.in_default.is) c.take.ensures.after
     c.in-Some-pop.ensures.items (none_popped _ _ _ c.in_default-pop-2.ensures.rest c.in_default-pop-2.ensures.cases.0 c.in_default-pop-2.ensures.items)
-    (c.in_ok-push-2.ensures.ok ∙ ap (λ body. c.args.self.now.members ++ m.Proc frame.head body c.args.line ∷ []) c.from_vec.ensures)
+    (c.in_ok-push-2.ensures.ok ∙ ap (λ body. c.args.self.now.members ++ m.Proc frame.head body c.args.line ∷ []) (c.from_vec.ensures ∙ c.shrink_to_fit.ensures.items))
     c.requires.closes c.requires.right old
 
 pub returns : goal.returns
