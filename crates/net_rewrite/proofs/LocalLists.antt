@@ -1,5 +1,5 @@
 -- Lists of locals by the numbers of their procedures.
-use Rattle.std.proofs.Common.{◌≡◌, ℕ, zero, suc, Bool, true, false, cond, ◌<◌, nat_eq, arith, length, List, [], ◌∷◌, ◌++◌, map, Option, Some, None, slice_set, append-nil, refl, sym, ap, ◌∙◌}
+use Rattle.std.proofs.Common.{◌≡◌, ℕ, zero, suc, Bool, false, cond, ◌<◌, nat_eq, arith, length, List, [], ◌∷◌, ◌++◌, map, slice_set, append-nil, refl, sym, ap, ◌∙◌}
 use Rattle.std.proofs.lemmas.List.{map-append}
 use Rattle.std.proofs.Math.Dec.{eqb-suc-suc, eqb-suc-zero, eqb-zero-suc}
 use Rattle.std.proofs.Math.ListN.{get_or}

@@ -1,18 +1,23 @@
 -- Members at places where the same names are taken are marked and written alike.
-use Rattle.std.proofs.Common.{◌≡◌, ℕ, Bool, List, [], ◌∷◌, ◌++◌, append_assoc, refl, sym, ap, ◌∙◌, subst}
+use Rattle.std.proofs.Common.{◌≡◌, ℕ, zero, suc, Bool, true, false, not, cond, drop, List, [], ◌∷◌, ◌++◌, ◌+◌, append_assoc, refl, sym, ap, ◌∙◌, subst, arith}
+use Rattle.std.specs.List.{list_all}
 use Rattle.std.specs.Prelude.{slice_get}
 use Rattle.up_base.specs.declared.place.Place.{Place}
-use Rattle.vb_tree.specs.BoundTree.{Variable, Expr, Bound}
+use Rattle.vb_tree.specs.BoundTree.{Variable, Expr, Body, Bound}
+use Rattle.vb_tree.specs.FlatLines.{code_lines, flat_lines}
 use Rattle.vb_tree.specs.Tree.{Line, Member, alone, group, proc, Module}
 use Rattle.vb6_run.specs.Program.{locals_of}
 use Rattle.net_tree.specs.Tree as net
 use Rattle.net_rewrite.specs.MarkedMembers.{marked_member}
 use Rattle.net_rewrite.specs.Marks.{object_members, taken_names, exprs_at, Place6, marked_lines, member_names, number_behind, behind, behind_all, first_place}
-use Rattle.net_rewrite.specs.Modules.{Comment, past, written_member, end_of, written_members, written_module, written_modules}
+use Rattle.net_rewrite.specs.Modules.{Comment, up_to, past, member_comments, all_left_out, written_procedure, written_member, end_of, written_members, written_module, written_modules}
+use Rattle.net_rewrite.specs.Procedures.{procedure_with}
 use Rattle.net_rewrite.specs.Projects.{untranslated_in, untranslated_members, untranslated_modules}
 use Rattle.net_rewrite.specs.Taken.{AreSame}
-use Rattle.net_rewrite.specs.Walks.{member_by, place_in, numbers_behind, AreNumbered, AreNumberedIn}
+use Rattle.net_rewrite.specs.Walks.{member_by, member_with, own_exprs, later_bodies, place_in, numbers_behind, IsNumbered, AreNumbered, AreNumberedIn, IsPlainWhereKept}
+use Rattle.net_rewrite.proofs.Kept.{kept_is_plain, kept_is_straight}
 use Rattle.net_rewrite.proofs.Marking.{same_before, same_behind, member_same}
+use Rattle.net_rewrite.proofs.WrittenProcedures.{own_procedure}
 
 by_parts : (P : Bound) (at : Place6) (m : Member) → marked_lines P at m
     ≡ marked_member at.class (locals_of P at.procedure) at.taken (taken_names P.declarations.project.modules) (exprs_at (slice_get P.bodies at.procedure)) m
@@ -81,15 +86,75 @@ places_step P file class p own new taken m ms h =
     ap (λ k. untranslated_in file (marked_lines P (place_in class p (own ++ taken)) m) ++ k)
     (sym (places_alike P file class (number_behind p m) (new ++ taken) (member_names m ++ (own ++ taken)) ms (renamed own new taken m h)))
 
+-- ---- the bound lines of a member
+
+first_left : (p : ℕ) (bs : List Body) → slice_get (drop p bs) 0 ≡ slice_get bs p
+first_left zero bs = refl
+first_left (suc p) [] = refl
+first_left (suc p) (b ∷ bs) = first_left p bs
+
+next_left : (p : ℕ) (bs : List Body) → drop 1 (drop p bs) ≡ drop (suc p) bs
+next_left zero bs = refl
+next_left (suc p) [] = refl
+next_left (suc p) (b ∷ bs) = next_left p bs
+
+pub bodies_behind : (p : ℕ) (bs : List Body) (m : Member) → later_bodies m (drop p bs) ≡ drop (number_behind p m) bs
+bodies_behind p bs (alone l) = refl
+bodies_behind p bs (group head lines close) = refl
+bodies_behind p bs (proc head body close) = let one : suc p ≡ 1 + p = omega arith in next_left p bs ∙ ap (λ n. drop n bs) one
+
+own_marked : (bs : List Body) (class : Bool) (p : ℕ) (locals : List (ℕ × Variable)) (own taken : List (List ℕ)) (m : Member)
+    → marked_member class locals own taken (own_exprs m (drop p bs)) m ≡ marked_member class locals own taken (exprs_at (slice_get bs p)) m
+own_marked bs class p locals own taken (alone l) = refl
+own_marked bs class p locals own taken (group head lines close) = refl
+own_marked bs class p locals own taken (proc head body close) =
+    ap (λ b. marked_member class locals own taken (exprs_at b) (proc head body close)) (first_left p bs)
+
 -- the lines of a member are marked so, with the locals and bound lines that the code has
 pub member_marked : (P : Bound) (class : Bool) (p : ℕ) (own taken : List (List ℕ)) (m : Member) (xs : List (Bool × Line)) (locals : List (ℕ × Variable)) (ess : List (List Expr))
-    → locals ≡ locals_of P p → ess ≡ exprs_at (slice_get P.bodies p) → AreSame taken (taken_names P.declarations.project.modules)
+    → locals ≡ locals_of P p → ess ≡ own_exprs m (drop p P.bodies) → AreSame taken (taken_names P.declarations.project.modules)
     → xs ≡ marked_member class locals (own ++ taken) taken ess m → xs ≡ marked_lines P (place_in class p (own ++ taken)) m
 member_marked P class p own taken m xs locals ess el es g e =
     e
     ∙ ap (λ l. marked_member class l (own ++ taken) taken ess m) el
     ∙ ap (λ s. marked_member class (locals_of P p) (own ++ taken) taken s m) es
+    ∙ own_marked P.bodies class p (locals_of P p) (own ++ taken) taken m
     ∙ marked_at P class p (own ++ taken) taken (own ++ taken) m (self (own ++ taken)) g
+
+pub plain_where_kept : (P : Bound) (at : Place6) (m : Member) → IsPlainWhereKept m (marked_lines P at m)
+plain_where_kept P at (alone l) = tt
+plain_where_kept P at (group head lines close) = tt
+plain_where_kept P at (proc head body close) = λ e. (kept_is_plain P at head body close e, kept_is_straight P at head body close e)
+
+kept_alike : (kept : Bool) (front : List net.Member) (a b : net.Procedure) (others : List net.Member) → (kept ≡ true → a ≡ b)
+    → cond kept (front ++ net.proc a ∷ []) others ≡ cond kept (front ++ net.proc b ∷ []) others
+kept_alike true front a b others h = ap (λ x. front ++ net.proc x ∷ []) (h refl)
+kept_alike false front a b others h = refl
+
+own_member : (P : Bound) (at : Place6) (cs : List Comment) (m : Member) → IsNumbered P at.procedure m
+    → member_with (locals_of P at.procedure) cs (own_exprs m (drop at.procedure P.bodies)) m (marked_lines P at m) ≡ member_by P at.procedure cs m (marked_lines P at m)
+own_member P at cs (alone l) h = refl
+own_member P at cs (group head lines close) h = refl
+own_member P at cs (proc head body close) h =
+    let p = at.procedure in
+    let xs = marked_lines P at (proc head body close) in
+    ap (λ b. member_with (locals_of P p) cs (exprs_at b) (proc head body close) xs) (first_left p P.bodies)
+    ∙ kept_alike (list_all (λ (x : Bool × Line). not x.0) xs) (member_comments (up_to head.place.line cs))
+    (procedure_with (locals_of P p) (past head.place.line cs) head.form (code_lines (flat_lines body)) (exprs_at (slice_get P.bodies p)) close.place.line)
+    (written_procedure P p (past head.place.line cs) head close)
+    (all_left_out cs xs)
+    (λ e. own_procedure P p (past head.place.line cs) head close body h (kept_is_plain P at head body close e) (kept_is_straight P at head body close e))
+
+-- what is written for a member, with the marks, the locals and the bound lines that the code has
+pub member_written : (P : Bound) (at : Place6) (cs : List Comment) (m : Member) (xs : List (Bool × Line)) (locals : List (ℕ × Variable)) (ess : List (List Expr))
+    → IsNumbered P at.procedure m → locals ≡ locals_of P at.procedure → ess ≡ own_exprs m (drop at.procedure P.bodies) → xs ≡ marked_lines P at m
+    → member_with locals cs ess m xs ≡ written_member P at cs m
+member_written P at cs m xs locals ess h el es ex =
+    ap (λ l. member_with l cs ess m xs) el
+    ∙ ap (λ s. member_with (locals_of P at.procedure) cs s m xs) es
+    ∙ ap (member_with (locals_of P at.procedure) cs (own_exprs m (drop at.procedure P.bodies)) m) ex
+    ∙ own_member P at cs m h
+    ∙ sym (written_by P at cs m)
 
 -- a member more
 pub members_turn : (P : Bound) (class : Bool) (p q : ℕ) (own new taken : List (List ℕ)) (cs rest : List Comment) (m : Member) (ms : List Member) (before after all : List net.Member)

@@ -1,5 +1,5 @@
 -- A procedure that is translated is written as the code has it.
-use Rattle.std.proofs.Common.{◌≡◌, ℕ, zero, suc, true, List, [], ◌∷◌, ◌++◌, map, Option, Some, None, ◌+◌, drop, add-one, append_assoc, refl, sym, ap, ◌∙◌}
+use Rattle.std.proofs.Common.{◌≡◌, ℕ, zero, suc, true, List, [], ◌∷◌, ◌++◌, map, Option, Some, None, append_assoc, refl, sym, ap, ◌∙◌}
 use Rattle.std.specs.Prelude.{slice_get}
 use Rattle.vb_tree.specs.BoundTree.{Variable, Expr, Body, Bound}
 use Rattle.vb_tree.specs.FlatLines.{Flat, flat_body, flat_lines, code_lines}
@@ -9,7 +9,7 @@ use Rattle.net_tree.specs.declared.declaration.NetClose.TheVariants.{EndSub}
 use Rattle.net_tree.specs.Tree as net
 use Rattle.net_rewrite.specs.Marks.{first_exprs, later_exprs, exprs_at}
 use Rattle.net_rewrite.specs.Modules.{Comment, up_to, past, comment_lines, with_comments, lines_at, written_head, written_procedure}
-use Rattle.net_rewrite.specs.Procedures.{commented, procedure_on, sub_in}
+use Rattle.net_rewrite.specs.Procedures.{commented, procedure_on, procedure_with, sub_in}
 use Rattle.net_rewrite.specs.Translated.{is_plain_sub, is_straight}
 use Rattle.net_rewrite.specs.Written.{line_of, written_local}
 use Rattle.net_rewrite.proofs.Straight.{numbered, straight_body}
@@ -51,7 +51,7 @@ straight_is P p cs s head close body e straight named =
     ∙ commented_is locals cs (flat_body body) es close.place.line
     ∙ ap (λ ls. commented locals cs ls es close.place.line) (ap lines_in (straight_body body straight) ∙ in_order 1 (code_lines (flat_lines body))))
 
-found : (f : Form) (s : Signature) → Some s ≡ sub_in f → f ≡ sub_head s
+pub found : (f : Form) (s : Signature) → Some s ≡ sub_in f → f ≡ sub_head s
 found (sub_head t) s e = let same : s ≡ t = cc e in ap sub_head (sym same)
 found _ s e = absurd (cc e)
 
@@ -64,15 +64,17 @@ pub sub_is : (P : Bound) (p : ℕ) (cs : List Comment) (s : Signature) (head clo
     → written_procedure P p cs head close ≡ procedure_on (locals_of P p) cs s (code_lines (flat_lines body)) (exprs_at (slice_get P.bodies p)) close.place.line
 sub_is P p cs s head close body e straight named = straight_is P p cs s head close body e straight (found head.form s named)
 
-later_is : {A : Type 0} (f : A → List Expr) (n : ℕ) (xs : List A) → map f (drop (suc n) xs) ≡ later_exprs (map f (drop n xs))
-later_is f zero [] = refl
-later_is f zero (x ∷ xs) = refl
-later_is f (suc n) [] = refl
-later_is f (suc n) (x ∷ xs) = later_is f n xs
+plain_sub : (f : Form) → is_plain_sub f ≡ true → (s : Signature) × (Some s ≡ sub_in f)
+plain_sub (sub_head t) e = (t, refl)
+plain_sub _ e = absurd (cc e)
 
--- the expressions behind those of a line
-pub later_at : {A : Type 0} (f : A → List Expr) (n : ℕ) (xs : List A) → map f (drop (n + 1) xs) ≡ later_exprs (map f (drop n xs))
-later_at f n xs = ap (λ k. map f (drop k xs)) (add-one n) ∙ later_is f n xs
+-- a translated procedure from the locals and the bound lines of its own
+pub own_procedure : (P : Bound) (p : ℕ) (cs : List Comment) (head close : Line) (body : Nodes) → slice_get (procedures_of P.declarations.project) p ≡ Some (record { head = head; body = body }) → is_plain_sub head.form ≡ true → is_straight body ≡ true
+    → procedure_with (locals_of P p) cs head.form (code_lines (flat_lines body)) (exprs_at (slice_get P.bodies p)) close.place.line ≡ written_procedure P p cs head close
+own_procedure P p cs head close body e plain straight =
+    let s = plain_sub head.form plain in
+    ap (λ f. procedure_with (locals_of P p) cs f (code_lines (flat_lines body)) (exprs_at (slice_get P.bodies p)) close.place.line) (found head.form s.0 s.1)
+    ∙ sym (sub_is P p cs s.0 head close body e straight s.1)
 
 -- a code line more
 pub line_turn : (locals : List (ℕ × Variable)) (cs rest : List Comment) (l : Line) (ls all_lines : List Line) (es later : List (List Expr)) (close : ℕ) (before after all : List net.Line)

@@ -14,13 +14,17 @@ commented locals cs [] es close = comment_lines (up_to close cs)
 commented locals cs (l ∷ ls) es close =
     comment_lines (up_to l.place.line cs) ++ line_of locals l.form (first_exprs es) ∷ commented locals (past l.place.line cs) ls (later_exprs es) close
 
-abbrev pub procedure_on : List (ℕ × Variable) → List Comment → Signature → List Line → List (List Expr) → (close : ℕ) → net.Procedure
-procedure_on locals cs s ls es close = record {
-  head = written_head (sub_head s);
+-- a procedure with this head, these locals and these code lines, and the comments behind its head
+abbrev pub procedure_with : List (ℕ × Variable) → List Comment → (head : Form) → List Line → List (List Expr) → (close : ℕ) → net.Procedure
+procedure_with locals cs head ls es close = record {
+  head = written_head head;
   prologue = map written_local locals;
   lines = commented locals cs ls es close;
   close = EndSub;
 }
+
+abbrev pub procedure_on : List (ℕ × Variable) → List Comment → Signature → List Line → List (List Expr) → (close : ℕ) → net.Procedure
+procedure_on locals cs s ls es close = procedure_with locals cs (sub_head s) ls es close
 
 -- what the head of a Sub declares
 abbrev pub sub_in : Form → Option Signature

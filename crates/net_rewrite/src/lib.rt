@@ -1,6 +1,7 @@
 //! What is written in Visual Basic .NET for a project of Visual Basic 6, and that it does the same.
 #![tactic(auto)]
 
+mod bodies;
 mod code_fits;
 mod comments;
 mod constant;

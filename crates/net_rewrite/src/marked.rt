@@ -26,8 +26,8 @@ pub struct MarkedLine<'a> {
     pub line: &'a CodeLine,
 }
 
-/// The expressions of the code line at a place; none behind the last.
-pub(crate) fn exprs_at(ess: &[Sequence<BoundExpr>], at: usize) -> &[BoundExpr]
+// The expressions of the code line at a place; none behind the last.
+fn exprs_at(ess: &[Sequence<BoundExpr>], at: usize) -> &[BoundExpr]
     ensures { map expr_of result.now ≡ rule.first_exprs (drop at (map (map expr_of) ess.now)) }
 {
     match ess.get(at) {

@@ -1,16 +1,14 @@
 //! Members of modules.
 ghost use Rattle.std.specs.Prelude.{◌≡◌, ◌++◌, ◌∷◌, [], map, IfOk, OnOk};
-ghost use Rattle.vb_tree.specs.BoundView.{bound_of};
+ghost use Rattle.vb_tree.specs.BoundView.{expr_of};
 ghost use Rattle.vb_tree.specs.Tree as tree;
 ghost use Rattle.vb_tree.specs.View.{line_of, member_of, nodes_of};
-ghost use Rattle.vb6_run.specs.Program.{locals_of};
 ghost use Rattle.net_tree.specs.View as net_view;
 ghost use Rattle.net_rewrite.specs.Marks as rule;
-ghost use Rattle.net_rewrite.specs.Marks.{Place6, marked_lines};
 ghost use Rattle.net_rewrite.specs.Modules.{end_of};
 ghost use Rattle.net_rewrite.specs.Projects.{untranslated_in};
 ghost use Rattle.net_rewrite.specs.View.{local_of, marked_of};
-ghost use Rattle.net_rewrite.specs.Walks.{member_by, IsNumbered};
+ghost use Rattle.net_rewrite.specs.Walks.{member_with, IsPlainWhereKept};
 
 use crate::comments::Comment;
 use crate::kept_procedure::push_kept;
@@ -19,8 +17,8 @@ use crate::local::Local;
 use crate::marked::{MarkedLine, are_kept};
 use net_tree::NetMember;
 use std::alloc::Global;
-use up_base::{Mem, Place};
-use vb_tree::{Bound, CodeLine, Member6, Node6};
+use up_base::{Mem, Place, Sequence};
+use vb_tree::{BoundExpr, CodeLine, Member6, Node6};
 
 // Puts the places of lines of a file that aren't translated behind others.
 pub(crate) fn push_places(
@@ -51,51 +49,42 @@ fn push_place(places: &mut Vec<Place>, file: u32, marked: &MarkedLine) -> Result
 }
 
 // Puts what is written for a procedure whose lines are marked behind other members.
-#[tactic(auto, using(crate::proofs::Kept::kept_is_plain, crate::proofs::Kept::kept_is_straight))]
 fn push_procedure(
     alloc: Global,
     members: &mut Vec<NetMember>,
-    bound: &Bound,
-    number: usize,
     locals: &[Local],
     comments: &[Comment],
     lines: &[MarkedLine],
     head: &CodeLine,
     body: &[Node6],
     close: &CodeLine,
+    exprs: Sequence<Sequence<BoundExpr>>,
 ) -> Result<(), Mem>
-    requires locals { map local_of locals.now ≡ locals_of (bound_of bound.now) number }
-    requires numbered { IsNumbered (bound_of bound.now) number (tree.proc (line_of head.now) (nodes_of body.now) (line_of close.now)) }
-    requires marked { (at : Place6) × (map marked_of lines.now ≡ marked_lines (bound_of bound.now) at (tree.proc (line_of head.now) (nodes_of body.now) (line_of close.now))) }
+    requires { IsPlainWhereKept (tree.proc (line_of head.now) (nodes_of body.now) (line_of close.now)) (map marked_of lines.now) }
     ensures { OnOk result (map net_view.member_of members.new.items ≡ map net_view.member_of members.old.items
-        ++ member_by (bound_of bound.now) number comments.now (tree.proc (line_of head.now) (nodes_of body.now) (line_of close.now)) (map marked_of lines.now)) }
+        ++ member_with (map local_of locals.now) comments.now (map (map expr_of) exprs) (tree.proc (line_of head.now) (nodes_of body.now) (line_of close.now)) (map marked_of lines.now)) }
 {
     if are_kept(lines) {
-        push_kept(
-            alloc, members, bound, number, locals, comments, head, body, close,
-        )?;
+        push_kept(alloc, members, locals, comments, head, body, close, exprs)?;
         return Ok(());
     }
     push_all_left_out(alloc, members, comments, lines)?;
     Ok(())
 }
 
-/// Puts what is written for a member whose lines are marked behind others.
+/// Puts what is written for a member whose lines are marked behind others, with the locals and the bound lines of its own.
 pub(crate) fn push_member(
     alloc: Global,
     members: &mut Vec<NetMember>,
-    bound: &Bound,
-    number: usize,
     locals: &[Local],
     comments: &[Comment],
     lines: &[MarkedLine],
     member: &Member6,
+    exprs: Sequence<Sequence<BoundExpr>>,
 ) -> Result<(), Mem>
-    requires locals { map local_of locals.now ≡ locals_of (bound_of bound.now) number }
-    requires numbered { IsNumbered (bound_of bound.now) number (member_of member.now) }
-    requires marked { (at : Place6) × (map marked_of lines.now ≡ marked_lines (bound_of bound.now) at (member_of member.now)) }
+    requires { IsPlainWhereKept (member_of member.now) (map marked_of lines.now) }
     ensures { OnOk result (map net_view.member_of members.new.items ≡ map net_view.member_of members.old.items
-        ++ member_by (bound_of bound.now) number comments.now (member_of member.now) (map marked_of lines.now)) }
+        ++ member_with (map local_of locals.now) comments.now (map (map expr_of) exprs) (member_of member.now) (map marked_of lines.now)) }
 {
     match member {
         Member6::Line(_) => {
@@ -107,17 +96,9 @@ pub(crate) fn push_member(
             Ok(())
         }
         Member6::Proc(head, body, close) => {
+            let nodes = body.as_slice();
             push_procedure(
-                alloc,
-                members,
-                bound,
-                number,
-                locals,
-                comments,
-                lines,
-                head,
-                body.as_slice(),
-                close,
+                alloc, members, locals, comments, lines, head, nodes, close, exprs,
             )?;
             Ok(())
         }

@@ -11,12 +11,13 @@ ghost use Rattle.net_rewrite.specs.Procedures.{commented, procedure_on};
 ghost use Rattle.net_rewrite.specs.Written as written;
 ghost use Rattle.net_rewrite.specs.Written.{net_type, written_local};
 
+use crate::bodies::take_exprs;
 use crate::comments::{Comment, past, push_lines};
 use crate::local::Local;
-use crate::marked::exprs_at;
 use crate::written_line::line;
 use net_tree::{NetClose, NetDim, NetHead, NetLine, NetProc, NetType, NetVariable, NetVisibility};
 use std::alloc::Global;
+use std::collections::VecDeque;
 use up_base::{Mem, Sequence};
 use vb_tree::{BoundExpr, CodeLine, Signature6, Type6, Visibility};
 
@@ -93,28 +94,24 @@ fn push_line(
     Ok(())
 }
 
-// The code lines with the comments before each, and those before the closing line.
+// The code lines with the comments before each, and those before the closing line. The expressions of a line are let go of
+// once it is written.
 fn body(
     alloc: Global,
     locals: &[Local],
     comments: &[Comment],
     code: &[&CodeLine],
-    exprs: &[Sequence<BoundExpr>],
+    exprs: VecDeque<Sequence<BoundExpr>>,
     close: u32,
 ) -> Result<Vec<NetLine>, Mem>
-    ensures { IfOk result (λ lines. map line_of lines.items ≡ commented (map local_of locals.now) comments.now (map (λ l. view.line_of l.now) code.now) (map (map expr_of) exprs.now) close) }
+    ensures { IfOk result (λ lines. map line_of lines.items ≡ commented (map local_of locals.now) comments.now (map (λ l. view.line_of l.now) code.now) (map (map expr_of) exprs.items) close) }
 {
     let mut lines = Vec::new(alloc);
     let mut rest = comments;
-    for (number, line) in code.iter().enumerate() {
-        push_line(
-            alloc,
-            &mut lines,
-            locals,
-            rest,
-            line,
-            exprs_at(exprs, number),
-        )?;
+    let mut left = exprs;
+    for line in code {
+        let own = take_exprs(alloc, &mut left);
+        push_line(alloc, &mut lines, locals, rest, line, own.as_slice())?;
         rest = past(rest, line.place.line);
     }
     push_lines(alloc, &mut lines, rest, close)?;
@@ -129,15 +126,22 @@ pub fn procedure(
     comments: &[Comment],
     signature: &Signature6,
     code: &[&CodeLine],
-    exprs: &[Sequence<BoundExpr>],
+    exprs: Sequence<Sequence<BoundExpr>>,
     close: u32,
 ) -> Result<NetProc, Mem>
-    ensures { IfOk result (λ p. procedure_of p ≡ procedure_on (map local_of locals.now) comments.now (signature_of signature.now) (map (λ l. view.line_of l.now) code.now) (map (map expr_of) exprs.now) close) }
+    ensures { IfOk result (λ p. procedure_of p ≡ procedure_on (map local_of locals.now) comments.now (signature_of signature.now) (map (λ l. view.line_of l.now) code.now) (map (map expr_of) exprs) close) }
 {
     Ok(NetProc {
         head: head(alloc, signature)?,
         prologue: prologue(alloc, locals)?,
-        lines: body(alloc, locals, comments, code, exprs, close)?,
+        lines: body(
+            alloc,
+            locals,
+            comments,
+            code,
+            VecDeque::from(exprs.into_vec()),
+            close,
+        )?,
         close: NetClose::EndSub,
     })
 }

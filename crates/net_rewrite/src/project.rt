@@ -7,9 +7,7 @@ ghost use Rattle.vb6_run.specs.Program.{Written, procedures_in};
 ghost use Rattle.net_tree.specs.View as net_view;
 ghost use Rattle.net_rewrite.specs.Projects.{is_main_head, declares_main, only, only_main, main_of, written_project, untranslated};
 
-use crate::procedure_locals::all_locals;
-use crate::taken_names::names_taken;
-use crate::walk::{MadeModules, make_modules};
+use crate::walk::{MadeModules, made_modules};
 use net_tree::NetProject;
 use std::alloc::Global;
 use support_text::support_module;
@@ -24,17 +22,19 @@ pub struct Rewritten {
     pub untranslated: Vec<Place>,
 }
 
-/// What is written for a project whose names are bound: for the target that it has by itself, and without a note.
-#[tactic(auto, using(crate::proofs::Numbered::all_numbered))]
-pub fn rewrite(alloc: Global, bound: &Bound) -> Result<Rewritten, Mem>
-    ensures project { IfOk result (λ r. net_view.project_of r.project ≡ written_project (bound_of bound.now)) }
-    ensures untranslated { IfOk result (λ r. r.untranslated.items ≡ untranslated (bound_of bound.now)) }
+/// What is written for a project whose names are bound: for the target that it has by itself, and without a note. The bound
+/// project is taken over, and its lines are let go of as they are written.
+pub fn rewrite(alloc: Global, bound: Bound) -> Result<Rewritten, Mem>
+    ensures project { IfOk result (λ r. net_view.project_of r.project ≡ written_project (bound_of bound)) }
+    ensures untranslated { IfOk result (λ r. r.untranslated.items ≡ untranslated (bound_of bound)) }
 {
-    let given = bound.declared.project.modules.as_slice();
-    let taken = names_taken(alloc, given)?;
-    let locals = all_locals(alloc, bound.declared.vars.as_slice())?;
-    let MadeModules { modules, places } = make_modules(alloc, bound, &locals, &taken, given)?;
-    let main = main_module(alloc, &bound.declared.project)?;
+    let Bound {
+        declared,
+        bodies,
+        ..
+    } = bound;
+    let MadeModules { modules, places } = made_modules(alloc, &declared, bodies.into_vec())?;
+    let main = main_module(alloc, &declared.project)?;
     let support = support_module(alloc, &modules)?;
     Ok(Rewritten {
         project: NetProject {

@@ -1,27 +1,29 @@
 //! From module to module, and from member to member.
-ghost use Rattle.std.specs.Prelude.{◌≡◌, ◌++◌, ◌∷◌, [], map, IfOk, OnOk};
-ghost use Rattle.vb_tree.specs.BoundView.{bound_of};
+ghost use Rattle.std.specs.Prelude.{◌≡◌, ◌++◌, ◌∷◌, [], drop, map, IfOk, OnOk};
+ghost use Rattle.vb_tree.specs.BoundTree.{Bound};
+ghost use Rattle.vb_tree.specs.BoundView.{body_of, declarations_of};
 ghost use Rattle.vb_tree.specs.View.{member_of, module_of};
 ghost use Rattle.net_tree.specs.View as net_view;
-ghost use Rattle.net_rewrite.specs.Marks.{marked_lines, member_names, taken_names, first_place};
+ghost use Rattle.net_rewrite.specs.Marks.{marked_lines, member_names, taken_names, first_place, number_behind};
 ghost use Rattle.net_rewrite.specs.Modules.{member_comments, written_member, written_members, written_module, written_modules};
 ghost use Rattle.net_rewrite.specs.Projects.{untranslated_in, untranslated_members, untranslated_modules};
 ghost use Rattle.net_rewrite.specs.Taken.{AreSame};
 ghost use Rattle.net_rewrite.specs.View.{local_of};
 ghost use Rattle.net_rewrite.specs.Walks.{place_in, numbers_behind, IsNumbered, AreNumbered, AreNumberedIn, HoldsLocals};
 
+use crate::bodies::take_lines;
 use crate::comments::{Comment, past};
 use crate::declared_names::add_member;
-use crate::kept_procedure::exprs_of;
 use crate::marked::marked_member;
 use crate::members::{end_of, number_behind, push_member, push_places};
 use crate::names::NameSet;
-use crate::procedure_locals::LocalLists;
-use crate::taken_names::object_members;
+use crate::procedure_locals::{LocalLists, all_locals};
+use crate::taken_names::{names_taken, object_members};
 use net_tree::{NetMember, NetModule};
 use std::alloc::Global;
+use std::collections::VecDeque;
 use up_base::{Mem, Place, Sequence, Wide};
-use vb_tree::{Bound, Member6, Module6};
+use vb_tree::{BoundBody, Declared, Member6, Module6};
 
 /// What was made of members: what is written, and the places of the lines that aren't translated.
 #[derive(Drop)]
@@ -30,42 +32,52 @@ struct MadeMembers {
     places: Vec<Place>,
 }
 
-// Makes the next member, and adds the names that it declares.
+// Makes the next member, which takes its bound lines, and adds the names that it declares.
 fn make_member(
     alloc: Global,
-    bound: &Bound,
     locals: &LocalLists,
     class: bool,
     file: u32,
     number: usize,
     own: &mut NameSet,
     taken: &NameSet,
+    bodies: &mut VecDeque<BoundBody>,
     comments: &[Comment],
     member: &Member6,
     made: &mut MadeMembers,
 ) -> Result<(), Mem>
-    requires locals { HoldsLocals (bound_of bound.now) (map (λ v. map local_of v.items) locals.now.lists.items) }
-    requires taken { AreSame taken.now (taken_names (bound_of bound.now).declarations.project.modules) }
-    requires numbered { IsNumbered (bound_of bound.now) number (member_of member.now) }
+    ghost whole: { Bound }
+    requires locals { HoldsLocals whole (map (λ v. map local_of v.items) locals.now.lists.items) }
+    requires taken { AreSame taken.now (taken_names whole.declarations.project.modules) }
+    requires numbered { IsNumbered whole number (member_of member.now) }
+    requires bodies { map body_of bodies.old.items ≡ drop number whole.bodies }
     ensures members { OnOk result (map net_view.member_of made.new.members.items ≡ map net_view.member_of made.old.members.items
-        ++ written_member (bound_of bound.now) (place_in class number (own.old ++ taken.now)) comments.now (member_of member.now)) }
+        ++ written_member whole (place_in class number (own.old ++ taken.now)) comments.now (member_of member.now)) }
     ensures places { OnOk result (made.new.places.items ≡ made.old.places.items
-        ++ untranslated_in file (marked_lines (bound_of bound.now) (place_in class number (own.old ++ taken.now)) (member_of member.now))) }
+        ++ untranslated_in file (marked_lines whole (place_in class number (own.old ++ taken.now)) (member_of member.now))) }
     ensures names { OnOk result (AreSame own.new (member_names (member_of member.now) ++ own.old)) }
+    ensures bodies { OnOk result (map body_of bodies.new.items ≡ drop (number_behind number (member_of member.now)) whole.bodies) }
 {
     let own_locals = locals.at(number);
-    let exprs = exprs_of(bound, number);
-    let lines = marked_member(alloc, class, own_locals, own, taken, exprs, member)?;
+    let exprs = take_lines(alloc, bodies, member);
+    let lines = marked_member(
+        alloc,
+        class,
+        own_locals,
+        own,
+        taken,
+        exprs.as_slice(),
+        member,
+    )?;
     push_places(&mut made.places, file, &lines)?;
     push_member(
         alloc,
         &mut made.members,
-        bound,
-        number,
         own_locals,
         comments,
         &lines,
         member,
+        exprs,
     )?;
     add_member(alloc, own, member)?;
     Ok(())
@@ -85,21 +97,24 @@ fn push_rest(alloc: Global, members: &mut Vec<NetMember>, comments: &[Comment]) 
 // are known before.
 fn make_members(
     alloc: Global,
-    bound: &Bound,
     locals: &LocalLists,
     class: bool,
     file: u32,
     first: usize,
     own: &mut NameSet,
     taken: &NameSet,
+    bodies: &mut VecDeque<BoundBody>,
     comments: &[Comment],
     given: &[Member6],
 ) -> Result<MadeMembers, Mem>
-    requires locals { HoldsLocals (bound_of bound.now) (map (λ v. map local_of v.items) locals.now.lists.items) }
-    requires taken { AreSame taken.now (taken_names (bound_of bound.now).declarations.project.modules) }
-    requires numbered { AreNumbered (bound_of bound.now) first (map member_of given.now) }
-    ensures members { IfOk result (λ made. map net_view.member_of made.members.items ≡ written_members (bound_of bound.now) (place_in class first (own.old ++ taken.now)) comments.now (map member_of given.now)) }
-    ensures places { IfOk result (λ made. made.places.items ≡ untranslated_members (bound_of bound.now) file (place_in class first (own.old ++ taken.now)) (map member_of given.now)) }
+    ghost whole: { Bound }
+    requires locals { HoldsLocals whole (map (λ v. map local_of v.items) locals.now.lists.items) }
+    requires taken { AreSame taken.now (taken_names whole.declarations.project.modules) }
+    requires numbered { AreNumbered whole first (map member_of given.now) }
+    requires bodies { map body_of bodies.old.items ≡ drop first whole.bodies }
+    ensures members { IfOk result (λ made. map net_view.member_of made.members.items ≡ written_members whole (place_in class first (own.old ++ taken.now)) comments.now (map member_of given.now)) }
+    ensures places { IfOk result (λ made. made.places.items ≡ untranslated_members whole file (place_in class first (own.old ++ taken.now)) (map member_of given.now)) }
+    ensures bodies { OnOk result (map body_of bodies.new.items ≡ drop (numbers_behind first (map member_of given.now)) whole.bodies) }
 {
     let mut made = MadeMembers {
         members: Vec::new(alloc),
@@ -109,7 +124,7 @@ fn make_members(
     let mut number = first;
     for member in given {
         make_member(
-            alloc, bound, locals, class, file, number, own, taken, rest, member, &mut made,
+            alloc, locals, class, file, number, own, taken, bodies, rest, member, &mut made,
         )?;
         rest = past(rest, end_of(member));
         number = number_behind(number, member)?;
@@ -129,31 +144,34 @@ pub(crate) struct MadeModules {
 // aren't translated behind others.
 fn make_module(
     alloc: Global,
-    bound: &Bound,
     locals: &LocalLists,
     first: usize,
     taken: &NameSet,
+    bodies: &mut VecDeque<BoundBody>,
     given: &Module6,
     made: &mut MadeModules,
 ) -> Result<(), Mem>
-    requires locals { HoldsLocals (bound_of bound.now) (map (λ v. map local_of v.items) locals.now.lists.items) }
-    requires taken { AreSame taken.now (taken_names (bound_of bound.now).declarations.project.modules) }
-    requires numbered { AreNumbered (bound_of bound.now) first (module_of given.now).members }
+    ghost whole: { Bound }
+    requires locals { HoldsLocals whole (map (λ v. map local_of v.items) locals.now.lists.items) }
+    requires taken { AreSame taken.now (taken_names whole.declarations.project.modules) }
+    requires numbered { AreNumbered whole first (module_of given.now).members }
+    requires bodies { map body_of bodies.old.items ≡ drop first whole.bodies }
     ensures modules { OnOk result (map net_view.module_of made.new.modules.items ≡ map net_view.module_of made.old.modules.items
-        ++ written_module (bound_of bound.now) (first_place (bound_of bound.now).declarations.project.modules first (module_of given.now)) (module_of given.now) ∷ []) }
+        ++ written_module whole (first_place whole.declarations.project.modules first (module_of given.now)) (module_of given.now) ∷ []) }
     ensures places { OnOk result (made.new.places.items ≡ made.old.places.items
-        ++ untranslated_members (bound_of bound.now) (module_of given.now).file (first_place (bound_of bound.now).declarations.project.modules first (module_of given.now)) (module_of given.now).members) }
+        ++ untranslated_members whole (module_of given.now).file (first_place whole.declarations.project.modules first (module_of given.now)) (module_of given.now).members) }
+    ensures bodies { OnOk result (map body_of bodies.new.items ≡ drop (numbers_behind first (module_of given.now).members) whole.bodies) }
 {
     let mut own = object_members(alloc)?;
     let MadeMembers { members, places } = make_members(
         alloc,
-        bound,
         locals,
         given.class,
         given.file,
         first,
         &mut own,
         taken,
+        bodies,
         given.comments.as_slice(),
         given.members.as_slice(),
     )?;
@@ -177,28 +195,48 @@ fn numbers_behind(first: usize, members: &[Member6]) -> Result<usize, Mem>
     Ok(number)
 }
 
-/// Makes modules in order, of which the first procedure has the number 0.
-pub(crate) fn make_modules(
+// Makes modules in order, of which the first procedure has the number 0.
+fn make_modules(
     alloc: Global,
-    bound: &Bound,
     locals: &LocalLists,
     taken: &NameSet,
+    bodies: VecDeque<BoundBody>,
     given: &[Module6],
 ) -> Result<MadeModules, Mem>
-    requires locals { HoldsLocals (bound_of bound.now) (map (λ v. map local_of v.items) locals.now.lists.items) }
-    requires taken { AreSame taken.now (taken_names (bound_of bound.now).declarations.project.modules) }
-    requires numbered { AreNumberedIn (bound_of bound.now) 0 (map module_of given.now) }
-    ensures modules { IfOk result (λ made. map net_view.module_of made.modules.items ≡ written_modules (bound_of bound.now) 0 (map module_of given.now)) }
-    ensures places { IfOk result (λ made. made.places.items ≡ untranslated_modules (bound_of bound.now) 0 (map module_of given.now)) }
+    ghost whole: { Bound }
+    requires locals { HoldsLocals whole (map (λ v. map local_of v.items) locals.now.lists.items) }
+    requires taken { AreSame taken.now (taken_names whole.declarations.project.modules) }
+    requires numbered { AreNumberedIn whole 0 (map module_of given.now) }
+    requires bodies { map body_of bodies.items ≡ whole.bodies }
+    ensures modules { IfOk result (λ made. map net_view.module_of made.modules.items ≡ written_modules whole 0 (map module_of given.now)) }
+    ensures places { IfOk result (λ made. made.places.items ≡ untranslated_modules whole 0 (map module_of given.now)) }
 {
     let mut made = MadeModules {
         modules: Vec::new(alloc),
         places: Vec::new(alloc),
     };
+    let mut left = bodies;
     let mut number = 0;
     for one in given {
-        make_module(alloc, bound, locals, number, taken, one, &mut made)?;
+        make_module(alloc, locals, number, taken, &mut left, one, &mut made)?;
         number = numbers_behind(number, one.members.as_slice())?;
     }
     Ok(made)
+}
+
+/// Makes the modules of a project, whose bound lines are let go of as they are written.
+pub(crate) fn made_modules(
+    alloc: Global,
+    declared: &Declared,
+    bodies: Vec<BoundBody>,
+) -> Result<MadeModules, Mem>
+    ghost whole: { Bound }
+    requires { whole ≡ record { declarations = declarations_of declared.now; bodies = map body_of bodies.items } }
+    ensures modules { IfOk result (λ made. map net_view.module_of made.modules.items ≡ written_modules whole 0 whole.declarations.project.modules) }
+    ensures places { IfOk result (λ made. made.places.items ≡ untranslated_modules whole 0 whole.declarations.project.modules) }
+{
+    let given = declared.project.modules.as_slice();
+    let taken = names_taken(alloc, given)?;
+    let locals = all_locals(alloc, declared.vars.as_slice())?;
+    Ok(make_modules(alloc, &locals, &taken, VecDeque::from(bodies), given)?)
 }

@@ -1,12 +1,9 @@
 //! The issues of a project.
 ghost use Rattle.std.specs.Prelude.{◌≡◌, ◌++◌, map, IfOk, OnOk};
-ghost use Rattle.vb_tree.specs.BoundView.{bound_of};
-ghost use Rattle.net_rewrite.specs.Projects.{untranslated};
-ghost use Rattle.wizard_cli.specs.Breaks.{AreIssues, dropped_issue, untranslated_issue, rules_broken_in};
+ghost use Rattle.wizard_cli.specs.Breaks.{AreIssues, dropped_issue, untranslated_issue};
 
 use std::alloc::Global;
 use up_base::{Issue, Issues, Mem, Place};
-use vb_tree::Bound;
 
 // The rule that a line of the project file breaks that isn't carried over.
 const NOT_CARRIED: u8 = 23;
@@ -14,18 +11,17 @@ const NOT_CARRIED: u8 = 23;
 // The rule that a line breaks that isn't translated so far.
 const NOT_TRANSLATED: u8 = 99;
 
-/// The issues of a project whose names are bound, where these are the places of its lines that aren't translated.
-pub(crate) fn found_issues(alloc: Global, bound: &Bound, places: &[Place]) -> Result<Issues, Mem>
-    requires { places.now ≡ untranslated (bound_of bound.now) }
-    ensures { IfOk result (λ issues. AreIssues (rules_broken_in (bound_of bound.now)) issues) }
+/// The issues of a project: those of its file, and those of the places of its lines that aren't translated.
+pub(crate) fn found_issues(dropped: Vec<Issue>, places: &[Place]) -> Result<Issues, Mem>
+    ensures { IfOk result (λ issues. AreIssues (dropped.items ++ map untranslated_issue places.now) issues) }
 {
-    let mut found = dropped_issues(alloc, bound.declared.project.file.dropped.as_slice())?;
+    let mut found = dropped;
     push_untranslated(&mut found, places)?;
     Ok(as_set(found))
 }
 
-// The issues of lines of the project file that aren't carried over.
-fn dropped_issues(alloc: Global, lines: &[u32]) -> Result<Vec<Issue>, Mem>
+/// The issues of lines of the project file that aren't carried over.
+pub(crate) fn dropped_issues(alloc: Global, lines: &[u32]) -> Result<Vec<Issue>, Mem>
     ensures { IfOk result (λ issues. issues.items ≡ map dropped_issue lines.now) }
 {
     let mut issues = Vec::with_capacity(alloc, lines.len())?;

@@ -16,7 +16,7 @@ ghost use Rattle.wizard_cli.specs.Runs.{IsAnswer, OnFault, PutAnswer};
 ghost use Rattle.wizard_cli.specs.Upgrading.{AreFiles, IsTranslated};
 
 use crate::answer::{Answer, answer_to};
-use crate::issues::found_issues;
+use crate::issues::{dropped_issues, found_issues};
 use crate::words::{Words, WordsFail, file_to_upgrade};
 use crate::writing::{move_into_folder, put_all};
 use issue_report::report;
@@ -110,16 +110,17 @@ pub(crate) struct Rewriting {
     issues: Issues,
 }
 
-// Both. The project's own tree is let go of here, with what is bound in it.
+// Both. What is bound in the project is let go of as it is written, and its own tree behind that.
 fn rewritten(alloc: Global, project: Project6) -> Result<Rewriting, Mem>
     ensures { IfOk result (λ made. (net_project_of made.tree ≡ written_project (bound (project_of project))) × AreIssues (broken_rules (project_of project)) made.issues) }
 {
     let bound = bind_scalars(alloc, project)?;
+    let dropped = dropped_issues(alloc, bound.declared.project.file.dropped.as_slice())?;
     let Rewritten {
         project: tree,
         untranslated,
-    } = rewrite(alloc, &bound)?;
-    let issues = found_issues(alloc, &bound, &untranslated)?;
+    } = rewrite(alloc, bound)?;
+    let issues = found_issues(dropped, &untranslated)?;
     Ok(Rewriting { tree, issues })
 }
 

@@ -6,7 +6,7 @@ use Rattle.net_rewrite.specs.View.{local_of}
 use Rattle.net_rewrite.specs.Procedures.{commented}
 use Rattle.net_rewrite.proofs.procedure.body.Given as goal
 
-abbrev pub invariant-loop-number : goal.invariant-loop-number
-invariant-loop-number l =
-    map line_of l.lines.items ++ commented (map local_of l.locals) l.rest (map (λ x. view.line_of x.now) (drop l.number l.code)) (map (map expr_of) (drop l.number l.exprs)) l.close
-    ≡ commented (map local_of l.locals) l.comments (map (λ x. view.line_of x.now) l.code) (map (map expr_of) l.exprs) l.close
+abbrev pub invariant-loop-line : goal.invariant-loop-line
+invariant-loop-line l =
+    map line_of l.lines.items ++ commented (map local_of l.locals) l.rest (map (λ x. view.line_of x.now) (drop l.line-index l.code)) (map (map expr_of) l.left.items) l.close
+    ≡ commented (map local_of l.locals) l.comments (map (λ x. view.line_of x.now) l.code) (map (map expr_of) l.fn.exprs.items) l.close

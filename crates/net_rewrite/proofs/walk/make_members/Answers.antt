@@ -1,17 +1,16 @@
 use Rattle.std.proofs.Common.{◌++◌, ◌∷◌, ◌+◌, drop, map, sym, ap, ◌∙◌}
 use Rattle.std.proofs.lemmas.List.{drop_more}
-use Rattle.vb_tree.specs.BoundView.{bound_of}
 use Rattle.vb_tree.specs.View.{member_of}
 use Rattle.net_tree.specs.View as net_view
 use Rattle.net_rewrite.specs.Modules.{past, written_members}
 use Rattle.net_rewrite.specs.Projects.{untranslated_members}
-use Rattle.net_rewrite.specs.Walks.{place_in}
+use Rattle.net_rewrite.specs.Walks.{place_in, numbers_behind}
 use Rattle.net_rewrite.proofs.Walking.{members_turn, places_turn, numbered_turn}
 use Rattle.net_rewrite.proofs.walk.make_members.Goals as goal
 
 pub loop-member-preserved : goal.loop-member-preserved
-loop-member-preserved c =
-    let P = bound_of c.args.bound.now in
+loop-member-preserved g c =
+    let P = g.whole in
     let xs = c.args.given.now in
     let i = c.loop-member.member-index in
     let x = c.member-item.result in
@@ -36,4 +35,6 @@ loop-member-preserved c =
           c.in_ok-number.ensures c.in_ok-make_member.ensures.names
           (ap (λ k. c.loop-member.made.places.items ++ untranslated_members P c.args.file at k) (sym left) ∙ before.places)
           c.in_ok-make_member.ensures.places;
+      bodies = c.in_ok-make_member.ensures.bodies ∙ ap (λ n. drop n P.bodies) (sym c.in_ok-number.ensures);
+      numbers = ap (λ n. numbers_behind n ms) c.in_ok-number.ensures ∙ ap (numbers_behind p) (sym left) ∙ before.numbers;
     }

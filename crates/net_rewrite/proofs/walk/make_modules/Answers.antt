@@ -1,6 +1,5 @@
 use Rattle.std.proofs.Common.{◌++◌, ◌∷◌, ◌+◌, drop, map, sym, ap, ◌∙◌}
 use Rattle.std.proofs.lemmas.List.{drop_more}
-use Rattle.vb_tree.specs.BoundView.{bound_of}
 use Rattle.vb_tree.specs.View.{member_of, module_of}
 use Rattle.net_tree.specs.View as net_view
 use Rattle.net_rewrite.specs.Modules.{written_modules}
@@ -10,8 +9,8 @@ use Rattle.net_rewrite.proofs.Walking.{modules_turn, module_places_turn, modules
 use Rattle.net_rewrite.proofs.walk.make_modules.Goals as goal
 
 pub loop-one-preserved : goal.loop-one-preserved
-loop-one-preserved c =
-    let P = bound_of c.args.bound.now in
+loop-one-preserved g c =
+    let P = g.whole in
     let xs = c.args.given.now in
     let i = c.loop-one.one-index in
     let x = c.one-item.result in
@@ -32,4 +31,5 @@ loop-one-preserved c =
           next
           (ap (λ k. c.loop-one.made.places.items ++ untranslated_modules P p k) (sym left) ∙ before.places)
           c.in_ok-make_module.ensures.places;
+      bodies = c.in_ok-make_module.ensures.bodies ∙ ap (λ n. drop n P.bodies) (sym next);
     }

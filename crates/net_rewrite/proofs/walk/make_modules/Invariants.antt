@@ -1,5 +1,5 @@
 use Rattle.std.proofs.Common.{◌≡◌, ◌++◌, drop, map}
-use Rattle.vb_tree.specs.BoundView.{bound_of}
+use Rattle.vb_tree.specs.BoundView.{body_of}
 use Rattle.vb_tree.specs.View.{module_of}
 use Rattle.net_tree.specs.View as net_view
 use Rattle.net_rewrite.specs.Modules.{written_modules}
@@ -7,13 +7,17 @@ use Rattle.net_rewrite.specs.Projects.{untranslated_modules}
 use Rattle.net_rewrite.specs.Walks.{AreNumberedIn}
 use Rattle.net_rewrite.proofs.walk.make_modules.Given as goal
 
+abbrev pub ghost-make_module : goal.ghost-make_module
+ghost-make_module g a = g.whole
+
 abbrev pub invariant-loop-one : goal.invariant-loop-one
-invariant-loop-one l = record {
-  numbered : AreNumberedIn (bound_of l.bound) l.number (map module_of (drop l.one-index l.given));
+invariant-loop-one g l = record {
+  numbered : AreNumberedIn g.whole l.number (map module_of (drop l.one-index l.given));
   modules :
-      map net_view.module_of l.made.modules.items ++ written_modules (bound_of l.bound) l.number (map module_of (drop l.one-index l.given))
-      ≡ written_modules (bound_of l.bound) 0 (map module_of l.given);
+      map net_view.module_of l.made.modules.items ++ written_modules g.whole l.number (map module_of (drop l.one-index l.given))
+      ≡ written_modules g.whole 0 (map module_of l.given);
   places :
-      l.made.places.items ++ untranslated_modules (bound_of l.bound) l.number (map module_of (drop l.one-index l.given))
-      ≡ untranslated_modules (bound_of l.bound) 0 (map module_of l.given);
+      l.made.places.items ++ untranslated_modules g.whole l.number (map module_of (drop l.one-index l.given))
+      ≡ untranslated_modules g.whole 0 (map module_of l.given);
+  bodies : map body_of l.left.items ≡ drop l.number g.whole.bodies;
 }

@@ -1,0 +1,20 @@
+use Rattle.std.proofs.Common.{map, subst, sym, ap, ◌∙◌}
+use Rattle.vb_tree.specs.BoundTree.{Bound}
+use Rattle.vb_tree.specs.BoundView.{body_of, variable_of}
+use Rattle.vb_tree.specs.View.{module_of}
+use Rattle.vb6_run.specs.Program.{locals_from, locals_of}
+use Rattle.net_rewrite.specs.Marks.{taken_names}
+use Rattle.net_rewrite.specs.Taken.{AreSame}
+use Rattle.net_rewrite.specs.Walks.{AreNumberedIn}
+use Rattle.net_rewrite.proofs.Numbered.{all_numbered}
+use Rattle.net_rewrite.proofs.walk.made_modules.Goals as goal
+
+pub make_modules-requires : goal.make_modules-requires
+make_modules-requires g c =
+    let modules = ap (map module_of) c.as_slice-given.ensures ∙ sym (ap (λ (w : Bound). w.declarations.project.modules) c.requires) in (
+      λ p. c.in_ok-locals.ensures p ∙ ap (λ vs. locals_from p 0 (map variable_of vs)) c.as_slice.ensures ∙ sym (ap (λ (w : Bound). locals_of w p) c.requires),
+      (
+        subst (λ ms. AreSame c.in_ok-taken.taken (taken_names ms)) modules c.in_ok-taken.ensures,
+        (subst (AreNumberedIn g.whole 0) (sym modules) (all_numbered g.whole), ap (map body_of) c.from.ensures.0 ∙ sym (ap (λ (w : Bound). w.bodies) c.requires)),
+      ),
+    )
