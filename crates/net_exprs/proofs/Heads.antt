@@ -13,7 +13,7 @@ use Rattle.net_exprs.specs.Ends.{begins_braces, begins_with, ends_expression, en
 use Rattle.net_exprs.specs.Names.{begins_digit, is_digit}
 use Rattle.net_exprs.specs.Literals.{literal_at}
 use Rattle.net_exprs.specs.Expressions.{Keyword, braces_or_none, bracket_start, front_of, head_at, keyword_of, keywords, literal_start, no_suffix, operand, path_stage, start_of, started, suffix_of, whole, word_front, word_start, worded}
-use Rattle.net_exprs.specs.Fitting.{fits_exp, fits_exps, fits_literal}
+use Rattle.net_exprs.specs.Fitting.{fits_exp, fits_exps, fits_literal, fits_name}
 use Rattle.net_exprs.proofs.Words.{BeginsPath, are_identifiers, both_true, by_test, is_other, is_unlike, never, not_in_table, path_start, path_word, word_reads, names_read}
 use Rattle.net_exprs.proofs.Numbers.{begins_no_digit, is_word_digit}
 use Rattle.net_exprs.proofs.LiteralsRead.{begins_places, ends_literal, is_literal_start, is_no_word, literal_begins, literal_reads}
@@ -196,7 +196,7 @@ operand_front (dot x name) rest h f e =
     let first = both_true (not (is_path_exp x) && is_writable_exp x) (is_identifier name) h in
     let parts = both_true (not (is_path_exp x)) (is_writable_exp x) first.0 in
     let again : exp_text (dot x name) ++ rest ≡ exp_text x ++ (46 ∷ (name_text name ++ rest)) = simp append_assoc in
-    ap front_of again ∙ operand_front x (46 ∷ (name_text name ++ rest)) parts.1 f (follows_member x name rest (not-true (is_path_exp x) parts.0) first.1)
+    ap front_of again ∙ operand_front x (46 ∷ (name_text name ++ rest)) parts.1 (both_true (fits_exp x) (fits_name name) f).0 (follows_member x name rest (not-true (is_path_exp x) parts.0) first.1)
 operand_front (call_of x args) rest h f e =
     ap front_of (append_assoc (exp_text x) (arguments_text args) rest)
     ∙ operand_front x (arguments_text args ++ rest) (both_true (is_writable_exp x) (are_writable_exps args) h).0 (both_true (fits_exp x) (fits_exps args) f).0 refl

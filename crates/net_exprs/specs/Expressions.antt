@@ -105,8 +105,8 @@ group_by read n s type_test = behind (items_from read n s) (λ es rest. Some (it
 group_by read n s operand = behind (items_from read n s) (λ es rest. Some (items es, rest))
 
 -- what stands behind an opening parenthesis of a call, an element or an array, up to the closing one
-abbrev pub group_at : (read : List ℕ → Option (Exp × List ℕ)) → ℕ → List ℕ → Option (Group × List ℕ)
-group_at read n s = group_by read n s (front_of s)
+abbrev pub group_at : (read : List ℕ → Option (Exp × List ℕ)) → List ℕ → Option (Group × List ℕ)
+group_at read s = group_by read (length s) s (front_of s)
 
 -- ---- suffixes
 
@@ -257,18 +257,21 @@ head_at read (c ∷ s) = started read (c ∷ s) s (start_of c)
 
 -- ---- expressions
 
--- an expression in which at most so many are nested
-abbrev pub exp_from : ℕ → List ℕ → Option (Exp × List ℕ)
-exp_from zero s = None
-exp_from (suc k) s = behind (head_at (exp_from k) s) (suffixes (group_at (exp_from k) k) k)
+-- An expression in which at most so many are nested. Suffixes nest nothing, but what stands in their parentheses does.
+abbrev pub exp_nested : (room : ℕ) → List ℕ → Option (Exp × List ℕ)
+exp_nested zero s = None
+exp_nested (suc room) s = behind (head_at (exp_nested room) s) (suffixes (group_at (exp_nested room)) (length s))
 
 abbrev pub exp_at : List ℕ → Option (Exp × List ℕ)
-exp_at s = exp_from (suc (length s)) s
+exp_at s = exp_nested (suc (length s)) s
 
 abbrev pub arguments_of : Group → Exps
 arguments_of (rank r) = no_exps
 arguments_of (items es) = es
 
--- arguments, or the bounds of an array, with their parentheses
+-- arguments, or the bounds of an array, with their parentheses, each of at most so many nested expressions
+abbrev pub arguments_nested : (room : ℕ) → List ℕ → Option (Exps × List ℕ)
+arguments_nested room s = past (after (codes "(") s) (λ inner. behind (group_at (exp_nested room) inner) (λ g rest. Some (arguments_of g, rest)))
+
 abbrev pub arguments_at : List ℕ → Option (Exps × List ℕ)
-arguments_at s = past (after (codes "(") s) (λ inner. behind (group_at (exp_from (suc (length s))) (suc (length s)) inner) (λ g rest. Some (arguments_of g, rest)))
+arguments_at s = arguments_nested (suc (length s)) s
