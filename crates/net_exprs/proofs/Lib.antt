@@ -8,4 +8,5 @@ pub mod ExpressionsRead
 pub mod ReadBack
 pub mod FirstWords
 pub mod Printable
+pub mod Fronts
 mod Examples

@@ -6,4 +6,5 @@ pub mod Types
 pub mod Expressions
 pub mod Depth
 pub mod Fitting
+pub mod Answers
 pub mod Laws

@@ -1,8 +1,12 @@
-//! That what stands in a line of a written project stands for one tree.
+//! Reads names, types and expressions of written projects, and proves that what is written stands for one tree.
 #![tactic(auto)]
 
+mod characters;
+mod fail;
 mod laws;
+mod numerals;
 
+pub use fail::PhraseFail;
 pub use laws::{
     arguments_are_read, arguments_stay_within_line, expressions_are_read,
     expressions_stay_within_line, labels_are_read, labels_stay_within_line, names_are_read,
