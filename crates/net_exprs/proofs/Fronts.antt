@@ -5,9 +5,10 @@ use Rattle.std.specs.Char.{digit_value}
 use Rattle.std.specs.Cmp.Lexicographic.{pointwise}
 use Rattle.net_tree.specs.Spelling.{is_word_part}
 use Rattle.net_exprs.specs.Answers.{now_of}
-use Rattle.net_exprs.specs.Names.{numeral_from}
+use Rattle.net_exprs.specs.Names.{begins_digit, is_digit, numeral_from}
 use Rattle.net_exprs.specs.Readers.{after, word_at, with_first}
 use Rattle.net_exprs.proofs.Words.{by_test, never}
+use Rattle.std.proofs.lemmas.Bool.Decides.{nat_tests}
 
 pub word_taken : (s : List ℕ) → take (length (word_at s).0) s ≡ (word_at s).0
 word_taken [] = refl
@@ -64,3 +65,19 @@ too_large base n digit limit [] whole b some same small is large = absurd (omega
 too_large base n digit limit (c ∷ s) whole b some same small is large =
     let taken : numeral_from base n (c ∷ s) ≡ numeral_from base (n * base + digit_value c) s = rw (lt-ltb (digit_value c) base (omega (arith, same, small))) refl in
     omega (arith, same, large, ap (λ p. p.0) (sym taken ∙ is), numeral_grows base (n * base + digit_value c) s (omega arith))
+
+numeral_no_longer : (base n : ℕ) (s : List ℕ) → length (numeral_from base n s).1 ≤ length s
+numeral_no_longer base n [] = omega arith
+numeral_no_longer base n (c ∷ s) =
+    by_test (nat_lt (digit_value c) base) (λ b. let parts : ℕ × List ℕ = if b then numeral_from base (n * base + digit_value c) s else (n, c ∷ s) in length parts.1 ≤ suc (length s))
+    (λ t. omega (arith, numeral_no_longer base (n * base + digit_value c) s)) (λ t. omega arith)
+
+digit_counts : (c : ℕ) → is_digit c ≡ true → digit_value c < 10
+digit_counts c h = grind (arith, nat_tests)
+
+-- where a digit stands first, a number has one
+pub numeral_shorter : (s : List ℕ) → begins_digit s ≡ true → length (numeral_from 10 0 s).1 < length s
+numeral_shorter [] h = never h
+numeral_shorter (c ∷ s) h =
+    let taken : numeral_from 10 0 (c ∷ s) ≡ numeral_from 10 (0 * 10 + digit_value c) s = rw (lt-ltb (digit_value c) 10 (digit_counts c h)) refl in
+    omega (arith, ap (λ p. length p.1) taken, numeral_no_longer 10 (0 * 10 + digit_value c) s)

@@ -8,5 +8,7 @@ pub mod ExpressionsRead
 pub mod ReadBack
 pub mod FirstWords
 pub mod Printable
+pub mod Answering
 pub mod Fronts
+pub mod Paths
 mod Examples

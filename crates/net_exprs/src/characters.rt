@@ -47,6 +47,7 @@ fn word_length(text: &[u8]) -> usize
 pub(crate) fn word_at(text: &[u8]) -> (&[u8], &[u8])
     ensures word { result.0.now ≡ (word_at text.now).0 }
     ensures rest { result.1.now ≡ (word_at text.now).1 }
+    ensures lengths { length result.0.now + length result.1.now ≡ length text.now }
 {
     text.split_at(word_length(text))
 }

@@ -4,6 +4,7 @@
 mod characters;
 mod fail;
 mod laws;
+mod names;
 mod numerals;
 
 pub use fail::PhraseFail;
@@ -13,3 +14,4 @@ pub use laws::{
     names_stay_within_line, nested_arguments_are_read, nested_expressions_are_read, paths_are_read,
     ranks_are_read, types_are_read, types_stay_within_line,
 };
+pub use names::{read_label, read_name};

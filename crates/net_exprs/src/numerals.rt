@@ -1,6 +1,6 @@
 //! Digits and the numbers that they stand for.
 ghost use Rattle.std.specs.Char.{digit_value};
-ghost use Rattle.std.specs.Prelude.{◌≡◌, ℕ, ◌+◌, ◌*◌, ◌<◌, ◌≤◌, ◌^◌, length, MatchOption};
+ghost use Rattle.std.specs.Prelude.{◌≡◌, ℕ, ◌+◌, ◌*◌, ◌<◌, ◌≤◌, ◌^◌, MatchOption};
 ghost use Rattle.net_exprs.specs.Names.{numeral_from};
 
 // What a character counts as a digit of a base.
