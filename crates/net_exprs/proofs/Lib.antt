@@ -11,4 +11,5 @@ pub mod Printable
 pub mod Answering
 pub mod Fronts
 pub mod Paths
+pub mod Ranks
 mod Examples

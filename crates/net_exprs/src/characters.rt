@@ -1,6 +1,6 @@
 //! Characters, words and texts at the front.
 ghost use Rattle.std.specs.Prelude.{◌≡◌, ◌≤◌, ◌+◌, length, IfSome};
-ghost use Rattle.net_tree.specs.Spelling.{is_word_part};
+ghost use Rattle.net_tree.specs.Spelling.{is_same_text, is_word_part};
 ghost use Rattle.net_exprs.specs.Names.{begins_digit, is_digit};
 ghost use Rattle.net_exprs.specs.Readers.{after, word_at};
 ghost use Rattle.net_exprs.specs.Answers.{now_of};
@@ -27,6 +27,13 @@ pub(crate) fn is_word_part(c: u8) -> bool
     ensures { result ≡ is_word_part c }
 {
     (b'A' <= c && c <= b'Z') || (b'a' <= c && c <= b'z') || is_digit(c) || c == b'_'
+}
+
+/// Whether a word is this one.
+pub(crate) fn is(word: &[u8], text: &[u8]) -> bool
+    ensures { result ≡ is_same_text word.now text.now }
+{
+    word == text
 }
 
 // How many letters, digits and underscores stand at the front.

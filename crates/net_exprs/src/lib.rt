@@ -4,8 +4,10 @@
 mod characters;
 mod fail;
 mod laws;
+mod literals;
 mod names;
 mod numerals;
+mod types;
 
 pub use fail::PhraseFail;
 pub use laws::{
@@ -15,3 +17,4 @@ pub use laws::{
     ranks_are_read, types_are_read, types_stay_within_line,
 };
 pub use names::{read_label, read_name};
+pub use types::{read_rank, read_type};
