@@ -1,5 +1,5 @@
 -- How the failure of a part becomes that of the whole.
-use Rattle.std.proofs.Common.{◌≡◌, ℕ, Bool, false, List, Option, Some, None}
+use Rattle.std.proofs.Common.{◌≡◌, ℕ, ◌≤◌, ◌<◌, Bool, false, List, length, Option, Some, None, Result, Ok, Err, IfOk, Bor, arith}
 use Rattle.net_exprs.specs.declared.fail.PhraseFail.{PhraseFail}
 use Rattle.net_exprs.specs.declared.fail.PhraseFail.TheVariants as fail
 use Rattle.net_exprs.specs.Answers.{FailsFor, Misfits}
@@ -15,3 +15,7 @@ pub misfits_behind : {X Y : Type 0} (f : X → Bool) (g : Y → Bool) (o : Optio
     → ((x : X) (rest : List ℕ) → f x ≡ false → Misfits g (go x rest)) → Misfits f o → Misfits g (behind o go)
 misfits_behind f g None go up h = tt
 misfits_behind f g (Some part) go up h = up part.0 part.1 h
+
+pub shorter_up : {A : Type 0} (r : Result (A × Bor (List ℕ)) PhraseFail) (m n : ℕ) → m < n → IfOk r (λ read. length read.1.now ≤ m) → IfOk r (λ read. length read.1.now < n)
+shorter_up (Ok read) m n h k = omega (arith, h, k)
+shorter_up (Err e) m n h k = tt

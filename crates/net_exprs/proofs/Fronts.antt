@@ -66,7 +66,7 @@ too_large base n digit limit (c ∷ s) whole b some same small is large =
     let taken : numeral_from base n (c ∷ s) ≡ numeral_from base (n * base + digit_value c) s = rw (lt-ltb (digit_value c) base (omega (arith, same, small))) refl in
     omega (arith, same, large, ap (λ p. p.0) (sym taken ∙ is), numeral_grows base (n * base + digit_value c) s (omega arith))
 
-numeral_no_longer : (base n : ℕ) (s : List ℕ) → length (numeral_from base n s).1 ≤ length s
+pub numeral_no_longer : (base n : ℕ) (s : List ℕ) → length (numeral_from base n s).1 ≤ length s
 numeral_no_longer base n [] = omega arith
 numeral_no_longer base n (c ∷ s) =
     by_test (nat_lt (digit_value c) base) (λ b. let parts : ℕ × List ℕ = if b then numeral_from base (n * base + digit_value c) s else (n, c ∷ s) in length parts.1 ≤ suc (length s))

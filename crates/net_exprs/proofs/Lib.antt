@@ -12,4 +12,5 @@ pub mod Answering
 pub mod Fronts
 pub mod Paths
 pub mod Ranks
+pub mod Quotes
 mod Examples

@@ -48,6 +48,7 @@ fn text_literal(alloc: Global, text: &[u8]) -> Result<(NetLit, &[u8]), PhraseFai
 }
 
 // A number behind `&H`.
+#[tactic(auto, using(crate::proofs::Fronts::numeral_no_longer))]
 fn hexadecimal_literal(text: &[u8]) -> Result<(NetLit, &[u8]), PhraseFail>
     ensures answers { Answers literal_of fits_literal (hexadecimal_literal (numeral_from 16 0 text.now).0 (numeral_from 16 0 text.now).1) result }
     ensures shorter { IfOk result (λ read. length read.1.now < length text.now) }
@@ -57,11 +58,11 @@ fn hexadecimal_literal(text: &[u8]) -> Result<(NetLit, &[u8]), PhraseFail>
     };
     match rest {
         [b'S', more @ ..] => match u16::try_from(number) {
-            Ok(bits) => Ok((NetLit::Short(bits as i16, true), more)),
+            Ok(bits) => Ok((NetLit::Short(bits.cast_signed(), true), more)),
             Err(_) => Err(PhraseFail::NotNet),
         },
         [b'I', more @ ..] => match u32::try_from(number) {
-            Ok(bits) => Ok((NetLit::Integer(bits as i32, true), more)),
+            Ok(bits) => Ok((NetLit::Integer(bits.cast_signed(), true), more)),
             Err(_) => Err(PhraseFail::NotNet),
         },
         _ => Err(PhraseFail::NotNet),
