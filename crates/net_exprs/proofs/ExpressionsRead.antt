@@ -14,11 +14,14 @@ use Rattle.net_tree.specs.Tree.{Exp, Exps, Literal, binary, boolean, call_of, ca
 use Rattle.net_tree.specs.Spelling.{is_identifier, is_path, name_text, separated}
 use Rattle.net_tree.specs.Literals.{is_writable_literal, literal_text}
 use Rattle.net_tree.specs.Expressions.{arguments_text, cast_text, exp_text, exp_texts, is_no_bound, is_path_exp, is_writable_type, operator_text, rank_text, type_text, unary_text}
+use Rattle.net_exprs.specs.declared.starts.Front.{Front}
+use Rattle.net_exprs.specs.declared.starts.Front.TheVariants as opens
+use Rattle.net_exprs.specs.declared.starts.Keyword.TheVariants as key
 use Rattle.net_exprs.specs.Readers.{after, behind, past}
 use Rattle.net_exprs.specs.Ends.{ends_expression, ends_name}
 use Rattle.net_exprs.specs.Names.{name_at}
 use Rattle.net_exprs.specs.Types.{base_at, type_at}
-use Rattle.net_exprs.specs.Expressions.{Front, Group, Stage, bounded, closed, closed_type, closing, comma, exp_nested, false_word, front_of, group_at, group_by, head_at, items, items_behind, items_from, keyword_of, me_word, minus, negation, nothing_word, operand, operand_behind, operator_at, parenthesized, rank, ranked, start_of, suffix_by, suffix_of, suffixes, true_word, type_test, value_of, whole, with_group, with_ranks, word_front}
+use Rattle.net_exprs.specs.Expressions.{Group, Stage, bounded, closed, closed_type, exp_nested, front_of, group_at, group_by, head_at, items, items_behind, items_from, keyword_of, operand_behind, operator_at, parenthesized, rank, ranked, start_of, suffix_by, suffix_of, suffixes, value_of, whole, with_group, with_ranks, word_front}
 use Rattle.net_exprs.specs.Fitting.{fits_literal}
 use Rattle.net_exprs.specs.Depth.{depth_exp, depth_exps}
 use Rattle.net_exprs.proofs.Words.{are_identifiers, both_true, name_reads, never}
@@ -124,16 +127,16 @@ reads_head e none alone head k n rest h fuel f =
 
 boolean_head : (b : Bool) (read : List ℕ → Option (Exp × List ℕ)) (rest : List ℕ) → ends_name rest ≡ true → head_at read (literal_text (boolean b) ++ rest) ≡ Some (whole (lit (boolean b)), rest)
 unfolding keyword_of
-boolean_head true read rest e = word_head read 84 (codes "rue") rest (Some true_word) refl refl e refl
-boolean_head false read rest e = word_head read 70 (codes "alse") rest (Some false_word) refl refl e refl
+boolean_head true read rest e = word_head read 84 (codes "rue") rest (Some key.True) refl refl e refl
+boolean_head false read rest e = word_head read 70 (codes "alse") rest (Some key.False) refl refl e refl
 
 nothing_head : HeadReads nothing
 unfolding keyword_of
-nothing_head k rest h e = word_head (exp_nested k) 78 (codes "othing") rest (Some nothing_word) refl refl (name_ends nothing rest e) refl
+nothing_head k rest h e = word_head (exp_nested k) 78 (codes "othing") rest (Some key.Nothing) refl refl (name_ends nothing rest e) refl
 
 me_head : HeadReads me
 unfolding keyword_of
-me_head k rest h e = word_head (exp_nested k) 77 (codes "e") rest (Some me_word) refl refl (name_ends me rest e) refl
+me_head k rest h e = word_head (exp_nested k) 77 (codes "e") rest (Some key.Me) refl refl (name_ends me rest e) refl
 
 pub nothing_reads : Reads nothing
 nothing_reads = reads_head nothing refl refl nothing_head
@@ -229,7 +232,7 @@ unary_reads o a inner =
 
 -- an expression begins as an operand in parentheses
 abbrev pub IsOperand : Exp → Type 0
-IsOperand e = (rest : List ℕ) → follows e rest ≡ true → front_of (exp_text e ++ rest) ≡ operand
+IsOperand e = (rest : List ℕ) → follows e rest ≡ true → front_of (exp_text e ++ rest) ≡ opens.Operand
 
 opening_head : (read : List ℕ → Option (Exp × List ℕ)) (s : List ℕ) → head_at read (40 ∷ s) ≡ parenthesized read s (front_of s)
 unfolding start_of
@@ -315,12 +318,12 @@ dot_reads a name p h reads k n rest enough fuel f =
 
 -- an item of a list: it is read where it ends, and begins neither with a comma nor with a closing parenthesis
 abbrev is_item : Front → Bool
-is_item closing = false
-is_item comma = false
-is_item minus = true
-is_item negation = true
-is_item type_test = true
-is_item operand = true
+is_item opens.Closing = false
+is_item opens.Comma = false
+is_item opens.Minus = true
+is_item opens.Negation = true
+is_item opens.TypeTest = true
+is_item opens.Operand = true
 
 pub record IsItem (e : Exp) : Type 0 where
   pub read : ReadsWhole e
@@ -356,12 +359,12 @@ items_read k (suc n) e (next_exp f es) rest are h i =
 
 group_items : (read : List ℕ → Option (Exp × List ℕ)) (n : ℕ) (s : List ℕ) (front : Front) → is_item front ≡ true
     → group_by read n s front ≡ behind (items_from read n s) (λ es rest. Some (items es, rest))
-group_items read n s closing h = never h
-group_items read n s comma h = never h
-group_items read n s minus h = refl
-group_items read n s negation h = refl
-group_items read n s type_test h = refl
-group_items read n s operand h = refl
+group_items read n s opens.Closing h = never h
+group_items read n s opens.Comma h = never h
+group_items read n s opens.Minus h = refl
+group_items read n s opens.Negation h = refl
+group_items read n s opens.TypeTest h = refl
+group_items read n s opens.Operand h = refl
 
 inside_begins : (e : Exp) (es : Exps) (rest : List ℕ) → IsItem e → is_item (front_of (inside (next_exp e es) rest)) ≡ true
 inside_begins e no_exps rest item = ap (λ s. is_item (front_of s)) (last_inside e rest) ∙ item.begins (41 ∷ rest) refl
@@ -426,7 +429,7 @@ rank_group read (suc zero) rest h = refl
 rank_group read (suc (suc m)) rest h =
     let s = (replicate (suc (suc m) - 1) 44 ++ codes ")") ++ rest in
     let fewer : suc (suc m) - 1 ≡ suc m = omega arith in
-    let front : front_of s ≡ comma = ap (λ c. front_of ((replicate c 44 ++ codes ")") ++ rest)) fewer in
+    let front : front_of s ≡ opens.Comma = ap (λ c. front_of ((replicate c 44 ++ codes ")") ++ rest)) fewer in
     ap (group_by read (length s) s) front ∙ ap (λ (o : Option (ℕ × List ℕ)). behind o (λ r rest. Some (rank r, rest))) (rank_inside (suc (suc m)) rest h)
 
 rank_step : (k n : ℕ) (t : TypeName) (ranks : List ℕ) (r : ℕ) (rest : List ℕ) → (r == 0) ≡ false
@@ -492,7 +495,7 @@ minus_head : (read : List ℕ → Option (Exp × List ℕ)) (rest : List ℕ) �
 unfolding start_of
 minus_head read rest = refl
 
-minus_front : (s : List ℕ) → front_of (45 ∷ s) ≡ minus
+minus_front : (s : List ℕ) → front_of (45 ∷ s) ≡ opens.Minus
 unfolding front_of
 minus_front s = refl
 

@@ -13,4 +13,5 @@ pub mod Fronts
 pub mod Paths
 pub mod Ranks
 pub mod Quotes
+pub mod Staging
 mod Examples

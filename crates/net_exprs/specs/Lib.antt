@@ -7,4 +7,5 @@ pub mod Expressions
 pub mod Depth
 pub mod Fitting
 pub mod Answers
+pub mod Stages
 pub mod Laws

@@ -7,6 +7,8 @@ mod laws;
 mod literals;
 mod names;
 mod numerals;
+mod stages;
+mod starts;
 mod types;
 
 pub use fail::PhraseFail;
