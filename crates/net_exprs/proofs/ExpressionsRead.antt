@@ -21,7 +21,7 @@ use Rattle.net_exprs.specs.Readers.{after, behind, past}
 use Rattle.net_exprs.specs.Ends.{ends_expression, ends_name}
 use Rattle.net_exprs.specs.Names.{name_at}
 use Rattle.net_exprs.specs.Types.{base_at, type_at}
-use Rattle.net_exprs.specs.Expressions.{Group, Stage, bounded, closed, closed_type, exp_nested, front_of, group_at, group_by, head_at, items, items_behind, items_from, keyword_of, operand_behind, operator_at, parenthesized, rank, ranked, start_of, suffix_by, suffix_of, suffixes, value_of, whole, with_group, with_ranks, word_front}
+use Rattle.net_exprs.specs.Expressions.{Group, Stage, bounded, closed, closed_type, type_closed, exp_nested, front_of, group_at, group_by, head_at, items, items_behind, items_from, keyword_of, leaf, opened, operand_behind, operator_at, parenthesized, rank, ranked, start_of, suffix_by, suffix_of, suffixes, value_of, whole, with_group, with_ranks, word_front}
 use Rattle.net_exprs.specs.Fitting.{fits_literal}
 use Rattle.net_exprs.specs.Depth.{depth_exp, depth_exps}
 use Rattle.net_exprs.proofs.Words.{are_identifiers, both_true, name_reads, never}
@@ -160,14 +160,14 @@ pub path_reads : (names : List (List ℕ)) → is_path names ≡ true → Reads 
 path_reads [] h = never h
 path_reads (n ∷ names) h = reads_head (path (n ∷ names)) refl refl (λ k rest m e. path_head (exp_nested k) n names rest (are_identifiers n names h) (path_ends (n ∷ names) rest e))
 
-point_head : (read : List ℕ → Option (Exp × List ℕ)) (s : List ℕ) → head_at read (46 ∷ s) ≡ behind (name_at s) (λ name rest. Some (whole (with_dot name), rest))
+point_head : (read : List ℕ → Option (Exp × List ℕ)) (s : List ℕ) → head_at read (46 ∷ s) ≡ behind (behind (name_at s) (λ name rest. Some (leaf (whole (with_dot name)), rest))) (opened read)
 unfolding start_of
 point_head read s = refl
 
 pub with_dot_reads : (name : List ℕ) → is_identifier name ≡ true → Reads (with_dot name)
 with_dot_reads name h =
     reads_head (with_dot name) refl refl (λ k rest m e.
-    point_head (exp_nested k) (name_text name ++ rest) ∙ ap (λ o. behind o (λ name rest. Some (whole (with_dot name), rest))) (name_reads name rest h (name_ends (with_dot name) rest e)))
+    point_head (exp_nested k) (name_text name ++ rest) ∙ ap (λ o. behind (behind o (λ name rest. Some (leaf (whole (with_dot name)), rest))) (opened (exp_nested k))) (name_reads name rest h (name_ends (with_dot name) rest e)))
 
 -- ---- forms in parentheses
 
@@ -194,10 +194,10 @@ typed_inside : (make : Exp → TypeName → Exp) (text : List ℕ) (a : Exp) (t 
     → behind (exp_nested k (exp_text a ++ (text ++ (type_text t ++ (41 ∷ rest))))) (closed_type text make) ≡ Some (whole (make a t), rest)
 typed_inside make text a t k rest inner h w ends stands =
     let tail = type_text t ++ (41 ∷ rest) in
-    let last : List ℕ → Option (Stage × List ℕ) = λ s. behind (type_at s) (λ t s. past (after (codes ")") s) (λ rest. Some (whole (make a t), rest))) in
+    let typed : Option (TypeName × List ℕ) → Option (Stage × List ℕ) = λ o. behind o (λ t rest. Some (whole (make a t), rest)) in
     ap (λ o. behind o (closed_type text make)) (inner k (text ++ tail) h (ends tail))
-    ∙ ap (λ o. past o last) (stands tail)
-    ∙ ap (λ o. behind o (λ t s. past (after (codes ")") s) (λ rest. Some (whole (make a t), rest)))) (type_reads t (41 ∷ rest) w refl)
+    ∙ ap (λ o. typed (past o (λ s. behind (type_at s) type_closed))) (stands tail)
+    ∙ ap (λ o. typed (behind o type_closed)) (type_reads t (41 ∷ rest) w refl)
 
 ctype_head : (read : List ℕ → Option (Exp × List ℕ)) (s : List ℕ) → head_at read (codes "CType(" ++ s) ≡ behind (read s) (closed_type (codes ", ") ctype)
 unfolding start_of keyword_of
@@ -234,7 +234,7 @@ unary_reads o a inner =
 abbrev pub IsOperand : Exp → Type 0
 IsOperand e = (rest : List ℕ) → follows e rest ≡ true → front_of (exp_text e ++ rest) ≡ opens.Operand
 
-opening_head : (read : List ℕ → Option (Exp × List ℕ)) (s : List ℕ) → head_at read (40 ∷ s) ≡ parenthesized read s (front_of s)
+opening_head : (read : List ℕ → Option (Exp × List ℕ)) (s : List ℕ) → head_at read (40 ∷ s) ≡ behind (parenthesized s (front_of s)) (opened read)
 unfolding start_of
 opening_head read s = refl
 
@@ -243,7 +243,7 @@ paren_reads a front inner =
     reads_head (paren a) refl refl (λ k rest h e.
     let s = exp_text a ++ (41 ∷ rest) in
     let again : exp_text (paren a) ++ rest ≡ 40 ∷ s = simp append_assoc in
-    ap (head_at (exp_nested k)) again ∙ opening_head (exp_nested k) s ∙ ap (parenthesized (exp_nested k) s) (front (41 ∷ rest) (follows_end a (41 ∷ rest) refl))
+    ap (head_at (exp_nested k)) again ∙ opening_head (exp_nested k) s ∙ ap (λ f. behind (parenthesized s f) (opened (exp_nested k))) (front (41 ∷ rest) (follows_end a (41 ∷ rest) refl))
     ∙ ap (λ x. behind x (operand_behind (exp_nested k))) (inner k (41 ∷ rest) (omega arith) refl))
 
 operator_ends : (o : NetBin) (s : List ℕ) → ends_expression (operator_text o ++ s) ≡ true
@@ -292,7 +292,7 @@ binary_reads o a b front left right =
     let tail = exp_text b ++ (41 ∷ rest) in
     let s = exp_text a ++ (operator_text o ++ tail) in
     let again : exp_text (binary o a b) ++ rest ≡ 40 ∷ s = binary_text (exp_text a) (operator_text o) (exp_text b) rest in
-    ap (head_at (exp_nested k)) again ∙ opening_head (exp_nested k) s ∙ ap (parenthesized (exp_nested k) s) (front (operator_text o ++ tail) (follows_end a (operator_text o ++ tail) (operator_ends o tail)))
+    ap (head_at (exp_nested k)) again ∙ opening_head (exp_nested k) s ∙ ap (λ f. behind (parenthesized s f) (opened (exp_nested k))) (front (operator_text o ++ tail) (follows_end a (operator_text o ++ tail) (operator_ends o tail)))
     ∙ ap (λ x. behind x (operand_behind (exp_nested k))) (left k (operator_text o ++ tail) (omega arith) (operator_ends o tail))
     ∙ operator_behind o (exp_nested k) a tail
     ∙ ap (λ x. behind x (closed (binary o a))) (right k (41 ∷ rest) (omega arith) refl))
@@ -397,7 +397,7 @@ call_reads a args reads are k n rest enough fuel f =
 
 -- ---- what is made anew
 
-new_head : (read : List ℕ → Option (Exp × List ℕ)) (s : List ℕ) → head_at read (codes "New " ++ s) ≡ behind (base_at s) (λ t rest. Some (ranked t [], rest))
+new_head : (read : List ℕ → Option (Exp × List ℕ)) (s : List ℕ) → head_at read (codes "New " ++ s) ≡ behind (behind (base_at s) (λ t rest. Some (leaf (ranked t []), rest))) (opened read)
 unfolding start_of keyword_of
 new_head read s = refl
 
@@ -410,7 +410,7 @@ object_reads t args plain w are k n rest enough fuel f =
     let long = length (codes "New " ++ (type_text t ++ (40 ∷ inside args rest))) in
     let count : long ≡ suc n = omega (arith, fuel, ap length again) in
     ap (exp_nested (suc k)) again
-    ∙ ap (λ o. behind o (Behind k long)) (new_head (exp_nested k) (type_text t ++ (40 ∷ inside args rest)) ∙ ap (λ o. behind o (λ t rest. Some (ranked t [], rest))) (base_reads t (40 ∷ inside args rest) plain w refl))
+    ∙ ap (λ o. behind o (Behind k long)) (new_head (exp_nested k) (type_text t ++ (40 ∷ inside args rest)) ∙ ap (λ o. behind (behind o (λ t rest. Some (leaf (ranked t []), rest))) (opened (exp_nested k))) (base_reads t (40 ∷ inside args rest) plain w refl))
     ∙ ap (λ m. Behind k m (ranked t []) (40 ∷ inside args rest)) count
     ∙ group_step k n (ranked t []) args rest are (omega arith)
 
@@ -478,7 +478,7 @@ array_reads t bounds w are k n rest enough fuel f =
     ap (exp_nested (suc k)) again
     ∙ ap (λ o. behind o (Behind k long))
     (new_head (exp_nested k) (type_text (base_of t) ++ (ranks_text t ++ tail))
-    ∙ ap (λ o. behind o (λ t rest. Some (ranked t [], rest))) (base_reads (base_of t) (ranks_text t ++ tail) (base_is_none t) (base_is_writable t w) (ends_ranks t tail refl)))
+    ∙ ap (λ o. behind (behind o (λ t rest. Some (leaf (ranked t []), rest))) (opened (exp_nested k))) (base_reads (base_of t) (ranks_text t ++ tail) (base_is_none t) (base_is_writable t w) (ends_ranks t tail refl)))
     ∙ ap (λ m. Behind k m (ranked (base_of t) []) (ranks_text t ++ tail)) count
     ∙ ranks_read t k (suc (suc n)) tail w
     ∙ group_step k (suc n) (ranked (base_of t) (ranks_of t)) bounds (codes " {}" ++ rest) are (omega arith)

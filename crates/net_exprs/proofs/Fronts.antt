@@ -1,5 +1,5 @@
 -- What stands at the front of a text and behind it, by lengths.
-use Rattle.std.proofs.Common.{◌≡◌, ℕ, suc, ◌+◌, ◌*◌, ◌≤◌, ◌<◌, Bool, true, false, ◌&&◌, ◌==◌, nat_eq, nat_lt, if◌then◌else◌, List, [], ◌∷◌, length, take, drop, refl, sym, ap, ◌∙◌, arith, Option, Some, None, MatchOption, Bor, eqb-true, lt-ltb, get_or}
+use Rattle.std.proofs.Common.{◌≡◌, ℕ, suc, ◌+◌, ◌*◌, ◌≤◌, ◌<◌, true, false, ◌&&◌, ◌==◌, nat_eq, nat_lt, if◌then◌else◌, List, [], ◌∷◌, length, take, drop, refl, sym, ap, ◌∙◌, arith, Option, Some, None, MatchOption, Bor, lt-ltb, get_or}
 use Rattle.std.proofs.lemmas.Nat.{mul-le}
 use Rattle.std.specs.Char.{digit_value}
 use Rattle.std.specs.Cmp.Lexicographic.{pointwise}
@@ -9,6 +9,8 @@ use Rattle.net_exprs.specs.Names.{begins_digit, is_digit, numeral_from}
 use Rattle.net_exprs.specs.Readers.{after, word_at, with_first}
 use Rattle.net_exprs.proofs.Words.{by_test, never}
 use Rattle.std.proofs.lemmas.Bool.Decides.{nat_tests}
+use Rattle.net_exprs.specs.declared.starts.Keyword.{Keyword}
+use Rattle.net_exprs.specs.Expressions.{keyword_of}
 
 pub word_taken : (s : List ℕ) → take (length (word_at s).0) s ≡ (word_at s).0
 word_taken [] = refl
@@ -81,3 +83,10 @@ numeral_shorter [] h = never h
 numeral_shorter (c ∷ s) h =
     let taken : numeral_from 10 0 (c ∷ s) ≡ numeral_from 10 (0 * 10 + digit_value c) s = rw (lt-ltb (digit_value c) 10 (digit_counts c h)) refl in
     omega (arith, ap (λ p. length p.1) taken, numeral_no_longer 10 (0 * 10 + digit_value c) s)
+
+-- ---- words of the language
+
+pub keyword_is_word : (w : List ℕ) (k : Keyword) → keyword_of w ≡ Some k → 0 < length w
+unfolding keyword_of
+keyword_is_word [] k h = absurd cc
+keyword_is_word (c ∷ w) k h = omega arith

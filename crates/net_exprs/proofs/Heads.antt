@@ -15,7 +15,7 @@ use Rattle.net_exprs.specs.Readers.{after, behind, word_at}
 use Rattle.net_exprs.specs.Ends.{begins_braces, begins_with, ends_expression, ends_name, ends_path, ends_type}
 use Rattle.net_exprs.specs.Names.{begins_digit, is_digit}
 use Rattle.net_exprs.specs.Literals.{literal_at}
-use Rattle.net_exprs.specs.Expressions.{braces_or_none, front_of, head_at, keyword_of, keywords, no_suffix, path_stage, start_of, started, suffix_of, whole, word_front, worded}
+use Rattle.net_exprs.specs.Expressions.{braces_or_none, front_of, head_at, keyword_of, keywords, leaf, no_suffix, opened, opening_at, path_opening, start_of, started, suffix_of, whole, word_front, worded}
 use Rattle.net_exprs.specs.Fitting.{fits_exp, fits_exps, fits_literal, fits_name}
 use Rattle.net_exprs.proofs.Words.{BeginsPath, are_identifiers, both_true, by_test, is_other, is_unlike, never, not_in_table, path_start, path_word, word_reads, names_read}
 use Rattle.net_exprs.proofs.Numbers.{begins_no_digit, is_word_digit}
@@ -238,35 +238,35 @@ literal_head read l rest k h f e =
     let s = literal_text l ++ rest in
     let again : s ≡ b.first ∷ (b.others ++ rest) = ap (λ t. t ++ rest) b.are in
     ap (head_at read) again
-    ∙ ap (started read (b.first ∷ (b.others ++ rest)) (b.others ++ rest)) (literal_start_is b.first b.starts)
-    ∙ ap (λ t. behind (literal_at t) (λ l rest. Some (whole (lit l), rest))) (sym again)
-    ∙ ap (λ o. behind o (λ l rest. Some (whole (lit l), rest))) (literal_reads l rest k h f e)
+    ∙ ap (λ start. behind (started (b.first ∷ (b.others ++ rest)) (b.others ++ rest) start) (opened read)) (literal_start_is b.first b.starts)
+    ∙ ap (λ t. behind (behind (literal_at t) (λ l rest. Some (leaf (whole (lit l)), rest))) (opened read)) (sym again)
+    ∙ ap (λ o. behind (behind o (λ l rest. Some (leaf (whole (lit l)), rest))) (opened read)) (literal_reads l rest k h f e)
 
 -- a word in front
 pub word_head : (read : List ℕ → Option (Exp × List ℕ)) (c : ℕ) (w rest : List ℕ) (o : Option Keyword) → list_all is_word_part (c ∷ w) ≡ true → is_digit c ≡ false → ends_name rest ≡ true
-    → keyword_of (c ∷ w) ≡ o → head_at read (c ∷ w ++ rest) ≡ worded read rest (c ∷ w ++ rest) o
+    → keyword_of (c ∷ w) ≡ o → head_at read (c ∷ w ++ rest) ≡ behind (worded rest (c ∷ w ++ rest) o) (opened read)
 word_head read c w rest o all d e k =
-    ap (started read (c ∷ w ++ rest) (w ++ rest)) (word_start_is c (both_true (is_word_part c) (list_all is_word_part w) all).0 d)
-    ∙ ap (λ (parts : List ℕ × List ℕ). worded read parts.1 (c ∷ w ++ rest) (keyword_of parts.0)) (word_reads (c ∷ w) rest all e)
-    ∙ ap (worded read rest (c ∷ w ++ rest)) k
+    ap (λ start. behind (started (c ∷ w ++ rest) (w ++ rest) start) (opened read)) (word_start_is c (both_true (is_word_part c) (list_all is_word_part w) all).0 d)
+    ∙ ap (λ (parts : List ℕ × List ℕ). behind (worded parts.1 (c ∷ w ++ rest) (keyword_of parts.0)) (opened read)) (word_reads (c ∷ w) rest all e)
+    ∙ ap (λ word. behind (worded rest (c ∷ w ++ rest) word) (opened read)) k
 
 -- a path in front
-path_head_from : (read : List ℕ → Option (Exp × List ℕ)) (s : List ℕ) → BeginsPath s → is_bracketed (word_at s).0 ≡ false → head_at read s ≡ path_stage s
-path_head_from read s b h =
-    ap (head_at read) b.are
-    ∙ ⊎_elim (λ e. ap (λ d. started read (b.first ∷ b.others) b.others (start_of d)) (eqb-true b.first 91 e) ∙ ap (started read (b.first ∷ b.others) b.others) bracket_start_is)
+path_opens : (s : List ℕ) → BeginsPath s → is_bracketed (word_at s).0 ≡ false → opening_at s ≡ path_opening s
+path_opens s b h =
+    ap opening_at b.are
+    ∙ ⊎_elim (λ e. ap (λ d. started (b.first ∷ b.others) b.others (start_of d)) (eqb-true b.first 91 e) ∙ ap (started (b.first ∷ b.others) b.others) bracket_start_is)
     (λ t.
     let parts = both_true (is_word_part b.first) (not (is_digit b.first)) t in
-    ap (started read (b.first ∷ b.others) b.others) (word_start_is b.first parts.0 (not-true (is_digit b.first) parts.1))
-    ∙ ap (worded read (word_at (b.first ∷ b.others)).1 (b.first ∷ b.others)) (no_keyword (word_at (b.first ∷ b.others)).0 (ap (λ s. is_bracketed (word_at s).0) (sym b.are) ∙ h)))
+    ap (started (b.first ∷ b.others) b.others) (word_start_is b.first parts.0 (not-true (is_digit b.first) parts.1))
+    ∙ ap (worded (word_at (b.first ∷ b.others)).1 (b.first ∷ b.others)) (no_keyword (word_at (b.first ∷ b.others)).0 (ap (λ s. is_bracketed (word_at s).0) (sym b.are) ∙ h)))
     (or_cases (b.first == 91) (is_word_part b.first && not (is_digit b.first)) b.starts)
-    ∙ ap path_stage (sym b.are)
+    ∙ ap path_opening (sym b.are)
 
 pub path_head : (read : List ℕ → Option (Exp × List ℕ)) (n : List ℕ) (names : List (List ℕ)) (rest : List ℕ) → list_all is_identifier (n ∷ names) ≡ true → ends_path rest ≡ true
     → head_at read (path_text (n ∷ names) ++ rest) ≡ Some (whole (path (n ∷ names)), rest)
 path_head read n names rest h e =
-    path_head_from read (path_text (n ∷ names) ++ rest) (more_start (path_text (n ∷ names)) rest (path_start n names h)) (path_word n names rest h e)
-    ∙ ap (λ o. behind o (λ names rest. Some (whole (path names), rest))) (names_read n names rest h e)
+    ap (λ o. behind o (opened read)) (path_opens (path_text (n ∷ names) ++ rest) (more_start (path_text (n ∷ names)) rest (path_start n names h)) (path_word n names rest h e))
+    ∙ ap (λ o. behind (behind o (λ names rest. Some (leaf (whole (path names)), rest))) (opened read)) (names_read n names rest h e)
 
 -- ---- where suffixes end
 

@@ -6,7 +6,7 @@ use Rattle.net_exprs.specs.Answers.{Misfits}
 use Rattle.net_exprs.specs.Fitting.{fits_name, fits_path}
 use Rattle.net_exprs.specs.Names.{name_at, path_at, path_behind, path_from}
 use Rattle.net_exprs.specs.Readers.{after, behind}
-use Rattle.net_exprs.proofs.Words.{by_test, never}
+use Rattle.net_exprs.proofs.Words.{by_test}
 
 abbrev Found : Type 0
 Found = Option (List (List ℕ) × List ℕ)

@@ -1,8 +1,7 @@
 -- The units of a text that are read one by one.
-use Rattle.std.proofs.Common.{◌≡◌, ℕ, Bool, true, false, ◌==◌, List, [], ◌∷◌, ◌++◌, refl, sym, ap, ◌∙◌, append_assoc, Option, Some, None}
-use Rattle.net_exprs.specs.Literals.{units_at, with_unit}
+use Rattle.std.proofs.Common.{◌≡◌, ℕ, List, [], ◌∷◌, ◌++◌, refl, sym, ap, append_assoc, Option, Some, None}
+use Rattle.net_exprs.specs.Literals.{with_unit}
 use Rattle.net_exprs.specs.Readers.{behind}
-use Rattle.net_exprs.proofs.Words.{by_test, never}
 
 abbrev pub with_units : List ℕ → Option (List ℕ × List ℕ) → Option (List ℕ × List ℕ)
 with_units before o = behind o (λ units rest. Some (before ++ units, rest))

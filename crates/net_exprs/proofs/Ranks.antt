@@ -8,7 +8,7 @@ use Rattle.net_exprs.specs.Answers.{Misfits}
 use Rattle.net_exprs.specs.Fitting.{fits_path, fits_rank, fits_type}
 use Rattle.net_exprs.specs.Readers.{behind, word_at}
 use Rattle.net_exprs.specs.Names.{path_at}
-use Rattle.net_exprs.specs.Types.{arrays_behind, arrays_from, base_at, base_by, basic_type_of, path_type, rank_at, type_at}
+use Rattle.net_exprs.specs.Types.{arrays_behind, arrays_from, base_at, basic_type_of, path_type, rank_at, type_at}
 use Rattle.net_exprs.proofs.Answering.{misfits_behind}
 use Rattle.net_exprs.proofs.Words.{both_true, by_test, never}
 

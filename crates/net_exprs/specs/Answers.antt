@@ -1,5 +1,5 @@
 -- What a reader of the code answers, against what its model gives.
-use Rattle.std.specs.Prelude.{◌≡◌, ℕ, ◌<◌, Bool, true, false, List, length, Option, Some, None, option_map, Result, Ok, Err}
+use Rattle.std.specs.Prelude.{◌≡◌, ℕ, Bool, false, List, Option, Some, None, option_map, Result, Ok, Err}
 use Rattle.std.specs.Borrow.{Bor}
 use Rattle.net_exprs.specs.declared.fail.PhraseFail.{PhraseFail}
 use Rattle.net_exprs.specs.declared.fail.PhraseFail.TheVariants as fail

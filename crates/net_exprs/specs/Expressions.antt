@@ -9,6 +9,8 @@ use Rattle.net_tree.specs.Types.{TypeName, array_of}
 use Rattle.net_tree.specs.Tree.{Exp, Exps, binary, boolean, call_of, cast, ctype, dot, integer, lit, me, new_array, new_object, next_exp, no_exps, nothing, paren, path, type_of, unary, with_dot}
 use Rattle.net_tree.specs.Spelling.{is_word_part, is_same_text}
 use Rattle.net_tree.specs.Expressions.{operator_text}
+use Rattle.net_exprs.specs.declared.openings.Nest.{Nest}
+use Rattle.net_exprs.specs.declared.openings.Nest.TheVariants as nest
 use Rattle.net_exprs.specs.declared.starts.Front.{Front}
 use Rattle.net_exprs.specs.declared.starts.Front.TheVariants as opens
 use Rattle.net_exprs.specs.declared.starts.Keyword.{Keyword}
@@ -145,9 +147,16 @@ suffixes read_group (suc n) stage s = suffix_by (suffixes read_group n) read_gro
 abbrev pub closed : (Exp → Exp) → Exp → List ℕ → Option (Stage × List ℕ)
 closed make e s = past (after (codes ")") s) (λ rest. Some (whole (make e), rest))
 
+abbrev pub type_closed : TypeName → List ℕ → Option (TypeName × List ℕ)
+type_closed t s = past (after (codes ")") s) (λ rest. Some (t, rest))
+
+-- a text and a type, up to the closing parenthesis
+abbrev pub type_behind : (text s : List ℕ) → Option (TypeName × List ℕ)
+type_behind text s = past (after text s) (λ s. behind (type_at s) type_closed)
+
 -- an expression, a text and a type, up to the closing parenthesis
 abbrev pub closed_type : (text : List ℕ) → (Exp → TypeName → Exp) → Exp → List ℕ → Option (Stage × List ℕ)
-closed_type text make e s = past (after text s) (λ s. behind (type_at s) (λ t s. past (after (codes ")") s) (λ rest. Some (whole (make e t), rest))))
+closed_type text make e s = behind (type_behind text s) (λ t rest. Some (whole (make e t), rest))
 
 abbrev pub operators : List NetBin
 operators =
@@ -175,14 +184,30 @@ operand_behind read e (c ∷ s) =
       | false ↦ behind (operator_at (c ∷ s)) (λ o s. behind (read s) (closed (binary o e)))
     ]
 
+-- what stands behind an expression that is nested in another
+abbrev pub nest_behind : (read : List ℕ → Option (Exp × List ℕ)) → Nest → Exp → List ℕ → Option (Stage × List ℕ)
+nest_behind read (nest.Cast w) e = closed (cast w) e
+nest_behind read nest.Convert e = closed_type (codes ", ") ctype e
+nest_behind read (nest.Unary o) e = closed (unary o) e
+nest_behind read nest.TypeTest e = closed_type (codes " Is ") type_of e
+nest_behind read nest.Parentheses e = operand_behind read e
+
+-- What an expression begins with: what needs no other expression, or what stands before one that is nested.
+pub data Opening : Type 0 where
+  leaf : Stage → Opening
+  nested : Nest → Opening
+
+abbrev pub nested_past : Nest → Option (List ℕ) → Option (Opening × List ℕ)
+nested_past n behind_it = past behind_it (λ s. Some (nested n, s))
+
 -- what stands behind an opening parenthesis that an expression begins with
-abbrev pub parenthesized : (read : List ℕ → Option (Exp × List ℕ)) → List ℕ → Front → Option (Stage × List ℕ)
-parenthesized read s opens.Closing = None
-parenthesized read s opens.Comma = None
-parenthesized read s opens.Minus = past (after (codes "-") s) (λ s. behind (read s) (closed (unary un.Neg)))
-parenthesized read s opens.Negation = past (after (codes "Not ") s) (λ s. behind (read s) (closed (unary un.Not)))
-parenthesized read s opens.TypeTest = past (after (codes "TypeOf ") s) (λ s. behind (read s) (closed_type (codes " Is ") type_of))
-parenthesized read s opens.Operand = behind (read s) (operand_behind read)
+abbrev pub parenthesized : List ℕ → Front → Option (Opening × List ℕ)
+parenthesized s opens.Closing = None
+parenthesized s opens.Comma = None
+parenthesized s opens.Minus = nested_past (nest.Unary un.Neg) (after (codes "-") s)
+parenthesized s opens.Negation = nested_past (nest.Unary un.Not) (after (codes "Not ") s)
+parenthesized s opens.TypeTest = nested_past nest.TypeTest (after (codes "TypeOf ") s)
+parenthesized s opens.Operand = Some (nested nest.Parentheses, s)
 
 abbrev pub cast_words : List (List ℕ × CastWord)
 cast_words =
@@ -200,19 +225,23 @@ keywords =
 unfoldable pub keyword_of : List ℕ → Option Keyword
 keyword_of word = look_up word keywords
 
-abbrev pub path_stage : List ℕ → Option (Stage × List ℕ)
-path_stage s = behind (path_at s) (λ names rest. Some (whole (path names), rest))
+abbrev pub path_opening : List ℕ → Option (Opening × List ℕ)
+path_opening s = behind (path_at s) (λ names rest. Some (leaf (whole (path names)), rest))
+
+-- an object or an array that is made, behind New
+abbrev pub new_opening : List ℕ → Option (Opening × List ℕ)
+new_opening s = past (after (codes " ") s) (λ s. behind (base_at s) (λ t rest. Some (leaf (ranked t []), rest)))
 
 -- what stands behind a word of the language; where there is none, a path begins
-abbrev pub worded : (read : List ℕ → Option (Exp × List ℕ)) → (rest s : List ℕ) → Option Keyword → Option (Stage × List ℕ)
-worded read rest s (Some key.Nothing) = Some (whole nothing, rest)
-worded read rest s (Some key.Me) = Some (whole me, rest)
-worded read rest s (Some key.True) = Some (whole (lit (boolean true)), rest)
-worded read rest s (Some key.False) = Some (whole (lit (boolean false)), rest)
-worded read rest s (Some (key.Cast w)) = past (after (codes "(") rest) (λ s. behind (read s) (closed (cast w)))
-worded read rest s (Some key.CType) = past (after (codes "(") rest) (λ s. behind (read s) (closed_type (codes ", ") ctype))
-worded read rest s (Some key.New) = past (after (codes " ") rest) (λ s. behind (base_at s) (λ t rest. Some (ranked t [], rest)))
-worded read rest s None = path_stage s
+abbrev pub worded : (rest s : List ℕ) → Option Keyword → Option (Opening × List ℕ)
+worded rest s (Some key.Nothing) = Some (leaf (whole nothing), rest)
+worded rest s (Some key.Me) = Some (leaf (whole me), rest)
+worded rest s (Some key.True) = Some (leaf (whole (lit (boolean true))), rest)
+worded rest s (Some key.False) = Some (leaf (whole (lit (boolean false))), rest)
+worded rest s (Some (key.Cast w)) = nested_past (nest.Cast w) (after (codes "(") rest)
+worded rest s (Some key.CType) = nested_past nest.Convert (after (codes "(") rest)
+worded rest s (Some key.New) = new_opening rest
+worded rest s None = path_opening s
 
 -- what the first character tells
 unfoldable pub start_of : ℕ → Start
@@ -225,20 +254,37 @@ start_of c =
     else (if c == 40 then start.Opening
     else (if c == 45 then start.Minus else start.Other))))))
 
+abbrev pub literal_opening : List ℕ → Option (Opening × List ℕ)
+literal_opening s = behind (literal_at s) (λ l rest. Some (leaf (whole (lit l)), rest))
+
+-- a member of the innermost With's object, behind its full stop
+abbrev pub point_opening : List ℕ → Option (Opening × List ℕ)
+point_opening s = behind (name_at s) (λ name rest. Some (leaf (whole (with_dot name)), rest))
+
 -- The one number with a sign is the bound -1.
-abbrev pub started : (read : List ℕ → Option (Exp × List ℕ)) → (s rest : List ℕ) → Start → Option (Stage × List ℕ)
-started read s rest start.Literal = behind (literal_at s) (λ l rest. Some (whole (lit l), rest))
-started read s rest start.Word = worded read (word_at s).1 s (keyword_of (word_at s).0)
-started read s rest start.Bracket = path_stage s
-started read s rest start.Point = behind (name_at rest) (λ name rest. Some (whole (with_dot name), rest))
-started read s rest start.Opening = parenthesized read rest (front_of rest)
-started read s rest start.Minus = past (after (codes "1") rest) (λ rest. Some (whole (lit (integer (negsuc 0) false)), rest))
-started read s rest start.Other = None
+abbrev pub minus_opening : List ℕ → Option (Opening × List ℕ)
+minus_opening s = past (after (codes "1") s) (λ rest. Some (leaf (whole (lit (integer (negsuc 0) false))), rest))
+
+abbrev pub started : (s rest : List ℕ) → Start → Option (Opening × List ℕ)
+started s rest start.Literal = literal_opening s
+started s rest start.Word = worded (word_at s).1 s (keyword_of (word_at s).0)
+started s rest start.Bracket = path_opening s
+started s rest start.Point = point_opening rest
+started s rest start.Opening = parenthesized rest (front_of rest)
+started s rest start.Minus = minus_opening rest
+started s rest start.Other = None
+
+abbrev pub opening_at : List ℕ → Option (Opening × List ℕ)
+opening_at [] = None
+opening_at (c ∷ s) = started (c ∷ s) s (start_of c)
+
+abbrev pub opened : (read : List ℕ → Option (Exp × List ℕ)) → Opening → List ℕ → Option (Stage × List ℕ)
+opened read (leaf stage) s = Some (stage, s)
+opened read (nested n) s = behind (read s) (nest_behind read n)
 
 -- what an expression begins with, up to its suffixes
 abbrev pub head_at : (read : List ℕ → Option (Exp × List ℕ)) → List ℕ → Option (Stage × List ℕ)
-head_at read [] = None
-head_at read (c ∷ s) = started read (c ∷ s) s (start_of c)
+head_at read s = behind (opening_at s) (opened read)
 
 -- ---- expressions
 

@@ -8,4 +8,5 @@ pub mod Depth
 pub mod Fitting
 pub mod Answers
 pub mod Stages
+pub mod Openings
 pub mod Laws

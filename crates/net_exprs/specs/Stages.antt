@@ -1,7 +1,7 @@
 -- What the code has read so far of an expression, and one suffix more.
 use Rattle.std.specs.Prelude.{ℕ, zero, suc, Bool, true, false, ◌&&◌, List, reverse, Option, Some, None, is_some}
 use Rattle.net_tree.specs.Types.{TypeName}
-use Rattle.net_tree.specs.Tree.{Exp, Exps, call_of, dot, new_object, no_exps}
+use Rattle.net_tree.specs.Tree.{Exp, call_of, dot, new_object, no_exps}
 use Rattle.net_tree.specs.View.{exp_of, exps_of, type_name_of}
 use Rattle.net_exprs.specs.declared.stages.Group as code_group
 use Rattle.net_exprs.specs.declared.stages.Group.TheVariants as g

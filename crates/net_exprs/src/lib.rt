@@ -7,6 +7,7 @@ mod laws;
 mod literals;
 mod names;
 mod numerals;
+mod openings;
 mod stages;
 mod starts;
 mod types;

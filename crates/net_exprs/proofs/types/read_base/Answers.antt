@@ -1,4 +1,4 @@
-use Rattle.std.proofs.Common.{arith, ap, sym, ◌∙◌, length}
+use Rattle.std.proofs.Common.{arith, ap, sym, ◌∙◌}
 use Rattle.net_tree.specs.View.{type_name_of}
 use Rattle.net_exprs.specs.Fitting.{fits_path, fits_type}
 use Rattle.net_exprs.specs.Names.{path_at}
