@@ -6,10 +6,12 @@ mod fail;
 mod laws;
 mod literals;
 mod names;
+mod nests;
 mod numerals;
 mod openings;
 mod stages;
 mod starts;
+mod suffixes;
 mod types;
 
 pub use fail::PhraseFail;
