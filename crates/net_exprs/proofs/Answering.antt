@@ -19,3 +19,7 @@ misfits_behind f g (Some part) go up h = up part.0 part.1 h
 pub shorter_up : {A : Type 0} (r : Result (A × Bor (List ℕ)) PhraseFail) (m n : ℕ) → m < n → IfOk r (λ read. length read.1.now ≤ m) → IfOk r (λ read. length read.1.now < n)
 shorter_up (Ok read) m n h k = omega (arith, h, k)
 shorter_up (Err e) m n h k = tt
+
+pub misfits_always : {X Y : Type 0} (g : Y → Bool) (o : Option (X × List ℕ)) (go : X → List ℕ → Option (Y × List ℕ)) → ((x : X) (rest : List ℕ) → Misfits g (go x rest)) → Misfits g (behind o go)
+misfits_always g None go all = tt
+misfits_always g (Some part) go all = all part.0 part.1

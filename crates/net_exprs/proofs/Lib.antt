@@ -14,4 +14,7 @@ pub mod Paths
 pub mod Ranks
 pub mod Quotes
 pub mod Staging
+pub mod Steps
+pub mod Items
+pub mod Nesting
 mod Examples

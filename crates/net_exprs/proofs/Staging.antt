@@ -29,7 +29,7 @@ with_last t (q ∷ ranks) r = ap (λ u. ty.array_of u q) (with_last t ranks r)
 with_first_rank : (t : TypeName) (r : ℕ) (ranks : List ℕ) → with_ranks t (reverse (r ∷ ranks)) ≡ with_ranks (ty.array_of t r) (reverse ranks)
 with_first_rank t r ranks = ap (with_ranks t) (reverse-append (r ∷ []) ranks) ∙ with_last t (reverse ranks) r
 
-more_misfit : (t : TypeName) (ranks : List ℕ) → fits_type t ≡ false → fits_type (with_ranks t ranks) ≡ false
+pub more_misfit : (t : TypeName) (ranks : List ℕ) → fits_type t ≡ false → fits_type (with_ranks t ranks) ≡ false
 more_misfit t [] h = h
 more_misfit t (r ∷ ranks) h = rw (more_misfit t ranks h) refl
 

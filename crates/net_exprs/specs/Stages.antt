@@ -7,8 +7,11 @@ use Rattle.net_exprs.specs.declared.stages.Group as code_group
 use Rattle.net_exprs.specs.declared.stages.Group.TheVariants as g
 use Rattle.net_exprs.specs.declared.stages.Stage as code_stage
 use Rattle.net_exprs.specs.declared.stages.Stage.TheVariants as s
+use Rattle.net_exprs.specs.declared.starts.Front.{Front}
+use Rattle.net_exprs.specs.declared.starts.Front.TheVariants as opens
 use Rattle.net_exprs.specs.Readers.{behind}
 use Rattle.net_exprs.specs.Names.{name_at}
+use Rattle.net_exprs.specs.Types.{commas_from}
 use Rattle.net_exprs.specs.Expressions.{Group, Stage, Suffix, array_made, bounded, braces, group, items, member, no_suffix, rank, ranked, suffix_of, value_of, whole, with_group}
 use Rattle.net_exprs.specs.Fitting.{fits_exp, fits_exps, fits_type}
 
@@ -66,3 +69,15 @@ step_by read_group stage no_suffix = None
 -- what is read so far with one suffix more
 abbrev pub suffix_step : (read_group : List ℕ → Option (Group × List ℕ)) → Stage → List ℕ → Option (Stage × List ℕ)
 suffix_step read_group stage s = step_by read_group stage (suffix_of s)
+
+-- whether commas alone may stand up to a closing parenthesis
+abbrev pub is_rank : Front → Bool
+is_rank opens.Closing = true
+is_rank opens.Comma = true
+is_rank opens.Minus = false
+is_rank opens.Negation = false
+is_rank opens.TypeTest = false
+is_rank opens.Operand = false
+
+abbrev pub rank_group : List ℕ → Option (Group × List ℕ)
+rank_group s = behind (commas_from 1 s) (λ r rest. Some (rank r, rest))

@@ -2,6 +2,7 @@
 #![tactic(auto)]
 
 mod characters;
+mod expressions;
 mod fail;
 mod laws;
 mod literals;
@@ -14,6 +15,7 @@ mod starts;
 mod suffixes;
 mod types;
 
+pub use expressions::{read_arguments, read_expression};
 pub use fail::PhraseFail;
 pub use laws::{
     arguments_are_read, arguments_stay_within_line, expressions_are_read,
