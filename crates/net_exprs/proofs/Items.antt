@@ -1,16 +1,13 @@
 -- Expressions in parentheses that are read one by one.
-use Rattle.std.proofs.Common.{◌≡◌, ℕ, zero, suc, ◌+◌, ◌≤◌, ◌<◌, Bool, true, false, ◌&&◌, ◌==◌, if◌then◌else◌, List, [], ◌∷◌, ◌++◌, length, codes, refl, sym, ap, ◌∙◌, arith, Option, Some, None}
+use Rattle.std.proofs.Common.{◌≡◌, ℕ, zero, suc, ◌+◌, ◌≤◌, ◌<◌, Bool, true, false, ◌&&◌, ◌==◌, if◌then◌else◌, List, [], ◌∷◌, ◌++◌, length, codes, refl, ap, ◌∙◌, arith, Option, Some, None}
 use Rattle.net_tree.specs.declared.expression.NetExpr.{NetExpr}
 use Rattle.net_tree.specs.Tree.{Exp, Exps, next_exp, no_exps}
 use Rattle.net_tree.specs.View.{exp_of, exps_of}
-use Rattle.net_exprs.specs.declared.starts.Front.{Front}
-use Rattle.net_exprs.specs.declared.starts.Front.TheVariants as opens
 use Rattle.net_exprs.specs.Answers.{Misfits}
 use Rattle.net_exprs.specs.Readers.{after, behind, past}
-use Rattle.net_exprs.specs.Expressions.{Group, front_of, group_at, group_by, items, items_behind, items_from}
+use Rattle.net_exprs.specs.Expressions.{items_behind, items_from}
 use Rattle.net_exprs.specs.Fitting.{fits_exp, fits_exps}
-use Rattle.net_exprs.specs.Stages.{is_rank, rank_group}
-use Rattle.net_exprs.proofs.Words.{by_test, never}
+use Rattle.net_exprs.proofs.Words.{by_test}
 
 abbrev Found : Type 0
 Found = Option (Exps × List ℕ)
@@ -38,13 +35,6 @@ pub record ItemsLeft (read : Read) (text : List ℕ) (before : Exps) (rest : Lis
   pub most : ℕ
   pub long : length rest ≤ most
   pub is : items_from read (length text) text ≡ with_items before (items_from read most rest)
-
-pub items_begin : (read : Read) (text : List ℕ) (before : Exps) → before ≡ no_exps → ItemsLeft read text before text
-items_begin read text before none = record { most = length text; long = omega arith; is = same (items_from read (length text) text) ∙ ap (λ es. with_items es (items_from read (length text) text)) (sym none) }
-  where
-    same : (o : Found) → o ≡ with_items no_exps o
-    same None = refl
-    same (Some part) = refl
 
 -- ---- what follows an item
 
@@ -93,15 +83,6 @@ items_stop read text before rest e b end left h less closing = go left.most left
     go zero long is = absurd (omega (arith, less, long))
     go (suc n) long is = is ∙ ap (with_items before) (from_item read n rest e b (Some end) (after (codes ", ") b) h closing refl)
 
-pub items_broken : (read : Read) (text : List ℕ) (before : Exps) (rest : List ℕ) (e : Exp) (b : List ℕ) → ItemsLeft read text before rest → read rest ≡ Some (e, b)
-    → after (codes ")") b ≡ None → after (codes ", ") b ≡ None → Misfits fits_exps (items_from read (length text) text)
-unfolding ended
-items_broken read text before rest e b left h closing comma = rw left.is (go left.most)
-  where
-    go : (m : ℕ) → Misfits fits_exps (with_items before (items_from read m rest))
-    go zero = tt
-    go (suc n) = rw (from_item read n rest e b None None h closing comma) tt
-
 -- ---- items that don't fit
 
 append_misfits : (es : Exps) (e : Exp) (fs : Exps) → fits_exp e ≡ false → fits_exps (append_exps es (next_exp e fs)) ≡ false
@@ -132,27 +113,3 @@ items_misfit read text before rest left h = rw left.is (from left.most)
     from : (m : ℕ) → Misfits fits_exps (with_items before (items_from read m rest))
     from zero = tt
     from (suc n) = item (items_from read n) (read rest) h
-
--- ---- commas alone, or items
-
-group_is_rank : (read : Read) (n : ℕ) (s : List ℕ) (front : Front) → is_rank front ≡ true → group_by read n s front ≡ rank_group s
-group_is_rank read n s opens.Closing h = refl
-group_is_rank read n s opens.Comma h = refl
-group_is_rank read n s opens.Minus h = never h
-group_is_rank read n s opens.Negation h = never h
-group_is_rank read n s opens.TypeTest h = never h
-group_is_rank read n s opens.Operand h = never h
-
-group_is_items : (read : Read) (n : ℕ) (s : List ℕ) (front : Front) → is_rank front ≡ false → group_by read n s front ≡ behind (items_from read n s) (λ es rest. Some (items es, rest))
-group_is_items read n s opens.Closing h = never (sym h)
-group_is_items read n s opens.Comma h = never (sym h)
-group_is_items read n s opens.Minus h = refl
-group_is_items read n s opens.Negation h = refl
-group_is_items read n s opens.TypeTest h = refl
-group_is_items read n s opens.Operand h = refl
-
-pub rank_stands : (read : Read) (s : List ℕ) → is_rank (front_of s) ≡ true → group_at read s ≡ rank_group s
-rank_stands read s h = group_is_rank read (length s) s (front_of s) h
-
-pub items_stand : (read : Read) (s : List ℕ) → is_rank (front_of s) ≡ false → group_at read s ≡ behind (items_from read (length s) s) (λ es rest. Some (items es, rest))
-items_stand read s h = group_is_items read (length s) s (front_of s) h

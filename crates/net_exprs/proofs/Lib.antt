@@ -16,5 +16,4 @@ pub mod Quotes
 pub mod Staging
 pub mod Steps
 pub mod Items
-pub mod Nesting
 mod Examples

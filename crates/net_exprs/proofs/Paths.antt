@@ -20,13 +20,6 @@ pub record PathLeft (text : List ℕ) (before : List (List ℕ)) (rest : List �
   pub long : length rest ≤ most
   pub is : path_at text ≡ with_names before (path_from (suc most) rest)
 
-pub path_begins : (text : List ℕ) → PathLeft text [] text
-path_begins text = record { most = length text; long = omega arith; is = same (path_at text) }
-  where
-    same : (o : Found) → o ≡ with_names [] o
-    same None = refl
-    same (Some part) = refl
-
 -- what a full stop leads to, and its absence
 stopped : (List ℕ → Found) → (name b : List ℕ) → Option (List ℕ) → Found
 stopped go name b (Some s) = behind (go s) (λ names rest. Some (name ∷ names, rest))
@@ -60,12 +53,6 @@ path_goes_on text before rest name b more left h less stop fewer = go left.most 
       long = omega (arith, less, long, fewer);
       is = is ∙ ap (with_names before) (from_name (suc k) rest name b h ∙ ap (stopped (path_from (suc k)) name b) stop) ∙ again (path_from (suc k) more);
     }
-
-pub path_stops : (text : List ℕ) (before : List (List ℕ)) (rest name b : List ℕ) → PathLeft text before rest → name_at rest ≡ Some (name, b) → after (codes ".") b ≡ None
-    → path_at text ≡ Some (before ++ name ∷ [], b)
-unfolding stopped
-path_stops text before rest name b left h stop =
-    left.is ∙ ap (with_names before) (from_name left.most rest name b h ∙ ap (stopped (path_from left.most) name b) stop)
 
 -- ---- names that don't fit
 

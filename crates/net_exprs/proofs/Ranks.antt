@@ -30,13 +30,6 @@ ranks_go_on text t rest r beyond left h less = go left.most left.long left.is
     go zero long is = absurd (omega (arith, less, long))
     go (suc k) long is = record { most = k; long = omega (arith, less, long); is = is ∙ ap (λ o. Some (arrays_behind (arrays_from k) t rest o)) h }
 
-pub ranks_stop : (text : List ℕ) (t : TypeName) (rest : List ℕ) → RanksLeft text t rest → rank_at rest ≡ None → type_at text ≡ Some (t, rest)
-ranks_stop text t rest left h = left.is ∙ ap (λ parts. Some parts) (go left.most)
-  where
-    go : (m : ℕ) → arrays_from m t rest ≡ (t, rest)
-    go zero = refl
-    go (suc k) = ap (arrays_behind (arrays_from k) t rest) h
-
 -- ---- what doesn't fit
 
 arrays_misfit : (m : ℕ) (t : TypeName) (s : List ℕ) → fits_type t ≡ false → fits_type (arrays_from m t s).0 ≡ false

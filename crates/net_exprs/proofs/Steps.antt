@@ -5,7 +5,7 @@ use Rattle.net_tree.specs.Tree.{Exp, Exps, dot, new_array, no_exps}
 use Rattle.net_exprs.specs.Answers.{Misfits}
 use Rattle.net_exprs.specs.Names.{name_at}
 use Rattle.net_exprs.specs.Readers.{after, behind}
-use Rattle.net_exprs.specs.Expressions.{Group, Stage, Suffix, array_made, bounded, braces, braces_behind, braces_or_none, exp_nested, group, group_at, head_at, items, member, no_suffix, object_of, object_with, rank, ranked, suffix_by, suffix_of, suffixes, value_of, whole, with_group, with_ranks}
+use Rattle.net_exprs.specs.Expressions.{Group, Stage, Suffix, array_made, bounded, braces, braces_behind, braces_or_none, exp_nested, group, group_at, head_at, items, member, no_suffix, object_of, rank, ranked, suffix_by, suffix_of, suffixes, value_of, whole, with_group, with_ranks}
 use Rattle.net_exprs.specs.Fitting.{fits_exp, fits_exps, fits_name, fits_type}
 use Rattle.net_exprs.specs.Stages.{array_stage, fits_group, fits_stage, goes_on, goes_on_by, group_step, step_by, suffix_step}
 use Rattle.net_exprs.proofs.Answering.{misfits_always, misfits_behind}

@@ -91,12 +91,7 @@ fn parenthesized(
 
 // What is read so far with the suffix that follows.
 #[cycle(read)]
-fn suffix(
-    alloc: Global,
-    stage: Stage,
-    text: &[u8],
-    room: u16,
-) -> Result<(Stage, &[u8]), PhraseFail>
+fn suffix(alloc: Global, stage: Stage, text: &[u8], room: u16) -> Result<(Stage, &[u8]), PhraseFail>
     ensures answers { Answers stage_view fits_stage (suffix_step (group_at (exp_nested room)) (stage_view stage) text.now) result }
     ensures shorter { IfOk result (λ read. length read.1.now < length text.now) }
 {
@@ -114,12 +109,7 @@ fn suffix(
 
 // What is read so far with parentheses, from behind the opening one.
 #[cycle(read)]
-fn called(
-    alloc: Global,
-    stage: Stage,
-    text: &[u8],
-    room: u16,
-) -> Result<(Stage, &[u8]), PhraseFail>
+fn called(alloc: Global, stage: Stage, text: &[u8], room: u16) -> Result<(Stage, &[u8]), PhraseFail>
     ensures answers { Answers stage_view fits_stage (group_step (group_at (exp_nested room)) (stage_view stage) text.now) result }
     ensures shorter { IfOk result (λ read. length read.1.now < length text.now) }
 {

@@ -16,7 +16,8 @@ fn digit(base: u32, c: u8) -> Option<u32>
 fn with_digit(n: u128, base: u32, digit: u32) -> Option<u128>
     ensures { MatchOption result (2 ^ 128 ≤ n * base + digit) (λ m. m ≡ n * base + digit) }
 {
-    n.checked_mul(u128::from(base))?.checked_add(u128::from(digit))
+    n.checked_mul(u128::from(base))?
+        .checked_add(u128::from(digit))
 }
 
 /// The number that the digits at the front stand for, and what follows them; none where it isn't below 2 to the 128th.

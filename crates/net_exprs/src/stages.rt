@@ -202,7 +202,11 @@ fn made<'a>(
 }
 
 /// The array that braces make of what is read so far.
-pub(crate) fn array_stage(alloc: Global, stage: Stage, rest: &[u8]) -> Result<(Stage, &[u8]), PhraseFail>
+pub(crate) fn array_stage(
+    alloc: Global,
+    stage: Stage,
+    rest: &[u8],
+) -> Result<(Stage, &[u8]), PhraseFail>
     ensures answers { Answers stage_view fits_stage (array_stage rest.now (array_made (stage_view stage))) result }
     ensures same { IfOk result (λ read. read.1.now ≡ rest.now) }
 {

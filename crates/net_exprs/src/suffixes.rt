@@ -23,11 +23,7 @@ pub(crate) fn goes_on(stage: &Stage, text: &[u8]) -> bool
 }
 
 /// A member of what is read so far, behind its full stop.
-pub(crate) fn member(
-    alloc: Global,
-    stage: Stage,
-    text: &[u8],
-) -> Result<(Stage, &[u8]), PhraseFail>
+pub(crate) fn member(alloc: Global, stage: Stage, text: &[u8]) -> Result<(Stage, &[u8]), PhraseFail>
     ensures answers { Answers stage_view fits_stage (member_step (stage_view stage) text.now) result }
     ensures shorter { IfOk result (λ read. length read.1.now < length text.now) }
 {

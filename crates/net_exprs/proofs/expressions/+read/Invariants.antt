@@ -1,6 +1,6 @@
 use Rattle.std.proofs.Common.{◌+◌, ◌-◌, ◌*◌, ◌<◌, ◌≤◌, length}
 use Rattle.net_tree.specs.View.{exps_of}
-use Rattle.net_exprs.specs.Expressions.{exp_nested, group_at, items_from}
+use Rattle.net_exprs.specs.Expressions.{exp_nested, group_at}
 use Rattle.net_exprs.specs.Stages.{stage_view}
 use Rattle.net_exprs.proofs.Items.{ItemsLeft}
 use Rattle.net_exprs.proofs.Steps.{SuffixesLeft}
