@@ -18,7 +18,7 @@ use Rattle.net_exprs.specs.declared.starts.Front.{Front}
 use Rattle.net_exprs.specs.declared.starts.Front.TheVariants as opens
 use Rattle.net_exprs.specs.declared.starts.Keyword.TheVariants as key
 use Rattle.net_exprs.specs.Readers.{after, behind, past}
-use Rattle.net_exprs.specs.Ends.{ends_expression, ends_name}
+use Rattle.net_exprs.specs.Ends.{ends_expression, ends_name, ends_path}
 use Rattle.net_exprs.specs.Names.{name_at}
 use Rattle.net_exprs.specs.Types.{base_at, type_at}
 use Rattle.net_exprs.specs.Expressions.{Group, Stage, bounded, closed, closed_type, type_closed, exp_nested, front_of, group_at, group_by, head_at, items, items_behind, items_from, keyword_of, leaf, opened, operand_behind, operator_at, parenthesized, rank, ranked, start_of, suffix_by, suffix_of, suffixes, value_of, whole, with_group, with_ranks, word_front}
@@ -401,17 +401,24 @@ new_head : (read : List ℕ → Option (Exp × List ℕ)) (s : List ℕ) → hea
 unfolding start_of keyword_of
 new_head read s = refl
 
+-- New and a type are read up to their suffixes
+new_reads : (k n : ℕ) (t : TypeName) (tail : List ℕ) → is_array t ≡ false → is_writable_type t ≡ true → ends_path tail ≡ true → length (codes "New " ++ (type_text t ++ tail)) ≡ n
+    → exp_nested (suc k) (codes "New " ++ (type_text t ++ tail)) ≡ Behind k n (ranked t []) tail
+new_reads k n t tail plain w e count =
+    let s = codes "New " ++ (type_text t ++ tail) in
+    let head : head_at (exp_nested k) s ≡ Some (ranked t [], tail)
+    = new_head (exp_nested k) (type_text t ++ tail) ∙ ap (λ o. behind (behind o (λ t rest. Some (leaf (ranked t []), rest))) (opened (exp_nested k))) (base_reads t tail plain w e) in
+    ap (λ o. behind o (Behind k (length s))) head ∙ ap (λ m. Behind k m (ranked t []) tail) count
+
 object_text : (t args rest : List ℕ) → (codes "New " ++ t ++ args) ++ rest ≡ codes "New " ++ (t ++ (args ++ rest))
 object_text t args rest = simp append_assoc
 
 pub object_reads : (t : TypeName) (args : Exps) → is_array t ≡ false → is_writable_type t ≡ true → AreItems args → Reads (new_object t args)
 object_reads t args plain w are k n rest enough fuel f =
     let again = object_text (type_text t) (arguments_text args) rest in
-    let long = length (codes "New " ++ (type_text t ++ (40 ∷ inside args rest))) in
-    let count : long ≡ suc n = omega (arith, fuel, ap length again) in
-    ap (exp_nested (suc k)) again
-    ∙ ap (λ o. behind o (Behind k long)) (new_head (exp_nested k) (type_text t ++ (40 ∷ inside args rest)) ∙ ap (λ o. behind (behind o (λ t rest. Some (leaf (ranked t []), rest))) (opened (exp_nested k))) (base_reads t (40 ∷ inside args rest) plain w refl))
-    ∙ ap (λ m. Behind k m (ranked t []) (40 ∷ inside args rest)) count
+    let tail = 40 ∷ inside args rest in
+    let count : length (codes "New " ++ (type_text t ++ tail)) ≡ suc n = omega (arith, fuel, ap length again) in
+    ap (exp_nested (suc k)) again ∙ new_reads k (suc n) t tail plain w refl count
     ∙ group_step k n (ranked t []) args rest are (omega arith)
 
 abbrev ranks_of : TypeName → List ℕ
@@ -473,13 +480,9 @@ array_reads t bounds w are k n rest enough fuel f =
     let tail = 40 ∷ inside bounds (codes " {}" ++ rest) in
     let again : exp_text (new_array t bounds) ++ rest ≡ codes "New " ++ (type_text (base_of t) ++ (ranks_text t ++ tail))
     = ap (λ s. (codes "New " ++ s ++ arguments_text bounds ++ codes " {}") ++ rest) (type_parts t) ∙ array_text (type_text (base_of t)) (ranks_text t) (separated (codes ", ") (exp_texts bounds)) rest in
-    let long = length (codes "New " ++ (type_text (base_of t) ++ (ranks_text t ++ tail))) in
-    let count : long ≡ array_depth t + suc (suc n) = omega (arith, fuel, ap length again) in
+    let count : length (codes "New " ++ (type_text (base_of t) ++ (ranks_text t ++ tail))) ≡ array_depth t + suc (suc n) = omega (arith, fuel, ap length again) in
     ap (exp_nested (suc k)) again
-    ∙ ap (λ o. behind o (Behind k long))
-    (new_head (exp_nested k) (type_text (base_of t) ++ (ranks_text t ++ tail))
-    ∙ ap (λ o. behind (behind o (λ t rest. Some (leaf (ranked t []), rest))) (opened (exp_nested k))) (base_reads (base_of t) (ranks_text t ++ tail) (base_is_none t) (base_is_writable t w) (ends_ranks t tail refl)))
-    ∙ ap (λ m. Behind k m (ranked (base_of t) []) (ranks_text t ++ tail)) count
+    ∙ new_reads k (array_depth t + suc (suc n)) (base_of t) (ranks_text t ++ tail) (base_is_none t) (base_is_writable t w) (ends_ranks t tail refl) count
     ∙ ranks_read t k (suc (suc n)) tail w
     ∙ group_step k (suc n) (ranked (base_of t) (ranks_of t)) bounds (codes " {}" ++ rest) are (omega arith)
     ∙ braces_step k n (base_of t) (ranks_of t) bounds rest
