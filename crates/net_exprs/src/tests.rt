@@ -186,11 +186,11 @@ fn others_are_none(rt: HostRuntime) -> Result<(), Fail> {
     Ok(())
 }
 
-// The name `a` in so many parentheses.
-fn in_parentheses(alloc: Global, count: usize) -> Result<Vec<u8>, Fail> {
+// A front so many times, `a`, and as many closing parentheses.
+fn nested(alloc: Global, front: &[u8], count: usize) -> Result<Vec<u8>, Fail> {
     let mut text = Vec::new(alloc);
     for _ in 0..count {
-        text.push(b'(')?;
+        text.extend_from_slice(front)?;
     }
     text.push(b'a')?;
     for _ in 0..count {
@@ -199,13 +199,22 @@ fn in_parentheses(alloc: Global, count: usize) -> Result<Vec<u8>, Fail> {
     Ok(text)
 }
 
+// Whether 1000 expressions in each other are read, and no more.
+fn nests(rt: &impl Abort, alloc: Global, front: &[u8]) -> Result<(), Fail> {
+    let deepest = nested(alloc, front, 999)?;
+    assert!(rt; read_expression(alloc, &deepest).is_ok());
+    let deeper = nested(alloc, front, 1000)?;
+    assert!(rt; matches!(read_expression(alloc, &deeper), Err(PhraseFail::NotNet)));
+    Ok(())
+}
+
 #[test]
 fn nesting_ends_at_a_thousand(rt: HostRuntime) -> Result<(), Fail> {
     let alloc = rt.alloc();
-    let deepest = in_parentheses(alloc, 999)?;
-    assert!(rt; read_expression(alloc, &deepest).is_ok());
-    let deeper = in_parentheses(alloc, 1000)?;
-    assert!(rt; matches!(read_expression(alloc, &deeper), Err(PhraseFail::NotNet)));
+    nests(&rt, alloc, b"(")?;
+    nests(&rt, alloc, b"a(")?;
+    nests(&rt, alloc, b"CInt(")?;
+    nests(&rt, alloc, b"New T(")?;
     Ok(())
 }
 
