@@ -1,16 +1,16 @@
 -- What stands at the front of a text and behind it, by lengths.
 use Rattle.std.proofs.Common.{◌≡◌, ℕ, suc, ◌+◌, ◌*◌, ◌≤◌, ◌<◌, true, false, ◌&&◌, ◌==◌, nat_eq, nat_lt, if◌then◌else◌, List, [], ◌∷◌, length, take, drop, refl, sym, ap, ◌∙◌, arith, Option, Some, None, MatchOption, Bor, lt-ltb, get_or}
-use Rattle.std.proofs.lemmas.Nat.{mul-le}
 use Rattle.std.specs.Char.{digit_value}
 use Rattle.std.specs.Cmp.Lexicographic.{pointwise}
+use Rattle.std.proofs.lemmas.Nat.{mul-le}
+use Rattle.std.proofs.lemmas.Bool.Decides.{nat_tests}
 use Rattle.net_tree.specs.Spelling.{is_word_part}
+use Rattle.net_exprs.specs.declared.starts.Keyword.{Keyword}
 use Rattle.net_exprs.specs.Answers.{now_of}
 use Rattle.net_exprs.specs.Names.{begins_digit, is_digit, numeral_from}
 use Rattle.net_exprs.specs.Readers.{after, word_at, with_first}
-use Rattle.net_exprs.proofs.Words.{by_test, never}
-use Rattle.std.proofs.lemmas.Bool.Decides.{nat_tests}
-use Rattle.net_exprs.specs.declared.starts.Keyword.{Keyword}
 use Rattle.net_exprs.specs.Expressions.{keyword_of}
+use Rattle.net_exprs.proofs.Words.{by_test, never}
 
 pub word_taken : (s : List ℕ) → take (length (word_at s).0) s ≡ (word_at s).0
 word_taken [] = refl

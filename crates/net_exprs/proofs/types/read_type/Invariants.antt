@@ -1,6 +1,6 @@
 use Rattle.std.proofs.Common.{◌<◌, length}
-use Rattle.net_exprs.proofs.Ranks.{RanksLeft}
 use Rattle.net_tree.specs.View.{type_name_of}
+use Rattle.net_exprs.proofs.Ranks.{RanksLeft}
 use Rattle.net_exprs.proofs.types.read_type.Given as goal
 
 abbrev pub invariant-ranks : goal.invariant-ranks
