@@ -1,5 +1,5 @@
 -- Expressions and arguments are read back.
-use Rattle.std.proofs.Common.{◌≡◌, suc, ◌≤◌, Bool, true, false, not, ◌&&◌, ◌||◌, ◌++◌, length, codes, refl, ap, ◌∙◌, arith, ⊎_elim, length-append, Some}
+use Rattle.std.proofs.Common.{◌≡◌, suc, ◌≤◌, Bool, true, false, not, ◌&&◌, ◌||◌, ◌++◌, length, codes, refl, ap, ◌∙◌, arith, ⊎_elim, length-append, Some, leb-true}
 use Rattle.std.proofs.lemmas.Bool.{not-true, or_cases}
 use Rattle.net_tree.specs.Types as ty
 use Rattle.net_tree.specs.Types.{TypeName}
@@ -9,8 +9,8 @@ use Rattle.net_tree.specs.Expressions.{are_writable_bounds, are_writable_exps, a
 use Rattle.net_exprs.specs.Readers.{behind}
 use Rattle.net_exprs.specs.Expressions.{arguments_of}
 use Rattle.net_exprs.specs.Fitting.{fits_exp, fits_exps, fits_name, fits_type}
-use Rattle.net_exprs.specs.Laws.{ArgumentsAreRead, ExpressionsAreRead, NestedArgumentsAreRead, NestedExpressionsAreRead}
-use Rattle.net_exprs.specs.Depth.{depth_exps}
+use Rattle.net_exprs.specs.Laws.{ArgumentsAreRead, ExpressionsAreRead, NestedArgumentsAreRead, NestedExpressionsAreRead, ShallowArgumentsAreRead, ShallowExpressionsAreRead}
+use Rattle.net_exprs.specs.Depth.{depth_exp, depth_exps, most_nested}
 use Rattle.net_exprs.proofs.Words.{both_true, never}
 use Rattle.net_exprs.proofs.TypesRead.{is_array}
 use Rattle.net_exprs.proofs.Heads.{operand_front}
@@ -103,3 +103,9 @@ arguments_read es rest h f =
     let fuel : depth_exps es ≤ suc (length (arguments_text es ++ rest)) =
     omega (arith, depth_all_within es, length-append (separated (codes ", ") (exp_texts es) ++ codes ")") rest, length-append (separated (codes ", ") (exp_texts es)) (codes ")")) in
     nested_arguments_read (suc (length (arguments_text es ++ rest))) es rest fuel h f
+
+pub shallow_expression_reads : ShallowExpressionsAreRead
+shallow_expression_reads e rest d h f ends = nested_expression_reads most_nested e rest (leb-true (depth_exp e) most_nested d) h f ends
+
+pub shallow_arguments_read : ShallowArgumentsAreRead
+shallow_arguments_read es rest d h f = nested_arguments_read most_nested es rest (leb-true (depth_exps es) most_nested d) h f

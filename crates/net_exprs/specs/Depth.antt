@@ -1,5 +1,5 @@
 -- How deep expressions are nested, as they are read: an operand or an argument is nested, but what a suffix follows isn't.
-use Rattle.std.specs.Prelude.{ℕ, suc, max}
+use Rattle.std.specs.Prelude.{ℕ, suc, max, Bool, nat_le}
 use Rattle.net_tree.specs.Tree.{Exp, Exps, binary, call_of, cast, ctype, dot, lit, me, new_array, new_object, next_exp, no_exps, nothing, paren, path, type_of, unary, with_dot}
 
 -- the depth of the deepest expression that the code reads
@@ -28,3 +28,10 @@ abbrev mutual
   pub depth_exps : Exps → ℕ
   depth_exps no_exps = 0
   depth_exps (next_exp e more) = max (depth_exp e) (depth_exps more)
+
+-- whether the code has room for an expression, or for each of a list
+abbrev pub is_shallow : Exp → Bool
+is_shallow e = nat_le (depth_exp e) most_nested
+
+abbrev pub are_shallow : Exps → Bool
+are_shallow es = nat_le (depth_exps es) most_nested

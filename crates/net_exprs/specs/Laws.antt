@@ -11,7 +11,7 @@ use Rattle.net_exprs.specs.Ends.{ends_expression, ends_name, ends_path, ends_typ
 use Rattle.net_exprs.specs.Names.{label_at, name_at, path_at}
 use Rattle.net_exprs.specs.Types.{rank_at, type_at}
 use Rattle.net_exprs.specs.Expressions.{arguments_at, arguments_nested, exp_at, exp_nested}
-use Rattle.net_exprs.specs.Depth.{depth_exp, depth_exps}
+use Rattle.net_exprs.specs.Depth.{are_shallow, depth_exp, depth_exps, is_shallow, most_nested}
 use Rattle.net_exprs.specs.Fitting.{fits_exp, fits_exps, fits_label}
 
 abbrev pub NamesAreRead : Type 0
@@ -47,6 +47,17 @@ abbrev pub NestedArgumentsAreRead : Type 0
 NestedArgumentsAreRead =
     (room : ℕ) (es : Exps) (rest : List ℕ) → depth_exps es ≤ room → are_writable_exps es ≡ true → fits_exps es ≡ true
     → arguments_nested room (arguments_text es ++ rest) ≡ Some (es, rest)
+
+-- The code has room for whatever is no deeper than it reads.
+abbrev pub ShallowExpressionsAreRead : Type 0
+ShallowExpressionsAreRead =
+    (e : Exp) (rest : List ℕ) → is_shallow e ≡ true → is_writable_exp e ≡ true → fits_exp e ≡ true → ends_expression rest ≡ true
+    → exp_nested most_nested (exp_text e ++ rest) ≡ Some (e, rest)
+
+abbrev pub ShallowArgumentsAreRead : Type 0
+ShallowArgumentsAreRead =
+    (es : Exps) (rest : List ℕ) → are_shallow es ≡ true → are_writable_exps es ≡ true → fits_exps es ≡ true
+    → arguments_nested most_nested (arguments_text es ++ rest) ≡ Some (es, rest)
 
 -- whether all of a text is printable, so that it holds no end of a line
 abbrev pub stays_within_line : List ℕ → Bool
