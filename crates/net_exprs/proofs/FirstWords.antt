@@ -15,7 +15,7 @@ use Rattle.net_exprs.specs.Readers.{look_up, word_at}
 use Rattle.net_exprs.specs.Ends.{ends_name}
 use Rattle.net_exprs.specs.Names.{begins_digit, is_digit}
 use Rattle.net_exprs.specs.Expressions.{keyword_of}
-use Rattle.net_exprs.specs.Fitting.{fits_exp, fits_exps, fits_literal}
+use Rattle.net_exprs.specs.Fitting.{fits_exp, fits_exps, fits_literal, fits_name}
 use Rattle.net_exprs.proofs.Words.{are_identifiers, is_path_start, path_start, both_true, by_test, never, path_word, word_reads}
 use Rattle.net_exprs.proofs.Numbers.{is_word_digit}
 use Rattle.net_exprs.proofs.LiteralsRead.{is_literal_start, is_no_word, literal_begins}
@@ -147,7 +147,7 @@ first_word_is (dot x name) rest h f e =
     let first = both_true (not (is_path_exp x) && is_writable_exp x) (is_identifier name) h in
     let parts = both_true (not (is_path_exp x)) (is_writable_exp x) first.0 in
     let again : exp_text (dot x name) ++ rest ≡ exp_text x ++ (46 ∷ (name_text name ++ rest)) = simp append_assoc in
-    ap (λ s. is_expression_word (word_at s).0) again ∙ first_word_is x (46 ∷ (name_text name ++ rest)) parts.1 f (follows_member x name rest (not-true (is_path_exp x) parts.0) first.1)
+    ap (λ s. is_expression_word (word_at s).0) again ∙ first_word_is x (46 ∷ (name_text name ++ rest)) parts.1 (both_true (fits_exp x) (fits_name name) f).0 (follows_member x name rest (not-true (is_path_exp x) parts.0) first.1)
 first_word_is (call_of x args) rest h f e =
     ap (λ s. is_expression_word (word_at s).0) (append_assoc (exp_text x) (arguments_text args) rest)
     ∙ first_word_is x (arguments_text args ++ rest) (both_true (is_writable_exp x) (are_writable_exps args) h).0 (both_true (fits_exp x) (fits_exps args) f).0 refl
@@ -236,7 +236,7 @@ expression_begins (path (n ∷ names)) h f =
 expression_begins (with_dot name) h f = record { first = 46; others = name_text name; are = refl; starts = refl }
 expression_begins (dot x name) h f =
     let first = both_true (not (is_path_exp x) && is_writable_exp x) (is_identifier name) h in
-    longer (exp_text x ++ codes ".") (name_text name) (longer (exp_text x) (codes ".") (expression_begins x (both_true (not (is_path_exp x)) (is_writable_exp x) first.0).1 f))
+    longer (exp_text x ++ codes ".") (name_text name) (longer (exp_text x) (codes ".") (expression_begins x (both_true (not (is_path_exp x)) (is_writable_exp x) first.0).1 (both_true (fits_exp x) (fits_name name) f).0))
 expression_begins (call_of x args) h f =
     longer (exp_text x) (arguments_text args) (expression_begins x (both_true (is_writable_exp x) (are_writable_exps args) h).0 (both_true (fits_exp x) (fits_exps args) f).0)
 expression_begins (cast w x) h f = longer (cast_text w ++ codes "(" ++ exp_text x) (codes ")") (longer (cast_text w ++ codes "(") (exp_text x) (longer (cast_text w) (codes "(") (cast_starts w)))

@@ -2,9 +2,18 @@ pub mod Words
 pub mod Numbers
 pub mod LiteralsRead
 pub mod TypesRead
+pub mod Lengths
 pub mod Heads
 pub mod ExpressionsRead
 pub mod ReadBack
 pub mod FirstWords
 pub mod Printable
+pub mod Answering
+pub mod Fronts
+pub mod Paths
+pub mod Ranks
+pub mod Quotes
+pub mod Staging
+pub mod Steps
+pub mod Items
 mod Examples

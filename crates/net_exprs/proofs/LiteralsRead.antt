@@ -10,7 +10,7 @@ use Rattle.net_tree.specs.Spelling.{is_word_part}
 use Rattle.net_tree.specs.Literals.{amount_text, bit_pattern, fraction_text, hexadecimal, is_writable_literal, literal_text, places_text, quoted_unit}
 use Rattle.net_exprs.specs.Ends.{begins_with, ends_name}
 use Rattle.net_exprs.specs.Names.{begins_digit, is_digit, numeral_from}
-use Rattle.net_exprs.specs.Literals.{decimal_literal, fraction_literal, hexadecimal_literal, literal_at, places_from, signed_number, text_literal, units_at, with_unit}
+use Rattle.net_exprs.specs.Literals.{bits_literal, decimal_literal, fraction_literal, hexadecimal_integer, hexadecimal_literal, hexadecimal_short, literal_at, places_from, signed_number, text_literal, units_at, with_unit}
 use Rattle.net_exprs.specs.Fitting.{fits_half, fits_literal}
 use Rattle.net_exprs.proofs.Words.{both_true, by_test, never}
 use Rattle.net_exprs.proofs.Numbers.{decimal_begins, decimal_reads, ends_decimal, ends_numeral, hexadecimal_reads}
@@ -168,6 +168,14 @@ integer_back : (z : ℤ) → fits_half 0x8000_0000 z ≡ true → signed_number 
 integer_back (pos n) h = sign_of_pos 0x8000_0000 n h
 integer_back (negsuc n) h = sign_of_negsuc 0x8000_0000 n h
 
+-- the bits of a number that fits are few enough
+bits_fit : (places half : ℕ) (z : ℤ) → 2 * half ≡ 2 ^ places → fits_half half z ≡ true → nat_lt (bit_pattern places z) (2 * half) ≡ true
+bits_fit places half (pos n) e h = let less = ltb-true n half h in lt-ltb n (2 * half) (omega arith)
+bits_fit places half (negsuc n) e h = let less = ltb-true n half h in lt-ltb (2 ^ places - suc n) (2 * half) (omega (arith, e, less))
+
+bits_read : (half n : ℕ) (make : ℤ → Literal) (z : ℤ) (rest : List ℕ) → nat_lt n (2 * half) ≡ true → signed_number half n ≡ z → bits_literal half make n rest ≡ Some (make z, rest)
+bits_read half n make z rest h e = rw h (ap (λ y. Some (make y, rest)) e)
+
 hexadecimal_first : (m c : ℕ) (rest : List ℕ) → ends_numeral 16 (c ∷ rest) ≡ true
     → literal_at (38 ∷ 72 ∷ (hexadecimal m ++ c ∷ []) ++ rest) ≡ hexadecimal_literal m (c ∷ rest)
 hexadecimal_first m c rest e =
@@ -222,12 +230,12 @@ pub literal_reads : (l : Literal) (rest : List ℕ) → is_no_word l ≡ true �
     → literal_at (literal_text l ++ rest) ≡ Some (l, rest)
 literal_reads (boolean b) rest k h f e = never k
 literal_reads (short z true) rest k h f e =
-    hexadecimal_first (bit_pattern 16 z) 83 rest refl ∙ ap (λ y. Some (short y true, rest)) (short_back z f)
+    hexadecimal_first (bit_pattern 16 z) 83 rest refl ∙ bits_read 0x8000 (bit_pattern 16 z) hexadecimal_short z rest (bits_fit 16 0x8000 z refl f) (short_back z f)
 literal_reads (short (pos n) false) rest k h f e =
     ap literal_at (append_assoc (decimal n) (codes "S") rest) ∙ digits_first n (83 ∷ rest) (lt_of_lt_of_le (ltb-true n (2 ^ 15) f) (lit≤ tt)) refl
 literal_reads (short (negsuc n) false) rest k h f e = never h
 literal_reads (integer z true) rest k h f e =
-    hexadecimal_first (bit_pattern 32 z) 73 rest refl ∙ ap (λ y. Some (integer y true, rest)) (integer_back z f)
+    hexadecimal_first (bit_pattern 32 z) 73 rest refl ∙ bits_read 0x8000_0000 (bit_pattern 32 z) hexadecimal_integer z rest (bits_fit 32 0x8000_0000 z refl f) (integer_back z f)
 literal_reads (integer (pos n) false) rest k h f e =
     ap literal_at (append_assoc (decimal n) [] rest)
     ∙ digits_first n rest (lt_of_lt_of_le (ltb-true n (2 ^ 31) f) (lit≤ tt)) (ends_decimal rest (both_true (ends_name rest) (not (begins_with 34 rest)) (both_true (ends_name rest && not (begins_with 34 rest)) (not (begins_places rest)) e).0).0)

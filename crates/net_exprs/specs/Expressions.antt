@@ -9,6 +9,14 @@ use Rattle.net_tree.specs.Types.{TypeName, array_of}
 use Rattle.net_tree.specs.Tree.{Exp, Exps, binary, boolean, call_of, cast, ctype, dot, integer, lit, me, new_array, new_object, next_exp, no_exps, nothing, paren, path, type_of, unary, with_dot}
 use Rattle.net_tree.specs.Spelling.{is_word_part, is_same_text}
 use Rattle.net_tree.specs.Expressions.{operator_text}
+use Rattle.net_exprs.specs.declared.openings.Nest.{Nest}
+use Rattle.net_exprs.specs.declared.openings.Nest.TheVariants as nest
+use Rattle.net_exprs.specs.declared.starts.Front.{Front}
+use Rattle.net_exprs.specs.declared.starts.Front.TheVariants as opens
+use Rattle.net_exprs.specs.declared.starts.Keyword.{Keyword}
+use Rattle.net_exprs.specs.declared.starts.Keyword.TheVariants as key
+use Rattle.net_exprs.specs.declared.starts.Start.{Start}
+use Rattle.net_exprs.specs.declared.starts.Start.TheVariants as start
 use Rattle.net_exprs.specs.Readers.{after, behind, look_up, past, word_at}
 use Rattle.net_exprs.specs.Names.{is_digit, name_at, path_at}
 use Rattle.net_exprs.specs.Literals.{literal_at}
@@ -67,20 +75,12 @@ with_group (bounded t ranks bounds) (items es) = whole (call_of (object_with t r
 -- ---- what stands in parentheses
 
 -- what may stand behind an opening parenthesis
-pub data Front : Type 0 where
-  closing : Front
-  comma : Front
-  minus : Front
-  negation : Front
-  type_test : Front
-  operand : Front
-
 unfoldable pub word_front : List ℕ → Front
-word_front word = if is_same_text word (codes "Not") then negation else (if is_same_text word (codes "TypeOf") then type_test else operand)
+word_front word = if is_same_text word (codes "Not") then opens.Negation else (if is_same_text word (codes "TypeOf") then opens.TypeTest else opens.Operand)
 
 unfoldable pub front_of : List ℕ → Front
-front_of [] = operand
-front_of (c ∷ s) = if c == 41 then closing else (if c == 44 then comma else (if c == 45 then minus else word_front (word_at (c ∷ s)).0))
+front_of [] = opens.Operand
+front_of (c ∷ s) = if c == 41 then opens.Closing else (if c == 44 then opens.Comma else (if c == 45 then opens.Minus else word_front (word_at (c ∷ s)).0))
 
 -- what follows an expression of a list: the closing parenthesis, or a comma and more
 abbrev pub items_behind : (List ℕ → Option (Exps × List ℕ)) → Exp → List ℕ → Option (Exps × List ℕ)
@@ -97,16 +97,16 @@ items_from read zero s = None
 items_from read (suc n) s = behind (read s) (items_behind (items_from read n))
 
 abbrev pub group_by : (read : List ℕ → Option (Exp × List ℕ)) → ℕ → List ℕ → Front → Option (Group × List ℕ)
-group_by read n s closing = behind (commas_from 1 s) (λ r rest. Some (rank r, rest))
-group_by read n s comma = behind (commas_from 1 s) (λ r rest. Some (rank r, rest))
-group_by read n s minus = behind (items_from read n s) (λ es rest. Some (items es, rest))
-group_by read n s negation = behind (items_from read n s) (λ es rest. Some (items es, rest))
-group_by read n s type_test = behind (items_from read n s) (λ es rest. Some (items es, rest))
-group_by read n s operand = behind (items_from read n s) (λ es rest. Some (items es, rest))
+group_by read n s opens.Closing = behind (commas_from 1 s) (λ r rest. Some (rank r, rest))
+group_by read n s opens.Comma = behind (commas_from 1 s) (λ r rest. Some (rank r, rest))
+group_by read n s opens.Minus = behind (items_from read n s) (λ es rest. Some (items es, rest))
+group_by read n s opens.Negation = behind (items_from read n s) (λ es rest. Some (items es, rest))
+group_by read n s opens.TypeTest = behind (items_from read n s) (λ es rest. Some (items es, rest))
+group_by read n s opens.Operand = behind (items_from read n s) (λ es rest. Some (items es, rest))
 
 -- what stands behind an opening parenthesis of a call, an element or an array, up to the closing one
-abbrev pub group_at : (read : List ℕ → Option (Exp × List ℕ)) → ℕ → List ℕ → Option (Group × List ℕ)
-group_at read n s = group_by read n s (front_of s)
+abbrev pub group_at : (read : List ℕ → Option (Exp × List ℕ)) → List ℕ → Option (Group × List ℕ)
+group_at read s = group_by read (length s) s (front_of s)
 
 -- ---- suffixes
 
@@ -147,9 +147,16 @@ suffixes read_group (suc n) stage s = suffix_by (suffixes read_group n) read_gro
 abbrev pub closed : (Exp → Exp) → Exp → List ℕ → Option (Stage × List ℕ)
 closed make e s = past (after (codes ")") s) (λ rest. Some (whole (make e), rest))
 
+abbrev pub type_closed : TypeName → List ℕ → Option (TypeName × List ℕ)
+type_closed t s = past (after (codes ")") s) (λ rest. Some (t, rest))
+
+-- a text and a type, up to the closing parenthesis
+abbrev pub type_behind : (text s : List ℕ) → Option (TypeName × List ℕ)
+type_behind text s = past (after text s) (λ s. behind (type_at s) type_closed)
+
 -- an expression, a text and a type, up to the closing parenthesis
 abbrev pub closed_type : (text : List ℕ) → (Exp → TypeName → Exp) → Exp → List ℕ → Option (Stage × List ℕ)
-closed_type text make e s = past (after text s) (λ s. behind (type_at s) (λ t s. past (after (codes ")") s) (λ rest. Some (whole (make e t), rest))))
+closed_type text make e s = behind (type_behind text s) (λ t rest. Some (whole (make e t), rest))
 
 abbrev pub operators : List NetBin
 operators =
@@ -177,98 +184,125 @@ operand_behind read e (c ∷ s) =
       | false ↦ behind (operator_at (c ∷ s)) (λ o s. behind (read s) (closed (binary o e)))
     ]
 
+-- what stands behind an expression that is nested in another
+abbrev pub nest_behind : (read : List ℕ → Option (Exp × List ℕ)) → Nest → Exp → List ℕ → Option (Stage × List ℕ)
+nest_behind read (nest.Cast w) e = closed (cast w) e
+nest_behind read nest.Convert e = closed_type (codes ", ") ctype e
+nest_behind read (nest.Unary o) e = closed (unary o) e
+nest_behind read nest.TypeTest e = closed_type (codes " Is ") type_of e
+nest_behind read nest.Parentheses e = operand_behind read e
+
+-- What an expression begins with: what needs no other expression, or what stands before one that is nested.
+pub data Opening : Type 0 where
+  leaf : Stage → Opening
+  nested : Nest → Opening
+
+abbrev pub nested_past : Nest → Option (List ℕ) → Option (Opening × List ℕ)
+nested_past n behind_it = past behind_it (λ s. Some (nested n, s))
+
 -- what stands behind an opening parenthesis that an expression begins with
-abbrev pub parenthesized : (read : List ℕ → Option (Exp × List ℕ)) → List ℕ → Front → Option (Stage × List ℕ)
-parenthesized read s closing = None
-parenthesized read s comma = None
-parenthesized read s minus = past (after (codes "-") s) (λ s. behind (read s) (closed (unary un.Neg)))
-parenthesized read s negation = past (after (codes "Not ") s) (λ s. behind (read s) (closed (unary un.Not)))
-parenthesized read s type_test = past (after (codes "TypeOf ") s) (λ s. behind (read s) (closed_type (codes " Is ") type_of))
-parenthesized read s operand = behind (read s) (operand_behind read)
+abbrev pub parenthesized : List ℕ → Front → Option (Opening × List ℕ)
+parenthesized s opens.Closing = None
+parenthesized s opens.Comma = None
+parenthesized s opens.Minus = nested_past (nest.Unary un.Neg) (after (codes "-") s)
+parenthesized s opens.Negation = nested_past (nest.Unary un.Not) (after (codes "Not ") s)
+parenthesized s opens.TypeTest = nested_past nest.TypeTest (after (codes "TypeOf ") s)
+parenthesized s opens.Operand = Some (nested nest.Parentheses, s)
+
+abbrev pub cast_words : List (List ℕ × CastWord)
+cast_words =
+    (codes "CBool", word.CBool) ∷ (codes "CByte", word.CByte) ∷ (codes "CShort", word.CShort) ∷ (codes "CInt", word.CInt)
+    ∷ (codes "CLng", word.CLng) ∷ (codes "CDec", word.CDec) ∷ (codes "CStr", word.CStr) ∷ (codes "CObj", word.CObj) ∷ []
 
 -- the words of the language that an expression begins with
-pub data Keyword : Type 0 where
-  nothing_word : Keyword
-  me_word : Keyword
-  true_word : Keyword
-  false_word : Keyword
-  cast_word : CastWord → Keyword
-  ctype_word : Keyword
-  new_word : Keyword
-
 abbrev pub keywords : List (List ℕ × Keyword)
 keywords =
-    (codes "Nothing", nothing_word) ∷ (codes "Me", me_word) ∷ (codes "True", true_word) ∷ (codes "False", false_word)
-    ∷ (codes "CBool", cast_word word.CBool) ∷ (codes "CByte", cast_word word.CByte) ∷ (codes "CShort", cast_word word.CShort) ∷ (codes "CInt", cast_word word.CInt)
-    ∷ (codes "CLng", cast_word word.CLng) ∷ (codes "CDec", cast_word word.CDec) ∷ (codes "CStr", cast_word word.CStr) ∷ (codes "CObj", cast_word word.CObj)
-    ∷ (codes "CType", ctype_word) ∷ (codes "New", new_word) ∷ []
+    (codes "Nothing", key.Nothing) ∷ (codes "Me", key.Me) ∷ (codes "True", key.True) ∷ (codes "False", key.False)
+    ∷ (codes "CBool", key.Cast word.CBool) ∷ (codes "CByte", key.Cast word.CByte) ∷ (codes "CShort", key.Cast word.CShort) ∷ (codes "CInt", key.Cast word.CInt)
+    ∷ (codes "CLng", key.Cast word.CLng) ∷ (codes "CDec", key.Cast word.CDec) ∷ (codes "CStr", key.Cast word.CStr) ∷ (codes "CObj", key.Cast word.CObj)
+    ∷ (codes "CType", key.CType) ∷ (codes "New", key.New) ∷ []
 
 unfoldable pub keyword_of : List ℕ → Option Keyword
 keyword_of word = look_up word keywords
 
-abbrev pub path_stage : List ℕ → Option (Stage × List ℕ)
-path_stage s = behind (path_at s) (λ names rest. Some (whole (path names), rest))
+abbrev pub path_opening : List ℕ → Option (Opening × List ℕ)
+path_opening s = behind (path_at s) (λ names rest. Some (leaf (whole (path names)), rest))
+
+-- an object or an array that is made, behind New
+abbrev pub new_opening : List ℕ → Option (Opening × List ℕ)
+new_opening s = past (after (codes " ") s) (λ s. behind (base_at s) (λ t rest. Some (leaf (ranked t []), rest)))
 
 -- what stands behind a word of the language; where there is none, a path begins
-abbrev pub worded : (read : List ℕ → Option (Exp × List ℕ)) → (rest s : List ℕ) → Option Keyword → Option (Stage × List ℕ)
-worded read rest s (Some nothing_word) = Some (whole nothing, rest)
-worded read rest s (Some me_word) = Some (whole me, rest)
-worded read rest s (Some true_word) = Some (whole (lit (boolean true)), rest)
-worded read rest s (Some false_word) = Some (whole (lit (boolean false)), rest)
-worded read rest s (Some (cast_word w)) = past (after (codes "(") rest) (λ s. behind (read s) (closed (cast w)))
-worded read rest s (Some ctype_word) = past (after (codes "(") rest) (λ s. behind (read s) (closed_type (codes ", ") ctype))
-worded read rest s (Some new_word) = past (after (codes " ") rest) (λ s. behind (base_at s) (λ t rest. Some (ranked t [], rest)))
-worded read rest s None = path_stage s
+abbrev pub worded : (rest s : List ℕ) → Option Keyword → Option (Opening × List ℕ)
+worded rest s (Some key.Nothing) = Some (leaf (whole nothing), rest)
+worded rest s (Some key.Me) = Some (leaf (whole me), rest)
+worded rest s (Some key.True) = Some (leaf (whole (lit (boolean true))), rest)
+worded rest s (Some key.False) = Some (leaf (whole (lit (boolean false))), rest)
+worded rest s (Some (key.Cast w)) = nested_past (nest.Cast w) (after (codes "(") rest)
+worded rest s (Some key.CType) = nested_past nest.Convert (after (codes "(") rest)
+worded rest s (Some key.New) = new_opening rest
+worded rest s None = path_opening s
 
 -- what the first character tells
-pub data Start : Type 0 where
-  literal_start : Start
-  word_start : Start
-  bracket_start : Start
-  point_start : Start
-  opening_start : Start
-  minus_start : Start
-  no_start : Start
-
 unfoldable pub start_of : ℕ → Start
 start_of c =
-    if is_digit c then literal_start
-    else (if is_word_part c then word_start
-    else (if c == 34 || c == 38 then literal_start
-    else (if c == 91 then bracket_start
-    else (if c == 46 then point_start
-    else (if c == 40 then opening_start
-    else (if c == 45 then minus_start else no_start))))))
+    if is_digit c then start.Literal
+    else (if is_word_part c then start.Word
+    else (if c == 34 || c == 38 then start.Literal
+    else (if c == 91 then start.Bracket
+    else (if c == 46 then start.Point
+    else (if c == 40 then start.Opening
+    else (if c == 45 then start.Minus else start.Other))))))
+
+abbrev pub literal_opening : List ℕ → Option (Opening × List ℕ)
+literal_opening s = behind (literal_at s) (λ l rest. Some (leaf (whole (lit l)), rest))
+
+-- a member of the innermost With's object, behind its full stop
+abbrev pub point_opening : List ℕ → Option (Opening × List ℕ)
+point_opening s = behind (name_at s) (λ name rest. Some (leaf (whole (with_dot name)), rest))
 
 -- The one number with a sign is the bound -1.
-abbrev pub started : (read : List ℕ → Option (Exp × List ℕ)) → (s rest : List ℕ) → Start → Option (Stage × List ℕ)
-started read s rest literal_start = behind (literal_at s) (λ l rest. Some (whole (lit l), rest))
-started read s rest word_start = worded read (word_at s).1 s (keyword_of (word_at s).0)
-started read s rest bracket_start = path_stage s
-started read s rest point_start = behind (name_at rest) (λ name rest. Some (whole (with_dot name), rest))
-started read s rest opening_start = parenthesized read rest (front_of rest)
-started read s rest minus_start = past (after (codes "1") rest) (λ rest. Some (whole (lit (integer (negsuc 0) false)), rest))
-started read s rest no_start = None
+abbrev pub minus_opening : List ℕ → Option (Opening × List ℕ)
+minus_opening s = past (after (codes "1") s) (λ rest. Some (leaf (whole (lit (integer (negsuc 0) false))), rest))
+
+abbrev pub started : (s rest : List ℕ) → Start → Option (Opening × List ℕ)
+started s rest start.Literal = literal_opening s
+started s rest start.Word = worded (word_at s).1 s (keyword_of (word_at s).0)
+started s rest start.Bracket = path_opening s
+started s rest start.Point = point_opening rest
+started s rest start.Opening = parenthesized rest (front_of rest)
+started s rest start.Minus = minus_opening rest
+started s rest start.Other = None
+
+abbrev pub opening_at : List ℕ → Option (Opening × List ℕ)
+opening_at [] = None
+opening_at (c ∷ s) = started (c ∷ s) s (start_of c)
+
+abbrev pub opened : (read : List ℕ → Option (Exp × List ℕ)) → Opening → List ℕ → Option (Stage × List ℕ)
+opened read (leaf stage) s = Some (stage, s)
+opened read (nested n) s = behind (read s) (nest_behind read n)
 
 -- what an expression begins with, up to its suffixes
 abbrev pub head_at : (read : List ℕ → Option (Exp × List ℕ)) → List ℕ → Option (Stage × List ℕ)
-head_at read [] = None
-head_at read (c ∷ s) = started read (c ∷ s) s (start_of c)
+head_at read s = behind (opening_at s) (opened read)
 
 -- ---- expressions
 
--- an expression in which at most so many are nested
-abbrev pub exp_from : ℕ → List ℕ → Option (Exp × List ℕ)
-exp_from zero s = None
-exp_from (suc k) s = behind (head_at (exp_from k) s) (suffixes (group_at (exp_from k) k) k)
+-- An expression in which at most so many are nested. Suffixes nest nothing, but what stands in their parentheses does.
+abbrev pub exp_nested : (room : ℕ) → List ℕ → Option (Exp × List ℕ)
+exp_nested zero s = None
+exp_nested (suc room) s = behind (head_at (exp_nested room) s) (suffixes (group_at (exp_nested room)) (length s))
 
 abbrev pub exp_at : List ℕ → Option (Exp × List ℕ)
-exp_at s = exp_from (suc (length s)) s
+exp_at s = exp_nested (suc (length s)) s
 
 abbrev pub arguments_of : Group → Exps
 arguments_of (rank r) = no_exps
 arguments_of (items es) = es
 
--- arguments, or the bounds of an array, with their parentheses
+-- arguments, or the bounds of an array, with their parentheses, each of at most so many nested expressions
+abbrev pub arguments_nested : (room : ℕ) → List ℕ → Option (Exps × List ℕ)
+arguments_nested room s = past (after (codes "(") s) (λ inner. behind (group_at (exp_nested room) inner) (λ g rest. Some (arguments_of g, rest)))
+
 abbrev pub arguments_at : List ℕ → Option (Exps × List ℕ)
-arguments_at s = past (after (codes "(") s) (λ inner. behind (group_at (exp_from (suc (length s))) (suc (length s)) inner) (λ g rest. Some (arguments_of g, rest)))
+arguments_at s = arguments_nested (suc (length s)) s

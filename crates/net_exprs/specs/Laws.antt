@@ -1,5 +1,5 @@
 -- The laws of what is read: what was written is read back, and it stays within its line.
-use Rattle.std.specs.Prelude.{◌≡◌, ℕ, Bool, true, false, ◌==◌, List, ◌++◌, Some}
+use Rattle.std.specs.Prelude.{◌≡◌, ℕ, ◌≤◌, Bool, true, false, ◌==◌, List, ◌++◌, Some}
 use Rattle.std.specs.List.{list_all}
 use Rattle.up_base.specs.Names.{is_printable}
 use Rattle.net_tree.specs.declared.line.NetLabel.{NetLabel}
@@ -10,7 +10,8 @@ use Rattle.net_tree.specs.Expressions.{are_writable_exps, arguments_text, exp_te
 use Rattle.net_exprs.specs.Ends.{ends_expression, ends_name, ends_path, ends_type}
 use Rattle.net_exprs.specs.Names.{label_at, name_at, path_at}
 use Rattle.net_exprs.specs.Types.{rank_at, type_at}
-use Rattle.net_exprs.specs.Expressions.{arguments_at, exp_at}
+use Rattle.net_exprs.specs.Expressions.{arguments_at, arguments_nested, exp_at, exp_nested}
+use Rattle.net_exprs.specs.Depth.{are_shallow, depth_exp, depth_exps, is_shallow, most_nested}
 use Rattle.net_exprs.specs.Fitting.{fits_exp, fits_exps, fits_label}
 
 abbrev pub NamesAreRead : Type 0
@@ -35,6 +36,28 @@ ExpressionsAreRead =
 
 abbrev pub ArgumentsAreRead : Type 0
 ArgumentsAreRead = (es : Exps) (rest : List ℕ) → are_writable_exps es ≡ true → fits_exps es ≡ true → arguments_at (arguments_text es ++ rest) ≡ Some (es, rest)
+
+-- An expression is read wherever there is room for its depth.
+abbrev pub NestedExpressionsAreRead : Type 0
+NestedExpressionsAreRead =
+    (room : ℕ) (e : Exp) (rest : List ℕ) → depth_exp e ≤ room → is_writable_exp e ≡ true → fits_exp e ≡ true → ends_expression rest ≡ true
+    → exp_nested room (exp_text e ++ rest) ≡ Some (e, rest)
+
+abbrev pub NestedArgumentsAreRead : Type 0
+NestedArgumentsAreRead =
+    (room : ℕ) (es : Exps) (rest : List ℕ) → depth_exps es ≤ room → are_writable_exps es ≡ true → fits_exps es ≡ true
+    → arguments_nested room (arguments_text es ++ rest) ≡ Some (es, rest)
+
+-- The code has room for whatever is no deeper than it reads.
+abbrev pub ShallowExpressionsAreRead : Type 0
+ShallowExpressionsAreRead =
+    (e : Exp) (rest : List ℕ) → is_shallow e ≡ true → is_writable_exp e ≡ true → fits_exp e ≡ true → ends_expression rest ≡ true
+    → exp_nested most_nested (exp_text e ++ rest) ≡ Some (e, rest)
+
+abbrev pub ShallowArgumentsAreRead : Type 0
+ShallowArgumentsAreRead =
+    (es : Exps) (rest : List ℕ) → are_shallow es ≡ true → are_writable_exps es ≡ true → fits_exps es ≡ true
+    → arguments_nested most_nested (arguments_text es ++ rest) ≡ Some (es, rest)
 
 -- whether all of a text is printable, so that it holds no end of a line
 abbrev pub stays_within_line : List ℕ → Bool

@@ -23,12 +23,21 @@ text_literal (Some parts) = Some (str parts.0, parts.1)
 abbrev pub signed_number : (highest : ℕ) → ℕ → ℤ
 signed_number highest n = if nat_lt n highest then pos n else negsuc (2 * highest - suc n)
 
+-- a number whose bits fit a type, of which the highest is so much
+abbrev pub bits_literal : (highest : ℕ) → (ℤ → Literal) → ℕ → List ℕ → Option (Literal × List ℕ)
+bits_literal highest make n rest = if nat_lt n (2 * highest) then Some (make (signed_number highest n), rest) else None
+
+abbrev pub hexadecimal_short : ℤ → Literal
+hexadecimal_short z = short z true
+
+abbrev pub hexadecimal_integer : ℤ → Literal
+hexadecimal_integer z = integer z true
+
 -- what follows hexadecimal digits
 abbrev pub hexadecimal_literal : ℕ → List ℕ → Option (Literal × List ℕ)
 hexadecimal_literal n [] = None
 hexadecimal_literal n (c ∷ s) =
-    if c == 83 then Some (short (signed_number 0x8000 n) true, s)
-    else (if c == 73 then Some (integer (signed_number 0x8000_0000 n) true, s) else None)
+    if c == 83 then bits_literal 0x8000 hexadecimal_short n s else (if c == 73 then bits_literal 0x8000_0000 hexadecimal_integer n s else None)
 
 -- the decimal places at the front, of which the first counts so much, and the rest
 abbrev pub places_from : (weight : ℕ) → ℕ → List ℕ → ℕ × List ℕ

@@ -1,5 +1,5 @@
 //! Laws of reading: what was written within a line is read back.
-ghost use Rattle.net_exprs.specs.Laws.{ArgumentsAreRead, ArgumentsStayWithinLine, ExpressionsAreRead, ExpressionsStayWithinLine, LabelsAreRead, LabelsStayWithinLine, NamesAreRead, NamesStayWithinLine, PathsAreRead, RanksAreRead, TypesAreRead, TypesStayWithinLine};
+ghost use Rattle.net_exprs.specs.Laws.{ArgumentsAreRead, ArgumentsStayWithinLine, ExpressionsAreRead, ExpressionsStayWithinLine, LabelsAreRead, LabelsStayWithinLine, NamesAreRead, NamesStayWithinLine, NestedArgumentsAreRead, NestedExpressionsAreRead, PathsAreRead, RanksAreRead, ShallowArgumentsAreRead, ShallowExpressionsAreRead, TypesAreRead, TypesStayWithinLine};
 
 /// A law: a name is read back.
 pub fn names_are_read()
@@ -34,6 +34,26 @@ pub fn expressions_are_read()
 /// A law: arguments are read back.
 pub fn arguments_are_read()
     ensures { ArgumentsAreRead }
+{}
+
+/// A law: an expression is read back wherever there is room for its depth.
+pub fn nested_expressions_are_read()
+    ensures { NestedExpressionsAreRead }
+{}
+
+/// A law: arguments are read back wherever there is room for their depth.
+pub fn nested_arguments_are_read()
+    ensures { NestedArgumentsAreRead }
+{}
+
+/// A law: an expression that is no deeper than `read_expression` reads is read back.
+pub fn shallow_expressions_are_read()
+    ensures { ShallowExpressionsAreRead }
+{}
+
+/// A law: arguments that are no deeper than `read_arguments` reads are read back.
+pub fn shallow_arguments_are_read()
+    ensures { ShallowArgumentsAreRead }
 {}
 
 /// A law: a name stays within its line.

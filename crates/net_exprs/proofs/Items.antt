@@ -1,0 +1,115 @@
+-- Expressions in parentheses that are read one by one.
+use Rattle.std.proofs.Common.{◌≡◌, ℕ, zero, suc, ◌+◌, ◌≤◌, ◌<◌, Bool, true, false, ◌&&◌, ◌==◌, if◌then◌else◌, List, [], ◌∷◌, ◌++◌, length, codes, refl, ap, ◌∙◌, arith, Option, Some, None}
+use Rattle.net_tree.specs.declared.expression.NetExpr.{NetExpr}
+use Rattle.net_tree.specs.Tree.{Exp, Exps, next_exp, no_exps}
+use Rattle.net_tree.specs.View.{exp_of, exps_of}
+use Rattle.net_exprs.specs.Answers.{Misfits}
+use Rattle.net_exprs.specs.Readers.{after, behind, past}
+use Rattle.net_exprs.specs.Expressions.{items_behind, items_from}
+use Rattle.net_exprs.specs.Fitting.{fits_exp, fits_exps}
+use Rattle.net_exprs.proofs.Words.{by_test}
+
+abbrev Found : Type 0
+Found = Option (Exps × List ℕ)
+
+abbrev Read : Type 0
+Read = List ℕ → Option (Exp × List ℕ)
+
+abbrev pub append_exps : Exps → Exps → Exps
+append_exps no_exps fs = fs
+append_exps (next_exp e es) fs = next_exp e (append_exps es fs)
+
+append_again : (es : Exps) (e : Exp) (fs : Exps) → append_exps es (next_exp e fs) ≡ append_exps (append_exps es (next_exp e no_exps)) fs
+append_again no_exps e fs = refl
+append_again (next_exp d es) e fs = ap (next_exp d) (append_again es e fs)
+
+pub pushed : (xs : List NetExpr) (x : NetExpr) → exps_of (xs ++ x ∷ []) ≡ append_exps (exps_of xs) (next_exp (exp_of x) no_exps)
+pushed [] x = refl
+pushed (y ∷ xs) x = ap (next_exp (exp_of y)) (pushed xs x)
+
+abbrev with_items : Exps → Found → Found
+with_items before o = behind o (λ es rest. Some (append_exps before es, rest))
+
+-- items were read, and the list goes on at what is left
+pub record ItemsLeft (read : Read) (text : List ℕ) (before : Exps) (rest : List ℕ) : Type 0 where
+  pub most : ℕ
+  pub long : length rest ≤ most
+  pub is : items_from read (length text) text ≡ with_items before (items_from read most rest)
+
+-- ---- what follows an item
+
+ended : (List ℕ → Found) → Exp → (closing comma : Option (List ℕ)) → Found
+ended go e (Some s) o = Some (next_exp e no_exps, s)
+ended go e None o = past o (λ s. behind (go s) (λ es rest. Some (next_exp e es, rest)))
+
+item_ended : (go : List ℕ → Found) (e : Exp) (b : List ℕ) → items_behind go e b ≡ ended go e (after (codes ")") b) (after (codes ", ") b)
+unfolding ended
+item_ended go e [] = refl
+item_ended go e (c ∷ s) =
+    by_test (c == 41)
+    (λ t. (elim t [ true ↦ Some (next_exp e no_exps, s) | false ↦ past (after (codes ", ") (c ∷ s)) (λ s. behind (go s) (λ es rest. Some (next_exp e es, rest))) ])
+    ≡ ended go e (if t then Some s else None) (after (codes ", ") (c ∷ s)))
+    (λ t. refl) (λ t. refl)
+
+from_item : (read : Read) (m : ℕ) (rest : List ℕ) (e : Exp) (b : List ℕ) (closing comma : Option (List ℕ)) → read rest ≡ Some (e, b) → after (codes ")") b ≡ closing → after (codes ", ") b ≡ comma
+    → items_from read (suc m) rest ≡ ended (items_from read m) e closing comma
+from_item read m rest e b closing comma h k l =
+    ap (λ o. behind o (items_behind (items_from read m))) h ∙ item_ended (items_from read m) e b
+    ∙ ap (λ o. ended (items_from read m) e o (after (codes ", ") b)) k ∙ ap (ended (items_from read m) e closing) l
+
+pub items_go_on : (read : Read) (text : List ℕ) (before : Exps) (rest : List ℕ) (e : Exp) (b more : List ℕ) → ItemsLeft read text before rest → read rest ≡ Some (e, b) → length b < length rest
+    → after (codes ")") b ≡ None → after (codes ", ") b ≡ Some more → length more + 2 ≡ length b → ItemsLeft read text (append_exps before (next_exp e no_exps)) more
+unfolding ended
+items_go_on read text before rest e b more left h less closing comma fewer = go left.most left.long left.is
+  where
+    again : (o : Found) → with_items before (behind o (λ es rest. Some (next_exp e es, rest))) ≡ with_items (append_exps before (next_exp e no_exps)) o
+    again None = refl
+    again (Some part) = ap (λ es. Some (es, part.1)) (append_again before e part.0)
+
+    go : (m : ℕ) → length rest ≤ m → items_from read (length text) text ≡ with_items before (items_from read m rest) → ItemsLeft read text (append_exps before (next_exp e no_exps)) more
+    go zero long is = absurd (omega (arith, less, long))
+    go (suc n) long is = record {
+      most = n;
+      long = omega (arith, less, long, fewer);
+      is = is ∙ ap (with_items before) (from_item read n rest e b None (Some more) h closing comma) ∙ again (items_from read n more);
+    }
+
+pub items_stop : (read : Read) (text : List ℕ) (before : Exps) (rest : List ℕ) (e : Exp) (b end : List ℕ) → ItemsLeft read text before rest → read rest ≡ Some (e, b) → length b < length rest
+    → after (codes ")") b ≡ Some end → items_from read (length text) text ≡ Some (append_exps before (next_exp e no_exps), end)
+unfolding ended
+items_stop read text before rest e b end left h less closing = go left.most left.long left.is
+  where
+    go : (m : ℕ) → length rest ≤ m → items_from read (length text) text ≡ with_items before (items_from read m rest) → items_from read (length text) text ≡ Some (append_exps before (next_exp e no_exps), end)
+    go zero long is = absurd (omega (arith, less, long))
+    go (suc n) long is = is ∙ ap (with_items before) (from_item read n rest e b (Some end) (after (codes ", ") b) h closing refl)
+
+-- ---- items that don't fit
+
+append_misfits : (es : Exps) (e : Exp) (fs : Exps) → fits_exp e ≡ false → fits_exps (append_exps es (next_exp e fs)) ≡ false
+append_misfits no_exps e fs h = rw h refl
+append_misfits (next_exp d es) e fs h = go (fits_exp d) (append_misfits es e fs h)
+  where
+    go : (b : Bool) → fits_exps (append_exps es (next_exp e fs)) ≡ false → b && fits_exps (append_exps es (next_exp e fs)) ≡ false
+    go true k = k
+    go false k = refl
+
+pub items_misfit : (read : Read) (text : List ℕ) (before : Exps) (rest : List ℕ) → ItemsLeft read text before rest → Misfits fits_exp (read rest) → Misfits fits_exps (items_from read (length text) text)
+unfolding ended
+items_misfit read text before rest left h = rw left.is (from left.most)
+  where
+    more : (e : Exp) → fits_exp e ≡ false → (o : Found) → Misfits fits_exps (with_items before (behind o (λ es rest. Some (next_exp e es, rest))))
+    more e k None = tt
+    more e k (Some part) = append_misfits before e part.0 k
+
+    by_end : (go : List ℕ → Found) (e : Exp) → fits_exp e ≡ false → (closing comma : Option (List ℕ)) → Misfits fits_exps (with_items before (ended go e closing comma))
+    by_end go e k (Some s) comma = append_misfits before e no_exps k
+    by_end go e k None None = tt
+    by_end go e k None (Some s) = more e k (go s)
+
+    item : (go : List ℕ → Found) (o : Option (Exp × List ℕ)) → Misfits fits_exp o → Misfits fits_exps (with_items before (behind o (items_behind go)))
+    item go None k = tt
+    item go (Some part) k = rw (item_ended go part.0 part.1) (by_end go part.0 k (after (codes ")") part.1) (after (codes ", ") part.1))
+
+    from : (m : ℕ) → Misfits fits_exps (with_items before (items_from read m rest))
+    from zero = tt
+    from (suc n) = item (items_from read n) (read rest) h

@@ -1,0 +1,12 @@
+use Rattle.std.proofs.Common.{◌≤◌, length}
+use Rattle.net_exprs.proofs.Paths.{PathLeft}
+use Rattle.net_exprs.proofs.names.read_path.Given as goal
+
+abbrev pub invariant-names : goal.invariant-names
+invariant-names l = record {
+  left : PathLeft l.fn.text l.names l.rest;
+  shorter : length l.rest ≤ length l.fn.text;
+}
+
+abbrev pub decreases-names : goal.decreases-names
+decreases-names l = length l.rest

@@ -1,0 +1,37 @@
+-- How deep expressions are nested, as they are read: an operand or an argument is nested, but what a suffix follows isn't.
+use Rattle.std.specs.Prelude.{ℕ, suc, max, Bool, nat_le}
+use Rattle.net_tree.specs.Tree.{Exp, Exps, binary, call_of, cast, ctype, dot, lit, me, new_array, new_object, next_exp, no_exps, nothing, paren, path, type_of, unary, with_dot}
+
+-- the depth of the deepest expression that the code reads
+abbrev pub most_nested : ℕ
+most_nested = 1000
+
+abbrev mutual
+  pub depth_exp : Exp → ℕ
+  depth_exp (lit l) = 1
+  depth_exp nothing = 1
+  depth_exp me = 1
+  depth_exp (path names) = 1
+  depth_exp (with_dot name) = 1
+  depth_exp (dot e name) = depth_exp e
+  depth_exp (call_of e args) = max (depth_exp e) (suc (depth_exps args))
+  depth_exp (cast w e) = suc (depth_exp e)
+  depth_exp (ctype e t) = suc (depth_exp e)
+  depth_exp (unary o e) = suc (depth_exp e)
+  depth_exp (binary o a b) = suc (max (depth_exp a) (depth_exp b))
+  depth_exp (paren e) = suc (depth_exp e)
+  depth_exp (new_object t args) = suc (depth_exps args)
+  depth_exp (new_array t bounds) = suc (depth_exps bounds)
+  depth_exp (type_of e t) = suc (depth_exp e)
+
+  -- the depth of the deepest, and 0 where there is none
+  pub depth_exps : Exps → ℕ
+  depth_exps no_exps = 0
+  depth_exps (next_exp e more) = max (depth_exp e) (depth_exps more)
+
+-- whether the code has room for an expression, or for each of a list
+abbrev pub is_shallow : Exp → Bool
+is_shallow e = nat_le (depth_exp e) most_nested
+
+abbrev pub are_shallow : Exps → Bool
+are_shallow es = nat_le (depth_exps es) most_nested
