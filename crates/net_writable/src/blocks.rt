@@ -10,14 +10,7 @@ use up_base::Mem;
 fn is_same_block(a: NetBlock, b: NetBlock) -> bool
     ensures { result ≡ is_same_block a b }
 {
-    match a {
-        NetBlock::If => matches!(b, NetBlock::If),
-        NetBlock::Select => matches!(b, NetBlock::Select),
-        NetBlock::For => matches!(b, NetBlock::For),
-        NetBlock::Do => matches!(b, NetBlock::Do),
-        NetBlock::While => matches!(b, NetBlock::While),
-        NetBlock::With => matches!(b, NetBlock::With),
-    }
+    a == b
 }
 
 // Whether the innermost of the blocks that are open is of a kind.

@@ -9,6 +9,8 @@ mod lines;
 mod literals;
 mod project;
 mod spelling;
+#[cfg(test)]
+mod tests;
 
 pub use declarations::is_writable_member;
 pub use lines::is_writable_line;

@@ -124,7 +124,8 @@ fn has_writable_files(alloc: Global, project: &NetProject) -> Result<bool, Mem>
     Ok(is_file(alloc, &project.support)?)
 }
 
-fn passes(alloc: Global, project: &NetProject) -> Result<bool, Mem>
+// Whether a project can be written, as one test.
+fn is_writable_project(alloc: Global, project: &NetProject) -> Result<bool, Mem>
     ensures { IfOk result (λ answer. answer ≡ is_writable_project (project_of project.now)) }
 {
     if !is_writable_apart(project) {
@@ -138,5 +139,5 @@ pub fn is_writable(alloc: Global, project: &NetProject) -> Result<bool, Mem>
     ensures sound { IfOk result (λ answer. (answer ≡ true) → IsWritable (project_of project.now)) }
     ensures complete { IfOk result (λ answer. IsWritable (project_of project.now) → answer ≡ true) }
 {
-    Ok(passes(alloc, project)?)
+    Ok(is_writable_project(alloc, project)?)
 }
