@@ -20,47 +20,70 @@ fn path(alloc: Global, names: &[&str]) -> Result<Path, Fail> {
     Ok(path)
 }
 
-fn minus_one() -> NetExpr {
-    NetExpr::Lit(NetLit::Integer(-1, false))
+fn is_written_path(alloc: Global, names: &[&str]) -> Result<bool, Fail> {
+    let path = path(alloc, names)?;
+    Ok(is_path(path.as_slice()))
 }
 
-fn items(alloc: Global, item: NetExpr) -> Result<Vec<NetExpr>, Fail> {
-    let mut items = Vec::new(alloc);
-    items.push(item)?;
-    Ok(items)
+// A list of the bound -1.
+fn no_bound(alloc: Global) -> Result<Vec<NetExpr>, Fail> {
+    let mut bounds = Vec::new(alloc);
+    bounds.push(NetExpr::Lit(NetLit::Integer(-1, false)))?;
+    Ok(bounds)
 }
 
-fn procedure(
-    alloc: Global,
-    head: NetHead,
-    first: NetLine,
-    second: NetLine,
-    close: NetClose,
-) -> Result<Box<NetProc>, Fail> {
-    let mut lines = Vec::new(alloc);
-    lines.push(first)?;
-    lines.push(second)?;
-    let prologue = Vec::new(alloc);
-    Ok(Box::new(
-        alloc,
-        NetProc {
-            head,
-            prologue,
-            lines,
-            close,
-        },
-    )?)
+fn makes_no_items(alloc: Global) -> Result<bool, Fail> {
+    let made = NetExpr::NewArray(NetType::Integer, no_bound(alloc)?);
+    Ok(is_writable_expression(&made))
+}
+
+fn calls_at_minus_one(alloc: Global) -> Result<bool, Fail> {
+    let called = NetExpr::Call(Box::new(alloc, NetExpr::Me)?, no_bound(alloc)?);
+    Ok(is_writable_expression(&called))
+}
+
+fn has_written_member(alloc: Global, object: NetExpr) -> Result<bool, Fail> {
+    let object = Box::new(alloc, object)?;
+    let member = NetExpr::Dot(object, Name::make(alloc, b"Size")?);
+    Ok(is_writable_expression(&member))
+}
+
+fn is_written_case(alloc: Global, item: Option<NetCase>) -> Result<bool, Fail> {
+    let mut items = Sequence::new(alloc);
+    if let Some(item) = item {
+        items.push(item)?;
+    }
+    Ok(is_writable_line(&NetLine::Case(items)))
+}
+
+// A part of a property that gets.
+fn get_part(alloc: Global) -> Result<Box<NetProc>, Fail> {
+    let part = NetProc {
+        head: NetHead::Get,
+        prologue: Vec::new(alloc),
+        lines: Vec::new(alloc),
+        close: NetClose::EndGet,
+    };
+    Ok(Box::new(alloc, part)?)
 }
 
 // A Sub of two lines.
-fn sub(alloc: Global, first: NetLine, second: NetLine) -> Result<NetMember, Fail> {
+fn is_written_sub(alloc: Global, first: NetLine, second: NetLine) -> Result<bool, Fail> {
+    let mut lines = Vec::new(alloc);
+    lines.push(first)?;
+    lines.push(second)?;
     let name = Name::make(alloc, b"Main")?;
-    let head = NetHead::Sub(NetVisibility::Public, name, Vec::new(alloc));
-    Ok(NetMember::Proc(procedure(alloc, head, first, second, NetClose::EndSub)?))
+    let sub = NetProc {
+        head: NetHead::Sub(NetVisibility::Public, name, Vec::new(alloc)),
+        prologue: Vec::new(alloc),
+        lines,
+        close: NetClose::EndSub,
+    };
+    let member = NetMember::Proc(Box::new(alloc, sub)?);
+    Ok(is_writable_member(alloc, &member)?)
 }
 
-// A property with a part that gets, or with none.
-fn property(alloc: Global, get: Option<Box<NetProc>>) -> Result<NetMember, Fail> {
+fn is_written_property(alloc: Global, get: Option<Box<NetProc>>) -> Result<bool, Fail> {
     let property = NetProperty {
         visibility: NetVisibility::Public,
         name: Name::make(alloc, b"Size")?,
@@ -69,34 +92,33 @@ fn property(alloc: Global, get: Option<Box<NetProc>>) -> Result<NetMember, Fail>
         get,
         set: None,
     };
-    Ok(NetMember::Property(Box::new(alloc, property)?))
+    let member = NetMember::Property(Box::new(alloc, property)?);
+    Ok(is_writable_member(alloc, &member)?)
 }
 
-fn source(alloc: Global, name: &str) -> Result<NetModule, Fail> {
-    Ok(NetModule {
-        name: Name::make(alloc, name.as_bytes())?,
+// A library or a program of the support functions' module alone.
+fn is_written_project(alloc: Global, library: bool, support: &str) -> Result<bool, Fail> {
+    let support = NetModule {
+        name: Name::make(alloc, support.as_bytes())?,
         class: false,
         members: Sequence::new(alloc),
-    })
-}
-
-// A library of the support functions' module alone.
-fn library(alloc: Global, support: &str, main: Option<Name>) -> Result<NetProject, Fail> {
-    Ok(NetProject {
-        library: true,
-        main,
+    };
+    let project = NetProject {
+        library,
+        main: None,
         note: None,
         modules: Sequence::new(alloc),
-        support: source(alloc, support)?,
-    })
+        support,
+    };
+    Ok(is_writable(alloc, &project)?)
 }
 
 #[test]
 fn takes_paths(rt: HostRuntime) -> Result<(), Fail> {
     let alloc = rt.alloc();
-    assert!(rt; is_path(path(alloc, &["System", "Math"])?.as_slice()));
-    assert!(rt; !is_path(path(alloc, &["System", "Array"])?.as_slice()));
-    assert!(rt; !is_path(path(alloc, &["A", "1b"])?.as_slice()));
+    assert!(rt; is_written_path(alloc, &["System", "Math"])?);
+    assert!(rt; !is_written_path(alloc, &["System", "Array"])?);
+    assert!(rt; !is_written_path(alloc, &["A", "1b"])?);
     Ok(())
 }
 
@@ -126,70 +148,49 @@ fn takes_literals(rt: HostRuntime) -> Result<(), Fail> {
 #[test]
 fn takes_the_bound_of_no_items(rt: HostRuntime) -> Result<(), Fail> {
     let alloc = rt.alloc();
-    let made = NetExpr::NewArray(NetType::Integer, items(alloc, minus_one())?);
-    assert!(rt; is_writable_expression(&made));
-    let called = NetExpr::Call(Box::new(alloc, NetExpr::Me)?, items(alloc, minus_one())?);
-    assert!(rt; !is_writable_expression(&called));
+    assert!(rt; makes_no_items(alloc)?);
+    assert!(rt; !calls_at_minus_one(alloc)?);
     Ok(())
 }
 
 #[test]
 fn takes_no_dot_on_a_path(rt: HostRuntime) -> Result<(), Fail> {
     let alloc = rt.alloc();
-    let of_me = NetExpr::Dot(Box::new(alloc, NetExpr::Me)?, Name::make(alloc, b"Size")?);
-    assert!(rt; is_writable_expression(&of_me));
-    let object = Box::new(alloc, NetExpr::Path(path(alloc, &["Box1"])?))?;
-    let of_path = NetExpr::Dot(object, Name::make(alloc, b"Size")?);
-    assert!(rt; !is_writable_expression(&of_path));
+    assert!(rt; has_written_member(alloc, NetExpr::Me)?);
+    assert!(rt; !has_written_member(alloc, NetExpr::Path(path(alloc, &["Box1"])?))?);
     Ok(())
 }
 
 #[test]
 fn takes_cases(rt: HostRuntime) -> Result<(), Fail> {
     let alloc = rt.alloc();
-    let mut cases = Sequence::new(alloc);
-    cases.push(NetCase::Value(NetExpr::Nothing))?;
-    assert!(rt; is_writable_line(&NetLine::Case(cases)));
-    assert!(rt; !is_writable_line(&NetLine::Case(Sequence::new(alloc))));
+    assert!(rt; is_written_case(alloc, Some(NetCase::Value(NetExpr::Nothing)))?);
+    assert!(rt; !is_written_case(alloc, None)?);
     Ok(())
 }
 
 #[test]
 fn takes_blocks_that_nest(rt: HostRuntime) -> Result<(), Fail> {
     let alloc = rt.alloc();
-    let nested = sub(alloc, NetLine::Do, NetLine::Loop)?;
-    assert!(rt; is_writable_member(alloc, &nested)?);
-    let crossed = sub(alloc, NetLine::Do, NetLine::Next)?;
-    assert!(rt; !is_writable_member(alloc, &crossed)?);
+    assert!(rt; is_written_sub(alloc, NetLine::Do, NetLine::Loop)?);
+    assert!(rt; !is_written_sub(alloc, NetLine::Do, NetLine::Next)?);
+    assert!(rt; !is_written_sub(alloc, NetLine::Do, NetLine::Resume)?);
     Ok(())
 }
 
 #[test]
 fn takes_properties(rt: HostRuntime) -> Result<(), Fail> {
     let alloc = rt.alloc();
-    let get = procedure(
-        alloc,
-        NetHead::Get,
-        NetLine::Resume,
-        NetLine::Resume,
-        NetClose::EndGet,
-    )?;
-    let with_get = property(alloc, Some(get))?;
-    assert!(rt; is_writable_member(alloc, &with_get)?);
-    let without_parts = property(alloc, None)?;
-    assert!(rt; !is_writable_member(alloc, &without_parts)?);
+    assert!(rt; is_written_property(alloc, Some(get_part(alloc)?))?);
+    assert!(rt; !is_written_property(alloc, None)?);
     Ok(())
 }
 
 #[test]
 fn takes_projects(rt: HostRuntime) -> Result<(), Fail> {
     let alloc = rt.alloc();
-    let written = library(alloc, "UpgradeSupport", None)?;
-    assert!(rt; is_writable(alloc, &written)?);
-    let other_name = library(alloc, "Support", None)?;
-    assert!(rt; !is_writable(alloc, &other_name)?);
-    let main = Name::make(alloc, b"Module1")?;
-    let with_main = library(alloc, "UpgradeSupport", Some(main))?;
-    assert!(rt; !is_writable(alloc, &with_main)?);
+    assert!(rt; is_written_project(alloc, true, "UpgradeSupport")?);
+    assert!(rt; !is_written_project(alloc, false, "UpgradeSupport")?);
+    assert!(rt; !is_written_project(alloc, true, "Support")?);
     Ok(())
 }
