@@ -1,6 +1,6 @@
 //! Which lines nest.
-ghost use Rattle.std.specs.Prelude.{◌≡◌, List, map, reverse, IfOk, OnOk};
-ghost use Rattle.net_tree.specs.Blocks.{fits_in, is_innermost, is_same_block, nests, nests_in, open_behind, role_of};
+ghost use Rattle.std.specs.Prelude.{◌≡◌, map, reverse, IfOk, OnOk};
+ghost use Rattle.net_tree.specs.Blocks.{fits_in, is_innermost, is_same_block, nests, open_behind};
 ghost use Rattle.net_tree.specs.View.{line_of};
 
 use net_tree::{NetBlock, NetLine, NetRole};

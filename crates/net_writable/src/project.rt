@@ -1,7 +1,7 @@
 //! Which modules and projects can be written.
-ghost use Rattle.std.specs.Prelude.{◌≡◌, ◌&&◌, ◌++◌, true, codes, is_none, length, map, IfOk};
+ghost use Rattle.std.specs.Prelude.{◌≡◌, ◌&&◌, true, is_none, map, IfOk};
 ghost use Rattle.std.specs.List.{list_all};
-ghost use Rattle.up_base.specs.Names.{is_name, is_printable};
+ghost use Rattle.up_base.specs.Names.{is_printable};
 ghost use Rattle.net_tree.specs.Declarations.{is_writable_member};
 ghost use Rattle.net_tree.specs.Text.{IsWritable, is_main, is_note, is_support, is_writable_module, written_modules};
 ghost use Rattle.net_tree.specs.View.{member_of, module_of, project_of};
