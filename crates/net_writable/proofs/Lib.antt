@@ -1,0 +1,4 @@
+mod Pairs
+mod Listed
+mod Decided
+mod FileNames
