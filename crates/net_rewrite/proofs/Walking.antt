@@ -14,8 +14,10 @@ use Rattle.net_rewrite.specs.Modules.{Comment, up_to, past, member_comments, all
 use Rattle.net_rewrite.specs.Procedures.{procedure_with}
 use Rattle.net_rewrite.specs.Projects.{untranslated_in, untranslated_members, untranslated_modules}
 use Rattle.net_rewrite.specs.Taken.{AreSame}
-use Rattle.net_rewrite.specs.Walks.{member_by, member_with, own_exprs, later_bodies, place_in, numbers_behind, IsNumbered, AreNumbered, AreNumberedIn, IsPlainWhereKept}
+use Rattle.net_rewrite.specs.Translated.{is_plain_sub, is_straight}
+use Rattle.net_rewrite.specs.Walks.{member_by, member_with, is_kept_procedure, member_left_out, kept_member, is_plain, own_exprs, later_bodies, place_in, numbers_behind, IsNumbered, AreNumbered, AreNumberedIn}
 use Rattle.net_rewrite.proofs.Kept.{kept_is_plain, kept_is_straight}
+use Rattle.net_rewrite.proofs.Lists.{and_true}
 use Rattle.net_rewrite.proofs.Marking.{same_before, same_behind, member_same}
 use Rattle.net_rewrite.proofs.WrittenProcedures.{own_procedure}
 
@@ -111,20 +113,46 @@ own_marked bs class p locals own taken (proc head body close) =
     ap (λ b. marked_member class locals own taken (exprs_at b) (proc head body close)) (first_left p bs)
 
 -- the lines of a member are marked so, with the locals and bound lines that the code has
-pub member_marked : (P : Bound) (class : Bool) (p : ℕ) (own taken : List (List ℕ)) (m : Member) (xs : List (Bool × Line)) (locals : List (ℕ × Variable)) (ess : List (List Expr))
+pub member_marked : (P : Bound) (class : Bool) (p : ℕ) (own taken : List (List ℕ)) (m : Member) (locals : List (ℕ × Variable)) (ess : List (List Expr))
     → locals ≡ locals_of P p → ess ≡ own_exprs m (drop p P.bodies) → AreSame taken (taken_names P.declarations.project.modules)
-    → xs ≡ marked_member class locals (own ++ taken) taken ess m → xs ≡ marked_lines P (place_in class p (own ++ taken)) m
-member_marked P class p own taken m xs locals ess el es g e =
-    e
-    ∙ ap (λ l. marked_member class l (own ++ taken) taken ess m) el
+    → marked_member class locals (own ++ taken) taken ess m ≡ marked_lines P (place_in class p (own ++ taken)) m
+member_marked P class p own taken m locals ess el es g =
+    ap (λ l. marked_member class l (own ++ taken) taken ess m) el
     ∙ ap (λ s. marked_member class (locals_of P p) (own ++ taken) taken s m) es
     ∙ own_marked P.bodies class p (locals_of P p) (own ++ taken) taken m
     ∙ marked_at P class p (own ++ taken) taken (own ++ taken) m (self (own ++ taken)) g
 
-pub plain_where_kept : (P : Bound) (at : Place6) (m : Member) → IsPlainWhereKept m (marked_lines P at m)
-plain_where_kept P at (alone l) = tt
-plain_where_kept P at (group head lines close) = tt
-plain_where_kept P at (proc head body close) = λ e. (kept_is_plain P at head body close e, kept_is_straight P at head body close e)
+-- a procedure that is kept is a Sub without blocks
+pub plain_where_kept : (P : Bound) (at : Place6) (m : Member) (xs : List (Bool × Line)) → xs ≡ marked_lines P at m → is_kept_procedure m xs ≡ true → is_plain m ≡ true
+plain_where_kept P at (alone l) xs ex e = absurd (cc e)
+plain_where_kept P at (group head lines close) xs ex e = absurd (cc e)
+plain_where_kept P at (proc head body close) xs ex e =
+    let kept = ap (is_kept_procedure (proc head body close)) (sym ex) ∙ e in
+    and_true (is_plain_sub head.form) (is_straight body) (kept_is_plain P at head body close kept) (kept_is_straight P at head body close kept)
+
+with_kept : (locals : List (ℕ × Variable)) (cs : List Comment) (ess : List (List Expr)) (m : Member) (xs : List (Bool × Line))
+    → member_with locals cs ess m xs ≡ cond (is_kept_procedure m xs) (kept_member locals cs ess m) (all_left_out cs xs)
+with_kept locals cs ess (alone l) xs = refl
+with_kept locals cs ess (group head lines close) xs = refl
+with_kept locals cs ess (proc head body close) xs = refl
+
+-- a procedure that is kept is put behind others, once nothing was left out of it
+pub kept_pushed : (before : List net.Member) (locals : List (ℕ × Variable)) (cs : List Comment) (ess : List (List Expr)) (m : Member) (xs : List (Bool × Line)) → is_kept_procedure m xs ≡ true
+    → (before ++ member_left_out cs m xs) ++ kept_member locals cs ess m ≡ before ++ member_with locals cs ess m xs
+kept_pushed before locals cs ess m xs e =
+    let own = kept_member locals cs ess m in
+    ap (λ b. (before ++ cond b [] (all_left_out cs xs)) ++ own) e
+    ∙ append_assoc before [] own
+    ∙ ap (λ b. before ++ cond b own (all_left_out cs xs)) (sym e)
+    ∙ ap (λ k. before ++ k) (sym (with_kept locals cs ess m xs))
+
+-- any other member is left out
+pub left_out_pushed : (before : List net.Member) (locals : List (ℕ × Variable)) (cs : List Comment) (ess : List (List Expr)) (m : Member) (xs : List (Bool × Line)) → is_kept_procedure m xs ≡ false
+    → before ++ member_left_out cs m xs ≡ before ++ member_with locals cs ess m xs
+left_out_pushed before locals cs ess m xs e =
+    ap (λ b. before ++ cond b [] (all_left_out cs xs)) e
+    ∙ ap (λ b. before ++ cond b (kept_member locals cs ess m) (all_left_out cs xs)) (sym e)
+    ∙ ap (λ k. before ++ k) (sym (with_kept locals cs ess m xs))
 
 kept_alike : (kept : Bool) (front : List net.Member) (a b : net.Procedure) (others : List net.Member) → (kept ≡ true → a ≡ b)
     → cond kept (front ++ net.proc a ∷ []) others ≡ cond kept (front ++ net.proc b ∷ []) others
@@ -186,6 +214,11 @@ places_turn P file class p q own new taken m ms before after all eq h inv more =
     ∙ ap (λ k. before ++ k) (sym (places_step P file class p own new taken m ms h))
     ∙ inv
 
+pub first_numbered : (P : Bound) (p : ℕ) (m : Member) (ms all : List Member) → all ≡ m ∷ ms → AreNumbered P p all → IsNumbered P p m
+first_numbered P p m ms all e h =
+    let here : AreNumbered P p (m ∷ ms) = subst (AreNumbered P p) e h in
+    here.0
+
 pub numbered_turn : (P : Bound) (p q : ℕ) (m : Member) (ms all : List Member) → all ≡ m ∷ ms → q ≡ number_behind p m → AreNumbered P p all → AreNumbered P q ms
 numbered_turn P p q m ms all e eq h =
     let here : AreNumbered P p (m ∷ ms) = subst (AreNumbered P p) e h in
@@ -229,6 +262,11 @@ module_places_turn P p q m ms before after all eq inv more =
     ∙ ap (λ k. k ++ untranslated_modules P (behind_all at m.members).procedure ms) more
     ∙ append_assoc before here (untranslated_modules P (behind_all at m.members).procedure ms)
     ∙ inv
+
+pub first_module_numbered : (P : Bound) (p : ℕ) (m : Module) (ms all : List Module) → all ≡ m ∷ ms → AreNumberedIn P p all → AreNumbered P p m.members
+first_module_numbered P p m ms all e h =
+    let here : AreNumberedIn P p (m ∷ ms) = subst (AreNumberedIn P p) e h in
+    here.0
 
 pub modules_numbered_turn : (P : Bound) (p q : ℕ) (m : Module) (ms all : List Module) → all ≡ m ∷ ms → q ≡ numbers_behind p m.members → AreNumberedIn P p all → AreNumberedIn P q ms
 modules_numbered_turn P p q m ms all e eq h =

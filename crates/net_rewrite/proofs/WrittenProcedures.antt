@@ -1,17 +1,22 @@
 -- A procedure that is translated is written as the code has it.
-use Rattle.std.proofs.Common.{◌≡◌, ℕ, zero, suc, true, List, [], ◌∷◌, ◌++◌, map, Option, Some, None, append_assoc, refl, sym, ap, ◌∙◌}
+use Rattle.std.proofs.Common.{◌≡◌, ℕ, zero, suc, true, false, cond, List, [], ◌∷◌, ◌++◌, map, Option, Some, None, append_assoc, refl, sym, ap, ◌∙◌}
 use Rattle.std.specs.Prelude.{slice_get}
+use Rattle.vb_tree.specs.Blocks.{is_code}
 use Rattle.vb_tree.specs.BoundTree.{Variable, Expr, Body, Bound}
+use Rattle.vb_tree.specs.declared.module.Block6.{Block6, Block6'}
 use Rattle.vb_tree.specs.FlatLines.{Flat, flat_body, flat_lines, code_lines}
-use Rattle.vb_tree.specs.Tree.{Form, Line, Nodes, Signature, sub_head}
+use Rattle.vb_tree.specs.Tree.{Form, Line, Node, Nodes, next_node, Signature, sub_head}
+use Rattle.vb_tree.specs.Tree as tree
+use Rattle.vb_tree.specs.View.{block_in}
 use Rattle.vb6_run.specs.Program.{Written, with_exprs, lines_from, bound_lines, locals_of, procedures_of}
 use Rattle.net_tree.specs.declared.declaration.NetClose.TheVariants.{EndSub}
 use Rattle.net_tree.specs.Tree as net
 use Rattle.net_rewrite.specs.Marks.{first_exprs, later_exprs, exprs_at}
 use Rattle.net_rewrite.specs.Modules.{Comment, up_to, past, comment_lines, with_comments, lines_at, written_head, written_procedure}
 use Rattle.net_rewrite.specs.Procedures.{commented, procedure_on, procedure_with, sub_in}
-use Rattle.net_rewrite.specs.Translated.{is_plain_sub, is_straight}
+use Rattle.net_rewrite.specs.Translated.{is_plain_sub, is_straight, is_straight_node}
 use Rattle.net_rewrite.specs.Written.{line_of, written_local}
+use Rattle.net_rewrite.proofs.Lists.{both_true}
 use Rattle.net_rewrite.proofs.Straight.{numbered, straight_body}
 
 abbrev lines_in : List Flat → List Line
@@ -75,6 +80,26 @@ own_procedure P p cs head close body e plain straight =
     let s = plain_sub head.form plain in
     ap (λ f. procedure_with (locals_of P p) cs f (code_lines (flat_lines body)) (exprs_at (slice_get P.bodies p)) close.place.line) (found head.form s.0 s.1)
     ∙ sym (sub_is P p cs s.0 head close body e straight s.1)
+
+-- no block stands in a body without blocks
+pub no_block : (a : Block6) → is_straight_node (block_in a) ≡ true → ⊥
+no_block (Block6' head shape body shape' middles close) e = cc e
+
+-- a node more that is a line: a code line is among the code lines, a declaration isn't
+line_first : (a : Node) (l : Line) (ns : Nodes) → a ≡ tree.line l → code_lines (flat_lines (next_node a ns)) ≡ cond (is_code l.form) (l ∷ code_lines (flat_lines ns)) (code_lines (flat_lines ns))
+line_first a l ns e = ap (λ x. code_lines (flat_lines (next_node x ns))) e
+
+pub code_first : (a : Node) (l : Line) (ns : Nodes) → a ≡ tree.line l → is_code l.form ≡ true → code_lines (flat_lines (next_node a ns)) ≡ l ∷ code_lines (flat_lines ns)
+code_first a l ns e i = line_first a l ns e ∙ ap (λ b. cond b (l ∷ code_lines (flat_lines ns)) (code_lines (flat_lines ns))) i
+
+pub code_passed : (a : Node) (l : Line) (ns : Nodes) → a ≡ tree.line l → is_code l.form ≡ false → code_lines (flat_lines (next_node a ns)) ≡ code_lines (flat_lines ns)
+code_passed a l ns e i = line_first a l ns e ∙ ap (λ b. cond b (l ∷ code_lines (flat_lines ns)) (code_lines (flat_lines ns))) i
+
+pub straight_first : (a : Node) (ns all : Nodes) → all ≡ next_node a ns → is_straight all ≡ true → is_straight_node a ≡ true
+straight_first a ns all e h = (both_true (is_straight_node a) (is_straight ns) (ap is_straight (sym e) ∙ h)).0
+
+pub straight_rest : (a : Node) (ns all : Nodes) → all ≡ next_node a ns → is_straight all ≡ true → is_straight ns ≡ true
+straight_rest a ns all e h = (both_true (is_straight_node a) (is_straight ns) (ap is_straight (sym e) ∙ h)).1
 
 -- a code line more
 pub line_turn : (locals : List (ℕ × Variable)) (cs rest : List Comment) (l : Line) (ls all_lines : List Line) (es later : List (List Expr)) (close : ℕ) (before after all : List net.Line)

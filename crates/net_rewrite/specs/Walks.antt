@@ -1,5 +1,5 @@
 -- What is written for members by the marks of their lines, and places by what is known of the names round them.
-use Rattle.std.specs.Prelude.{◌≡◌, ℕ, Bool, true, not, cond, drop, List, [], ◌∷◌, ◌++◌, Option, Some, None, slice_get}
+use Rattle.std.specs.Prelude.{◌≡◌, ℕ, Bool, false, not, ◌&&◌, cond, drop, List, [], ◌∷◌, ◌++◌, Option, Some, None, slice_get}
 use Rattle.std.specs.List.{list_all}
 use Rattle.vb_tree.specs.BoundTree.{Variable, Expr, Body, Bound}
 use Rattle.vb_tree.specs.FlatLines.{code_lines, flat_lines}
@@ -30,11 +30,29 @@ member_with locals cs ess (proc head body close) xs =
     ++ net.proc (procedure_with locals (past head.place.line cs) head.form (code_lines (flat_lines body)) ess close.place.line) ∷ [])
     (all_left_out cs xs)
 
--- where all lines of a procedure are translated, it is a Sub without blocks
-abbrev pub IsPlainWhereKept : Member → List (Bool × Line) → Type 0
-IsPlainWhereKept (alone l) xs = Unit {0}
-IsPlainWhereKept (group head lines close) xs = Unit {0}
-IsPlainWhereKept (proc head body close) xs = list_all (λ (x : Bool × Line). not x.0) xs ≡ true → (is_plain_sub head.form ≡ true) × (is_straight body ≡ true)
+-- whether a member is a procedure all of whose lines are translated, where they are marked so
+abbrev pub is_kept_procedure : Member → List (Bool × Line) → Bool
+is_kept_procedure (alone l) xs = false
+is_kept_procedure (group head lines close) xs = false
+is_kept_procedure (proc head body close) xs = list_all (λ (x : Bool × Line). not x.0) xs
+
+-- what is written for any other member, and nothing for such a procedure
+abbrev pub member_left_out : List Comment → Member → List (Bool × Line) → List net.Member
+member_left_out cs m xs = cond (is_kept_procedure m xs) [] (all_left_out cs xs)
+
+-- what is written for such a procedure, from the locals and the bound lines of its own
+abbrev pub kept_member : List (ℕ × Variable) → List Comment → List (List Expr) → Member → List net.Member
+kept_member locals cs ess (alone l) = []
+kept_member locals cs ess (group head lines close) = []
+kept_member locals cs ess (proc head body close) =
+    member_comments (up_to head.place.line cs)
+    ++ net.proc (procedure_with locals (past head.place.line cs) head.form (code_lines (flat_lines body)) ess close.place.line) ∷ []
+
+-- a Sub without parameters and without blocks
+abbrev pub is_plain : Member → Bool
+is_plain (alone l) = false
+is_plain (group head lines close) = false
+is_plain (proc head body close) = is_plain_sub head.form && is_straight body
 
 -- of the bodies of the procedures from a member on, the bound lines of its own
 abbrev pub own_exprs : Member → List Body → List (List Expr)

@@ -1,24 +1,22 @@
 //! Members of modules.
-ghost use Rattle.std.specs.Prelude.{◌≡◌, ◌++◌, ◌∷◌, [], map, IfOk, OnOk};
+ghost use Rattle.std.specs.Prelude.{◌≡◌, ◌++◌, ◌∷◌, [], true, map, IfOk, OnOk};
 ghost use Rattle.vb_tree.specs.BoundView.{expr_of};
-ghost use Rattle.vb_tree.specs.Tree as tree;
-ghost use Rattle.vb_tree.specs.View.{line_of, member_of, nodes_of};
+ghost use Rattle.vb_tree.specs.View.{member_of};
 ghost use Rattle.net_tree.specs.View as net_view;
 ghost use Rattle.net_rewrite.specs.Marks as rule;
 ghost use Rattle.net_rewrite.specs.Modules.{end_of};
 ghost use Rattle.net_rewrite.specs.Projects.{untranslated_in};
 ghost use Rattle.net_rewrite.specs.View.{local_of, marked_of};
-ghost use Rattle.net_rewrite.specs.Walks.{member_with, IsPlainWhereKept};
+ghost use Rattle.net_rewrite.specs.Walks.{is_kept_procedure, is_plain, kept_member};
 
 use crate::comments::Comment;
 use crate::kept_procedure::push_kept;
-use crate::left_out::push_all_left_out;
 use crate::local::Local;
 use crate::marked::{MarkedLine, are_kept};
 use net_tree::NetMember;
 use std::alloc::Global;
 use up_base::{Mem, Place, Sequence};
-use vb_tree::{BoundExpr, CodeLine, Member6, Node6};
+use vb_tree::{BoundExpr, Member6};
 
 // Puts the places of lines of a file that aren't translated behind others.
 pub(crate) fn push_places(
@@ -48,58 +46,39 @@ fn push_place(places: &mut Vec<Place>, file: u32, marked: &MarkedLine) -> Result
     Ok(())
 }
 
-// Puts what is written for a procedure whose lines are marked behind other members.
-fn push_procedure(
-    alloc: Global,
-    members: &mut Vec<NetMember>,
-    locals: &[Local],
-    comments: &[Comment],
-    lines: &[MarkedLine],
-    head: &CodeLine,
-    body: &[Node6],
-    close: &CodeLine,
-    exprs: Sequence<Sequence<BoundExpr>>,
-) -> Result<(), Mem>
-    requires { IsPlainWhereKept (tree.proc (line_of head.now) (nodes_of body.now) (line_of close.now)) (map marked_of lines.now) }
-    ensures { OnOk result (map net_view.member_of members.new.items ≡ map net_view.member_of members.old.items
-        ++ member_with (map local_of locals.now) comments.now (map (map expr_of) exprs) (tree.proc (line_of head.now) (nodes_of body.now) (line_of close.now)) (map marked_of lines.now)) }
-{
-    if are_kept(lines) {
-        push_kept(alloc, members, locals, comments, head, body, close, exprs)?;
-        return Ok(());
-    }
-    push_all_left_out(alloc, members, comments, lines)?;
-    Ok(())
-}
-
-/// Puts what is written for a member whose lines are marked behind others, with the locals and the bound lines of its own.
-pub(crate) fn push_member(
-    alloc: Global,
-    members: &mut Vec<NetMember>,
-    locals: &[Local],
-    comments: &[Comment],
-    lines: &[MarkedLine],
-    member: &Member6,
-    exprs: Sequence<Sequence<BoundExpr>>,
-) -> Result<(), Mem>
-    requires { IsPlainWhereKept (member_of member.now) (map marked_of lines.now) }
-    ensures { OnOk result (map net_view.member_of members.new.items ≡ map net_view.member_of members.old.items
-        ++ member_with (map local_of locals.now) comments.now (map (map expr_of) exprs) (member_of member.now) (map marked_of lines.now)) }
+/// Whether a member is a procedure all of whose lines are translated, by their marks.
+pub(crate) fn is_kept_procedure(member: &Member6, lines: &[MarkedLine]) -> bool
+    ensures { result ≡ is_kept_procedure (member_of member.now) (map marked_of lines.now) }
 {
     match member {
-        Member6::Line(_) => {
-            push_all_left_out(alloc, members, comments, lines)?;
-            Ok(())
-        }
-        Member6::Group(_, _, _) => {
-            push_all_left_out(alloc, members, comments, lines)?;
-            Ok(())
-        }
+        Member6::Line(_) => false,
+        Member6::Group(_, _, _) => false,
+        Member6::Proc(_, _, _) => are_kept(lines),
+    }
+}
+
+/// Puts what is written for a procedure all of whose lines are translated behind other members, with the locals and the bound
+/// lines of its own. Each line of its body is let go of once it is written.
+#[tactic(auto, using(crate::proofs::Lists::both_true))]
+pub(crate) fn push_procedure(
+    alloc: Global,
+    members: &mut Vec<NetMember>,
+    locals: &[Local],
+    comments: &[Comment],
+    member: Member6,
+    exprs: Sequence<Sequence<BoundExpr>>,
+) -> Result<(), Mem>
+    requires { is_plain (member_of member) ≡ true }
+    ensures { OnOk result (map net_view.member_of members.new.items ≡ map net_view.member_of members.old.items
+        ++ kept_member (map local_of locals.now) comments.now (map (map expr_of) exprs) (member_of member)) }
+{
+    match member {
+        Member6::Line(_) => unreachable!(),
+        Member6::Group(_, _, _) => unreachable!(),
         Member6::Proc(head, body, close) => {
-            let nodes = body.as_slice();
-            push_procedure(
-                alloc, members, locals, comments, lines, head, nodes, close, exprs,
-            )?;
+            let nodes = body.into_vec();
+            let end = close.place.line;
+            push_kept(alloc, members, locals, comments, &head, nodes, end, exprs)?;
             Ok(())
         }
     }

@@ -1,13 +1,16 @@
 //! Procedures.
-ghost use Rattle.std.specs.Prelude.{◌≡◌, ◌++◌, ◌∷◌, [], map, IfOk, OnOk};
+ghost use Rattle.std.specs.Prelude.{◌≡◌, ◌++◌, ◌∷◌, [], true, map, IfOk, OnOk};
+ghost use Rattle.vb_tree.specs.FlatLines.{code_lines, flat_lines};
+ghost use Rattle.vb_tree.specs.Tree as tree;
 ghost use Rattle.vb_tree.specs.Tree.{sub_head};
-ghost use Rattle.vb_tree.specs.View.{signature_of};
+ghost use Rattle.vb_tree.specs.View.{signature_of, node_of, nodes_of};
 ghost use Rattle.vb_tree.specs.View as view;
 ghost use Rattle.vb_tree.specs.BoundView.{type_of, expr_of};
 ghost use Rattle.net_tree.specs.View.{line_of, dim_of, head_of, procedure_of, type_name_of};
 ghost use Rattle.net_rewrite.specs.View.{local_of};
 ghost use Rattle.net_rewrite.specs.Modules.{written_visibility, written_head, comment_lines, up_to};
 ghost use Rattle.net_rewrite.specs.Procedures.{commented, procedure_on};
+ghost use Rattle.net_rewrite.specs.Translated.{is_straight, is_straight_node};
 ghost use Rattle.net_rewrite.specs.Written as written;
 ghost use Rattle.net_rewrite.specs.Written.{net_type, written_local};
 
@@ -19,7 +22,7 @@ use net_tree::{NetClose, NetDim, NetHead, NetLine, NetProc, NetType, NetVariable
 use std::alloc::Global;
 use std::collections::VecDeque;
 use up_base::{Mem, Sequence};
-use vb_tree::{BoundExpr, CodeLine, Signature6, Type6, Visibility};
+use vb_tree::{BoundExpr, CodeLine, Node6, Signature6, Type6, Visibility};
 
 fn net_type(ty: &Type6) -> NetType
     ensures { type_name_of result ≡ net_type (type_of ty.now) }
@@ -94,42 +97,61 @@ fn push_line(
     Ok(())
 }
 
-// The code lines with the comments before each, and those before the closing line. The expressions of a line are let go of
-// once it is written.
+// The line that stands at a node of a body without blocks.
+#[tactic(auto, using(crate::proofs::WrittenProcedures::no_block))]
+fn line_at(node: Node6) -> CodeLine
+    requires { is_straight_node (node_of node) ≡ true }
+    ensures { node_of node ≡ tree.line (view.line_of result) }
+{
+    match node {
+        Node6::Line(line) => line,
+        Node6::Block(_) => unreachable!(),
+    }
+}
+
+// The code lines of a body without blocks, with the comments before each, and those before the closing line. A line and its
+// expressions are let go of once it is written.
 fn body(
     alloc: Global,
     locals: &[Local],
     comments: &[Comment],
-    code: &[&CodeLine],
+    nodes: Vec<Node6>,
     exprs: VecDeque<Sequence<BoundExpr>>,
     close: u32,
 ) -> Result<Vec<NetLine>, Mem>
-    ensures { IfOk result (λ lines. map line_of lines.items ≡ commented (map local_of locals.now) comments.now (map (λ l. view.line_of l.now) code.now) (map (map expr_of) exprs.items) close) }
+    requires { is_straight (nodes_of nodes.items) ≡ true }
+    ensures { IfOk result (λ lines. map line_of lines.items ≡ commented (map local_of locals.now) comments.now (code_lines (flat_lines (nodes_of nodes.items))) (map (map expr_of) exprs.items) close) }
 {
-    let mut lines = Vec::new(alloc);
+    let mut lines = Vec::with_capacity(alloc, nodes.len())?;
     let mut rest = comments;
     let mut left = exprs;
-    for line in code {
+    for node in nodes {
+        let line = line_at(node);
+        if !line.form.is_code() {
+            continue;
+        }
         let own = take_exprs(alloc, &mut left);
-        push_line(alloc, &mut lines, locals, rest, line, own.as_slice())?;
+        push_line(alloc, &mut lines, locals, rest, &line, own.as_slice())?;
         rest = past(rest, line.place.line);
     }
     push_lines(alloc, &mut lines, rest, close)?;
+    lines.shrink_to_fit();
     Ok(lines)
 }
 
-/// What is written for a Sub: its locals, the comments behind its head, its code lines and their expressions, and the line
-/// of its closing line.
-pub fn procedure(
+/// What is written for a Sub without blocks: its locals, the comments behind its head, its body and the expressions of its
+/// code lines, and the line of its closing line. Each line of the body is let go of once it is written.
+pub(crate) fn procedure(
     alloc: Global,
     locals: &[Local],
     comments: &[Comment],
     signature: &Signature6,
-    code: &[&CodeLine],
+    nodes: Vec<Node6>,
     exprs: Sequence<Sequence<BoundExpr>>,
     close: u32,
 ) -> Result<NetProc, Mem>
-    ensures { IfOk result (λ p. procedure_of p ≡ procedure_on (map local_of locals.now) comments.now (signature_of signature.now) (map (λ l. view.line_of l.now) code.now) (map (map expr_of) exprs) close) }
+    requires { is_straight (nodes_of nodes.items) ≡ true }
+    ensures { IfOk result (λ p. procedure_of p ≡ procedure_on (map local_of locals.now) comments.now (signature_of signature.now) (code_lines (flat_lines (nodes_of nodes.items))) (map (map expr_of) exprs) close) }
 {
     Ok(NetProc {
         head: head(alloc, signature)?,
@@ -138,7 +160,7 @@ pub fn procedure(
             alloc,
             locals,
             comments,
-            code,
+            nodes,
             VecDeque::from(exprs.into_vec()),
             close,
         )?,

@@ -33,8 +33,8 @@ pub fn rewrite(alloc: Global, bound: Bound) -> Result<Rewritten, Mem>
         bodies,
         ..
     } = bound;
-    let MadeModules { modules, places } = made_modules(alloc, &declared, bodies.into_vec())?;
     let main = main_module(alloc, &declared.project)?;
+    let MadeModules { modules, places } = made_modules(alloc, declared, bodies.into_vec())?;
     let support = support_module(alloc, &modules)?;
     Ok(Rewritten {
         project: NetProject {

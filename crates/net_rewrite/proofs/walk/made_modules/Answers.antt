@@ -11,10 +11,12 @@ use Rattle.net_rewrite.proofs.walk.made_modules.Goals as goal
 
 pub make_modules-requires : goal.make_modules-requires
 make_modules-requires g c =
-    let modules = ap (map module_of) c.as_slice-given.ensures ∙ sym (ap (λ (w : Bound). w.declarations.project.modules) c.requires) in (
-      λ p. c.in_ok-locals.ensures p ∙ ap (λ vs. locals_from p 0 (map variable_of vs)) c.as_slice.ensures ∙ sym (ap (λ (w : Bound). locals_of w p) c.requires),
+    let modules = sym (ap (λ (w : Bound). w.declarations.project.modules) c.requires) in
+    let seen = ap (map module_of) c.as_slice.ensures ∙ modules in
+    let given = ap (map module_of) c.into_vec-given.ensures ∙ modules in (
+      λ p. c.in_ok-locals.ensures p ∙ ap (λ vs. locals_from p 0 (map variable_of vs)) c.as_slice-2.ensures ∙ sym (ap (λ (w : Bound). locals_of w p) c.requires),
       (
-        subst (λ ms. AreSame c.in_ok-taken.taken (taken_names ms)) modules c.in_ok-taken.ensures,
-        (subst (AreNumberedIn g.whole 0) (sym modules) (all_numbered g.whole), ap (map body_of) c.from.ensures.0 ∙ sym (ap (λ (w : Bound). w.bodies) c.requires)),
+        subst (λ ms. AreSame c.in_ok-taken.taken (taken_names ms)) seen c.in_ok-taken.ensures,
+        (subst (AreNumberedIn g.whole 0) (sym given) (all_numbered g.whole), ap (map body_of) c.from.ensures.0 ∙ sym (ap (λ (w : Bound). w.bodies) c.requires)),
       ),
     )

@@ -12,13 +12,13 @@ ghost-make_member g a = g.whole
 
 abbrev pub invariant-loop-member : goal.invariant-loop-member
 invariant-loop-member g l = record {
-  numbered : AreNumbered g.whole l.number (map member_of (drop l.member-index l.given));
+  numbered : AreNumbered g.whole l.number (map member_of l.member-iterator.rest.items);
   members :
-      map net_view.member_of l.made.members.items ++ written_members g.whole (place_in l.class l.number (l.own ++ l.taken)) l.rest (map member_of (drop l.member-index l.given))
-      ≡ written_members g.whole (place_in l.class l.first (l.initial.own ++ l.taken)) l.comments (map member_of l.given);
+      map net_view.member_of l.made.members.items ++ written_members g.whole (place_in l.class l.number (l.own ++ l.taken)) l.rest (map member_of l.member-iterator.rest.items)
+      ≡ written_members g.whole (place_in l.class l.first (l.initial.own ++ l.taken)) l.comments (map member_of l.fn.given.items);
   places :
-      l.made.places.items ++ untranslated_members g.whole l.file (place_in l.class l.number (l.own ++ l.taken)) (map member_of (drop l.member-index l.given))
-      ≡ untranslated_members g.whole l.file (place_in l.class l.first (l.initial.own ++ l.taken)) (map member_of l.given);
+      l.made.places.items ++ untranslated_members g.whole l.file (place_in l.class l.number (l.own ++ l.taken)) (map member_of l.member-iterator.rest.items)
+      ≡ untranslated_members g.whole l.file (place_in l.class l.first (l.initial.own ++ l.taken)) (map member_of l.fn.given.items);
   bodies : map body_of l.bodies.items ≡ drop l.number g.whole.bodies;
-  numbers : numbers_behind l.number (map member_of (drop l.member-index l.given)) ≡ numbers_behind l.first (map member_of l.given);
+  numbers : numbers_behind l.number (map member_of l.member-iterator.rest.items) ≡ numbers_behind l.first (map member_of l.fn.given.items);
 }

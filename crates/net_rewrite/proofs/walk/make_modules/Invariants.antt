@@ -12,12 +12,12 @@ ghost-make_module g a = g.whole
 
 abbrev pub invariant-loop-one : goal.invariant-loop-one
 invariant-loop-one g l = record {
-  numbered : AreNumberedIn g.whole l.number (map module_of (drop l.one-index l.given));
+  numbered : AreNumberedIn g.whole l.number (map module_of l.one-iterator.rest.items);
   modules :
-      map net_view.module_of l.made.modules.items ++ written_modules g.whole l.number (map module_of (drop l.one-index l.given))
-      ≡ written_modules g.whole 0 (map module_of l.given);
+      map net_view.module_of l.made.modules.items ++ written_modules g.whole l.number (map module_of l.one-iterator.rest.items)
+      ≡ written_modules g.whole 0 (map module_of l.fn.given.items);
   places :
-      l.made.places.items ++ untranslated_modules g.whole l.number (map module_of (drop l.one-index l.given))
-      ≡ untranslated_modules g.whole 0 (map module_of l.given);
+      l.made.places.items ++ untranslated_modules g.whole l.number (map module_of l.one-iterator.rest.items)
+      ≡ untranslated_modules g.whole 0 (map module_of l.fn.given.items);
   bodies : map body_of l.left.items ≡ drop l.number g.whole.bodies;
 }
