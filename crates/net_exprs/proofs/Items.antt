@@ -7,7 +7,7 @@ use Rattle.net_exprs.specs.Answers.{Misfits}
 use Rattle.net_exprs.specs.Readers.{after, behind, past}
 use Rattle.net_exprs.specs.Expressions.{items_behind, items_from}
 use Rattle.net_exprs.specs.Fitting.{fits_exp, fits_exps}
-use Rattle.net_exprs.proofs.Words.{by_test}
+use Rattle.net_exprs.proofs.Words.{both_true, by_test}
 
 abbrev Found : Type 0
 Found = Option (Exps × List ℕ)
@@ -83,7 +83,11 @@ items_stop read text before rest e b end left h less closing = go left.most left
     go zero long is = absurd (omega (arith, less, long))
     go (suc n) long is = is ∙ ap (with_items before) (from_item read n rest e b (Some end) (after (codes ", ") b) h closing refl)
 
--- ---- items that don't fit
+-- ---- items that fit, and items that don't
+
+pub items_fit : (es : Exps) (e : Exp) → fits_exps es ≡ true → fits_exp e ≡ true → fits_exps (append_exps es (next_exp e no_exps)) ≡ true
+items_fit no_exps e h k = rw k refl
+items_fit (next_exp d es) e h k = let parts = both_true (fits_exp d) (fits_exps es) h in rw (parts.0, items_fit es e parts.1 k) refl
 
 append_misfits : (es : Exps) (e : Exp) (fs : Exps) → fits_exp e ≡ false → fits_exps (append_exps es (next_exp e fs)) ≡ false
 append_misfits no_exps e fs h = rw h refl

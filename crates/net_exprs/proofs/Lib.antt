@@ -16,4 +16,5 @@ pub mod Quotes
 pub mod Staging
 pub mod Steps
 pub mod Items
+pub mod Depths
 mod Examples

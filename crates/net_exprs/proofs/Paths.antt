@@ -1,6 +1,7 @@
 -- A path that is read name by name.
 use Rattle.std.proofs.Common.{◌≡◌, ℕ, zero, suc, ◌+◌, ◌≤◌, ◌<◌, Bool, true, false, ◌&&◌, ◌==◌, if◌then◌else◌, List, [], ◌∷◌, ◌++◌, length, codes, refl, sym, ap, ◌∙◌, arith, append_assoc, Option, Some, None}
 use Rattle.std.specs.List.{list_all}
+use Rattle.std.proofs.lemmas.List.Folds.{list_all-append}
 use Rattle.up_base.specs.Names.{is_name}
 use Rattle.net_exprs.specs.Answers.{Misfits}
 use Rattle.net_exprs.specs.Fitting.{fits_name, fits_path}
@@ -54,7 +55,10 @@ path_goes_on text before rest name b more left h less stop fewer = go left.most 
       is = is ∙ ap (with_names before) (from_name (suc k) rest name b h ∙ ap (stopped (path_from (suc k)) name b) stop) ∙ again (path_from (suc k) more);
     }
 
--- ---- names that don't fit
+-- ---- names that fit, and names that don't
+
+pub path_fits : (names : List (List ℕ)) (name : List ℕ) → fits_path names ≡ true → fits_name name ≡ true → fits_path (names ++ name ∷ []) ≡ true
+path_fits names name h k = list_all-append is_name names (name ∷ []) ∙ rw (h, k) refl
 
 all_behind : (p : List ℕ → Bool) (xs ys : List (List ℕ)) → list_all p ys ≡ false → list_all p (xs ++ ys) ≡ false
 all_behind p [] ys h = h

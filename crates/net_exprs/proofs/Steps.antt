@@ -59,7 +59,7 @@ object_fits t [] = and_true (fits_type t)
 object_fits t (r ∷ []) = and_true (fits_type t)
 object_fits t (r ∷ q ∷ ranks) = ap (λ b. b && true) (object_fits t (q ∷ ranks)) ∙ and_true (fits_type t)
 
-value_fits : (stage : Stage) → fits_exp (value_of stage) ≡ fits_stage stage
+pub value_fits : (stage : Stage) → fits_exp (value_of stage) ≡ fits_stage stage
 value_fits (whole e) = refl
 value_fits (ranked t ranks) = object_fits t ranks
 value_fits (bounded t [] bounds) = refl

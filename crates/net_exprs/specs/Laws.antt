@@ -59,6 +59,14 @@ ShallowArgumentsAreRead =
     (es : Exps) (rest : List ℕ) → are_shallow es ≡ true → are_writable_exps es ≡ true → fits_exps es ≡ true
     → arguments_nested most_nested (arguments_text es ++ rest) ≡ Some (es, rest)
 
+-- An expression that is read in some room is no deeper than that.
+abbrev pub ReadExpressionsAreShallow : Type 0
+ReadExpressionsAreShallow = (room : ℕ) (s : List ℕ) (e : Exp) (rest : List ℕ) → exp_nested room s ≡ Some (e, rest) → depth_exp e ≤ room
+
+-- None of the arguments that are read in some room is deeper than that.
+abbrev pub ReadArgumentsAreShallow : Type 0
+ReadArgumentsAreShallow = (room : ℕ) (s : List ℕ) (es : Exps) (rest : List ℕ) → arguments_nested room s ≡ Some (es, rest) → depth_exps es ≤ room
+
 -- whether all of a text is printable, so that it holds no end of a line
 abbrev pub stays_within_line : List ℕ → Bool
 stays_within_line text = list_all is_printable text

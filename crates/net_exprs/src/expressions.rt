@@ -2,7 +2,7 @@
 ghost use Rattle.std.specs.Prelude.{◌≡◌, ◌<◌, ◌≤◌, true, length, IfOk};
 ghost use Rattle.net_tree.specs.View.{exp_of, exps_of};
 ghost use Rattle.net_exprs.specs.Answers.{Answers};
-ghost use Rattle.net_exprs.specs.Depth.{most_nested};
+ghost use Rattle.net_exprs.specs.Depth.{are_shallow, is_shallow, most_nested};
 ghost use Rattle.net_exprs.specs.Expressions.{arguments_nested, arguments_of, exp_nested, front_of, group_at, head_at, items_from, nest_behind, operand_behind};
 ghost use Rattle.net_exprs.specs.Readers.{behind};
 ghost use Rattle.net_exprs.specs.Fitting.{fits_exp, fits_exps};
@@ -26,6 +26,7 @@ const MOST_NESTED: u16 = 1000;
 fn expression(alloc: Global, text: &[u8], room: u16) -> Result<(NetExpr, &[u8]), PhraseFail>
     ensures answers { Answers exp_of fits_exp (exp_nested room text.now) result }
     ensures shorter { IfOk result (λ read. length read.1.now < length text.now) }
+    ensures held { IfOk result (λ read. fits_exp (exp_of read.0) ≡ true) }
 {
     if room == 0 {
         return Err(PhraseFail::NotNet);
@@ -44,6 +45,7 @@ fn expression(alloc: Global, text: &[u8], room: u16) -> Result<(NetExpr, &[u8]),
 fn head(alloc: Global, text: &[u8], room: u16) -> Result<(Stage, &[u8]), PhraseFail>
     ensures answers { Answers stage_view fits_stage (head_at (exp_nested room) text.now) result }
     ensures shorter { IfOk result (λ read. length read.1.now < length text.now) }
+    ensures held { IfOk result (λ read. fits_stage (stage_view read.0) ≡ true) }
 {
     let (opening, rest) = read_opening(alloc, text)?;
     match opening {
@@ -57,6 +59,7 @@ fn head(alloc: Global, text: &[u8], room: u16) -> Result<(Stage, &[u8]), PhraseF
 fn nested(alloc: Global, nest: Nest, text: &[u8], room: u16) -> Result<(Stage, &[u8]), PhraseFail>
     ensures answers { Answers stage_view fits_stage (behind (exp_nested room text.now) (nest_behind (exp_nested room) nest)) result }
     ensures shorter { IfOk result (λ read. length read.1.now < length text.now) }
+    ensures held { IfOk result (λ read. fits_stage (stage_view read.0) ≡ true) }
 {
     let (operand, rest) = expression(alloc, text, room)?;
     match nest {
@@ -78,6 +81,7 @@ fn parenthesized(
 ) -> Result<(Stage, &[u8]), PhraseFail>
     ensures answers { Answers stage_view fits_stage (operand_behind (exp_nested room) (exp_of left) text.now) result }
     ensures shorter { IfOk result (λ read. length read.1.now ≤ length text.now) }
+    ensures held { fits_exp (exp_of left) ≡ true → IfOk result (λ read. fits_stage (stage_view read.0) ≡ true) }
 {
     if let Some(rest) = after(b")", text) {
         return Ok((paren(alloc, left)?, rest));
@@ -94,6 +98,7 @@ fn parenthesized(
 fn suffix(alloc: Global, stage: Stage, text: &[u8], room: u16) -> Result<(Stage, &[u8]), PhraseFail>
     ensures answers { Answers stage_view fits_stage (suffix_step (group_at (exp_nested room)) (stage_view stage) text.now) result }
     ensures shorter { IfOk result (λ read. length read.1.now < length text.now) }
+    ensures held { fits_stage (stage_view stage) ≡ true → IfOk result (λ read. fits_stage (stage_view read.0) ≡ true) }
 {
     if let Some(rest) = after(b".", text) {
         return member(alloc, stage, rest);
@@ -112,6 +117,7 @@ fn suffix(alloc: Global, stage: Stage, text: &[u8], room: u16) -> Result<(Stage,
 fn called(alloc: Global, stage: Stage, text: &[u8], room: u16) -> Result<(Stage, &[u8]), PhraseFail>
     ensures answers { Answers stage_view fits_stage (group_step (group_at (exp_nested room)) (stage_view stage) text.now) result }
     ensures shorter { IfOk result (λ read. length read.1.now < length text.now) }
+    ensures held { fits_stage (stage_view stage) ≡ true → IfOk result (λ read. fits_stage (stage_view read.0) ≡ true) }
 {
     let (group, rest) = group(alloc, text, room)?;
     Ok((with_group(alloc, stage, group)?, rest))
@@ -134,6 +140,7 @@ fn is_rank(text: &[u8]) -> bool
 fn rank_group(text: &[u8]) -> Result<(Group, &[u8]), PhraseFail>
     ensures answers { Answers group_view fits_group (rank_group text.now) result }
     ensures shorter { IfOk result (λ read. length read.1.now < length text.now) }
+    ensures held { IfOk result (λ read. fits_group (group_view read.0) ≡ true) }
 {
     match commas(text) {
         Some((rank, rest)) => Ok((Group::Rank(rank), rest)),
@@ -146,6 +153,7 @@ fn rank_group(text: &[u8]) -> Result<(Group, &[u8]), PhraseFail>
 fn group(alloc: Global, text: &[u8], room: u16) -> Result<(Group, &[u8]), PhraseFail>
     ensures answers { Answers group_view fits_group (group_at (exp_nested room) text.now) result }
     ensures shorter { IfOk result (λ read. length read.1.now < length text.now) }
+    ensures held { IfOk result (λ read. fits_group (group_view read.0) ≡ true) }
 {
     if is_rank(text) {
         return rank_group(text);
@@ -159,6 +167,7 @@ fn group(alloc: Global, text: &[u8], room: u16) -> Result<(Group, &[u8]), Phrase
 fn items(alloc: Global, text: &[u8], room: u16) -> Result<(Vec<NetExpr>, &[u8]), PhraseFail>
     ensures answers { Answers (λ items. exps_of items.items) fits_exps (items_from (exp_nested room) (length text.now) text.now) result }
     ensures shorter { IfOk result (λ read. length read.1.now < length text.now) }
+    ensures held { IfOk result (λ read. fits_exps (exps_of read.0.items) ≡ true) }
 {
     let mut items = Vec::new(alloc);
     let mut rest = text;
@@ -181,12 +190,15 @@ fn items(alloc: Global, text: &[u8], room: u16) -> Result<(Vec<NetExpr>, &[u8]),
 pub fn read_expression(alloc: Global, text: &[u8]) -> Result<(NetExpr, &[u8]), PhraseFail>
     ensures answers { Answers exp_of fits_exp (exp_nested most_nested text.now) result }
     ensures shorter { IfOk result (λ read. length read.1.now < length text.now) }
+    ensures held { IfOk result (λ read. fits_exp (exp_of read.0) ≡ true) }
+    ensures shallow { IfOk result (λ read. is_shallow (exp_of read.0) ≡ true) }
 {
     expression(alloc, text, MOST_NESTED)
 }
 
 fn arguments_of(alloc: Global, group: Group) -> Vec<NetExpr>
-    ensures { exps_of result.items ≡ arguments_of (group_view group) }
+    ensures arguments { exps_of result.items ≡ arguments_of (group_view group) }
+    ensures held { fits_group (group_view group) ≡ true → fits_exps (exps_of result.items) ≡ true }
 {
     match group {
         Group::Rank(_) => Vec::new(alloc),
@@ -199,6 +211,8 @@ fn arguments_of(alloc: Global, group: Group) -> Vec<NetExpr>
 pub fn read_arguments(alloc: Global, text: &[u8]) -> Result<(Vec<NetExpr>, &[u8]), PhraseFail>
     ensures answers { Answers (λ items. exps_of items.items) fits_exps (arguments_nested most_nested text.now) result }
     ensures shorter { IfOk result (λ read. length read.1.now < length text.now) }
+    ensures held { IfOk result (λ read. fits_exps (exps_of read.0.items) ≡ true) }
+    ensures shallow { IfOk result (λ read. are_shallow (exps_of read.0.items) ≡ true) }
 {
     let Some(inner) = after(b"(", text) else {
         return Err(PhraseFail::NotNet);

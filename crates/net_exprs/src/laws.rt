@@ -1,5 +1,5 @@
 //! Laws of reading: what was written within a line is read back.
-ghost use Rattle.net_exprs.specs.Laws.{ArgumentsAreRead, ArgumentsStayWithinLine, ExpressionsAreRead, ExpressionsStayWithinLine, LabelsAreRead, LabelsStayWithinLine, NamesAreRead, NamesStayWithinLine, NestedArgumentsAreRead, NestedExpressionsAreRead, PathsAreRead, RanksAreRead, ShallowArgumentsAreRead, ShallowExpressionsAreRead, TypesAreRead, TypesStayWithinLine};
+ghost use Rattle.net_exprs.specs.Laws.{ArgumentsAreRead, ArgumentsStayWithinLine, ExpressionsAreRead, ExpressionsStayWithinLine, LabelsAreRead, LabelsStayWithinLine, NamesAreRead, NamesStayWithinLine, NestedArgumentsAreRead, NestedExpressionsAreRead, PathsAreRead, RanksAreRead, ReadArgumentsAreShallow, ReadExpressionsAreShallow, ShallowArgumentsAreRead, ShallowExpressionsAreRead, TypesAreRead, TypesStayWithinLine};
 
 /// A law: a name is read back.
 pub fn names_are_read()
@@ -54,6 +54,16 @@ pub fn shallow_expressions_are_read()
 /// A law: arguments that are no deeper than `read_arguments` reads are read back.
 pub fn shallow_arguments_are_read()
     ensures { ShallowArgumentsAreRead }
+{}
+
+/// A law: an expression that was read is no deeper than the room that it was read in.
+pub fn read_expressions_are_shallow()
+    ensures { ReadExpressionsAreShallow }
+{}
+
+/// A law: none of the arguments that were read is deeper than the room that they were read in.
+pub fn read_arguments_are_shallow()
+    ensures { ReadArgumentsAreShallow }
 {}
 
 /// A law: a name stays within its line.

@@ -40,6 +40,7 @@ fn quoted(alloc: Global, text: &[u8]) -> Result<(Wide, &[u8]), PhraseFail>
 fn text_literal(alloc: Global, text: &[u8]) -> Result<(NetLit, &[u8]), PhraseFail>
     ensures answers { Answers literal_of fits_literal (text_literal (units_at text.now false)) result }
     ensures shorter { IfOk result (λ read. length read.1.now < length text.now) }
+    ensures held { IfOk result (λ read. fits_literal (literal_of read.0) ≡ true) }
 {
     match quoted(alloc, text) {
         Ok((units, rest)) => Ok((NetLit::Str(units), rest)),
@@ -52,6 +53,7 @@ fn text_literal(alloc: Global, text: &[u8]) -> Result<(NetLit, &[u8]), PhraseFai
 fn hexadecimal_literal(text: &[u8]) -> Result<(NetLit, &[u8]), PhraseFail>
     ensures answers { Answers literal_of fits_literal (hexadecimal_literal (numeral_from 16 0 text.now).0 (numeral_from 16 0 text.now).1) result }
     ensures shorter { IfOk result (λ read. length read.1.now < length text.now) }
+    ensures held { IfOk result (λ read. fits_literal (literal_of read.0) ≡ true) }
 {
     let Some((number, rest)) = numeral(16, text) else {
         return Err(PhraseFail::NotNet);
@@ -103,6 +105,7 @@ fn decimal(units: u128, places: u128) -> Option<i128>
 fn fraction_literal(units: u128, text: &[u8]) -> Result<(NetLit, &[u8]), PhraseFail>
     ensures answers { Answers literal_of fits_literal (fraction_literal units (places_from 1000 0 text.now)) result }
     ensures shorter { IfOk result (λ read. length read.1.now < length text.now) }
+    ensures held { IfOk result (λ read. fits_literal (literal_of read.0) ≡ true) }
 {
     let (places, rest) = places(text);
     let Some(rest) = after(b"D", rest) else {
@@ -118,6 +121,7 @@ fn fraction_literal(units: u128, text: &[u8]) -> Result<(NetLit, &[u8]), PhraseF
 fn decimal_literal(number: u128, rest: &[u8]) -> Result<(NetLit, &[u8]), PhraseFail>
     ensures answers { Answers literal_of fits_literal (decimal_literal number rest.now) result }
     ensures shorter { IfOk result (λ read. length read.1.now ≤ length rest.now) }
+    ensures held { IfOk result (λ read. fits_literal (literal_of read.0) ≡ true) }
 {
     match rest {
         [b'S', more @ ..] => match i16::try_from(number) {
@@ -144,6 +148,7 @@ fn number_literal(text: &[u8]) -> Result<(NetLit, &[u8]), PhraseFail>
     requires { begins_digit text.now ≡ true }
     ensures answers { Answers literal_of fits_literal (decimal_literal (numeral_from 10 0 text.now).0 (numeral_from 10 0 text.now).1) result }
     ensures shorter { IfOk result (λ read. length read.1.now < length text.now) }
+    ensures held { IfOk result (λ read. fits_literal (literal_of read.0) ≡ true) }
 {
     let Some((number, rest)) = numeral(10, text) else {
         return Err(PhraseFail::NotNet);
@@ -155,6 +160,7 @@ fn number_literal(text: &[u8]) -> Result<(NetLit, &[u8]), PhraseFail>
 pub(crate) fn read_literal(alloc: Global, text: &[u8]) -> Result<(NetLit, &[u8]), PhraseFail>
     ensures answers { Answers literal_of fits_literal (literal_at text.now) result }
     ensures shorter { IfOk result (λ read. length read.1.now < length text.now) }
+    ensures held { IfOk result (λ read. fits_literal (literal_of read.0) ≡ true) }
 {
     if begins_digit(text) {
         return number_literal(text);

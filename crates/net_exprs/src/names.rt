@@ -16,6 +16,7 @@ use up_base::{Name, NameFail};
 fn named(alloc: Global, word: &[u8]) -> Result<Name, PhraseFail>
     ensures name { IfOk result (λ name. name ≡ word.now) }
     ensures misfits { IsErrOf result PhraseFail.NotNet → fits_name word.now ≡ false }
+    ensures held { IfOk result (λ name. fits_name name ≡ true) }
 {
     match Name::make(alloc, word) {
         Ok(name) => Ok(name),
@@ -27,6 +28,7 @@ fn named(alloc: Global, word: &[u8]) -> Result<Name, PhraseFail>
 fn plain_name(alloc: Global, text: &[u8]) -> Result<(Name, &[u8]), PhraseFail>
     ensures answers { Answers (λ name. name) fits_name (plain_name (word_at text.now).0 (word_at text.now).1) result }
     ensures shorter { IfOk result (λ read. length read.1.now < length text.now) }
+    ensures held { IfOk result (λ read. fits_name read.0 ≡ true) }
 {
     let (word, rest) = word_at(text);
     if word.is_empty() {
@@ -42,6 +44,7 @@ fn plain_name(alloc: Global, text: &[u8]) -> Result<(Name, &[u8]), PhraseFail>
 fn bracketed_name(alloc: Global, text: &[u8]) -> Result<(Name, &[u8]), PhraseFail>
     ensures answers { Answers (λ name. name) fits_name (bracketed_name (word_at text.now).0 (word_at text.now).1) result }
     ensures shorter { IfOk result (λ read. length read.1.now < length text.now) }
+    ensures held { IfOk result (λ read. fits_name read.0 ≡ true) }
 {
     let (word, rest) = word_at(text);
     let Some(rest) = after(b"]", rest) else {
@@ -58,6 +61,7 @@ fn bracketed_name(alloc: Global, text: &[u8]) -> Result<(Name, &[u8]), PhraseFai
 pub fn read_name(alloc: Global, text: &[u8]) -> Result<(Name, &[u8]), PhraseFail>
     ensures answers { Answers (λ name. name) fits_name (name_at text.now) result }
     ensures shorter { IfOk result (λ read. length read.1.now < length text.now) }
+    ensures held { IfOk result (λ read. fits_name read.0 ≡ true) }
 {
     match text {
         [b'[', inner @ ..] => bracketed_name(alloc, inner),
@@ -69,6 +73,7 @@ pub fn read_name(alloc: Global, text: &[u8]) -> Result<(Name, &[u8]), PhraseFail
 pub(crate) fn read_path(alloc: Global, text: &[u8]) -> Result<(Path, &[u8]), PhraseFail>
     ensures answers { Answers (λ path. path) fits_path (path_at text.now) result }
     ensures shorter { IfOk result (λ read. length read.1.now < length text.now) }
+    ensures held { IfOk result (λ read. fits_path read.0 ≡ true) }
 {
     let mut names = Path::new(alloc);
     let mut rest = text;
@@ -87,6 +92,7 @@ fn read_number(text: &[u8]) -> Result<(NetLabel, &[u8]), PhraseFail>
     requires { begins_digit text.now ≡ true }
     ensures answers { Answers (λ label. label) fits_label (label_at text.now) result }
     ensures shorter { IfOk result (λ read. length read.1.now < length text.now) }
+    ensures held { IfOk result (λ read. fits_label read.0 ≡ true) }
 {
     let Some((number, rest)) = numeral(10, text) else {
         return Err(PhraseFail::NotNet);
@@ -102,6 +108,7 @@ fn read_number(text: &[u8]) -> Result<(NetLabel, &[u8]), PhraseFail>
 pub fn read_label(alloc: Global, text: &[u8]) -> Result<(NetLabel, &[u8]), PhraseFail>
     ensures answers { Answers (λ label. label) fits_label (label_at text.now) result }
     ensures shorter { IfOk result (λ read. length read.1.now < length text.now) }
+    ensures held { IfOk result (λ read. fits_label read.0 ≡ true) }
 {
     if begins_digit(text) {
         return read_number(text);

@@ -1,10 +1,10 @@
 //! Closes what an expression is nested in.
-ghost use Rattle.std.specs.Prelude.{◌≡◌, ◌<◌, ◌≤◌, codes, length, IfOk};
+ghost use Rattle.std.specs.Prelude.{◌≡◌, ◌<◌, ◌≤◌, true, codes, length, IfOk};
 ghost use Rattle.net_tree.specs.Tree.{binary, cast, ctype, paren, type_of, unary};
 ghost use Rattle.net_tree.specs.View.{exp_of, type_name_of};
 ghost use Rattle.net_exprs.specs.Answers.{Answers};
 ghost use Rattle.net_exprs.specs.Expressions.{closed, closed_type, type_behind, whole};
-ghost use Rattle.net_exprs.specs.Fitting.{fits_type};
+ghost use Rattle.net_exprs.specs.Fitting.{fits_exp, fits_type};
 ghost use Rattle.net_exprs.specs.Stages.{fits_stage, stage_view};
 
 use crate::characters::after;
@@ -19,6 +19,7 @@ use up_base::Mem;
 fn closed(expr: NetExpr, text: &[u8]) -> Result<(Stage, &[u8]), PhraseFail>
     ensures answers { Answers stage_view fits_stage (closed (λ e. e) (exp_of expr) text.now) result }
     ensures shorter { IfOk result (λ read. length read.1.now ≤ length text.now) }
+    ensures held { fits_exp (exp_of expr) ≡ true → IfOk result (λ read. fits_stage (stage_view read.0) ≡ true) }
 {
     match after(b")", text) {
         Some(rest) => Ok((Stage::Whole(expr), rest)),
@@ -42,6 +43,7 @@ pub(crate) fn cast(
 ) -> Result<(Stage, &[u8]), PhraseFail>
     ensures answers { Answers stage_view fits_stage (closed (cast word) (exp_of operand) text.now) result }
     ensures shorter { IfOk result (λ read. length read.1.now ≤ length text.now) }
+    ensures held { fits_exp (exp_of operand) ≡ true → IfOk result (λ read. fits_stage (stage_view read.0) ≡ true) }
 {
     let expr = NetExpr::Cast(word, Box::new(alloc, operand)?);
     closed(expr, text)
@@ -56,6 +58,7 @@ pub(crate) fn unary(
 ) -> Result<(Stage, &[u8]), PhraseFail>
     ensures answers { Answers stage_view fits_stage (closed (unary op) (exp_of operand) text.now) result }
     ensures shorter { IfOk result (λ read. length read.1.now ≤ length text.now) }
+    ensures held { fits_exp (exp_of operand) ≡ true → IfOk result (λ read. fits_stage (stage_view read.0) ≡ true) }
 {
     let expr = NetExpr::Unary(op, Box::new(alloc, operand)?);
     closed(expr, text)
@@ -71,6 +74,7 @@ pub(crate) fn binary(
 ) -> Result<(Stage, &[u8]), PhraseFail>
     ensures answers { Answers stage_view fits_stage (closed (binary op (exp_of left)) (exp_of right) text.now) result }
     ensures shorter { IfOk result (λ read. length read.1.now ≤ length text.now) }
+    ensures held { fits_exp (exp_of left) ≡ true → fits_exp (exp_of right) ≡ true → IfOk result (λ read. fits_stage (stage_view read.0) ≡ true) }
 {
     let left = Box::new(alloc, left)?;
     let expr = NetExpr::Binary(op, left, Box::new(alloc, right)?);
@@ -85,6 +89,7 @@ fn type_behind<'a>(
 ) -> Result<(NetType, &'a [u8]), PhraseFail>
     ensures answers { Answers type_name_of fits_type (type_behind front.now text.now) result }
     ensures shorter { IfOk result (λ read. length read.1.now < length text.now) }
+    ensures held { IfOk result (λ read. fits_type (type_name_of read.0) ≡ true) }
 {
     let Some(text) = after(front, text) else {
         return Err(PhraseFail::NotNet);
@@ -104,6 +109,7 @@ pub(crate) fn conversion(
 ) -> Result<(Stage, &[u8]), PhraseFail>
     ensures answers { Answers stage_view fits_stage (closed_type (codes ", ") ctype (exp_of operand) text.now) result }
     ensures shorter { IfOk result (λ read. length read.1.now ≤ length text.now) }
+    ensures held { fits_exp (exp_of operand) ≡ true → IfOk result (λ read. fits_stage (stage_view read.0) ≡ true) }
 {
     let operand = Box::new(alloc, operand)?;
     match type_behind(alloc, b", ", text) {
@@ -120,6 +126,7 @@ pub(crate) fn type_test(
 ) -> Result<(Stage, &[u8]), PhraseFail>
     ensures answers { Answers stage_view fits_stage (closed_type (codes " Is ") type_of (exp_of operand) text.now) result }
     ensures shorter { IfOk result (λ read. length read.1.now ≤ length text.now) }
+    ensures held { fits_exp (exp_of operand) ≡ true → IfOk result (λ read. fits_stage (stage_view read.0) ≡ true) }
 {
     let operand = Box::new(alloc, operand)?;
     match type_behind(alloc, b" Is ", text) {

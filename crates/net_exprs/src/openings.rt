@@ -45,6 +45,7 @@ fn leaf(expr: NetExpr) -> Opening
 fn literal(alloc: Global, text: &[u8]) -> Result<(Opening, &[u8]), PhraseFail>
     ensures answers { Answers opening_view fits_opening (model.literal_opening text.now) result }
     ensures shorter { IfOk result (λ read. length read.1.now < length text.now) }
+    ensures held { IfOk result (λ read. fits_opening (opening_view read.0) ≡ true) }
 {
     match read_literal(alloc, text) {
         Ok((literal, rest)) => Ok((leaf(NetExpr::Lit(literal)), rest)),
@@ -55,6 +56,7 @@ fn literal(alloc: Global, text: &[u8]) -> Result<(Opening, &[u8]), PhraseFail>
 fn path(alloc: Global, text: &[u8]) -> Result<(Opening, &[u8]), PhraseFail>
     ensures answers { Answers opening_view fits_opening (model.path_opening text.now) result }
     ensures shorter { IfOk result (λ read. length read.1.now < length text.now) }
+    ensures held { IfOk result (λ read. fits_opening (opening_view read.0) ≡ true) }
 {
     match read_path(alloc, text) {
         Ok((path, rest)) => Ok((leaf(NetExpr::Path(path)), rest)),
@@ -66,6 +68,7 @@ fn path(alloc: Global, text: &[u8]) -> Result<(Opening, &[u8]), PhraseFail>
 fn with_dot(alloc: Global, text: &[u8]) -> Result<(Opening, &[u8]), PhraseFail>
     ensures answers { Answers opening_view fits_opening (model.point_opening text.now) result }
     ensures shorter { IfOk result (λ read. length read.1.now < length text.now) }
+    ensures held { IfOk result (λ read. fits_opening (opening_view read.0) ≡ true) }
 {
     match read_name(alloc, text) {
         Ok((name, rest)) => Ok((leaf(NetExpr::WithDot(name)), rest)),
@@ -77,6 +80,7 @@ fn with_dot(alloc: Global, text: &[u8]) -> Result<(Opening, &[u8]), PhraseFail>
 fn creation(alloc: Global, text: &[u8]) -> Result<(Opening, &[u8]), PhraseFail>
     ensures answers { Answers opening_view fits_opening (model.new_opening text.now) result }
     ensures shorter { IfOk result (λ read. length read.1.now < length text.now) }
+    ensures held { IfOk result (λ read. fits_opening (opening_view read.0) ≡ true) }
 {
     let Some(text) = after(b" ", text) else {
         return Err(PhraseFail::NotNet);
@@ -91,6 +95,7 @@ fn creation(alloc: Global, text: &[u8]) -> Result<(Opening, &[u8]), PhraseFail>
 fn nested<'a>(nest: Nest, front: &[u8], text: &'a [u8]) -> Result<(Opening, &'a [u8]), PhraseFail>
     ensures answers { Answers opening_view fits_opening (model.nested_past nest (after front.now text.now)) result }
     ensures shorter { IfOk result (λ read. length read.1.now ≤ length text.now) }
+    ensures held { IfOk result (λ read. fits_opening (opening_view read.0) ≡ true) }
 {
     match after(front, text) {
         Some(rest) => Ok((Opening::Nested(nest), rest)),
@@ -102,6 +107,7 @@ fn nested<'a>(nest: Nest, front: &[u8], text: &'a [u8]) -> Result<(Opening, &'a 
 fn parenthesized(text: &[u8]) -> Result<(Opening, &[u8]), PhraseFail>
     ensures answers { Answers opening_view fits_opening (model.parenthesized text.now (model.front_of text.now)) result }
     ensures shorter { IfOk result (λ read. length read.1.now ≤ length text.now) }
+    ensures held { IfOk result (λ read. fits_opening (opening_view read.0) ≡ true) }
 {
     match front_of(text) {
         Front::Closing => Err(PhraseFail::NotNet),
@@ -121,6 +127,7 @@ fn keyworded<'a>(
 ) -> Result<(Opening, &'a [u8]), PhraseFail>
     ensures answers { Answers opening_view fits_opening (model.worded rest.now rest.now (Some keyword)) result }
     ensures shorter { IfOk result (λ read. length read.1.now ≤ length rest.now) }
+    ensures held { IfOk result (λ read. fits_opening (opening_view read.0) ≡ true) }
 {
     match keyword {
         Keyword::Nothing => Ok((leaf(NetExpr::Nothing), rest)),
@@ -137,6 +144,7 @@ fn keyworded<'a>(
 fn worded(alloc: Global, text: &[u8]) -> Result<(Opening, &[u8]), PhraseFail>
     ensures answers { Answers opening_view fits_opening (model.worded (word_at text.now).1 text.now (keyword_of (word_at text.now).0)) result }
     ensures shorter { IfOk result (λ read. length read.1.now < length text.now) }
+    ensures held { IfOk result (λ read. fits_opening (opening_view read.0) ≡ true) }
 {
     let (word, rest) = word_at(text);
     match keyword_of(word) {
@@ -149,6 +157,7 @@ fn worded(alloc: Global, text: &[u8]) -> Result<(Opening, &[u8]), PhraseFail>
 fn minus(text: &[u8]) -> Result<(Opening, &[u8]), PhraseFail>
     ensures answers { Answers opening_view fits_opening (model.minus_opening text.now) result }
     ensures shorter { IfOk result (λ read. length read.1.now < length text.now) }
+    ensures held { IfOk result (λ read. fits_opening (opening_view read.0) ≡ true) }
 {
     match after(b"1", text) {
         Some(rest) => Ok((leaf(NetExpr::Lit(NetLit::Integer(-1, false))), rest)),
@@ -160,6 +169,7 @@ fn minus(text: &[u8]) -> Result<(Opening, &[u8]), PhraseFail>
 pub(crate) fn read_opening(alloc: Global, text: &[u8]) -> Result<(Opening, &[u8]), PhraseFail>
     ensures answers { Answers opening_view fits_opening (opening_at text.now) result }
     ensures shorter { IfOk result (λ read. length read.1.now < length text.now) }
+    ensures held { IfOk result (λ read. fits_opening (opening_view read.0) ≡ true) }
 {
     let [first, rest @ ..] = text else {
         return Err(PhraseFail::NotNet);

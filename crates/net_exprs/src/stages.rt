@@ -1,10 +1,10 @@
 //! What is read so far of an expression.
-ghost use Rattle.std.specs.Prelude.{◌≡◌, ◌-◌, false, length, reverse, is_some, IfOk, IsErrOf, Some};
+ghost use Rattle.std.specs.Prelude.{◌≡◌, ◌-◌, true, false, length, reverse, is_some, IfOk, IsErrOf, Some};
 ghost use Rattle.net_tree.specs.Tree.{call_of, dot, new_array, new_object, no_exps};
 ghost use Rattle.net_tree.specs.View.{exp_of, exps_of, type_name_of};
 ghost use Rattle.net_exprs.specs.Answers.{Answers};
 ghost use Rattle.net_exprs.specs.Expressions.{array_made, object_of, object_with, value_of, whole, with_group, with_ranks};
-ghost use Rattle.net_exprs.specs.Fitting.{fits_type};
+ghost use Rattle.net_exprs.specs.Fitting.{fits_exps, fits_type};
 ghost use Rattle.net_exprs.specs.Expressions as model;
 ghost use Rattle.net_exprs.specs.Stages.{array_stage, fits_stage, group_view, object_calls, stage_view};
 
@@ -162,6 +162,7 @@ pub(crate) fn with_group(alloc: Global, stage: Stage, group: Group) -> Result<St
 fn with_ranks(alloc: Global, ty: NetType, ranks: &[usize]) -> Result<NetType, PhraseFail>
     ensures ranks { IfOk result (λ array. type_name_of array ≡ with_ranks (type_name_of ty) (reverse ranks.now)) }
     ensures misfits { IsErrOf result PhraseFail.NotNet → fits_type (with_ranks (type_name_of ty) (reverse ranks.now)) ≡ false }
+    ensures held { fits_type (type_name_of ty) ≡ true → IfOk result (λ array. fits_type (type_name_of array) ≡ true) }
 {
     let mut array = ty;
     for rank in ranks {
@@ -194,6 +195,7 @@ fn made<'a>(
 ) -> Result<(Stage, &'a [u8]), PhraseFail>
     ensures answers { Answers stage_view fits_stage (Some (whole (new_array (with_ranks (type_name_of ty) (reverse ranks.now)) (exps_of bounds.items)), rest.now)) result }
     ensures same { IfOk result (λ read. read.1.now ≡ rest.now) }
+    ensures held { fits_type (type_name_of ty) ≡ true → fits_exps (exps_of bounds.items) ≡ true → IfOk result (λ read. fits_stage (stage_view read.0) ≡ true) }
 {
     match with_ranks(alloc, ty, ranks) {
         Ok(ty) => Ok((Stage::Whole(array(ty, bounds)), rest)),
@@ -209,6 +211,7 @@ pub(crate) fn array_stage(
 ) -> Result<(Stage, &[u8]), PhraseFail>
     ensures answers { Answers stage_view fits_stage (array_stage rest.now (array_made (stage_view stage))) result }
     ensures same { IfOk result (λ read. read.1.now ≡ rest.now) }
+    ensures held { fits_stage (stage_view stage) ≡ true → IfOk result (λ read. fits_stage (stage_view read.0) ≡ true) }
 {
     match stage {
         Stage::Whole(_) => Err(PhraseFail::NotNet),

@@ -1,5 +1,5 @@
 //! Suffixes that need no other expression.
-ghost use Rattle.std.specs.Prelude.{◌≡◌, ◌<◌, length, IfOk};
+ghost use Rattle.std.specs.Prelude.{◌≡◌, ◌<◌, true, length, IfOk};
 ghost use Rattle.net_exprs.specs.Answers.{Answers};
 ghost use Rattle.net_exprs.specs.Expressions.{array_made};
 ghost use Rattle.net_exprs.specs.Stages.{fits_stage, goes_on, member_step, stage_view};
@@ -26,6 +26,7 @@ pub(crate) fn goes_on(stage: &Stage, text: &[u8]) -> bool
 pub(crate) fn member(alloc: Global, stage: Stage, text: &[u8]) -> Result<(Stage, &[u8]), PhraseFail>
     ensures answers { Answers stage_view fits_stage (member_step (stage_view stage) text.now) result }
     ensures shorter { IfOk result (λ read. length read.1.now < length text.now) }
+    ensures held { fits_stage (stage_view stage) ≡ true → IfOk result (λ read. fits_stage (stage_view read.0) ≡ true) }
 {
     let (name, rest) = read_name(alloc, text)?;
     Ok((with_member(alloc, stage, name)?, rest))

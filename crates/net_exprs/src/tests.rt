@@ -281,8 +281,8 @@ fn labels_are_read(rt: HostRuntime) {
     assert!(rt; number(alloc, b"Ten:") == None);
 }
 
-fn rank(alloc: Global, text: &[u8]) -> Option<u8> {
-    match read_rank(alloc, text) {
+fn rank(text: &[u8]) -> Option<u8> {
+    match read_rank(text) {
         Ok((rank, _)) => Some(rank),
         Err(_) => None,
     }
@@ -315,8 +315,8 @@ fn show_type(out: &mut Shown, ty: &NetType) {
 #[test]
 fn types_are_read(rt: HostRuntime) {
     let alloc = rt.alloc();
-    assert!(rt; rank(alloc, b"(,,)") == Some(3));
-    assert!(rt; rank(alloc, b"(,") == None);
+    assert!(rt; rank(b"(,,)") == Some(3));
+    assert!(rt; rank(b"(,") == None);
     let (shown, left) = ranks(alloc, b"Integer()(,) = a");
     assert!(rt; shown.is("word()(,)") && left == 4);
     let (shown, _) = ranks(alloc, b"System.Array");

@@ -1,9 +1,9 @@
 //! Reads ranks and types.
-ghost use Rattle.std.specs.Prelude.{◌≡◌, ℕ, ◌<◌, codes, [], ◌∷◌, length, option_map, IfOk, IfSome};
+ghost use Rattle.std.specs.Prelude.{◌≡◌, ℕ, ◌<◌, true, codes, [], ◌∷◌, length, option_map, IfOk, IfSome};
 ghost use Rattle.net_tree.specs.Spelling.{is_same_path};
 ghost use Rattle.net_tree.specs.View.{type_name_of};
 ghost use Rattle.net_exprs.specs.Answers.{Answers, with_now};
-ghost use Rattle.net_exprs.specs.Fitting.{fits_rank, fits_type};
+ghost use Rattle.net_exprs.specs.Fitting.{fits_path, fits_rank, fits_type};
 ghost use Rattle.net_exprs.specs.Types.{base_at, basic_type_of, commas_from, path_type, rank_at, type_at};
 
 use crate::characters::{is, word_at};
@@ -44,9 +44,10 @@ fn rank_at(text: &[u8]) -> Option<(usize, &[u8])>
 
 /// Reads the parentheses of an array as its number of dimensions. It fails with `NotNet` where none stand there, or
 /// those of more than 255 dimensions.
-pub fn read_rank(_alloc: Global, text: &[u8]) -> Result<(u8, &[u8]), PhraseFail>
+pub fn read_rank(text: &[u8]) -> Result<(u8, &[u8]), PhraseFail>
     ensures answers { Answers (λ rank. rank) fits_rank (rank_at text.now) result }
     ensures shorter { IfOk result (λ read. length read.1.now < length text.now) }
+    ensures held { IfOk result (λ read. fits_rank read.0 ≡ true) }
 {
     let Some((rank, rest)) = rank_at(text) else {
         return Err(PhraseFail::NotNet);
@@ -60,7 +61,8 @@ pub fn read_rank(_alloc: Global, text: &[u8]) -> Result<(u8, &[u8]), PhraseFail>
 // The type that a word of the language is.
 #[tactic(auto, unfolding(crate::specs::Types::basic_type_of))]
 fn basic_type(word: &[u8]) -> Option<NetType>
-    ensures { option_map type_name_of result ≡ basic_type_of word.now }
+    ensures type_of_word { option_map type_name_of result ≡ basic_type_of word.now }
+    ensures held { IfSome result (λ ty. fits_type (type_name_of ty) ≡ true) }
 {
     if is(word, b"Boolean") {
         Some(NetType::Boolean)
@@ -94,7 +96,8 @@ fn is_system_array(path: &Path) -> bool
 
 // The type that a path names.
 fn path_type(path: Path) -> NetType
-    ensures { type_name_of result ≡ path_type path }
+    ensures type_of_path { type_name_of result ≡ path_type path }
+    ensures held { fits_path path ≡ true → fits_type (type_name_of result) ≡ true }
 {
     if is_system_array(&path) {
         NetType::SystemArray
@@ -107,6 +110,7 @@ fn path_type(path: Path) -> NetType
 pub(crate) fn read_base(alloc: Global, text: &[u8]) -> Result<(NetType, &[u8]), PhraseFail>
     ensures answers { Answers type_name_of fits_type (base_at text.now) result }
     ensures shorter { IfOk result (λ read. length read.1.now < length text.now) }
+    ensures held { IfOk result (λ read. fits_type (type_name_of read.0) ≡ true) }
 {
     let (word, rest) = word_at(text);
     if let Some(ty) = basic_type(word) {
@@ -123,6 +127,7 @@ pub(crate) fn read_base(alloc: Global, text: &[u8]) -> Result<(NetType, &[u8]), 
 pub fn read_type(alloc: Global, text: &[u8]) -> Result<(NetType, &[u8]), PhraseFail>
     ensures answers { Answers type_name_of fits_type (type_at text.now) result }
     ensures shorter { IfOk result (λ read. length read.1.now < length text.now) }
+    ensures held { IfOk result (λ read. fits_type (type_name_of read.0) ≡ true) }
 {
     let (mut ty, mut rest) = read_base(alloc, text)?;
     'ranks: while let Some((rank, beyond)) = rank_at(rest) {

@@ -1,12 +1,12 @@
-use Rattle.std.proofs.Common.{ap, arith, length, subst, sym, ◌-◌, ◌∙◌, Some}
+use Rattle.std.proofs.Common.{ap, arith, length, refl, subst, sym, ◌-◌, ◌∙◌, Some}
 use Rattle.std.proofs.lemmas.Result.{err_from_is_err_and}
 use Rattle.net_tree.specs.View.{exp_of, exps_of}
 use Rattle.net_exprs.specs.Expressions.{exp_nested, group_at, head_at, items_from}
 use Rattle.net_exprs.specs.Fitting.{fits_exp, fits_exps}
-use Rattle.net_exprs.specs.Stages.{fits_group, fits_stage, group_step, stage_view, suffix_step}
+use Rattle.net_exprs.specs.Stages.{fits_group, fits_stage, group_step, group_view, stage_view, suffix_step}
 use Rattle.net_exprs.proofs.Answering.{fails_up}
-use Rattle.net_exprs.proofs.Items.{ItemsLeft, items_go_on, items_misfit, items_stop, pushed}
-use Rattle.net_exprs.proofs.Steps.{group_misfits, head_misfits, is_braces, is_group, is_member, suffixes_begin, suffixes_go_on, suffixes_misfits, suffixes_stop}
+use Rattle.net_exprs.proofs.Items.{ItemsLeft, items_fit, items_go_on, items_misfit, items_stop, pushed}
+use Rattle.net_exprs.proofs.Steps.{group_fits, group_misfits, head_misfits, is_braces, is_group, is_member, suffixes_begin, suffixes_go_on, suffixes_misfits, suffixes_stop, value_fits}
 use Rattle.net_exprs.proofs.expressions.+read.Goals as goal
 
 pub called-returns-in_err-group-clause-answers : goal.called-returns-in_err-group-clause-answers
@@ -16,6 +16,10 @@ called-returns-in_err-group-clause-answers t c =
     rw (p.1, p.2)
     (fails_up fits_group fits_stage (g c.args.text.now) (group_step g (stage_view c.args.stage) c.args.text.now) c.in_err-group.field-0.0
     (group_misfits g (stage_view c.args.stage) c.args.text.now) c.in_err-group.ensures.answers)
+
+pub called-returns-clause-held : goal.called-returns-clause-held
+called-returns-clause-held t c = λ h.
+    ap fits_stage c.in_ok-with_group.ensures ∙ group_fits (stage_view c.args.stage) (group_view c.in_ok-group.group) ∙ rw (h, c.in_ok-group.ensures.held) refl
 
 pub expression-returns-in_err-stage-clause-answers :
     goal.expression-returns-in_err-stage-clause-answers
@@ -29,6 +33,7 @@ pub expression-suffixes-init : goal.expression-suffixes-init
 expression-suffixes-init t c = record {
   left = suffixes_begin c.args.room c.args.text.now (stage_view c.in_ok-stage.stage) c.in_ok-stage.rest.now (omega (arith, c.if-room-eq0.false)) c.in_ok-stage.ensures.answers c.in_ok-stage.ensures.shorter;
   shorter = c.in_ok-stage.ensures.shorter;
+  held = c.in_ok-stage.ensures.held;
 }
 
 pub expression-returns-in_err-longer-clause-answers :
@@ -46,6 +51,7 @@ expression-suffixes-preserved t c = record {
   left = suffixes_go_on (group_at (exp_nested (c.args.room - 1))) (exp_nested c.args.room c.args.text.now) (stage_view c.suffixes.stage) c.suffixes.rest.now (stage_view c.in_ok-longer.longer) c.in_ok-longer.beyond.now
       c.suffixes.invariant.left (sym c.goes_on.ensures ∙ c.suffixes-test.true) c.in_ok-longer.ensures.answers c.in_ok-longer.ensures.shorter;
   shorter = omega (arith, c.in_ok-longer.ensures.shorter, c.suffixes.invariant.shorter);
+  held = c.in_ok-longer.ensures.held c.suffixes.invariant.held;
 }
 
 pub expression-returns-clause-answers : goal.expression-returns-clause-answers
@@ -54,6 +60,9 @@ expression-returns-clause-answers t c =
     (sym c.goes_on.ensures ∙ c.suffixes-test.false)
     ∙ ap (λ e. Some (e, c.suffixes.rest.now)) (sym c.in_ok-value_of.ensures)
 
+pub expression-returns-clause-held : goal.expression-returns-clause-held
+expression-returns-clause-held t c = ap fits_exp c.in_ok-value_of.ensures ∙ value_fits (stage_view c.suffixes.stage) ∙ c.suffixes.invariant.held
+
 pub items-returns-in_err-item-clause-answers : goal.items-returns-in_err-item-clause-answers
 items-returns-in_err-item-clause-answers t c =
     let p = err_from_is_err_and c.from_residual.result c.from_residual.ensures.1 in
@@ -61,6 +70,11 @@ items-returns-in_err-item-clause-answers t c =
     rw (p.1, p.2)
     (fails_up fits_exp fits_exps (read c.items.rest.now) (items_from read (length c.args.text.now) c.args.text.now) c.in_err-item.field-0.0
     (items_misfit read c.args.text.now (exps_of c.items.items.items) c.items.rest.now c.items.invariant.left) c.in_err-item.ensures.answers)
+
+pub items-returns-in-Some-clause-held : goal.items-returns-in-Some-clause-held
+items-returns-in-Some-clause-held t c =
+    let more = ap exps_of c.in_ok-push.ensures.items ∙ pushed c.items.items.items c.in_ok-item.item in
+    rw more (items_fit (exps_of c.items.items.items) (exp_of c.in_ok-item.item) c.items.invariant.held c.in_ok-item.ensures.held)
 
 pub items-returns-in-Some-clause-answers : goal.items-returns-in-Some-clause-answers
 items-returns-in-Some-clause-answers t c =
@@ -77,6 +91,7 @@ items-items-preserved t c =
           (items_go_on (exp_nested c.args.room) c.args.text.now (exps_of c.items.items.items) c.items.rest.now (exp_of c.in_ok-item.item) c.in_ok-item.beyond.now c.in-Some-after.more.now c.items.invariant.left
           c.in_ok-item.ensures.answers c.in_ok-item.ensures.shorter (sym c.in_default.ensures.rest) (sym c.in-Some-after.ensures.rest) c.in-Some-after.ensures.shorter);
       shorter = omega (arith, c.in-Some-after.ensures.shorter, c.in_ok-item.ensures.shorter, c.items.invariant.shorter);
+      held = rw more (items_fit (exps_of c.items.items.items) (exp_of c.in_ok-item.item) c.items.invariant.held c.in_ok-item.ensures.held);
     }
 
 pub suffix-returns-in-Some-clause-answers : goal.suffix-returns-in-Some-clause-answers

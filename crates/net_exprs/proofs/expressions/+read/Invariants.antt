@@ -1,7 +1,8 @@
-use Rattle.std.proofs.Common.{◌+◌, ◌-◌, ◌*◌, ◌<◌, ◌≤◌, length}
+use Rattle.std.proofs.Common.{◌≡◌, ◌+◌, ◌-◌, ◌*◌, ◌<◌, ◌≤◌, true, length}
 use Rattle.net_tree.specs.View.{exps_of}
 use Rattle.net_exprs.specs.Expressions.{exp_nested, group_at}
-use Rattle.net_exprs.specs.Stages.{stage_view}
+use Rattle.net_exprs.specs.Fitting.{fits_exps}
+use Rattle.net_exprs.specs.Stages.{fits_stage, stage_view}
 use Rattle.net_exprs.proofs.Items.{ItemsLeft}
 use Rattle.net_exprs.proofs.Steps.{SuffixesLeft}
 use Rattle.net_exprs.proofs.expressions.+read.Given as goal
@@ -34,6 +35,7 @@ abbrev pub invariant-expression-suffixes : goal.invariant-expression-suffixes
 invariant-expression-suffixes l = record {
   left : SuffixesLeft (group_at (exp_nested (l.room - 1))) (exp_nested l.room l.fn.text) (stage_view l.stage) l.rest;
   shorter : length l.rest < length l.fn.text;
+  held : fits_stage (stage_view l.stage) ≡ true;
 }
 
 abbrev pub decreases-expression-suffixes : goal.decreases-expression-suffixes
@@ -43,6 +45,7 @@ abbrev pub invariant-items-items : goal.invariant-items-items
 invariant-items-items l = record {
   left : ItemsLeft (exp_nested l.room) l.fn.text (exps_of l.items.items) l.rest;
   shorter : length l.rest ≤ length l.fn.text;
+  held : fits_exps (exps_of l.items.items) ≡ true;
 }
 
 abbrev pub decreases-items-items : goal.decreases-items-items

@@ -16,6 +16,7 @@ pub ranks-init : goal.ranks-init
 ranks-init c = record {
   left = ranks_begin c.args.text.now (type_name_of c.in_ok-ty.ty) c.in_ok-ty.rest.now c.in_ok-ty.ensures.answers;
   shorter = c.in_ok-ty.ensures.shorter;
+  held = c.in_ok-ty.ensures.held;
 }
 
 pub returns-in_default-try_from-clause-answers : goal.returns-in_default-try_from-clause-answers

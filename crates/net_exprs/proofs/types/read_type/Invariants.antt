@@ -1,5 +1,6 @@
-use Rattle.std.proofs.Common.{◌<◌, length}
+use Rattle.std.proofs.Common.{◌≡◌, ◌<◌, true, length}
 use Rattle.net_tree.specs.View.{type_name_of}
+use Rattle.net_exprs.specs.Fitting.{fits_type}
 use Rattle.net_exprs.proofs.Ranks.{RanksLeft}
 use Rattle.net_exprs.proofs.types.read_type.Given as goal
 
@@ -7,6 +8,7 @@ abbrev pub invariant-ranks : goal.invariant-ranks
 invariant-ranks l = record {
   left : RanksLeft l.fn.text (type_name_of l.ty) l.rest;
   shorter : length l.rest < length l.fn.text;
+  held : fits_type (type_name_of l.ty) ≡ true;
 }
 
 abbrev pub decreases-ranks : goal.decreases-ranks
