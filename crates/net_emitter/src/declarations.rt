@@ -93,14 +93,21 @@ fn write_dim(out: &mut Bytes, dim: &NetDim) -> Result<(), Mem>
     }
 }
 
+/// Writes the line of a declaration at the head of a procedure.
+pub fn write_dim_line(out: &mut Bytes, depth: usize, dim: &NetDim) -> Result<(), Mem>
+    ensures { OnOk result (out.new ≡ out.old ++ at_depth depth (dim_text (dim_of dim.now))) }
+{
+    begin_line(out, depth)?;
+    write_dim(out, dim)?;
+    end_line(out)
+}
+
 // Writes the declarations of a procedure's locals.
 fn write_prologue(out: &mut Bytes, depth: usize, prologue: &[NetDim]) -> Result<(), Mem>
     ensures { OnOk result (out.new ≡ out.old ++ flat_map (λ d. at_depth depth (dim_text d)) (map dim_of prologue.now)) }
 {
     for dim in prologue {
-        begin_line(out, depth)?;
-        write_dim(out, dim)?;
-        end_line(out)?;
+        write_dim_line(out, depth, dim)?;
     }
     Ok(())
 }
@@ -184,8 +191,8 @@ fn write_head(out: &mut Bytes, head: &NetHead) -> Result<(), Mem>
     }
 }
 
-// Writes the line of a head.
-fn write_head_line(out: &mut Bytes, depth: usize, head: &NetHead) -> Result<(), Mem>
+/// Writes the line of a head.
+pub fn write_head_line(out: &mut Bytes, depth: usize, head: &NetHead) -> Result<(), Mem>
     ensures { OnOk result (out.new ≡ out.old ++ at_depth depth (head_text (head_of head.now))) }
 {
     begin_line(out, depth)?;
@@ -193,8 +200,8 @@ fn write_head_line(out: &mut Bytes, depth: usize, head: &NetHead) -> Result<(), 
     end_line(out)
 }
 
-// Writes the closing line of a procedure.
-fn write_close(out: &mut Bytes, depth: usize, close: NetClose) -> Result<(), Mem>
+/// Writes the closing line of a procedure.
+pub fn write_close(out: &mut Bytes, depth: usize, close: NetClose) -> Result<(), Mem>
     ensures { OnOk result (out.new ≡ out.old ++ at_depth depth (close_text close)) }
 {
     match close {
@@ -239,13 +246,37 @@ fn write_access(out: &mut Bytes, get: bool, set: bool) -> Result<(), Mem>
     Ok(())
 }
 
+/// Writes the head of a property, by whether it has a part that gets and one that sets.
+pub fn write_promise(
+    out: &mut Bytes,
+    visibility: NetVisibility,
+    get: bool,
+    set: bool,
+    name: &Name,
+    params: &[NetParam],
+    ty: &NetType,
+) -> Result<(), Mem>
+    ensures { OnOk result (out.new ≡ out.old ++ visibility_text visibility ++ access_text get set ++ codes "Property " ++ name_text name.now
+        ++ params_text (map param_of params.now) ++ codes " As " ++ type_text (type_name_of ty.now)) }
+{
+    write_visibility(out, visibility)?;
+    write_access(out, get, set)?;
+    write_signature(out, b"Property ", name, params)?;
+    write_as(out, ty)
+}
+
 fn write_property_head(out: &mut Bytes, property: &NetProperty) -> Result<(), Mem>
     ensures { OnOk result (out.new ≡ out.old ++ property_head_text (property_of property.now)) }
 {
-    write_visibility(out, property.visibility)?;
-    write_access(out, property.get.is_some(), property.set.is_some())?;
-    write_signature(out, b"Property ", &property.name, &property.params)?;
-    write_as(out, &property.ty)
+    write_promise(
+        out,
+        property.visibility,
+        property.get.is_some(),
+        property.set.is_some(),
+        &property.name,
+        &property.params,
+        &property.ty,
+    )
 }
 
 fn write_property(out: &mut Bytes, property: &NetProperty) -> Result<(), Mem>
@@ -271,19 +302,26 @@ fn write_field(out: &mut Bytes, field: &NetField) -> Result<(), Mem>
     }
 }
 
+/// Writes the line of what stands in a structure.
+pub fn write_field_line(out: &mut Bytes, field: &NetField) -> Result<(), Mem>
+    ensures { OnOk result (out.new ≡ out.old ++ at_depth 2 (field_text (field_of field.now))) }
+{
+    begin_line(out, 2)?;
+    write_field(out, field)?;
+    end_line(out)
+}
+
 fn write_fields(out: &mut Bytes, fields: &[NetField]) -> Result<(), Mem>
     ensures { OnOk result (out.new ≡ out.old ++ flat_map (λ f. at_depth 2 (field_text f)) (map field_of fields.now)) }
 {
     for field in fields {
-        begin_line(out, 2)?;
-        write_field(out, field)?;
-        end_line(out)?;
+        write_field_line(out, field)?;
     }
     Ok(())
 }
 
-// Writes the first line of a structure.
-fn write_structure_head(out: &mut Bytes, name: &Name) -> Result<(), Mem>
+/// Writes the first line of a structure.
+pub fn write_structure_head(out: &mut Bytes, name: &Name) -> Result<(), Mem>
     ensures { OnOk result (out.new ≡ out.old ++ at_depth 1 (codes "Public Structure " ++ name_text name.now)) }
 {
     begin_line(out, 1)?;
@@ -337,7 +375,8 @@ fn write_constant_line(
     end_line(out)
 }
 
-fn write_member(out: &mut Bytes, member: &NetMember) -> Result<(), Mem>
+/// Writes a member of a module.
+pub fn write_member(out: &mut Bytes, member: &NetMember) -> Result<(), Mem>
     ensures { OnOk result (out.new ≡ out.old ++ member_text (member_of member.now)) }
 {
     match member {

@@ -11,7 +11,7 @@ ghost use Rattle.net_tree.specs.Text.{written_modules, response_text, files_of, 
 use crate::declarations::write_members;
 use crate::layout::{end_line, write_line};
 use crate::names::write_name;
-use net_tree::{NetFiles, NetModule, NetProject};
+use net_tree::{NetFiles, NetMember, NetModule, NetProc, NetProject};
 use std::alloc::Global;
 use up_base::{Bytes, Mem, Name, Sequence};
 
@@ -29,6 +29,44 @@ pub fn emit(alloc: Global, project: &NetProject) -> Result<NetFiles, Mem>
     Ok(files)
 }
 
+// About how many lines a part of a property has.
+fn part_lines(part: &Option<Box<NetProc>>) -> usize {
+    match part {
+        None => 0,
+        Some(part) => procedure_lines(part),
+    }
+}
+
+fn procedure_lines(procedure: &NetProc) -> usize {
+    let declared = procedure.prologue.len();
+    procedure
+        .lines
+        .len()
+        .saturating_add(declared)
+        .saturating_add(2)
+}
+
+fn member_lines(member: &NetMember) -> usize {
+    match member {
+        NetMember::Structure(structure) => structure.fields.len().saturating_add(2),
+        NetMember::Property(property) => {
+            let parts = part_lines(&property.get).saturating_add(part_lines(&property.set));
+            parts.saturating_add(2)
+        }
+        NetMember::Proc(procedure) => procedure_lines(procedure),
+        _ => 1,
+    }
+}
+
+// About how many bytes the file of a module has. A text that grows as it is written stands twice in memory while it is moved.
+fn room_for(net_module: &NetModule) -> usize {
+    let mut lines: usize = 6;
+    for member in net_module.members.as_slice() {
+        lines = lines.saturating_add(member_lines(member));
+    }
+    lines.saturating_mul(80)
+}
+
 // The file of a module.
 fn module_file(
     alloc: Global,
@@ -40,8 +78,9 @@ fn module_file(
 {
     let mut name = Sequence::new(alloc);
     write_file_name(&mut name, net_module)?;
-    let mut text = Sequence::new(alloc);
+    let mut text = Sequence::from_vec(Vec::with_capacity(alloc, room_for(net_module))?);
     write_module(&mut text, note, net_module)?;
+    text.shrink_to_fit();
     Ok((Name::from_valid(alloc, name.as_slice())?, text))
 }
 
@@ -91,22 +130,23 @@ fn write_kind(out: &mut Bytes, class: bool) -> Result<(), Mem>
     out.extend_from_slice(b"Module")
 }
 
-fn write_opening(out: &mut Bytes, net_module: &NetModule) -> Result<(), Mem>
-    ensures { OnOk result (out.new ≡ out.old
-        ++ at_depth 0 (codes "Public " ++ kind_text net_module.now.class ++ codes " " ++ name_text net_module.now.name)) }
+/// Writes the line of a module's head.
+pub fn write_opening(out: &mut Bytes, class: bool, name: &Name) -> Result<(), Mem>
+    ensures { OnOk result (out.new ≡ out.old ++ at_depth 0 (codes "Public " ++ kind_text class ++ codes " " ++ name_text name.now)) }
 {
     out.extend_from_slice(b"Public ")?;
-    write_kind(out, net_module.class)?;
+    write_kind(out, class)?;
     out.push(b' ')?;
-    write_name(out, &net_module.name)?;
+    write_name(out, name)?;
     end_line(out)
 }
 
-fn write_ending(out: &mut Bytes, net_module: &NetModule) -> Result<(), Mem>
-    ensures { OnOk result (out.new ≡ out.old ++ at_depth 0 (codes "End " ++ kind_text net_module.now.class)) }
+/// Writes the closing line of a module.
+pub fn write_ending(out: &mut Bytes, class: bool) -> Result<(), Mem>
+    ensures { OnOk result (out.new ≡ out.old ++ at_depth 0 (codes "End " ++ kind_text class)) }
 {
     out.extend_from_slice(b"End ")?;
-    write_kind(out, net_module.class)?;
+    write_kind(out, class)?;
     end_line(out)
 }
 
@@ -123,9 +163,9 @@ fn write_module(out: &mut Bytes, note: &Option<Bytes>, net_module: &NetModule) -
     ensures { OnOk result (out.new ≡ out.old ++ module_text note.now (module_of net_module.now)) }
 {
     write_preamble(out, note)?;
-    write_opening(out, net_module)?;
+    write_opening(out, net_module.class, &net_module.name)?;
     write_members(out, net_module.members.as_slice())?;
-    write_ending(out, net_module)
+    write_ending(out, net_module.class)
 }
 
 fn write_target(out: &mut Bytes, library: bool) -> Result<(), Mem>

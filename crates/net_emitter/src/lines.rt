@@ -217,8 +217,8 @@ fn depth_behind(role: NetRole, depth: usize) -> usize
     }
 }
 
-// Writes a line before which so many blocks are open, and gives how many are behind it.
-fn write_line_of(out: &mut Bytes, depth: usize, line: &NetLine) -> Result<usize, Mem>
+/// Writes a line before which so many blocks are open, and gives how many are behind it.
+pub fn write_line_of(out: &mut Bytes, depth: usize, line: &NetLine) -> Result<usize, Mem>
     requires { depth + 1 < 2 ^ 64 }
     ensures text { IfOk result (λ d. out.new ≡ out.old ++ at_depth (depth_at (role_of (line_of line.now)) depth) (line_text (line_of line.now))) }
     ensures depth { IfOk result (λ d. d ≡ depth_behind (role_of (line_of line.now)) depth) }

@@ -23,8 +23,8 @@ fn is_innermost(kind: NetBlock, open: &Vec<NetBlock>) -> bool
     }
 }
 
-// Whether a line fits in the blocks that are open.
-fn fits_in(role: NetRole, open: &Vec<NetBlock>) -> bool
+/// Whether a line fits in the blocks that are open.
+pub fn fits_in(role: NetRole, open: &Vec<NetBlock>) -> bool
     ensures { result ≡ fits_in role (reverse open.now.items) }
 {
     match role {
@@ -35,8 +35,8 @@ fn fits_in(role: NetRole, open: &Vec<NetBlock>) -> bool
     }
 }
 
-// From the blocks that are open before a line to those behind it.
-fn pass(role: NetRole, open: &mut Vec<NetBlock>) -> Result<(), Mem>
+/// Goes from the blocks that are open before a line to those behind it.
+pub fn pass(role: NetRole, open: &mut Vec<NetBlock>) -> Result<(), Mem>
     ensures { OnOk result (reverse open.new.items ≡ open_behind role (reverse open.old.items)) }
 {
     match role {

@@ -20,8 +20,8 @@ use net_tree::{
 use std::alloc::Global;
 use up_base::{Mem, Name};
 
-// Whether a name can be declared as of a type.
-fn can_be_declared(name: &Name, ty: &NetType) -> bool
+/// Whether a name can be declared as of a type.
+pub fn can_be_declared(name: &Name, ty: &NetType) -> bool
     ensures { result ≡ (is_identifier name.now && is_writable_type (type_name_of ty.now)) }
 {
     is_identifier(name.as_bytes()) && is_writable_type(ty)
@@ -48,7 +48,8 @@ fn is_writable_constant(constant: &NetConstant) -> bool
     can_be_declared(&constant.name, &constant.ty) && is_writable_expression(&constant.value)
 }
 
-fn is_writable_dim(dim: &NetDim) -> bool
+/// Whether a declaration at the head of a procedure can be written.
+pub fn is_writable_dim(dim: &NetDim) -> bool
     ensures { result ≡ is_writable_dim (dim_of dim.now) }
 {
     match dim {
@@ -75,7 +76,8 @@ fn is_writable_param(param: &NetParam) -> bool
     can_be_declared(&param.name, &param.ty)
 }
 
-fn are_writable_params(params: &[NetParam]) -> bool
+/// Whether parameters can be written.
+pub fn are_writable_params(params: &[NetParam]) -> bool
     ensures { result ≡ list_all is_writable_param (map param_of params.now) }
 {
     for param in params {
@@ -93,7 +95,8 @@ fn can_be_called(name: &Name, params: &[NetParam]) -> bool
     is_identifier(name.as_bytes()) && are_writable_params(params)
 }
 
-fn is_writable_head(head: &NetHead) -> bool
+/// Whether the head of a procedure can be written.
+pub fn is_writable_head(head: &NetHead) -> bool
     ensures { result ≡ is_writable_head (head_of head.now) }
 {
     match head {
@@ -107,8 +110,8 @@ fn is_writable_head(head: &NetHead) -> bool
     }
 }
 
-// Whether a closing line is the one of a head.
-fn closes(head: &NetHead, close: NetClose) -> bool
+/// Whether a closing line is the one of a head.
+pub fn closes(head: &NetHead, close: NetClose) -> bool
     ensures { result ≡ closes (head_of head.now) close }
 {
     match head {
@@ -150,13 +153,15 @@ fn is_writable_procedure(alloc: Global, procedure: &NetProc) -> Result<bool, Mem
     Ok(nests(alloc, &procedure.lines)?)
 }
 
-fn is_get(head: &NetHead) -> bool
+/// Whether a head is that of a part that gets.
+pub fn is_get(head: &NetHead) -> bool
     ensures { result ≡ is_get (head_of head.now) }
 {
     matches!(head, NetHead::Get)
 }
 
-fn is_set(head: &NetHead) -> bool
+/// Whether a head is that of a part that sets.
+pub fn is_set(head: &NetHead) -> bool
     ensures { result ≡ is_set (head_of head.now) }
 {
     matches!(head, NetHead::Set(_, _))
@@ -207,7 +212,8 @@ fn is_writable_property(alloc: Global, property: &NetProperty) -> Result<bool, M
     Ok(is_writable_set(alloc, &property.set)?)
 }
 
-fn is_writable_field(field: &NetField) -> bool
+/// Whether what stands in a structure can be written.
+pub fn is_writable_field(field: &NetField) -> bool
     ensures { result ≡ is_writable_field (field_of field.now) }
 {
     match field {

@@ -12,6 +12,11 @@ mod spelling;
 #[cfg(test)]
 mod tests;
 
-pub use declarations::is_writable_member;
+pub use blocks::{fits_in, pass};
+pub use declarations::{
+    are_writable_params, can_be_declared, closes, is_get, is_set, is_writable_dim,
+    is_writable_field, is_writable_head, is_writable_member,
+};
 pub use lines::is_writable_line;
 pub use project::{is_writable, is_writable_module};
+pub use spelling::is_identifier;

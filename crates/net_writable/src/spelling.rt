@@ -20,7 +20,7 @@ fn are_word_parts(bytes: &[u8]) -> bool
 }
 
 /// Whether bytes are a letter or an underscore, and then letters, digits and underscores.
-pub(crate) fn is_identifier(name: &[u8]) -> bool
+pub fn is_identifier(name: &[u8]) -> bool
     ensures { result ≡ is_identifier name.now }
 {
     match name {
