@@ -1,7 +1,8 @@
 #!/usr/bin/env bash
 # Measures the upgrade wizard on a small project, on two with a module of the largest size, one of printed texts and one
 # of sums, and on one of sixteen modules of code, beside a plain reading of the same files; the lexer on 16 MiB of code,
-# beside universal-ctags where that is installed; and the emitter on a project of 16 MiB of text. It prints seconds,
+# beside universal-ctags where that is installed; and the emitter and the reader of its files on a project of 16 MiB of
+# text. It prints seconds,
 # megabytes (10^6 bytes of input, or of text that is emitted) a second and peak memory, with the targets beside them, and
 # judges nothing: it ends with status 0 whatever the figures.
 set -euo pipefail
@@ -150,7 +151,7 @@ measure_lexer() {
 measure_emitter() {
     local lines="$1" times="$2" once all whole
     for ((run = 1; run <= runs; run++)); do
-        once="$("$emitter" "$lines" 1 | sed 's/.*bytes //')"
+        once="$("$emitter" "$lines" 1 | sed 's/.*bytes \([0-9]*\).*/\1/')"
         measure "$emitter" "$lines" 1
         print_figures "emit 1 time" "$once" ""
         whole="$seconds"
@@ -159,6 +160,21 @@ measure_emitter() {
         print_figures "emit $times times" "$all" ""
         seconds="$(awk -v a="$whole" -v b="$seconds" 'BEGIN { printf "%.4f", b - a }')"
         print_figures "emitter" "$((all - once))" "the difference"
+    done
+}
+
+# Measures the reader on the files of a project of so many lines that are read so often. The time of the last line leaves out
+# that the project is built, emitted and let go of.
+measure_reader() {
+    local lines="$1" times="$2" read whole
+    for ((run = 1; run <= runs; run++)); do
+        measure "$emitter" "$lines" 1
+        whole="$seconds"
+        read="$("$emitter" "$lines" 1 "$times" | sed 's/.*read //')"
+        measure "$emitter" "$lines" 1 "$times"
+        print_figures "read $times times" "$read" ""
+        seconds="$(awk -v a="$whole" -v b="$seconds" 'BEGIN { printf "%.4f", b - a }')"
+        print_figures "reader" "$read" "the difference"
     done
 }
 
@@ -182,3 +198,4 @@ measure_lexer "$work/Code.bas"
 
 # A line has 43 bytes with its end.
 measure_emitter 390000 21
+measure_reader 390000 3

@@ -16,11 +16,12 @@ use Rattle.net_tree.specs.Expressions.{exp_text, is_writable_exp, is_writable_ty
 use Rattle.net_tree.specs.Lines.{is_writable_option}
 use Rattle.net_tree.specs.Declarations.{close_text, declared_text, dim_text, field_text, is_writable_constant, is_writable_dim, is_writable_field, is_writable_param, is_writable_variable, param_text, params_text, passing_text, value_text, variable_text}
 use Rattle.net_exprs.specs.Ends.{begins_with, ends_type}
+use Rattle.net_exprs.specs.Fitting.{fits_name, fits_type}
 use Rattle.net_exprs.specs.Types.{type_at}
 use Rattle.net_exprs.proofs.Words.{both_true, name_reads}
 use Rattle.net_exprs.proofs.TypesRead.{rank_reads, type_reads}
 use Rattle.net_reader.specs.DeclarationReader.{Declared, Signature, close_at, constant_in, declared_at, declared_behind, dim_at, field_at, function_in, param_at, param_of, params_at, property_in, set_in, signature_at, sub_by, sub_in, value_in, variable_in}
-use Rattle.net_reader.specs.Fits.{fits_constant, fits_dim, fits_field, fits_option, fits_variable}
+use Rattle.net_reader.specs.Fits.{fits_constant, fits_dim, fits_exp, fits_field, fits_option, fits_variable}
 use Rattle.net_reader.specs.LineReader.{exp_in}
 use Rattle.net_reader.specs.Words.{line_words}
 use Rattle.net_reader.proofs.ItemsRead.{all_items_read}
@@ -76,7 +77,7 @@ variable_reads v h k =
     ap (option_and_then (λ (d : Declared × List ℕ).
     option_map {U = Variable} (λ (value : Option Exp). record { name = d.0.name; ty = d.0.ty; value = value }) (value_in d.1)))
     (declared_reads v.name v.ty (value_text v.value) one.0 one.1 (value_ends v.value))
-    ∙ ap (option_map {U = Variable} (λ (value : Option Exp). record { name = v.name; ty = v.ty; value = value })) (value_reads v.value two.1 k)
+    ∙ ap (option_map {U = Variable} (λ (value : Option Exp). record { name = v.name; ty = v.ty; value = value })) (value_reads v.value two.1 (both_true (fits_name v.name && fits_type v.ty) (fits_option v.value) k).1)
 
 -- a constant behind its word
 pub constant_reads : (c : Constant) → is_writable_constant c ≡ true → fits_constant c ≡ true →
@@ -88,7 +89,7 @@ constant_reads c h k =
     ∙ ap (option_and_then (λ (d : Declared × List ℕ).
     option_map {U = Constant} (λ (value : Exp). record { name = d.0.name; ty = d.0.ty; value = value }) (exp_in (drop 3 d.1))))
     (declared_reads c.name c.ty (codes " = " ++ exp_text c.value) one.0 one.1 refl)
-    ∙ ap (option_map {U = Constant} (λ (value : Exp). record { name = c.name; ty = c.ty; value = value })) (exp_reads c.value two.1 k)
+    ∙ ap (option_map {U = Constant} (λ (value : Exp). record { name = c.name; ty = c.ty; value = value })) (exp_reads c.value two.1 (both_true (fits_name c.name && fits_type c.ty) (fits_exp c.value) k).1)
 
 pub dim_reads : (d : Dim) → is_writable_dim d ≡ true → fits_dim d ≡ true → dim_at (dim_text d) ≡ Some d
 unfolding line_words
@@ -203,7 +204,7 @@ close_reads close.EndSet = refl
 
 pub field_reads : (f : Field) → is_writable_field f ≡ true → fits_field f ≡ true → field_at (field_text f) ≡ Some f
 unfolding line_words
-field_reads (field_comment units) h k = ap (λ (units : List ℕ). Some (field_comment units)) (units_read units h k)
+field_reads (field_comment units) h k = ap (option_map field_comment) (units_read units h k)
 field_reads (field name t) h k =
     let can = both_true (is_identifier name) (is_writable_type t) h in
     ap (λ text. option_map (λ (d : Declared × List ℕ). field d.0.name d.0.ty) (declared_at text)) (sym (append-nil (declared_text name t)))

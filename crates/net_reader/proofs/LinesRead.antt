@@ -14,15 +14,16 @@ use Rattle.net_tree.specs.Spelling.{label_text, separated, is_handler_label, is_
 use Rattle.net_tree.specs.Expressions.{exp_text, is_writable_exp}
 use Rattle.net_tree.specs.Lines.{case_item_text, is_writable_case, is_writable_option, is_writable_redim, line_text, redim_item_text, step_text}
 use Rattle.net_exprs.specs.Ends.{begins_with, ends_expression, ends_name}
-use Rattle.net_exprs.specs.Expressions.{exp_at}
-use Rattle.net_exprs.specs.Fitting.{fits_exp, fits_label}
+use Rattle.net_exprs.specs.Depth.{is_shallow}
+use Rattle.net_exprs.specs.Fitting as held
+use Rattle.net_exprs.specs.Fitting.{fits_label}
 use Rattle.net_exprs.proofs.Words.{both_true, never}
 use Rattle.net_exprs.proofs.Numbers.{label_reads}
-use Rattle.net_exprs.proofs.ReadBack.{expression_reads}
-use Rattle.net_reader.specs.Fits.{fits_case, fits_option, fits_redim}
+use Rattle.net_exprs.proofs.ReadBack.{shallow_expression_reads}
+use Rattle.net_reader.specs.Fits.{fits_case, fits_exp, fits_option, fits_redim}
 use Rattle.net_reader.specs.Items.{items_at}
 use Rattle.net_reader.specs.Laws.{LinesAreRead}
-use Rattle.net_reader.specs.LineReader.{case_item_at, case_item_by, case_of, case_value_of, exp_in, for_in, handler_of, label_in, line_at, line_by, plain_line, redim_by, redim_in, redim_item_at, redim_item_of, resume_of, statement_of, step_in}
+use Rattle.net_reader.specs.LineReader.{case_item_at, case_item_by, case_of, case_value_of, exp_at, exp_in, for_in, handler_of, label_in, line_at, line_by, plain_line, redim_by, redim_in, redim_item_at, redim_item_of, resume_of, statement_of, step_in}
 use Rattle.net_reader.specs.Words.{ends_with, keyword_at, line_words}
 use Rattle.net_reader.proofs.Colons.{ends_both, ends_last, exp_ends}
 use Rattle.net_reader.proofs.ItemsRead.{all_items_read}
@@ -31,6 +32,10 @@ use Rattle.net_reader.proofs.Tests.{if_false, if_true, all_both}
 use Rattle.net_reader.proofs.Units.{units_read}
 
 -- ---- parts
+
+expression_reads : (e : Exp) (rest : List ℕ) → is_writable_exp e ≡ true → fits_exp e ≡ true → ends_expression rest ≡ true → exp_at (exp_text e ++ rest) ≡ Some (e, rest)
+unfolding exp_at
+expression_reads e rest h k ends = let fit = both_true (held.fits_exp e) (is_shallow e) k in shallow_expression_reads e rest fit.1 h fit.0 ends
 
 pub exp_reads_in : (e : Exp) (rest : List ℕ) → is_writable_exp e ≡ true → fits_exp e ≡ true → ends_expression rest ≡ true → exp_in (exp_text e ++ rest) ≡ Some e
 exp_reads_in e rest h k ends = ap (option_map (λ (r : Exp × List ℕ). r.0)) (expression_reads e rest h k ends)
@@ -271,7 +276,7 @@ exit_reads leaving.Do = refl
 
 pub line_reads : LinesAreRead
 unfolding line_words
-line_reads (comment units) h k = ap (λ (units : List ℕ). Some (comment units)) (units_read units h k)
+line_reads (comment units) h k = ap (option_map comment) (units_read units h k)
 line_reads (assign a b) h k =
     let writable = both_true (is_writable_exp a) (is_writable_exp b) h in
     let fit = both_true (fits_exp a) (fits_exp b) k in

@@ -1,108 +1,96 @@
 -- Projects are read back from their files, which so stand for one project.
-use Rattle.std.proofs.Common.{◌≡◌, ℕ, Bool, true, false, ◌&&◌, List, [], ◌∷◌, ◌++◌, map, codes, refl, sym, ap, ◌∙◌, arith, append_assoc, Option, Some}
-use Rattle.std.specs.Prelude.{option_map, option_and_then, unwrap_or}
-use Rattle.std.specs.List.{flat_map, list_all}
-use Rattle.std.proofs.lemmas.Bool.Decides.{nat_tests}
+use Rattle.std.proofs.Common.{◌≡◌, ℕ, suc, Bool, true, ◌&&◌, List, [], ◌∷◌, ◌++◌, map, codes, refl, sym, ap, ◌∙◌, append_assoc, append-nil, Option, Some}
+use Rattle.std.specs.List.{list_all}
+use Rattle.up_base.specs.Names.{is_name}
 use Rattle.net_tree.specs.Tree.{Module, Project}
-use Rattle.net_tree.specs.Comments.{is_within_line}
-use Rattle.net_tree.specs.Spelling.{at_depth, is_word_part}
-use Rattle.net_tree.specs.Text.{StandForOne, file_name, is_main, is_note, is_writable_module, main_text, module_text, response_text, target_text, written_modules}
-use Rattle.net_exprs.specs.Readers.{after}
-use Rattle.net_exprs.proofs.Words.{both_true, is_word}
-use Rattle.net_reader.specs.FileLines.{lines_in}
-use Rattle.net_reader.specs.Fits.{fits_module, fits_project}
-use Rattle.net_reader.specs.Laws.{ProjectsAreRead}
-use Rattle.net_reader.specs.ModuleReader.{NotedModule, module_in}
-use Rattle.net_reader.specs.ProjectReader.{Parts, Response, last_module, parts_in, project_in, project_with, response_in, response_of, with_module}
-use Rattle.net_reader.proofs.CutLines.{IsLine, line_cut}
+use Rattle.net_tree.specs.Spelling.{is_identifier, is_same_text}
+use Rattle.net_tree.specs.Text.{StandForOne, file_name, is_note, is_support, is_writable_module, module_text, response_text, written_modules}
+use Rattle.net_exprs.proofs.Words.{both_true}
+use Rattle.net_reader.specs.Fits.{fits_main, fits_module, fits_project}
+use Rattle.net_reader.specs.Laws.{IsNoteKnown, ProjectsAreRead}
+use Rattle.net_reader.specs.ModuleReader.{complete}
+use Rattle.net_reader.specs.ProjectReader.{Before, Outcome, behind_module, faulty, finished, module_by, module_name, modules_before, named_by, none_before, project_in, project_with, read_from, response_by, response_in, whole}
+use Rattle.net_reader.proofs.FileNames.{is_named_for, other_name}
 use Rattle.net_reader.proofs.ModulesRead.{module_reads}
-use Rattle.net_reader.proofs.Tests.{all_both, all_more}
-
--- ---- the response file
-
-part_within : (c : ℕ) → is_word_part c ≡ true → is_within_line c ≡ true
-part_within c h = grind (arith, nat_tests)
-
-target_is : (library : Bool) → IsLine (target_text library)
-target_is true = record { within = refl; begins = refl }
-target_is false = record { within = refl; begins = refl }
-
--- what the two lines at its front say
-abbrev says : Bool → Option (List ℕ) → Response
-says library main = record { library = library; main = main }
-
-target_read : (library : Bool) (main : List ℕ) (lines : List (List ℕ)) → response_of (target_text library ∷ main ∷ lines) ≡ Some (says library (after (codes "/main:") main))
-target_read true main lines = refl
-target_read false main lines = refl
-
-main_read : (library : Bool) (main : Option (List ℕ)) (rest : List ℕ) → is_main main ≡ true →
-    response_of (target_text library ∷ lines_in (main_text main ++ (at_depth 0 (codes "/optionexplicit+") ++ rest))) ≡ Some (says library main)
-main_read library Option.None rest h =
-    ap (λ lines. response_of (target_text library ∷ lines)) (line_cut 0 (codes "/optionexplicit+") rest (record { within = refl; begins = refl }))
-    ∙ target_read library (codes "/optionexplicit+") (lines_in rest)
-main_read library (Some name) rest h =
-    ap (λ lines. response_of (target_text library ∷ lines))
-    (line_cut 0 (codes "/main:" ++ name) (at_depth 0 (codes "/optionexplicit+") ++ rest)
-    (record { within = all_more is_word_part is_within_line name part_within (is_word name h); begins = refl }))
-    ∙ target_read library (codes "/main:" ++ name) (lines_in (at_depth 0 (codes "/optionexplicit+") ++ rest))
-
-response_again : (t m e s f : List ℕ) → t ++ m ++ e ++ s ++ f ≡ t ++ (m ++ (e ++ (s ++ f)))
-response_again t m e s f = simp append_assoc
-
-response_read : (N : Project) → is_main N.main ≡ true → response_in (response_text N) ≡ Some (says N.library N.main)
-response_read N h =
-    let target = at_depth 0 (target_text N.library) in
-    let explicit = at_depth 0 (codes "/optionexplicit+") in
-    let strict = at_depth 0 (codes "/optionstrict-") in
-    let names = flat_map (λ (m : Module). at_depth 0 (file_name m)) (written_modules N) in
-    ap response_in (response_again target (main_text N.main) explicit strict names)
-    ∙ ap response_of (line_cut 0 (target_text N.library) (main_text N.main ++ (explicit ++ (strict ++ names))) (target_is N.library))
-    ∙ main_read N.library N.main (strict ++ names) h
+use Rattle.net_reader.proofs.ResponsesRead.{response_of_project, response_read}
+use Rattle.net_reader.proofs.Tests.{all_both, if_false, if_true}
 
 -- ---- the modules
 
-abbrev file_of : Option (List ℕ) → Module → List ℕ × List ℕ
-file_of noted m = (file_name m, module_text noted m)
-
-abbrev files_with : Option (List ℕ) → List Module → Module → List ℕ × List ℕ → List (List ℕ × List ℕ)
-files_with noted ms support response = map (file_of noted) (ms ++ support ∷ []) ++ response ∷ []
-
--- a file before the last two is that of a module before the others
-more_files : (noted : Option (List ℕ)) (file : List ℕ × List ℕ) (ms : List Module) (support : Module) (response : List ℕ × List ℕ) →
-    parts_in (file ∷ files_with noted ms support response)
-    ≡ option_and_then (λ (m : NotedModule). option_map (with_module m) (parts_in (files_with noted ms support response))) (module_in file.1)
-more_files noted file [] support response = refl
-more_files noted file (x ∷ []) support response = refl
-more_files noted file (x ∷ y ∷ ms) support response = refl
+abbrev module_file : Option (List ℕ) → Module → List ℕ × List ℕ
+module_file noted m = (file_name m, module_text noted m)
 
 abbrev is_read_module : Module → Bool
-is_read_module m = is_writable_module m && fits_module m
+is_read_module m = is_writable_module m && fits_module m && is_name (file_name m)
 
-abbrev parts : Option (List ℕ) → List Module → Module → Response → Parts
-parts noted ms support r = record { modules = record { note = noted; modules = ms; support = support }; response = r }
+abbrev behind_modules : Option (List ℕ) → Before → List Module → Before
+behind_modules noted b [] = b
+behind_modules noted b (m ∷ ms) = behind_modules noted (behind_module b (record { note = noted; tree = m })) ms
 
-one_read : (noted : Option (List ℕ)) (m : Module) → is_note noted ≡ true → is_read_module m ≡ true → module_in (module_text noted m) ≡ Some (record { note = noted; tree = m })
-one_read noted m h k = let can = both_true (is_writable_module m) (fits_module m) k in module_reads noted m h can.0 can.1
+one_read : (noted : Option (List ℕ)) (k : ℕ) (b : Before) (m : Module) (files : List (List ℕ × List ℕ)) → is_note noted ≡ true → IsNoteKnown b.note noted →
+    is_read_module m ≡ true →
+    read_from k b (module_file noted m ∷ files) ≡ read_from (suc k) (behind_module b (record { note = noted; tree = m })) files
+one_read noted k b m files h known can =
+    let two = both_true (is_writable_module m && fits_module m) (is_name (file_name m)) can in
+    let one = both_true (is_writable_module m) (fits_module m) two.0 in
+    let name = (both_true (is_identifier m.name) _ one.0).0 in
+    let go : Before → Outcome = λ next. read_from (suc k) next files in
+    if_false (is_same_text (file_name m) (codes "upgrade.rsp")) (response_by k b b.last (module_text noted m) files)
+    (named_by k b (module_name (file_name m)) (module_text noted m) go) (other_name m)
+    ∙ ap (λ o. named_by k b o (module_text noted m) go) (is_named_for m name two.1)
+    ∙ ap (λ r. module_by k b r go)
+    (module_reads b.note m.name (record { note = noted; tree = m }) (record { is_known = known; note = h; named = refl; writable = one.0; fits = one.1 }))
 
-parts_read : (noted : Option (List ℕ)) (ms : List Module) (support : Module) (response : List ℕ × List ℕ) (r : Response) → is_note noted ≡ true →
-    list_all is_read_module (ms ++ support ∷ []) ≡ true → response_in response.1 ≡ Some r → parts_in (files_with noted ms support response) ≡ Some (parts noted ms support r)
-parts_read noted [] support response r h k e =
-    ap (option_and_then (λ (m : NotedModule). option_map {U = Parts} (λ (r : Response). record { modules = last_module m; response = r }) (response_in response.1)))
-    (one_read noted support h (both_true (is_read_module support) true k).0)
-    ∙ ap (option_map {U = Parts} (λ (r : Response). parts noted [] support r)) e
-parts_read noted (m ∷ ms) support response r h k e =
-    let both = both_true (is_read_module m) (list_all is_read_module (ms ++ support ∷ [])) k in
-    more_files noted (file_of noted m) ms support response
-    ∙ ap (option_and_then (λ (m : NotedModule). option_map (with_module m) (parts_in (files_with noted ms support response)))) (one_read noted m h both.0)
-    ∙ ap (option_map (with_module (record { note = noted; tree = m }))) (parts_read noted ms support response r h both.1 e)
+-- the files of modules, with the number of the file behind them
+modules_read : (noted : Option (List ℕ)) (k : ℕ) (b : Before) (ms : List Module) (files : List (List ℕ × List ℕ)) → is_note noted ≡ true → IsNoteKnown b.note noted →
+    list_all is_read_module ms ≡ true →
+    (n : ℕ) × (read_from k b (map (module_file noted) ms ++ files) ≡ read_from n (behind_modules noted b ms) files)
+modules_read noted k b [] files h known can = (k, refl)
+modules_read noted k b (m ∷ ms) files h known can =
+    let both = both_true (is_read_module m) (list_all is_read_module ms) can in
+    let more = modules_read noted (suc k) (behind_module b (record { note = noted; tree = m })) ms files h refl both.1 in
+    (more.0, one_read noted k b m (map (module_file noted) ms ++ files) h known both.0 ∙ more.1)
+
+abbrev before_response : Option (List ℕ) → List Module → Module → Before
+before_response noted ms support = record { note = Some noted; earlier = ms; last = Some support }
+
+all_behind : (noted : Option (List ℕ)) (b : Before) (ms : List Module) (support : Module) →
+    behind_modules noted b (ms ++ support ∷ []) ≡ before_response noted (modules_before b ++ ms) support
+all_behind noted b [] support = ap (λ (ms : List Module). before_response noted ms support) (sym (append-nil (modules_before b)))
+all_behind noted b (m ∷ ms) support =
+    all_behind noted (behind_module b (record { note = noted; tree = m })) ms support
+    ∙ ap (λ (ms : List Module). before_response noted ms support) (append_assoc (modules_before b) (m ∷ []) ms)
+
+-- ---- all files
+
+response_taken : (k : ℕ) (noted : Option (List ℕ)) (ms : List Module) (support : Module) (main : Option (List ℕ)) (text : List ℕ) → is_support support ≡ true →
+    response_in (ms ++ support ∷ []) text ≡ complete main →
+    read_from k (before_response noted ms support) ((codes "upgrade.rsp", text) ∷ []) ≡ whole (project_with (before_response noted ms support) support main)
+response_taken k noted ms support main text h e =
+    if_true (is_support support) (finished k (before_response noted ms support) support (response_in (ms ++ support ∷ []) text) []) _ h
+    ∙ ap (λ r. finished k (before_response noted ms support) support r []) e
 
 pub project_reads : ProjectsAreRead
-project_reads N w h =
-    ap (option_map (λ (parts : Parts). project_with parts.modules parts.response))
-    (parts_read N.note N.modules N.support (codes "upgrade.rsp", response_text N) (says N.library N.main) w.note
-    (all_both is_writable_module fits_module (written_modules N) w.modules h) (response_read N w.main))
+project_reads N is =
+    let fit = both_true (fits_main N.main) (list_all fits_module (written_modules N)) is.fits in
+    let w = is.writable in
+    let modules = written_modules N in
+    let response : List ℕ × List ℕ = (codes "upgrade.rsp", response_text N) in
+    let both = all_both is_writable_module fits_module modules w.modules fit.1 in
+    let can = all_both (λ (m : Module). is_writable_module m && fits_module m) (λ (m : Module). is_name (file_name m)) modules both w.file_names in
+    let read = modules_read N.note 0 none_before modules (response ∷ []) w.note tt can in
+    read.1
+    ∙ ap (λ b. read_from read.0 b (response ∷ [])) (all_behind N.note none_before N.modules N.support)
+    ∙ response_taken read.0 N.note N.modules N.support N.main (response_text N) w.support (ap (response_in modules) (response_of_project N w.target) ∙ response_read modules N.main w.modules (record { writable = w.main; fits = fit.0 }))
+    ∙ ap (λ library. whole (record { library = library; main = N.main; note = N.note; modules = N.modules; support = N.support })) (sym w.target)
+
+-- the project that is read, or another where none is
+abbrev project_or : Project → Outcome → Project
+project_or M (whole N) = N
+project_or M (faulty file line) = M
 
 pub stand_for_one : StandForOne (λ N. fits_project N ≡ true)
 stand_for_one M N files h k a b =
-    ap (λ (o : Option Project). unwrap_or o M)
-    (sym (ap project_in a.are_files ∙ project_reads M a.writable h) ∙ ap project_in b.are_files ∙ project_reads N b.writable k)
+    ap (project_or M)
+    (sym (project_reads M (record { writable = a.writable; fits = h })) ∙ ap project_in (sym a.are_files ∙ b.are_files)
+    ∙ project_reads N (record { writable = b.writable; fits = k }))

@@ -1,14 +1,14 @@
 -- The units of a text are read back from its UTF-8, which holds no line end.
-use Rattle.std.proofs.Common.{◌≡◌, ℕ, ◌+◌, ◌-◌, ◌*◌, ◌/◌, ◌%◌, ◌<◌, ◌≤◌, Bool, true, false, cond, not, ◌&&◌, ◌||◌, List, [], ◌∷◌, ◌++◌, refl, sym, ap, subst, ◌∙◌, arith, append-nil}
+use Rattle.std.proofs.Common.{◌≡◌, ℕ, ◌+◌, ◌-◌, ◌*◌, ◌/◌, ◌%◌, ◌<◌, ◌≤◌, Bool, true, false, cond, not, ◌&&◌, ◌||◌, List, [], ◌∷◌, ◌++◌, refl, sym, ap, subst, ◌∙◌, arith, append-nil, Some, None}
 use Rattle.std.proofs.lemmas.Bool.{not-true}
 use Rattle.std.proofs.lemmas.Bool.Decides.{nat_tests}
 use Rattle.std.specs.Prelude.{nat_lt, nat_le, encode_utf8_all}
 use Rattle.std.specs.List.{flat_map, list_all}
-use Rattle.std.specs.Str.{chars, all_scalars}
+use Rattle.std.specs.Str.{IsUtf8, chars, all_scalars, is_utf8}
 use Rattle.std.specs.Char.{encode_utf8}
 use Rattle.std.specs.Char.Escape.{encode_utf16}
 use Rattle.std.specs.Char.Utf16.{is_high_surrogate, is_low_surrogate, surrogate_pair_char}
-use Rattle.std.proofs.lemmas.Str.{chars-encodes}
+use Rattle.std.proofs.lemmas.Str.{chars-encodes, is_utf8-from_IsUtf8}
 use borrow.Author.Tests.{leb-true, ltb-true}
 use Rattle.net_tree.specs.Comments.{is_comment, is_surrogate, is_well_formed, is_within_line, utf8_of}
 use Rattle.net_reader.specs.FileLines.{units_in}
@@ -101,13 +101,15 @@ read_as (u ∷ v ∷ units) h k =
     subst (λ (cs : List ℕ). ReadAs cs (u ∷ v ∷ units)) (sym (if_false (is_high_surrogate u) _ _ e))
     (also u (u ∷ []) (chars_of (v ∷ units)) (v ∷ units) (lone_spells u (neither (is_high_surrogate u) (is_low_surrogate u) e well.0) small.0) (read_as (v ∷ units) well.1 small.1)))
 
-pub units_read : (units : List ℕ) → is_comment units ≡ true → fits_text units ≡ true → units_in (utf8_of units) ≡ units
+pub units_read : (units : List ℕ) → is_comment units ≡ true → fits_text units ≡ true → units_in (utf8_of units) ≡ Some units
 units_read units h k =
     let well = both_true (list_all is_within_line units) (is_well_formed units) h in
     let read = read_as units well.1 k in
-    ap (λ bytes. flat_map encode_utf16 (chars bytes)) (utf8_chars units)
-    ∙ ap (flat_map encode_utf16) (chars-encodes (chars_of units) read.scalars)
-    ∙ read.spelt
+    let utf8 : IsUtf8 (utf8_of units) = (chars_of units, (read.scalars, sym (utf8_chars units))) in
+    if_true (is_utf8 (utf8_of units)) (Some (flat_map encode_utf16 (chars (utf8_of units)))) None (is_utf8-from_IsUtf8 (utf8_of units) utf8)
+    ∙ ap (λ bytes. Some (flat_map encode_utf16 (chars bytes))) (utf8_chars units)
+    ∙ ap (λ cs. Some (flat_map encode_utf16 cs)) (chars-encodes (chars_of units) read.scalars)
+    ∙ ap (λ (units : List ℕ). Some units) read.spelt
 
 high_within : (b : ℕ) → 128 ≤ b → is_within_line b ≡ true
 high_within b h = grind (arith, nat_tests)

@@ -97,7 +97,7 @@ function_in visibility text = option_and_then (λ (s : Signature × List ℕ).
 abbrev pub set_in : List ℕ → Option Head
 set_in text = option_map (λ (d : Declared × List ℕ). set_part d.0.name d.0.ty) (declared_at (drop 7 text))
 
--- a property before its parts are read
+-- a property without its parts
 abbrev pub property_in : NetVisibility → List ℕ → Option Property
 property_in visibility text = option_and_then (λ (s : Signature × List ℕ).
     option_map (λ (t : TypeName × List ℕ). record { visibility = visibility; name = s.0.name; params = s.0.params; ty = t.0; get = None; set = None })
@@ -129,4 +129,4 @@ field_by (Some w.public_word) text = option_map (λ (d : Declared × List ℕ). 
 field_by _ text = None
 
 abbrev pub field_at : List ℕ → Option Field
-field_at text = cond (begins_with 39 text) (Some (field_comment (units_in (drop 1 text)))) (field_by (keyword_at text) (drop 1 (behind_word text)))
+field_at text = cond (begins_with 39 text) (option_map field_comment (units_in (drop 1 text))) (field_by (keyword_at text) (drop 1 (behind_word text)))

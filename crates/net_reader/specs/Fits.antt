@@ -1,13 +1,19 @@
--- Which projects have numbers that fit their types: what a tree of the code always has.
+-- Which projects a tree of the code can hold and can be read back: numbers fit their types, names have at most 512
+-- characters and arrays 255 dimensions, and expressions are nested no deeper than is read.
 use Rattle.std.specs.Prelude.{ℕ, Bool, true, ◌&&◌, nat_lt, List, Option, Some, None}
 use Rattle.std.specs.List.{list_all}
-use Rattle.net_tree.specs.Tree.{CaseItem, Constant, Dim, Exp, Field, Line, Member, Module, Procedure, Project, ReDimItem, Variable, assign, call, case_is, case_line, case_range, case_value, comment, const_member, constant, do_until, do_while, else_if, field, field_comment, for_head, goto, if_head, label, local, loop_until, loop_while, member_comment, on_error_goto, proc, property, redim, resume_at, select, static_local, structure, variable, while_head, with_head}
+use Rattle.net_tree.specs.Tree.{CaseItem, Constant, Dim, Exp, Field, Head, Line, Member, Module, Param, Procedure, Project, Property, ReDimItem, Structure, Variable, assign, call, call_of, case_is, case_line, case_range, case_value, comment, const_member, constant, do_until, do_while, else_if, field, field_comment, for_head, function, get_part, goto, if_head, label, local, loop_until, loop_while, member_comment, on_error_goto, proc, property, redim, resume_at, select, set_part, static_local, structure, sub, sub_new, variable, while_head, with_head}
 use Rattle.net_tree.specs.Text.{written_modules}
-use Rattle.net_exprs.specs.Fitting.{fits_exp, fits_exps, fits_label}
+use Rattle.net_exprs.specs.Depth.{is_shallow}
+use Rattle.net_exprs.specs.Fitting as held
+use Rattle.net_exprs.specs.Fitting.{fits_label, fits_name, fits_type}
 
 -- a text of UTF-16 units
 abbrev pub fits_text : List ℕ → Bool
 fits_text units = list_all (λ unit. nat_lt unit 0x1_0000) units
+
+abbrev pub fits_exp : Exp → Bool
+fits_exp e = held.fits_exp e && is_shallow e
 
 abbrev pub fits_option : Option Exp → Bool
 fits_option None = true
@@ -19,12 +25,12 @@ fits_case (case_range a b) = fits_exp a && fits_exp b
 fits_case (case_is o e) = fits_exp e
 
 abbrev pub fits_redim : ReDimItem → Bool
-fits_redim r = fits_exp r.array && fits_exps r.bounds
+fits_redim r = fits_exp (call_of r.array r.bounds)
 
 abbrev pub fits_line : Line → Bool
 fits_line (comment units) = fits_text units
 fits_line (assign target value) = fits_exp target && fits_exp value
-fits_line (call callee arguments) = fits_exp callee && fits_exps arguments
+fits_line (call callee arguments) = fits_exp (call_of callee arguments)
 fits_line (if_head condition) = fits_exp condition
 fits_line (else_if condition) = fits_exp condition
 fits_line (select value) = fits_exp value
@@ -44,18 +50,28 @@ fits_line (redim preserve items) = list_all fits_redim items
 fits_line _ = true
 
 abbrev pub fits_variable : Variable → Bool
-fits_variable v = fits_option v.value
+fits_variable v = fits_name v.name && fits_type v.ty && fits_option v.value
 
 abbrev pub fits_constant : Constant → Bool
-fits_constant c = fits_exp c.value
+fits_constant c = fits_name c.name && fits_type c.ty && fits_exp c.value
 
 abbrev pub fits_dim : Dim → Bool
 fits_dim (local v) = fits_variable v
 fits_dim (static_local v) = fits_variable v
 fits_dim (constant c) = fits_constant c
 
+abbrev pub fits_param : Param → Bool
+fits_param p = fits_name p.name && fits_type p.ty
+
+abbrev pub fits_head : Head → Bool
+fits_head (sub visibility name params) = fits_name name && list_all fits_param params
+fits_head (function visibility name params t) = fits_name name && list_all fits_param params && fits_type t
+fits_head sub_new = true
+fits_head get_part = true
+fits_head (set_part name t) = fits_name name && fits_type t
+
 abbrev pub fits_procedure : Procedure → Bool
-fits_procedure p = list_all fits_dim p.prologue && list_all fits_line p.lines
+fits_procedure p = fits_head p.head && list_all fits_dim p.prologue && list_all fits_line p.lines
 
 abbrev pub fits_part : Option Procedure → Bool
 fits_part None = true
@@ -63,18 +79,28 @@ fits_part (Some p) = fits_procedure p
 
 abbrev pub fits_field : Field → Bool
 fits_field (field_comment units) = fits_text units
-fits_field (field name t) = true
+fits_field (field name t) = fits_name name && fits_type t
+
+abbrev pub fits_structure : Structure → Bool
+fits_structure s = fits_name s.name && list_all fits_field s.fields
+
+abbrev pub fits_property : Property → Bool
+fits_property p = fits_name p.name && list_all fits_param p.params && fits_type p.ty && fits_part p.get && fits_part p.set
 
 abbrev pub fits_member : Member → Bool
 fits_member (member_comment units) = fits_text units
 fits_member (variable visibility v) = fits_variable v
 fits_member (const_member visibility c) = fits_constant c
-fits_member (structure s) = list_all fits_field s.fields
-fits_member (property p) = fits_part p.get && fits_part p.set
+fits_member (structure s) = fits_structure s
+fits_member (property p) = fits_property p
 fits_member (proc p) = fits_procedure p
 
 abbrev pub fits_module : Module → Bool
-fits_module m = list_all fits_member m.members
+fits_module m = fits_name m.name && list_all fits_member m.members
+
+abbrev pub fits_main : Option (List ℕ) → Bool
+fits_main None = true
+fits_main (Some name) = fits_name name
 
 abbrev pub fits_project : Project → Bool
-fits_project N = list_all fits_module (written_modules N)
+fits_project N = fits_main N.main && list_all fits_module (written_modules N)

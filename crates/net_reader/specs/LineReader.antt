@@ -8,13 +8,18 @@ use Rattle.net_tree.specs.declared.line.NetLabel.{NetLabel}
 use Rattle.net_tree.specs.declared.line.NetLabel.TheVariants.{Word, Number}
 use Rattle.net_tree.specs.Tree.{CaseItem, Exp, Line, ReDimItem, assign, call, call_of, case_else, case_is, case_line, case_range, case_value, comment, do_head, do_until, do_while, else_if, else_line, end_if, end_select, end_while, end_with, exit, for_head, goto, if_head, label, loop, loop_until, loop_while, next, on_error_goto, on_error_goto_zero, on_error_resume_next, redim, resume, resume_at, resume_next, select, while_head, with_head}
 use Rattle.net_exprs.specs.Names.{label_at}
-use Rattle.net_exprs.specs.Expressions.{exp_at}
+use Rattle.net_exprs.specs.Depth.{most_nested}
+use Rattle.net_exprs.specs.Expressions.{exp_nested}
 use Rattle.net_exprs.specs.Ends.{begins_with}
 use Rattle.net_exprs.specs.Readers.{look_up}
 use Rattle.net_reader.specs.FileLines.{units_in}
 use Rattle.net_reader.specs.Items.{items_at}
 use Rattle.net_reader.specs.Words as w
 use Rattle.net_reader.specs.Words.{behind_word, ends_with, keyword_at}
+
+-- an expression that is nested no deeper than the code reads
+unfoldable pub exp_at : List ℕ → Option (Exp × List ℕ)
+exp_at text = exp_nested most_nested text
 
 -- the expression that a text begins with, whatever stands behind it
 abbrev pub exp_in : List ℕ → Option Exp
@@ -173,4 +178,4 @@ line_by None text = plain_line text
 line_by (Some word) text = line_of_word word (drop 1 (behind_word text))
 
 abbrev pub line_at : List ℕ → Option Line
-line_at text = cond (begins_with 39 text) (Some (comment (units_in (drop 1 text)))) (line_by (keyword_at text) text)
+line_at text = cond (begins_with 39 text) (option_map comment (units_in (drop 1 text))) (line_by (keyword_at text) text)

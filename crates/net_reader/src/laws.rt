@@ -1,8 +1,8 @@
-//! That what was written is read back.
+//! That what was written is read back, and that what is read was written.
 ghost use Rattle.std.specs.Prelude.{◌≡◌, true};
 ghost use Rattle.net_tree.specs.Text.{StandForOne};
 ghost use Rattle.net_reader.specs.Fits.{fits_project};
-ghost use Rattle.net_reader.specs.Laws.{LinesAreRead, ModulesAreRead, ProjectsAreRead};
+ghost use Rattle.net_reader.specs.Laws.{FaultsAreFirst, LinesAreRead, ModuleFaultsAreFirst, ModulesAreRead, ProjectsAreRead, ReadFilesStand, ReadModulesStand};
 
 /// A law: a line of a procedure is read back.
 pub fn lines_are_read()
@@ -19,7 +19,27 @@ pub fn projects_are_read()
     ensures { ProjectsAreRead }
 {}
 
-/// A law: files stand for at most one project, among projects whose numbers fit their types.
+/// A law: files stand for at most one project, among projects that can be held and read back.
 pub fn files_stand_for_one()
     ensures { StandForOne (λ N. fits_project N ≡ true) }
+{}
+
+/// A law: a module that is read is one that its file stands for.
+pub fn read_modules_stand()
+    ensures { ReadModulesStand }
+{}
+
+/// A law: where no module is read, the line is the first at which the file begins none.
+pub fn module_faults_are_first()
+    ensures { ModuleFaultsAreFirst }
+{}
+
+/// A law: a project that is read is one that its files stand for.
+pub fn read_files_stand()
+    ensures { ReadFilesStand }
+{}
+
+/// A law: where no project is read, the place is that of the first fault.
+pub fn faults_are_first()
+    ensures { FaultsAreFirst }
 {}

@@ -1,6 +1,48 @@
 //! How written projects are read back.
 #![tactic(auto)]
 
+mod cases;
+mod characters;
+#[cfg(test)]
+mod declaration_tests;
+mod declarations;
+mod expressions;
+mod fail;
+mod file_lines;
+mod file_names;
+mod file_reading;
+mod front;
+mod heads;
+mod items;
+mod jumps;
 mod laws;
+#[cfg(test)]
+mod line_tests;
+mod lines;
+mod loops;
+mod margins;
+mod members;
+mod module_file;
+mod pieces;
+mod procedures;
+mod project_files;
+mod properties;
+mod redims;
+mod response_file;
+mod signatures;
+mod states;
+mod step;
+mod structures;
+mod taken;
+#[cfg(test)]
+mod tests_files;
+mod texts;
+mod words;
 
-pub use laws::{files_stand_for_one, lines_are_read, modules_are_read, projects_are_read};
+pub use fail::NetReadFail;
+pub use laws::{
+    faults_are_first, files_stand_for_one, lines_are_read, module_faults_are_first,
+    modules_are_read, projects_are_read, read_files_stand, read_modules_stand,
+};
+pub use lines::read_line;
+pub use project_files::{can_be_counted, read_net};
