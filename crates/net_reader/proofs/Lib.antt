@@ -37,7 +37,7 @@ pub mod Completions
 pub mod Marks
 pub mod ModulesStand
 pub mod ResponsesRead
-pub mod Indents
+pub mod LineEnds
 pub mod Stopping
 pub mod DimWords
 pub mod Turns

@@ -1,16 +1,15 @@
 -- What a line is taken as, of what is read of it: only where it can be written there, and the line is what is written for it.
 use Rattle.std.specs.Prelude.{ℕ, suc, ◌+◌, Bool, true, false, not, ◌&&◌, ◌||◌, List, length, Option, Some, is_none, is_some}
 use Rattle.net_tree.specs.declared.block.NetBlock.{NetBlock}
-use Rattle.net_tree.specs.declared.declaration.NetClose.{NetClose}
 use Rattle.net_tree.specs.Blocks.{depth_at, fits_in, role_of}
-use Rattle.net_tree.specs.Declarations.{close_text, closes, dim_text, field_text, head_text, is_get, is_set, is_writable_dim, is_writable_field, is_writable_head, is_writable_member, member_text}
+use Rattle.net_tree.specs.Declarations.{dim_text, field_text, head_text, is_get, is_set, is_writable_dim, is_writable_field, is_writable_head, is_writable_member, member_text}
 use Rattle.net_tree.specs.Lines.{is_writable_line, line_text}
 use Rattle.net_tree.specs.Spelling.{at_depth, is_identifier}
 use Rattle.net_tree.specs.Tree.{Dim, Field, Head, Line, Member, Property}
 use Rattle.net_exprs.specs.Fitting.{fits_name}
 use Rattle.net_reader.specs.Fits.{fits_dim, fits_field, fits_head, fits_line, fits_member}
 use Rattle.net_reader.specs.Words as w
-use Rattle.net_reader.specs.ModuleReader.{Access, Body, Promised, gets, has_no_blocks, has_no_lines, is_fine_property, promised_text, sets, structure_head_text, taken}
+use Rattle.net_reader.specs.ModuleReader.{Access, Body, Promised, gets, has_no_lines, is_fine_property, promised_text, sets, structure_head_text, taken}
 
 -- a line of a procedure whose head stands at a depth
 abbrev pub line_within : (depth : ℕ) → (blocks : List NetBlock) → (line : List ℕ) → Option Line → Option Line
@@ -22,11 +21,6 @@ line_within depth blocks line found =
 abbrev pub dim_within : (depth : ℕ) → Body → (line : List ℕ) → Option Dim → Option Dim
 dim_within depth b line found =
     taken (λ (d : Dim). has_no_lines b.tree.lines && is_writable_dim d && fits_dim d) (λ (d : Dim). at_depth (suc depth) (dim_text d)) line found
-
--- its closing line
-abbrev pub close_within : (depth : ℕ) → Body → (line : List ℕ) → Option NetClose → Option NetClose
-close_within depth b line found =
-    taken (λ (c : NetClose). closes b.tree.head c && has_no_blocks b.blocks) (λ (c : NetClose). at_depth depth (close_text c)) line found
 
 -- what stands in a structure
 abbrev pub field_within : (line : List ℕ) → Option Field → Option Field

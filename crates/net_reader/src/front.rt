@@ -1,9 +1,6 @@
 //! Reads what stands before the members of a module.
 ghost use Rattle.std.specs.Prelude.{◌≡◌, ◌++◌, ◌∷◌, [], codes, IfOk, OnOk};
-ghost use Rattle.std.specs.List.{list_all};
-ghost use Rattle.up_base.specs.Names.{is_printable};
 ghost use Rattle.net_tree.specs.Spelling.{at_depth, is_same_text};
-ghost use Rattle.net_tree.specs.Text.{is_note};
 ghost use Rattle.net_reader.specs.FileLines.{text_of_line};
 ghost use Rattle.net_reader.specs.ModuleReader as model;
 ghost use Rattle.net_reader.specs.StateView.{state_of};
@@ -16,25 +13,10 @@ use crate::states::State;
 use crate::taken::is_line;
 use net_emitter::write_opening;
 use net_exprs::PhraseFail;
+use net_writable::is_note;
 use std::alloc::Global;
 use std::collections::VecDeque;
 use up_base::{Bytes, Mem, Name};
-
-fn are_printable(bytes: &[u8]) -> bool
-    ensures { result ≡ list_all is_printable bytes.now }
-{
-    bytes.iter().all(|c| 32 <= *c && *c <= 126)
-}
-
-// Whether this may stand at the head of a file.
-fn is_note(note: &Option<Bytes>) -> bool
-    ensures { result ≡ is_note note.now }
-{
-    match note {
-        None => true,
-        Some(note) => note.len() <= 200 && are_printable(note.as_slice()),
-    }
-}
 
 // The comment at the head of a file whose first line says this.
 fn note_in(alloc: Global, text: &[u8]) -> Result<Option<Bytes>, Mem>
@@ -72,7 +54,7 @@ fn note_line(alloc: Global, note: &[u8]) -> Result<Bytes, Mem>
     Ok(line)
 }
 
-/// The lines before the head of a module.
+// The lines before the head of a module.
 fn front_lines(alloc: Global, note: &Option<Bytes>) -> Result<VecDeque<Bytes>, Mem>
     ensures { IfOk result (λ texts. texts.items ≡ model.front_lines note.now) }
 {

@@ -23,6 +23,8 @@ mod loops;
 mod margins;
 mod members;
 mod module_file;
+#[cfg(test)]
+mod module_tests;
 mod pieces;
 mod procedures;
 mod project_files;

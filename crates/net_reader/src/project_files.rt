@@ -1,7 +1,7 @@
 //! The files of a project.
 ghost use Rattle.std.specs.Prelude.{◌≡◌, ◌+◌, ◌<◌, ◌^◌, ◌==◌, true, codes, length, map, IfOk};
 ghost use Rattle.net_tree.specs.Spelling.{is_same_text};
-ghost use Rattle.net_tree.specs.Text.{NetText, is_support};
+ghost use Rattle.net_tree.specs.Text.{NetText};
 ghost use Rattle.net_tree.specs.View.{module_of, project_of};
 ghost use Rattle.net_reader.specs.FileLines.{file_lines};
 ghost use Rattle.net_reader.specs.FileSteps.{ended_by, file_reading, is_last_support, last_of, last_reading, project_by, read_as};
@@ -19,6 +19,7 @@ use crate::module_file::read_module;
 use crate::response_file::read_response;
 use crate::states::NotedModule;
 use net_tree::{NetFiles, NetModule, NetProject};
+use net_writable::is_support;
 use std::alloc::Global;
 use up_base::{Bytes, Mem, Name, Place, Sequence};
 
@@ -83,13 +84,6 @@ fn read_file(
         Some(name) => read_source(alloc, before, name, text),
         None => Ok(FileReading::Stuck(0)),
     }
-}
-
-// Whether a module can be the one of the support functions.
-fn is_support(source: &NetModule) -> bool
-    ensures { result ≡ is_support (module_of source.now) }
-{
-    !source.class && source.name.as_bytes() == b"UpgradeSupport".as_slice()
 }
 
 fn is_last_support(modules: &[NetModule]) -> bool

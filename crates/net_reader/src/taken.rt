@@ -15,7 +15,7 @@ ghost use Rattle.net_reader.specs.ModuleReader.{has_no_blocks, has_no_lines};
 ghost use Rattle.net_reader.specs.Parts.{property_head_of};
 ghost use Rattle.net_reader.specs.StateView.{access_of, body_of, promised_of};
 ghost use Rattle.net_reader.specs.Steps.{Steps};
-ghost use Rattle.net_reader.specs.Takings.{close_within, dim_within, field_within, head_within, line_within, may_set, member_within, property_within, set_within, structure_within};
+ghost use Rattle.net_reader.specs.Takings.{dim_within, field_within, head_within, line_within, may_set, member_within, property_within, set_within, structure_within};
 
 use crate::characters::{behind, is};
 use crate::declarations::{read_dim, read_field};

@@ -18,5 +18,5 @@ pub use declarations::{
     is_writable_field, is_writable_head, is_writable_member,
 };
 pub use lines::is_writable_line;
-pub use project::{is_writable, is_writable_module};
+pub use project::{is_note, is_support, is_writable, is_writable_module};
 pub use spelling::is_identifier;

@@ -61,8 +61,8 @@ fn are_files(alloc: Global, modules: &[NetModule]) -> Result<bool, Mem>
     Ok(true)
 }
 
-// Whether a module can be the one of the support functions.
-fn is_support(source: &NetModule) -> bool
+/// Whether a module can be the one of the support functions.
+pub fn is_support(source: &NetModule) -> bool
     ensures { result ≡ is_support (module_of source.now) }
 {
     !source.class && source.name.as_bytes() == b"UpgradeSupport".as_slice()
@@ -74,7 +74,8 @@ fn are_printable(bytes: &[u8]) -> bool
     bytes.iter().all(|c| 32 <= *c && *c <= 126)
 }
 
-fn is_note(note: &Option<Bytes>) -> bool
+/// Whether a text can be the comment at the head of each module, where there is one.
+pub fn is_note(note: &Option<Bytes>) -> bool
     ensures { result ≡ is_note note.now }
 {
     match note {

@@ -3,7 +3,7 @@ use Rattle.std.proofs.lemmas.Slice.Eq.{strip_suffix_is}
 use Rattle.std.proofs.lemmas.Bool.Decides.{Decides-eqb}
 use Rattle.up_base.specs.LineEnd.{line_end}
 use Rattle.net_reader.specs.FileLines.{without_end}
-use Rattle.net_reader.proofs.Indents.{end_cut, end_kept}
+use Rattle.net_reader.proofs.LineEnds.{end_cut, end_kept}
 use Rattle.net_reader.proofs.margins.without_end.Goals as goal
 
 pub returns-in-Some : goal.returns-in-Some
