@@ -1,5 +1,5 @@
 -- Where the files of a project are stuck is the first fault, and what is read whole stands.
-use Rattle.std.proofs.Common.{◌≡◌, ℕ, zero, suc, ◌≤◌, ◌-◌, Bool, true, false, cond, ◌&&◌, nat_le, List, [], ◌∷◌, ◌++◌, length, take, drop, codes, append_assoc, append-nil, length-append, arith, refl, sym, ap, subst, ◌∙◌, Option, Some}
+use Rattle.std.proofs.Common.{◌≡◌, ℕ, zero, suc, ◌≤◌, ◌<◌, ◌-◌, Bool, true, false, cond, ◌&&◌, nat_le, List, [], ◌∷◌, ◌++◌, length, take, drop, codes, append_assoc, append-nil, length-append, arith, refl, sym, ap, subst, ◌∙◌, Option, Some}
 use Rattle.std.specs.Prelude.{is_none, is_some, slice_get}
 use Rattle.std.specs.List.{flat_map, list_all}
 use Rattle.std.specs.Cmp.Lexicographic.{bytes_decides}
@@ -16,7 +16,7 @@ use Rattle.net_reader.specs.ModuleReader.{NotedModule, Reading, complete, module
 use Rattle.net_reader.specs.Places.{BeginBefore, BeginUpTo, BeginsAs, IsFileUpTo, IsFirstFault, IsProjectUpTo, IsReadable}
 use Rattle.net_reader.specs.ProjectReader.{Before, Outcome, behind_module, faulty, finished, listed, module_by, module_name, modules_before, named_by, none_before, note_before, project_in, read_from, response_by, response_in, whole}
 use Rattle.net_reader.proofs.FileCuts.{begins_at_all}
-use Rattle.net_reader.proofs.FileLists.{drop_more, first_of, next_is, take_all, take_more}
+use Rattle.net_reader.proofs.FileLists.{drop_more, first_of, is_within, next_is, take_all, take_more}
 use Rattle.net_reader.proofs.FileNames.{IsNamed, fine_name, is_named_for, named_for, no_response, same_names}
 use Rattle.net_reader.proofs.ProjectFronts.{AreFine, File, FrontIs, IsFine, IsNoteOf, first_fine, front_is, front_next, front_taken, module_files, more_fine, none_fine}
 use Rattle.net_reader.proofs.Responses.{response_faults, responses_stand}
@@ -102,9 +102,9 @@ begin_up_to files k b rest n at N r same up = (
   ),
 )
 
-begin_before : (files : List File) (k : ℕ) (b : Before) (rest : List File) → At files k b rest → (N : Project) → IsReadable N
+begin_before : (files : List File) (k : ℕ) (b : Before) (file : File) (rest : List File) → At files k b (file ∷ rest) → (N : Project) → IsReadable N
     → take (length (known b)) (files_of N) ≡ module_files (head_of b) (known b) → BeginBefore files k 0
-begin_before files k b rest at N r same = (N, r, ap (λ k. take k (files_of N)) at.count ∙ same ∙ sym at.taken)
+begin_before files k b file rest at N r same = (N, r, ap (λ k. take k (files_of N)) at.count ∙ same ∙ sym at.taken, is_within k files file rest at.left)
 
 -- the library of the modules so far, and of one more
 library_front : (b : Before) → take (length (known b)) (files_of (library_of (head_of b) (known b))) ≡ module_files (head_of b) (known b)
@@ -170,7 +170,7 @@ no_files_left read files k b at = record {
 
 no_name : ModulesAreRead → (files : List File) (k : ℕ) (b : Before) (file : File) (rest : List File) → At files k b (file ∷ rest) → is_same_text file.0 (codes "upgrade.rsp") ≡ false → module_name file.0 ≡ Option.None → IsFirstFault files k 0
 no_name read files k b file rest at other none = record {
-  before = begin_before files k b (file ∷ rest) at (library_of (head_of b) (known b)) (readable_library (head_of b) (known b) (fine_head b.note at.note) at.fine) (library_front b);
+  before = begin_before files k b file rest at (library_of (head_of b) (known b)) (readable_library (head_of b) (known b) (fine_head b.note at.note) at.fine) (library_front b);
   faulty = λ begin.
       let f = behind_front read files k b (file ∷ rest) 0 at begin.0 begin.1 begin.2 in
       none_there begin.0 begin.1 f.rest f.same (file_there files k b (file ∷ rest) 0 at begin.0 begin.2 f);
@@ -304,7 +304,7 @@ nothing_there N h = longer N.modules N.support h
 -- no module stands before the response file
 response_first : ModulesAreRead → (files : List File) (k : ℕ) (b : Before) (file : File) (rest : List File) → At files k b (file ∷ rest) → is_same_text file.0 (codes "upgrade.rsp") ≡ true → b.last ≡ Option.None → IsFirstFault files k 0
 response_first read files k b file rest at named none = record {
-  before = begin_before files k b (file ∷ rest) at (library_of (head_of b) (known b)) (readable_library (head_of b) (known b) (fine_head b.note at.note) at.fine) (library_front b);
+  before = begin_before files k b file rest at (library_of (head_of b) (known b)) (readable_library (head_of b) (known b) (fine_head b.note at.note) at.fine) (library_front b);
   faulty = λ begin.
       let f = behind_front read files k b (file ∷ rest) 0 at begin.0 begin.1 begin.2 in
       nothing_there begin.0 ((only_response b begin.0 file 0 named f.rest f.same (file_there files k b (file ∷ rest) 0 at begin.0 begin.2 f)).0 ∙ subst (λ (last : Option Module). IsLast last (known b)) none at.last);
@@ -316,7 +316,7 @@ known_is b m h = ap (λ last. b.earlier ++ listed last) h
 -- the last module before the response file isn't that of the support functions
 other_before : ModulesAreRead → (files : List File) (k : ℕ) (b : Before) (file : File) (rest : List File) (m : Module) → At files k b (file ∷ rest) → is_same_text file.0 (codes "upgrade.rsp") ≡ true → b.last ≡ Some m → is_support m ≡ false → IsFirstFault files k 0
 other_before read files k b file rest m at named last other = record {
-  before = begin_before files k b (file ∷ rest) at (library_of (head_of b) (known b)) (readable_library (head_of b) (known b) (fine_head b.note at.note) at.fine) (library_front b);
+  before = begin_before files k b file rest at (library_of (head_of b) (known b)) (readable_library (head_of b) (known b) (fine_head b.note at.note) at.fine) (library_front b);
   faulty = λ begin.
       let f = behind_front read files k b (file ∷ rest) 0 at begin.0 begin.1 begin.2 in
       let whole = only_response b begin.0 file 0 named f.rest f.same (file_there files k b (file ∷ rest) 0 at begin.0 begin.2 f) in
@@ -409,8 +409,8 @@ take_less (suc k) (x ∷ xs) (y ∷ ys) h =
 
 -- a file stands behind the response file
 one_file_more : ModulesAreRead → (files : List File) (k : ℕ) (b : Before) (file : File) (rest : List File) (m : Module) (main : Option (List ℕ)) → At files k b (file ∷ rest) → is_same_text file.0 (codes "upgrade.rsp") ≡ true
-    → b.last ≡ Some m → is_support m ≡ true → response_in (known b) file.1 ≡ complete main → IsFirstFault files (suc k) 0
-one_file_more read files k b file rest m main at named last support e =
+    → b.last ≡ Some m → is_support m ≡ true → response_in (known b) file.1 ≡ complete main → suc k < length files → IsFirstFault files (suc k) 0
+one_file_more read files k b file rest m main at named last support e more =
     let stand = responses_stand (known b) file.1 main e in
     let N = next_project b m main in
     record {
@@ -418,6 +418,7 @@ one_file_more read files k b file rest m main at named last support e =
         N,
         next_readable files k b (file ∷ rest) m main at last support stand.0,
         take_whole (suc k) (files_of N) (omega (arith, files_length N, ap (λ (ms : List Module). length ms) (known_is b m last), at.count)) ∙ sym (all_files files k b file rest m main at named last stand.1),
+        more,
       );
       faulty = λ begin.
           let less = take_less k (files_of begin.0) files begin.2.0 in
@@ -439,7 +440,7 @@ Faulty files (whole N) = IsReadable N × NetText N files
 finished_answers : ModulesAreRead → (files : List File) (k : ℕ) (b : Before) (file : File) (rest : List File) (m : Module) → At files k b (file ∷ rest) → is_same_text file.0 (codes "upgrade.rsp") ≡ true
     → b.last ≡ Some m → is_support m ≡ true → (r : Reading (Option (List ℕ))) → response_in (known b) file.1 ≡ r → Faulty files (finished k b m r rest)
 finished_answers read files k b file rest m at named last support (stuck line) e = response_stuck read files k b file rest m line at named last support e
-finished_answers read files k b file (next ∷ rest) m at named last support (complete main) e = one_file_more read files k b file (next ∷ rest) m main at named last support e
+finished_answers read files k b file (next ∷ rest) m at named last support (complete main) e = one_file_more read files k b file (next ∷ rest) m main at named last support e (is_within (suc k) files next rest (drop_more k files file (next ∷ rest) at.left))
 finished_answers read files k b file [] m at named last support (complete main) e =
     let stand = responses_stand (known b) file.1 main e in
     let readable = next_readable files k b (file ∷ []) m main at last support stand.0 in

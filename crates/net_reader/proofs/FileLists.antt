@@ -1,5 +1,5 @@
 -- Lists of files: their fronts, and the file behind a front.
-use Rattle.std.proofs.Common.{◌≡◌, ℕ, zero, suc, List, [], ◌∷◌, ◌++◌, take, drop, refl, ap, Option, Some}
+use Rattle.std.proofs.Common.{◌≡◌, ℕ, zero, suc, ◌<◌, length, arith, List, [], ◌∷◌, ◌++◌, take, drop, refl, ap, Option, Some}
 use Rattle.std.specs.Prelude.{slice_get}
 
 module _ {A : Type 0} where
@@ -36,3 +36,9 @@ module _ {A : Type 0} where
   take_all zero (x ∷ xs) h = absurd (cc h)
   take_all (suc k) [] h = refl
   take_all (suc k) (x ∷ xs) h = ap (λ more. x ∷ more) (take_all k xs h)
+
+  pub is_within : (k : ℕ) (xs : List A) (x : A) (rest : List A) → drop k xs ≡ x ∷ rest → k < length xs
+  is_within zero [] x rest h = absurd (cc h)
+  is_within zero (y ∷ xs) x rest h = omega arith
+  is_within (suc k) [] x rest h = absurd (cc h)
+  is_within (suc k) (y ∷ xs) x rest h = omega (arith, is_within k xs x rest h)

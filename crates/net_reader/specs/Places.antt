@@ -1,5 +1,5 @@
 -- The first line at which files begin no written project: a place is defined by the fronts of the files, and not by a reader.
-use Rattle.std.specs.Prelude.{◌≡◌, true, ℕ, zero, suc, cond, nat_le, List, [], length, take, Option, Some, None, slice_get}
+use Rattle.std.specs.Prelude.{◌≡◌, true, ℕ, zero, suc, ◌<◌, cond, nat_le, List, [], length, take, Option, Some, None, slice_get}
 use Rattle.net_tree.specs.Text.{IsWritable, files_of}
 use Rattle.net_tree.specs.Tree.{Project}
 use Rattle.net_reader.specs.FileLines.{file_lines}
@@ -34,9 +34,9 @@ IsProjectUpTo files k n N = (take k (files_of N) ≡ take k files) × IsFileUpTo
 abbrev pub BeginUpTo : List (List ℕ × List ℕ) → (file line : ℕ) → Type 0
 BeginUpTo files k n = (N : Project) × IsReadable N × IsProjectUpTo files k n N
 
--- The same before a line: up to the line before it, and before the name of a file in whole files.
+-- The same before a line: up to the line before it, and before the name of a file, which is given, in whole files.
 abbrev pub BeginBefore : List (List ℕ × List ℕ) → (file line : ℕ) → Type 0
-BeginBefore files k zero = (N : Project) × IsReadable N × (take k (files_of N) ≡ take k files)
+BeginBefore files k zero = (N : Project) × IsReadable N × (take k (files_of N) ≡ take k files) × (k < length files)
 BeginBefore files k (suc n) = BeginUpTo files k n
 
 -- It is the first line at which the files begin no project: line 0 is the name of a file, and the line behind the last stands
