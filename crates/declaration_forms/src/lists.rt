@@ -45,7 +45,7 @@ fn one_more<T: Drop>(
 pub fn list<T: Item>(alloc: Global, tokens: &[Token]) -> Result<Sequence<T>, PartFail>
     ensures { Answers (map T.view) (Each T.Is (pieces Separator.Comma tokens.now)) (deepest T.depth) result }
 {
-    let mut so_far = Ok(Sequence::new(alloc));
+    let mut so_far = Ok(Sequence::with_capacity(alloc, 1)?);
     let mut rest = tokens;
     while let Some((piece, after)) = parted(Separator::Comma, rest) {
         so_far = one_more(so_far, T::read(alloc, piece));

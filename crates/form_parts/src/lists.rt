@@ -55,7 +55,7 @@ pub fn items<T: Part>(
 ) -> Result<Sequence<T>, PartFail>
     ensures { Answers (map T.view) (Each T.Is (pieces separator tokens.now)) (deepest T.depth) result }
 {
-    let mut so_far = Ok(Sequence::new(alloc));
+    let mut so_far = Ok(Sequence::with_capacity(alloc, 1)?);
     let mut rest = tokens;
     while let Some((piece, after)) = parted(separator, rest) {
         so_far = one_more(so_far, T::read(alloc, piece));

@@ -78,7 +78,7 @@ fn module_file(
 {
     let mut name = Sequence::new(alloc);
     write_file_name(&mut name, net_module)?;
-    let mut text = Sequence::from_vec(Vec::with_capacity(alloc, room_for(net_module))?);
+    let mut text = Sequence::with_capacity(alloc, room_for(net_module))?;
     write_module(&mut text, note, net_module)?;
     text.shrink_to_fit();
     Ok((Name::from_valid(alloc, name.as_slice())?, text))

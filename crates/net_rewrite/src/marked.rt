@@ -238,7 +238,7 @@ fn mark_procedure<'a>(
     ensures { IfOk result (λ made. map marked_of made.items ≡ members.marked_procedure class (map local_of locals.now) (own.now ++ taken.now) taken.now (map (map expr_of) ess.now) (line_of head.now) (nodes_of body.now) (line_of close.now)) }
 {
     let lines = placed_lines(alloc, body)?;
-    let mut marks = Vec::with_capacity(alloc, 2)?;
+    let mut marks = Vec::with_capacity(alloc, lines.len().saturating_add(2))?;
     push_mark(
         &mut marks,
         class || !is_translated_head(own, taken, &head.form),

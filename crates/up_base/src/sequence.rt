@@ -28,6 +28,15 @@ impl<T> Sequence<T> {
         }
     }
 
+    /// The empty list with room for so many items. Want of memory is its only failure.
+    pub fn with_capacity(alloc: Global, items: usize) -> Result<Self, Mem>
+        ensures { IfOk result (λ s. s ≡ []) }
+    {
+        Ok(Sequence {
+            items: Vec::with_capacity(alloc, items)?,
+        })
+    }
+
     /// The list of a `Vec`'s items. It takes no memory.
     pub fn from_vec(items: Vec<T>) -> Self
         ensures { result ≡ items.items }
