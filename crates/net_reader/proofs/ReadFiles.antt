@@ -4,8 +4,8 @@ use Rattle.std.specs.Prelude.{IfOk}
 use Rattle.net_tree.specs.Text.{NetText}
 use Rattle.net_tree.specs.View.{project_of}
 use Rattle.net_tree.specs.declared.project.NetProject.{NetProject}
+use Rattle.net_reader.specs.Limited.{project_in}
 use Rattle.net_reader.specs.Places.{IsReadable}
-use Rattle.net_reader.specs.ProjectReader.{project_in}
 use Rattle.net_reader.specs.Reads.{FaultIs, Gives, IsPlaceOf, TellsPlace}
 use Rattle.net_reader.specs.declared.fail.NetReadFail.{NetReadFail}
 use Rattle.net_reader.specs.declared.fail.NetReadFail.TheVariants as fail

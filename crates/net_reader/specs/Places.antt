@@ -3,7 +3,7 @@ use Rattle.std.specs.Prelude.{◌≡◌, true, ℕ, zero, suc, ◌<◌, cond, na
 use Rattle.net_tree.specs.Text.{IsWritable, files_of}
 use Rattle.net_tree.specs.Tree.{Project}
 use Rattle.net_reader.specs.FileLines.{file_lines}
-use Rattle.net_reader.specs.Fits.{fits_project}
+use Rattle.net_reader.specs.Limited.{fits_project}
 
 -- A project that a list of files can stand for, and that can be read back from it.
 pub record IsReadable (N : Project) : Type 0 where

@@ -4,8 +4,8 @@ ghost use Rattle.net_tree.specs.View.{exp_of};
 ghost use Rattle.net_exprs.specs.Answers.{Answers};
 ghost use Rattle.net_exprs.specs.Fitting.{fits_label};
 ghost use Rattle.net_reader.specs.Answers.{AnswersWhole};
-ghost use Rattle.net_reader.specs.Fits.{fits_exp};
-ghost use Rattle.net_reader.specs.LineReader.{exp_at, exp_in, label_in};
+ghost use Rattle.net_reader.specs.Limited.{exp_at, exp_in, fits_exp};
+ghost use Rattle.net_reader.specs.LineReader.{label_in};
 
 use net_exprs::{PhraseFail, read_expression, read_label};
 use net_tree::{NetExpr, NetLabel};

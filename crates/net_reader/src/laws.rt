@@ -1,7 +1,7 @@
 //! That what was written is read back, and that what is read was written.
 ghost use Rattle.std.specs.Prelude.{◌≡◌, true};
 ghost use Rattle.net_tree.specs.Text.{StandForOne};
-ghost use Rattle.net_reader.specs.Fits.{fits_project};
+ghost use Rattle.net_reader.specs.Fits.{can_be_held};
 ghost use Rattle.net_reader.specs.Laws.{FaultsAreFirst, LinesAreRead, ModuleFaultsAreFirst, ModulesAreRead, ProjectsAreRead, ReadFilesStand, ReadModulesStand};
 
 /// A law: a line of a procedure is read back.
@@ -19,9 +19,9 @@ pub fn projects_are_read()
     ensures { ProjectsAreRead }
 {}
 
-/// A law: files stand for at most one project, among projects that can be held and read back.
+/// A law: files stand for at most one project, among projects that a tree of the code can hold.
 pub fn files_stand_for_one()
-    ensures { StandForOne (λ N. fits_project N ≡ true) }
+    ensures { StandForOne (λ N. can_be_held N ≡ true) }
 {}
 
 /// A law: a module that is read is one that its file stands for.

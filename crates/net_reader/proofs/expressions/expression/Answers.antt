@@ -1,6 +1,6 @@
-use Rattle.net_reader.specs.LineReader.{exp_at}
 use Rattle.net_reader.proofs.Failing.{expression_fails}
 use Rattle.net_reader.proofs.expressions.expression.Goals as goal
+use Rattle.net_reader.specs.LineReader.{exp_at}
 
 pub returns-in-Ok-clause-answers : goal.returns-in-Ok-clause-answers
 unfolding exp_at
