@@ -2,7 +2,6 @@
 use Rattle.std.specs.Prelude.{ℕ, Bool, List, Option, Some}
 use Rattle.net_tree.specs.declared.declaration.NetClose.{NetClose}
 use Rattle.net_tree.specs.declared.declaration.NetVisibility.{NetVisibility}
-use Rattle.net_tree.specs.declared.expression.NetBin.{NetBin}
 use Rattle.net_tree.specs.Tree.{CaseItem, Constant, Dim, Exp, Line, Member, Module, Procedure, Project, Property, ReDimItem, Variable}
 use Rattle.net_exprs.specs.Depth.{most_nested}
 use Rattle.net_reader.specs.DeclarationReader as declarations
@@ -17,7 +16,7 @@ use Rattle.net_reader.specs.Words as w
 abbrev pub code_limit : Option ℕ
 code_limit = Some most_nested
 
--- ---- what a tree of the code can hold and is read
+-- ---- what a tree of the code can hold, and is read
 
 abbrev pub fits_exp : Exp → Bool
 fits_exp = fits.fits_exp code_limit
@@ -81,9 +80,6 @@ step_in = lines.step_in code_limit
 abbrev pub for_in : List ℕ → Option Line
 for_in = lines.for_in code_limit
 
-abbrev pub case_is_of : Option NetBin → List ℕ → Option (CaseItem × List ℕ)
-case_is_of = lines.case_is_of code_limit
-
 abbrev pub case_is_at : List ℕ → Option (CaseItem × List ℕ)
 case_is_at = lines.case_is_at code_limit
 
@@ -92,9 +88,6 @@ case_value_of = lines.case_value_of code_limit
 
 abbrev pub case_item_by : Option w.Word → List ℕ → Option (CaseItem × List ℕ)
 case_item_by = lines.case_item_by code_limit
-
-abbrev pub case_item_at : List ℕ → Option (CaseItem × List ℕ)
-case_item_at = lines.case_item_at code_limit
 
 abbrev pub case_of : Option w.Word → List ℕ → Option Line
 case_of = lines.case_of code_limit
@@ -141,9 +134,6 @@ abbrev pub dim_at : List ℕ → Option Dim
 dim_at = declarations.dim_at code_limit
 
 -- ---- modules
-
-abbrev pub dim_taken : (depth : ℕ) → Body → List ℕ → Dim → Option Grown
-dim_taken = modules.dim_taken code_limit
 
 abbrev pub line_taken : (depth : ℕ) → Body → List ℕ → Option Grown
 line_taken = modules.line_taken code_limit
