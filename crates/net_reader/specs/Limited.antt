@@ -89,6 +89,9 @@ case_value_of = lines.case_value_of code_limit
 abbrev pub case_item_by : Option w.Word → List ℕ → Option (CaseItem × List ℕ)
 case_item_by = lines.case_item_by code_limit
 
+abbrev pub case_item_at : List ℕ → Option (CaseItem × List ℕ)
+case_item_at = lines.case_item_at code_limit
+
 abbrev pub case_of : Option w.Word → List ℕ → Option Line
 case_of = lines.case_of code_limit
 

@@ -95,8 +95,7 @@ fn case_item(alloc: Global, word: Option<Word>, text: &[u8]) -> Result<(NetCase,
 impl Item for NetCase {
     ghost use Rattle.net_tree.specs.Tree.{CaseItem};
     ghost use Rattle.net_tree.specs.View.{case_item_of};
-    ghost use Rattle.net_reader.specs.Fits.{fits_case};
-    ghost use Rattle.net_reader.specs.LineReader.{case_item_at};
+    ghost use Rattle.net_reader.specs.Limited.{case_item_at, fits_case};
 
     ghost Plain = { CaseItem };
 

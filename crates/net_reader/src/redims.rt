@@ -49,8 +49,7 @@ fn redim_item(alloc: Global, text: &[u8]) -> Result<(NetReDim, &[u8]), PhraseFai
 impl Item for NetReDim {
     ghost use Rattle.net_tree.specs.Tree.{ReDimItem};
     ghost use Rattle.net_tree.specs.View.{redim_item_of};
-    ghost use Rattle.net_reader.specs.Fits.{fits_redim};
-    ghost use Rattle.net_reader.specs.LineReader.{redim_item_at};
+    ghost use Rattle.net_reader.specs.Limited.{fits_redim, redim_item_at};
 
     ghost Plain = { ReDimItem };
 
