@@ -17,7 +17,7 @@ use Rattle.net_reader.specs.ModuleReader.{NotedModule, Reading, complete, stuck}
 use Rattle.net_reader.specs.Places.{BeginBefore, BeginUpTo, BeginsAs, IsFileUpTo, IsFirstFault, IsProjectUpTo, IsReadable}
 use Rattle.net_reader.specs.ProjectReader.{Before, Outcome, behind_module, faulty, finished, listed, module_by, module_name, modules_before, none_before, note_before, response_by, response_in, whole}
 use Rattle.net_reader.proofs.FileCuts.{begins_at_all}
-use Rattle.net_reader.proofs.FileLists.{drop_more, first_of, is_within, next_is, take_all, take_more}
+use Rattle.net_reader.proofs.FileLists.{drop_more, first_of, is_within, next_is, take_all, take_less, take_more}
 use Rattle.net_reader.proofs.FileNames.{IsNamed, fine_name, is_named_for, named_for, no_response, same_names}
 use Rattle.net_reader.proofs.ProjectFronts.{AreFine, File, FrontIs, IsFine, IsNoteOf, first_fine, front_is, front_next, front_taken, module_files, more_fine, none_fine}
 use Rattle.net_reader.proofs.Responses.{response_faults, responses_stand}
@@ -384,29 +384,10 @@ take_whole zero (x ∷ xs) h = absurd (omega (arith, h))
 take_whole (suc k) [] h = refl
 take_whole (suc k) (x ∷ xs) h = ap (λ more. x ∷ more) (take_whole k xs (omega (arith, h)))
 
-files_length : (N : Project) → length (files_of N) ≡ suc (length (written_modules N))
+pub files_length : (N : Project) → length (files_of N) ≡ suc (length (written_modules N))
 files_length N =
     let mapped : length (module_files N.note (written_modules N)) ≡ length (written_modules N) = length-map (written_modules N) (λ (m : Module). (file_name m, module_text N.note m)) in
     omega (arith, length-append (module_files N.note (written_modules N)) ((codes "upgrade.rsp", response_text N) ∷ []), mapped)
-
-same_parts : {A : Type 0} (x y : A) (xs ys : List A) → ◌≡◌ {A = List A} (x ∷ xs) (y ∷ ys) → (x ≡ y) × (xs ≡ ys)
-same_parts x y xs ys h = (cc h, cc h)
-
-both_same : {A : Type 0} (x y : A) (xs ys : List A) → x ≡ y → xs ≡ ys → ◌≡◌ {A = List A} (x ∷ xs) (y ∷ ys)
-both_same x y xs ys h k = cc (h, k)
-
-take_less : {A : Type 0} (k : ℕ) (xs ys : List A) → take (suc k) xs ≡ take (suc k) ys → (take k xs ≡ take k ys) × (slice_get xs k ≡ slice_get ys k)
-take_less zero [] [] h = (refl, refl)
-take_less zero [] (y ∷ ys) h = absurd (cc h)
-take_less zero (x ∷ xs) [] h = absurd (cc h)
-take_less zero (x ∷ xs) (y ∷ ys) h = (refl, ap (λ (z : List _). first_of z) h)
-take_less (suc k) [] [] h = (refl, refl)
-take_less (suc k) [] (y ∷ ys) h = absurd (cc h)
-take_less (suc k) (x ∷ xs) [] h = absurd (cc h)
-take_less (suc k) (x ∷ xs) (y ∷ ys) h =
-    let parts = same_parts x y (take (suc k) xs) (take (suc k) ys) h in
-    let less = take_less k xs ys parts.1 in
-    (both_same x y (take k xs) (take k ys) parts.0 less.0, less.1)
 
 -- a file stands behind the response file
 one_file_more : ModulesAreRead → (files : List File) (k : ℕ) (b : Before) (file : File) (rest : List File) (m : Module) (main : Option (List ℕ)) → At files k b (file ∷ rest) → is_same_text file.0 (codes "upgrade.rsp") ≡ true

@@ -28,6 +28,7 @@ pub mod FileLists
 pub mod FileNames
 pub mod ProjectFronts
 pub mod FileFaults
+pub mod OneFault
 pub mod TakenLines
 pub mod SoFar
 pub mod BodiesGrow

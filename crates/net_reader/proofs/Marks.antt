@@ -86,7 +86,7 @@ first_type : (b : Bool) (A B : Type 0) → b ≡ true → A → cond b A B
 first_type true A B h x = x
 first_type false A B h x = never h
 
-begins_itself : (n : ℕ) (text : List ℕ) → BeginsAs n text text
+pub begins_itself : (n : ℕ) (text : List ℕ) → BeginsAs n text text
 begins_itself n text = either (nat_le n (length (file_lines text))) _ _ refl refl
   where
     either : (b : Bool) (A B : Type 0) → A → B → cond b A B
@@ -100,7 +100,7 @@ same_begins n text own e = subst (λ (t : List ℕ). BeginsAs n text t) (sym e) 
 abbrev WithLines : (n : ℕ) (lines own : List (List ℕ)) (Same : Type 0) → Type 0
 WithLines n lines own Same = cond (nat_le n (length lines)) (take n own ≡ take n lines) Same
 
-lines_begin : (n : ℕ) (text own : List ℕ) → n ≤ length (file_lines text) → take n (file_lines own) ≡ take n (file_lines text) → BeginsAs n text own
+pub lines_begin : (n : ℕ) (text own : List ℕ) → n ≤ length (file_lines text) → take n (file_lines own) ≡ take n (file_lines text) → BeginsAs n text own
 lines_begin n text own within e =
     first_type (nat_le n (length (file_lines text))) (take n (file_lines own) ≡ take n (file_lines text)) (own ≡ text) (le-leb n (length (file_lines text)) within) e
 

@@ -74,3 +74,11 @@ ReadFilesStand = (N : Project) (files : List (List ℕ × List ℕ)) → project
 -- A law: where no project is read, the place is that of the first fault.
 abbrev pub FaultsAreFirst : Type 0
 FaultsAreFirst = (files : List (List ℕ × List ℕ)) (file line : ℕ) → project_in files ≡ faulty file line → IsFirstFault files file line
+
+-- A law: files have one first fault at most.
+abbrev pub OneFirstFault : Type 0
+OneFirstFault = (files : List (List ℕ × List ℕ)) (k n j m : ℕ) → IsFirstFault files k n → IsFirstFault files j m → (k ≡ j) × (n ≡ m)
+
+-- A law: files with a first fault stand for no project that can be read back.
+abbrev pub FaultyFilesStandForNone : Type 0
+FaultyFilesStandForNone = (files : List (List ℕ × List ℕ)) (k n : ℕ) → IsFirstFault files k n → (N : Project) → IsReadable N → files_of N ≡ files → ⊥

@@ -2,7 +2,7 @@
 ghost use Rattle.std.specs.Prelude.{◌≡◌, true};
 ghost use Rattle.net_tree.specs.Text.{StandForOne};
 ghost use Rattle.net_reader.specs.Fits.{can_be_held};
-ghost use Rattle.net_reader.specs.Laws.{FaultsAreFirst, LinesAreRead, ModuleFaultsAreFirst, ModulesAreRead, ProjectsAreRead, ReadFilesStand, ReadModulesStand};
+ghost use Rattle.net_reader.specs.Laws.{FaultsAreFirst, FaultyFilesStandForNone, LinesAreRead, ModuleFaultsAreFirst, ModulesAreRead, OneFirstFault, ProjectsAreRead, ReadFilesStand, ReadModulesStand};
 
 /// A law: a line of a procedure is read back.
 pub fn lines_are_read()
@@ -42,4 +42,14 @@ pub fn read_files_stand()
 /// A law: where no project is read, the place is that of the first fault.
 pub fn faults_are_first()
     ensures { FaultsAreFirst }
+{}
+
+/// A law: files have one first fault at most.
+pub fn one_first_fault()
+    ensures { OneFirstFault }
+{}
+
+/// A law: files with a first fault stand for no project that can be read back.
+pub fn faulty_files_stand_for_none()
+    ensures { FaultyFilesStandForNone }
 {}

@@ -43,8 +43,9 @@ mod words;
 
 pub use fail::NetReadFail;
 pub use laws::{
-    faults_are_first, files_stand_for_one, lines_are_read, module_faults_are_first,
-    modules_are_read, projects_are_read, read_files_stand, read_modules_stand,
+    faults_are_first, faulty_files_stand_for_none, files_stand_for_one, lines_are_read,
+    module_faults_are_first, modules_are_read, one_first_fault, projects_are_read,
+    read_files_stand, read_modules_stand,
 };
 pub use lines::read_line;
 pub use project_files::{can_be_counted, read_net};
