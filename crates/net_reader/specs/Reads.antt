@@ -46,6 +46,16 @@ abbrev pub TellsPlace : List (List ℕ × List ℕ) → Result NetProject NetRea
 TellsPlace files (Ok N) = Unit {0}
 TellsPlace files (Err e) = IsPlaceOf files e
 
+-- A failure for want of memory alone, which refuses no files.
+abbrev pub IsNoRefusal : NetReadFail → Type 0
+IsNoRefusal (fail.NotNet place) = ⊥
+IsNoRefusal fail.Mem = Unit {0}
+
+-- The files aren't refused.
+abbrev pub NotRefused : Result NetProject NetReadFail → Type 0
+NotRefused (Ok N) = Unit {0}
+NotRefused (Err e) = IsNoRefusal e
+
 -- the line where a file is stuck is below a number
 abbrev pub IsBelow : {A : Type 0} → (most : ℕ) → FileReading A → Type 0
 IsBelow most (Complete x) = Unit {0}

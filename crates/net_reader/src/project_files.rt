@@ -1,7 +1,8 @@
 //! The files of a project.
 ghost use Rattle.std.specs.Prelude.{◌≡◌, ◌+◌, ◌<◌, ◌^◌, ◌==◌, true, codes, length, map, IfOk};
 ghost use Rattle.net_tree.specs.Spelling.{is_same_text};
-ghost use Rattle.net_tree.specs.Text.{NetText};
+ghost use Rattle.net_tree.specs.Text.{NetText, files_of};
+ghost use Rattle.net_tree.specs.Tree.{Project};
 ghost use Rattle.net_tree.specs.View.{module_of, project_of};
 ghost use Rattle.net_reader.specs.FileLines.{file_lines};
 ghost use Rattle.net_reader.specs.FileSteps.{ended_by, file_reading, is_last_support, last_of, last_reading, project_by, read_as};
@@ -9,7 +10,7 @@ ghost use Rattle.net_reader.specs.Limited.{module_in, project_in};
 ghost use Rattle.net_reader.specs.Places.{IsReadable};
 ghost use Rattle.net_reader.specs.ProjectReader.{behind_module, faulty, none_before, note_before};
 ghost use Rattle.net_reader.specs.ReadingView.{reading_of};
-ghost use Rattle.net_reader.specs.Reads.{FaultIs, Gives, IsBelow, TellsPlace, before_of, have_few_bytes, have_few_lines};
+ghost use Rattle.net_reader.specs.Reads.{FaultIs, Gives, IsBelow, NotRefused, TellsPlace, before_of, have_few_bytes, have_few_lines};
 ghost use Rattle.net_reader.specs.StateView.{noted_of};
 
 use crate::fail::NetReadFail;
@@ -242,6 +243,7 @@ pub fn read_net(alloc: Global, files: &NetFiles) -> Result<NetProject, NetReadFa
     ensures project { IfOk result (λ N. NetText (project_of N) files.now) }
     ensures readable { IfOk result (λ N. IsReadable (project_of N)) }
     ensures place { TellsPlace files.now result }
+    ensures complete { (N : Project) → IsReadable N → files_of N ≡ files.now → NotRefused result }
 {
     read_files(alloc, files.as_slice())
 }
