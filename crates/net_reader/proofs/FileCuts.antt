@@ -71,7 +71,7 @@ take_front zero xs ys h = refl
 take_front (suc n) [] ys h = absurd (omega (arith, h))
 take_front (suc n) (x ∷ xs) ys h = ap (λ more. x ∷ more) (take_front n xs ys (omega (arith, h)))
 
-first_type : (b : Bool) (A B : Type 0) → b ≡ true → A → cond b A B
+pub first_type : (b : Bool) (A B : Type 0) → b ≡ true → A → cond b A B
 first_type true A B h x = x
 first_type false A B h x = never h
 

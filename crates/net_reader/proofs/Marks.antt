@@ -9,7 +9,7 @@ use Rattle.net_exprs.specs.Readers.{after}
 use Rattle.net_exprs.proofs.Words.{by_test, never}
 use Rattle.net_reader.specs.FileLines.{file_lines, onto_first}
 use Rattle.net_reader.specs.Places.{BeginsAs}
-use Rattle.net_reader.proofs.FileCuts.{as_first, as_second, lines_joined}
+use Rattle.net_reader.proofs.FileCuts.{as_first, as_second, first_type, lines_joined}
 
 -- ---- texts
 
@@ -82,10 +82,6 @@ no_fewer_lines text = subst (λ (lines : List (List ℕ)). length (file_lines te
 
 -- ---- files
 
-first_type : (b : Bool) (A B : Type 0) → b ≡ true → A → cond b A B
-first_type true A B h x = x
-first_type false A B h x = never h
-
 pub begins_itself : (n : ℕ) (text : List ℕ) → BeginsAs n text text
 begins_itself n text = either (nat_le n (length (file_lines text))) _ _ refl refl
   where
@@ -104,10 +100,6 @@ pub lines_begin : (n : ℕ) (text own : List ℕ) → n ≤ length (file_lines t
 lines_begin n text own within e =
     first_type (nat_le n (length (file_lines text))) (take n (file_lines own) ≡ take n (file_lines text)) (own ≡ text) (le-leb n (length (file_lines text)) within) e
 
-no_fewer : (lines : List (List ℕ)) → length lines ≤ length (marked lines)
-no_fewer [] = omega arith
-no_fewer (line ∷ lines) = omega arith
-
 -- behind the mark, and with it
 pub begins_marked : (n : ℕ) (text own : List ℕ) → BeginsAs n text own → BeginsAs n (byte_order_mark ++ text) (byte_order_mark ++ own)
 begins_marked n text own h =
@@ -121,7 +113,7 @@ begins_marked n text own h =
     refl
   where
     within : n ≤ length (file_lines text) → n ≤ length (file_lines (byte_order_mark ++ text))
-    within h = omega (arith, h, no_fewer (file_lines text), ap length (marked_lines text))
+    within h = omega (arith, h, marked_count (file_lines text), ap length (marked_lines text))
 
 no_first : (n : ℕ) (own : List (List ℕ)) → 1 ≤ n → take n own ≡ [] → own ≡ []
 no_first zero own h e = absurd (omega (arith, h))
