@@ -56,27 +56,27 @@ fn is_line_of(alloc: Global, depth: usize, read: &NetLine, line: &[u8]) -> Resul
 }
 
 // Whether a line of a procedure can stand where these blocks are open.
-fn can_stand(read: &NetLine, open: &Vec<NetBlock>) -> bool
-    ensures { result ≡ (is_writable_line (line_of read.now) && fits_in (role_of (line_of read.now)) (reverse open.now.items)) }
+fn can_stand(read: &NetLine, blocks: &Vec<NetBlock>) -> bool
+    ensures { result ≡ (is_writable_line (line_of read.now) && fits_in (role_of (line_of read.now)) (reverse blocks.now.items)) }
 {
-    is_writable_line(read) && fits_in(read.role(), open)
+    is_writable_line(read) && fits_in(read.role(), blocks)
 }
 
 fn checked_line(
     alloc: Global,
     depth: usize,
-    open: &Vec<NetBlock>,
+    blocks: &Vec<NetBlock>,
     line: &[u8],
     read: NetLine,
 ) -> Result<NetLine, PhraseFail>
     requires depth { depth ≤ 2 }
     requires held { fits_line (line_of read) ≡ true }
-    ensures { Steps line_of (line_within depth (reverse open.now.items) line.now (Some (line_of read))) result }
+    ensures { Steps line_of (line_within depth (reverse blocks.now.items) line.now (Some (line_of read))) result }
 {
-    if !can_stand(&read, open) {
+    if !can_stand(&read, blocks) {
         return Err(PhraseFail::NotNet);
     }
-    let same = is_line_of(alloc, depth + 1 + open.len(), &read, line)?;
+    let same = is_line_of(alloc, depth + 1 + blocks.len(), &read, line)?;
     if !same {
         return Err(PhraseFail::NotNet);
     }
@@ -89,14 +89,14 @@ fn checked_line(
 pub(crate) fn take_line(
     alloc: Global,
     depth: usize,
-    open: &Vec<NetBlock>,
+    blocks: &Vec<NetBlock>,
     line: &[u8],
 ) -> Result<NetLine, PhraseFail>
     requires { depth ≤ 2 }
-    ensures { Steps line_of (line_within depth (reverse open.now.items) line.now (line_at (text_of_line line.now))) result }
+    ensures { Steps line_of (line_within depth (reverse blocks.now.items) line.now (line_at (text_of_line line.now))) result }
 {
     match read_line(alloc, text_of_line(line)) {
-        Ok(read) => checked_line(alloc, depth, open, line, read),
+        Ok(read) => checked_line(alloc, depth, blocks, line, read),
         Err(e) => Err(e),
     }
 }
