@@ -35,6 +35,19 @@ fn assert_same(
     Ok(())
 }
 
+/// Asserts that files are as others.
+pub(crate) fn assert_same_files(
+    rt: &impl Abort,
+    files: &NetFiles,
+    written: &NetFiles,
+) -> Result<(), Fail> {
+    assert_eq!(rt; written.len(), files.len());
+    for number in 0..files.len() {
+        assert_same(rt, files, written, number)?;
+    }
+    Ok(())
+}
+
 /// Asserts that files are read, and that what is read is written as they are.
 pub(crate) fn assert_written_again(
     rt: &impl Abort,
@@ -44,11 +57,7 @@ pub(crate) fn assert_written_again(
     assert!(rt; can_be_counted(files));
     let project = read_net(alloc, files)?;
     let written = emit(alloc, &project)?;
-    assert_eq!(rt; written.len(), files.len());
-    for number in 0..files.len() {
-        assert_same(rt, files, &written, number)?;
-    }
-    Ok(())
+    assert_same_files(rt, files, &written)
 }
 
 #[test]
