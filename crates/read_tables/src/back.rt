@@ -11,13 +11,14 @@ use net_writable::is_writable;
 use std::alloc::Global;
 use std::process::Abort;
 use std::test::Fail;
+use up_base::Mem;
 
-// The files that are written for a project.
-fn emitted(alloc: Global, project: &NetProject) -> Result<NetFiles, Fail> {
+// The files of a project that can be written.
+fn written(alloc: Global, project: &NetProject) -> Result<Option<NetFiles>, Mem> {
     if is_writable(alloc, project)? {
-        return Ok(emit(alloc, project)?);
+        return Ok(Some(emit(alloc, project)?));
     }
-    Err(Fail::from("it can't be written"))
+    Ok(None)
 }
 
 // What is read of files, told.
@@ -30,8 +31,7 @@ fn read_shown(alloc: Global, files: &NetFiles, part: Part) -> Result<Shown, Fail
 }
 
 fn assert_shown(rt: &impl Abort, shown: &Shown, wanted: &[u8], about: &str) {
-    assert!(rt; shown.is_whole());
-    assert_eq!(rt; shown.as_bytes(), wanted, "in {about}");
+    assert!(rt; shown.is(wanted), "in {about}");
 }
 
 /// Asserts that a part of what is read of files is told so, and that what is read is written as they are.
@@ -56,7 +56,7 @@ pub(crate) fn assert_back(
     files: &NetFiles,
     about: &str,
 ) -> Result<(), Fail> {
-    let written = emitted(alloc, project)?;
+    let written = written(alloc, project)?.ok_or("it can't be written")?;
     assert_same_files(rt, files, &written)?;
     let built = show_project(project, Part::Whole);
     assert_read_as(rt, alloc, files, Part::Whole, built.as_bytes(), about)

@@ -11,10 +11,15 @@ pub(crate) fn name(alloc: Global, text: &str) -> Result<Name, Fail> {
     Ok(Name::make(alloc, text.as_bytes())?)
 }
 
+fn push_name(alloc: Global, path: &mut Path, text: &str) -> Result<(), Fail> {
+    path.push(name(alloc, text)?)?;
+    Ok(())
+}
+
 pub(crate) fn path(alloc: Global, names: &[&str]) -> Result<Path, Fail> {
     let mut path = Sequence::new(alloc);
     for text in names {
-        path.push(name(alloc, text)?)?;
+        push_name(alloc, &mut path, text)?;
     }
     Ok(path)
 }
@@ -84,7 +89,6 @@ pub(crate) fn program_of(alloc: Global, lines: Vec<NetLine>) -> Result<NetProjec
 /// A program that assigns a value to `a`.
 pub(crate) fn assigning(alloc: Global, value: NetExpr) -> Result<NetProject, Fail> {
     let value = Box::new(alloc, value)?;
-    let mut lines = Vec::new(alloc);
-    lines.push(NetLine::Assign(boxed(alloc, "a")?, value))?;
-    program_of(alloc, lines)
+    let line = NetLine::Assign(boxed(alloc, "a")?, value);
+    program_of(alloc, vec![in alloc; line]?)
 }

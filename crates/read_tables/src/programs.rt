@@ -1,6 +1,6 @@
 //! Lines and whole programs that are written and read back.
 use crate::back::assert_back;
-use crate::built::{boxed, module_with, name, path, program_of, sub_with};
+use crate::built::{boxed, module_with, name, path, program_of, sub_with, variable};
 use crate::files::push_file;
 use crate::framed::program_files;
 use net_tree::{
@@ -9,7 +9,7 @@ use net_tree::{
 };
 use std::alloc::Global;
 use std::test::Fail;
-use up_base::{Name, Sequence};
+use up_base::Sequence;
 
 const LINES: &str = concat!(
     "\u{FEFF}Option Explicit On\r\n",
@@ -84,49 +84,50 @@ fn files_of(alloc: Global, rows: &[(&str, &str)]) -> Result<NetFiles, Fail> {
     Ok(files)
 }
 
-// A public Sub of one line, the call of a path with one argument.
-fn sub_of_one(
-    alloc: Global,
-    name: Name,
-    params: Vec<NetParam>,
-    callee: &[&str],
-    argument: NetExpr,
-) -> Result<NetMember, Fail> {
-    let callee = Box::new(alloc, NetExpr::Path(path(alloc, callee)?))?;
+// The call of a path with one argument.
+fn call(alloc: Global, callee: &[&str], argument: NetExpr) -> Result<NetLine, Fail> {
     let mut arguments = Sequence::new(alloc);
     arguments.push(argument)?;
-    let mut lines = Vec::new(alloc);
-    lines.push(NetLine::Call(callee, arguments))?;
-    let head = NetHead::Sub(NetVisibility::Public, name, params);
-    sub_with(alloc, head, lines)
+    let callee = NetExpr::Path(path(alloc, callee)?);
+    Ok(NetLine::Call(Box::new(alloc, callee)?, arguments))
+}
+
+// A public Sub of one line.
+fn sub_of_one(
+    alloc: Global,
+    text: &str,
+    params: Vec<NetParam>,
+    line: NetLine,
+) -> Result<NetMember, Fail> {
+    let head = NetHead::Sub(NetVisibility::Public, name(alloc, text)?, params);
+    sub_with(alloc, head, vec![in alloc; line]?)
 }
 
 fn main1(alloc: Global) -> Result<NetModule, Fail> {
     let text = Sequence::from_slice(alloc, &[104, 105])?;
-    let sub = sub_of_one(
+    let argument = NetExpr::Lit(NetLit::Str(text));
+    let line = call(alloc, &["UpgradeSupport", "PrintLine"], argument)?;
+    module_with(
         alloc,
-        name(alloc, "Main")?,
-        Vec::new(alloc),
-        &["UpgradeSupport", "PrintLine"],
-        NetExpr::Lit(NetLit::Str(text)),
-    )?;
-    module_with(alloc, "Main1", sub)
+        "Main1",
+        sub_of_one(alloc, "Main", Vec::new(alloc), line)?,
+    )
 }
 
-fn support(alloc: Global) -> Result<NetModule, Fail> {
-    let mut params = Vec::new(alloc);
-    params.push(NetParam {
+// The parameter `s`, a text.
+fn text_params(alloc: Global) -> Result<Vec<NetParam>, Fail> {
+    let param = NetParam {
         passing: NetPassing::Value,
         name: name(alloc, "s")?,
         ty: NetType::Str,
-    })?;
-    let sub = sub_of_one(
-        alloc,
-        name(alloc, "PrintLine")?,
-        params,
-        &["System", "Console", "WriteLine"],
-        NetExpr::Path(path(alloc, &["s"])?),
-    )?;
+    };
+    Ok(vec![in alloc; param]?)
+}
+
+fn support(alloc: Global) -> Result<NetModule, Fail> {
+    let argument = variable(alloc, "s")?;
+    let line = call(alloc, &["System", "Console", "WriteLine"], argument)?;
+    let sub = sub_of_one(alloc, "PrintLine", text_params(alloc)?, line)?;
     module_with(alloc, "UpgradeSupport", sub)
 }
 

@@ -33,9 +33,9 @@ impl Shown {
         &self.bytes[..self.len]
     }
 
-    /// Whether nothing was lost.
-    pub(crate) fn is_whole(&self) -> bool {
-        self.len < 800
+    /// Whether this is the whole text, and nothing was lost.
+    pub(crate) fn is(&self, text: &[u8]) -> bool {
+        self.len < 800 && self.as_bytes() == text
     }
 }
 
