@@ -178,21 +178,21 @@ fn push_found<'a>(
     Ok(())
 }
 
-// Marks the lines of a body behind others, with those that name what an untranslated line declares.
-fn mark_body<'a>(
+// The lines of a body, of which those that name what an untranslated line declares aren't marked yet. The list of placed lines
+// is let go of before another is made.
+fn marked_lines<'a>(
     alloc: Global,
     locals: &[Local],
     taken: &NameSet,
     ess: &[Sequence<BoundExpr>],
-    lines: &[PlacedLine<'a>],
-    marks: &mut Vec<MarkedLine<'a>>,
-) -> Result<(), Mem>
-    ensures { OnOk result (map marked_of marks.new.items ≡ map marked_of marks.old.items ++ rule.marked_body taken.now (map local_of locals.now) (map placed_of lines.now) (map (map expr_of) ess.now)) }
+    body: &'a [Node6],
+) -> Result<Vec<MarkedLine<'a>>, Mem>
+    ensures { IfOk result (λ found. map marked_of found.items ≡ rule.marked taken.now (map local_of locals.now) (rule.placed_lines (nodes_of body.now)) (map (map expr_of) ess.now)) }
 {
+    let lines = placed_lines(alloc, body)?;
     let mut found = Vec::with_capacity(alloc, lines.len())?;
-    mark_lines(alloc, locals, taken, ess, lines, &mut found)?;
-    push_found(locals, ess, &found, marks)?;
-    Ok(())
+    mark_lines(alloc, locals, taken, ess, &lines, &mut found)?;
+    Ok(found)
 }
 
 fn is_attribute(form: &Form6) -> bool
@@ -237,14 +237,14 @@ fn mark_procedure<'a>(
 ) -> Result<Vec<MarkedLine<'a>>, Mem>
     ensures { IfOk result (λ made. map marked_of made.items ≡ members.marked_procedure class (map local_of locals.now) (own.now ++ taken.now) taken.now (map (map expr_of) ess.now) (line_of head.now) (nodes_of body.now) (line_of close.now)) }
 {
-    let lines = placed_lines(alloc, body)?;
-    let mut marks = Vec::with_capacity(alloc, lines.len().saturating_add(2))?;
+    let found = marked_lines(alloc, locals, taken, ess, body)?;
+    let mut marks = Vec::with_capacity(alloc, found.len().saturating_add(2))?;
     push_mark(
         &mut marks,
         class || !is_translated_head(own, taken, &head.form),
         head,
     )?;
-    mark_body(alloc, locals, taken, ess, &lines, &mut marks)?;
+    push_found(locals, ess, &found, &mut marks)?;
     push_mark(&mut marks, false, close)?;
     Ok(marks)
 }
