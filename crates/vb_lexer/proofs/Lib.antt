@@ -1,3 +1,6 @@
+pub mod Blanks
+pub mod CleanLines
+pub mod Continuations
 pub mod Lengths
 pub mod LongestNumbers
 pub mod LongestOthers

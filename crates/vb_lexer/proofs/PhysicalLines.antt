@@ -1,9 +1,8 @@
 -- The physical lines of a text, and how they are joined.
-use Rattle.std.proofs.Common.{◌≡◌, ℕ, zero, suc, ◌+◌, ◌<◌, ◌≤◌, ◌==◌, ◌&&◌, Bool, true, false, Option, Some, None, option_map, if◌then◌else◌, List, [], ◌∷◌, ◌++◌, length, take, drop, get_or, arith, refl, ap, subst, sym, ◌∙◌, append_assoc}
-use Rattle.std.proofs.Math.Seq.{drop-cons, take-suc}
+use Rattle.std.proofs.Common.{◌≡◌, ℕ, zero, suc, ◌+◌, ◌<◌, ◌≤◌, ◌==◌, ◌&&◌, Bool, true, false, Option, Some, None, option_map, if◌then◌else◌, List, [], ◌∷◌, ◌++◌, length, take, drop, arith, refl, ap, subst, sym, ◌∙◌, append_assoc}
 use Rattle.std.proofs.lemmas.Bool.Decides.{nat_tests}
 use Rattle.vb_tree.specs.Tokens.{run, is_line_end}
-use Rattle.vb_tree.specs.LogicalLines.{physical_lines, cut, onto, joints, is_continuation, continued, join, joined}
+use Rattle.vb_tree.specs.LogicalLines.{physical_lines, cut, onto, joint, joints, shown, is_continuation, continued, join, joined}
 use Rattle.vb_lexer.specs.Physical.{in_line, line_end_units, onto_first}
 
 -- a text without its first line and that line's end
@@ -104,30 +103,8 @@ joined_some (line ∷ lines) h = go (continued line) (joined lines)
 pub lines_some : (text : List ℕ) → 0 < length text → 0 < length (physical_lines text)
 lines_some text h = rw (first_line text h) (omega arith)
 
-unit_before : (c : ℕ) (cs : List ℕ) → is_continuation (c ∷ cs) ≡ false → continued (c ∷ cs) ≡ option_map (λ front. c ∷ front) (continued cs)
+pub unit_before : (c : ℕ) (cs : List ℕ) → is_continuation (c ∷ cs) ≡ false → continued (c ∷ cs) ≡ option_map (λ front. c ∷ front) (continued cs)
 unit_before c cs e = rw (e, continued) refl
-
-moved : (front : List ℕ) (c : ℕ) (found : Option (List ℕ)) → option_map (λ f. front ++ f) (option_map (λ f. c ∷ f) found) ≡ option_map (λ f. (front ++ c ∷ []) ++ f) found
-moved front c None = refl
-moved front c (Some f) = let e : front ++ (c ∷ f) ≡ (front ++ c ∷ []) ++ f = simp append_assoc in ap Some e
-
--- a line that goes on, one place further
-pub next_place : (line : List ℕ) (i : ℕ) → i < length line → is_continuation (drop i line) ≡ false
-    → continued line ≡ option_map (λ front. take i line ++ front) (continued (drop i line))
-    → continued line ≡ option_map (λ front. take (i + 1) line ++ front) (continued (drop (i + 1) line))
-next_place line i within e h =
-    let c : ℕ = get_or line i 0 in
-    let rest : List ℕ = drop (suc i) line in
-    let split : drop i line ≡ c ∷ rest = drop-cons line i 0 within in
-    let goes_on : is_continuation (c ∷ rest) ≡ false = subst (λ (xs : List ℕ). is_continuation xs ≡ false) split e in
-    let one : suc i ≡ i + 1 = omega arith in
-    let front : take i line ++ c ∷ [] ≡ take (suc i) line = sym (take-suc line i 0 within) in
-    let on : continued line ≡ option_map (λ f. (take i line ++ c ∷ []) ++ f) (continued rest) =
-    h ∙ ap (λ (xs : List ℕ). option_map (λ f. take i line ++ f) (continued xs)) split
-    ∙ ap (option_map (λ f. take i line ++ f)) (unit_before c rest goes_on) ∙ moved (take i line) c (continued rest) in
-    let on_suc : continued line ≡ option_map (λ f. take (suc i) line ++ f) (continued rest) =
-    subst (λ (xs : List ℕ). continued line ≡ option_map (λ f. xs ++ f) (continued rest)) front on in
-    subst (λ (k : ℕ). continued line ≡ option_map (λ f. take k line ++ f) (continued (drop k line))) one on_suc
 
 -- a line that goes on, behind others
 pub onto_next : (units front line : List ℕ) (lines : List (List ℕ)) → continued line ≡ Some front → 0 < length lines
@@ -145,3 +122,15 @@ onto_none text h = go (joined (physical_lines text)) (joined_some (physical_line
     go : (next : List (List ℕ)) → 0 < length next → onto_first [] next ≡ next
     go [] some = absurd (omega arith)
     go (l ∷ ls) some = refl
+
+-- a line without a continuation is shown as it stands
+pub shown_unjoined : (units : List ℕ) → joints units ≡ 0 → shown units ≡ units
+shown_unjoined [] h = refl
+shown_unjoined (c ∷ cs) h =
+    let here : joint c ≡ 0 = omega arith in
+    let rest : joints cs ≡ 0 = omega arith in
+    go (is_line_end c) refl here (shown_unjoined cs rest)
+  where
+    go : (b : Bool) → is_line_end c ≡ b → joint c ≡ 0 → shown cs ≡ cs → shown (c ∷ cs) ≡ c ∷ cs
+    go true e here rest = let one : joint c ≡ 1 = rw e refl in absurd (omega arith)
+    go false e here rest = rw e (ap (λ (xs : List ℕ). c ∷ xs) rest)

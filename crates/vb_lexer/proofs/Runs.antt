@@ -1,8 +1,9 @@
 -- Runs of units that pass a test.
-use Rattle.std.proofs.Common.{◌≡◌, ℕ, ◌<◌, ◌&&◌, ◌||◌, ◌==◌, ◌+◌, drop, add_comm, add-one, Bool, true, false, List, [], ◌∷◌, take, arith, refl}
+use Rattle.std.proofs.Common.{◌≡◌, ℕ, ◌<◌, ◌&&◌, ◌||◌, ◌==◌, ◌+◌, drop, add_comm, add-one, Bool, true, false, List, [], ◌∷◌, take, length, ◌≤◌, arith, refl}
 use Rattle.std.specs.List.{list_all}
+use Rattle.std.specs.Prelude.{nat_le}
 use Rattle.std.proofs.lemmas.Bool.Decides.{nat_tests}
-use Rattle.up_base.specs.Names.{is_printable}
+use Rattle.up_base.specs.Names.{is_name, is_printable}
 use Rattle.vb_tree.specs.Tokens.{run, begins, is_digit, is_letter, is_name_unit, fraction_units}
 
 pub both_true : (a b : Bool) → (a && b) ≡ true → (a ≡ true) × (b ≡ true)
@@ -42,3 +43,10 @@ are_printable [] h = refl
 are_printable (c ∷ cs) h =
     let parts = both_true (is_name_unit c) (list_all is_name_unit cs) h in
     rw (is_printable_unit c parts.0) (are_printable cs parts.1)
+
+in_limits : (n : ℕ) → 0 < n → n ≤ 255 → (nat_le 1 n && nat_le n 512) ≡ true
+in_limits n some few = grind (arith, nat_tests)
+
+-- such units are a name
+pub are_name : (units front : List ℕ) → front ≡ units → list_all is_name_unit units ≡ true → 0 < length units → length units ≤ 255 → is_name front ≡ true
+are_name units front same all some few = rw same (rw (in_limits (length units) some few) (are_printable units all))

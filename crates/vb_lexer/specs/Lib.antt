@@ -1,5 +1,6 @@
 pub mod Answers
 pub mod Classes
+pub mod Clean
 pub mod Contents
 pub mod Found
 pub mod Physical

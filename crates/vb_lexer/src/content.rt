@@ -1,7 +1,7 @@
 //! What a logical line holds: its tokens and its comment.
 ghost use Rattle.std.specs.Prelude.{◌≡◌, ◌+◌, ◌-◌, ◌<◌, ◌≤◌, ◌^◌, [], ◌∷◌, List, true, length, drop, map, IfOk, Option, ◌||◌};
 ghost use Rattle.vb_tree.specs.declared.token.TokenKind.{TokenKind};
-ghost use Rattle.vb_tree.specs.Tokens.{is_blank, is_line_end, begins};
+ghost use Rattle.vb_tree.specs.Tokens.{is_blank, is_line_end, begins, run};
 ghost use Rattle.vb_tree.specs.LogicalLines.{is_word, is_colon, is_access, is_line_number, is_rem, part_at, content_from, joint, joints, shown, shown_unit};
 ghost use Rattle.vb_lexer.specs.Contents.{IsBefore, part_of, IsPartWithin, content_of};
 
@@ -135,20 +135,6 @@ fn part_at(alloc: Global, statement: bool, units: &[u16]) -> Result<Part, Mem>
     }
 }
 
-/// How many continuations a line has.
-pub(crate) fn joints(units: &[u16]) -> u32
-    requires { length units.now < 2 ^ 32 }
-    ensures { result ≡ joints units.now }
-{
-    let mut n: u32 = 0;
-    for c in units {
-        if is_line_end(*c) {
-            n += 1;
-        }
-    }
-    n
-}
-
 fn shown_unit(c: u16) -> u16
     ensures { result ≡ shown_unit c }
 {
@@ -168,6 +154,28 @@ pub(crate) fn joint(c: u16) -> u32
     ensures { result ≡ joint c }
 {
     if is_line_end(c) { 1 } else { 0 }
+}
+
+// How many blanks stand at the front.
+fn blanks(units: &[u16]) -> usize
+    ensures count { result ≡ run is_blank units.now }
+    ensures within { result ≤ length units.now }
+{
+    for (at, c) in units.iter().enumerate() {
+        if !is_blank(*c) {
+            return at;
+        }
+    }
+    units.len()
+}
+
+// How many blanks stand at a place.
+fn blanks_from(units: &[u16], at: usize) -> usize
+    requires { at ≤ length units.now }
+    ensures count { result ≡ run is_blank (drop at units.now) }
+    ensures within { at + result ≤ length units.now }
+{
+    blanks(&units[at..])
 }
 
 // What stands at a place.
@@ -208,6 +216,11 @@ pub(crate) fn read_content(alloc: Global, number: u32, units: &[u16]) -> Result<
     let mut line = number;
     let mut at = 0;
     'parts: while at < units.len() {
+        let blanks = blanks_from(units, at);
+        if blanks > 0 {
+            at += blanks;
+            continue;
+        }
         match part_from(alloc, before.statement, units, at)? {
             Part::Gap => {
                 line += joint(units[at]);

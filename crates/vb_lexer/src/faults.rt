@@ -1,5 +1,7 @@
 //! The first fault of a logical line.
 ghost use Rattle.std.specs.Prelude.{◌≡◌, ◌+◌, ◌<◌, ◌^◌, ◌&&◌, length, Option};
+ghost use Rattle.std.specs.List.{list_all};
+ghost use Rattle.vb_lexer.specs.Clean.{is_plain, is_clean};
 ghost use Rattle.vb_tree.specs.LogicalLines.{is_control, is_hash, is_any_word, directive, is_place, fault_at, first_fault_from, joint, joints};
 
 use crate::content::joint;
@@ -84,6 +86,32 @@ fn fault_at(
     None
 }
 
+// Whether a unit is neither a control unit nor a line end.
+fn is_plain(c: u16) -> bool
+    ensures { result ≡ is_plain c }
+{
+    (32 <= c && c != 127) || c == 9
+}
+
+fn are_plain(units: &[u16]) -> bool
+    ensures { result ≡ list_all is_plain units.now }
+{
+    units.iter().all(|c| is_plain(*c))
+}
+
+// Whether a line has no directive, a token at each place that needs one, and plain units alone: most lines.
+fn is_clean(directive: Option<usize>, stop: Option<usize>, units: &[u16]) -> bool
+    ensures { result ≡ is_clean directive stop units.now }
+{
+    match directive {
+        Some(_) => false,
+        None => match stop {
+            Some(_) => false,
+            None => are_plain(units),
+        },
+    }
+}
+
 /// The first fault of a line whose first physical line has this place: the units that are faulty by themselves, the place of
 /// a directive and the place where no token begins.
 pub(crate) fn first_fault(
@@ -95,6 +123,9 @@ pub(crate) fn first_fault(
     requires { place.line + joints units.now < 2 ^ 32 }
     ensures { result ≡ first_fault_from directive stop place.file place.line 0 0 units.now }
 {
+    if is_clean(directive, stop, units) {
+        return None;
+    }
     let mut joints: u32 = 0;
     for (at, c) in units.iter().enumerate() {
         if let Some(kind) = fault_at(directive, stop, joints, at, *c) {

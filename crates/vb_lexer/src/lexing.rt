@@ -3,7 +3,6 @@ ghost use Rattle.std.specs.Prelude.{◌≡◌, ◌+◌, ◌<◌, ◌≤◌, ◌^
 ghost use Rattle.vb_tree.specs.LogicalLines.{physical_lines, joined, joints};
 ghost use Rattle.vb_lexer.specs.Answers.{Answers};
 
-use crate::content::joints;
 use crate::lex_fail::LexFail;
 use crate::physical::{LogicalLine, logical_line};
 use crate::reading::read_line;
@@ -34,14 +33,18 @@ fn lines_of(alloc: Global, file: u32, text: &[u16]) -> Result<Lines, LexFail>
     let mut before: u32 = 0;
     let mut at = 0;
     'lines: while at < text.len() {
-        let line = line_at(alloc, text, at)?;
-        let reading = read_line(alloc, file, before + 1, &line.units)?;
+        let LogicalLine {
+            units,
+            continuations,
+            taken,
+        } = line_at(alloc, text, at)?;
+        let reading = read_line(alloc, file, before + 1, units, continuations)?;
         if let Some(fault) = reading.fault {
             return Err(LexFail::Fault(fault, lines));
         }
         lines.push(reading.line)?;
-        before += joints(&line.units) + 1;
-        at += line.taken;
+        before += continuations as u32 + 1;
+        at += taken;
     }
     Ok(lines)
 }
@@ -53,6 +56,7 @@ fn line_at(alloc: Global, text: &[u16], at: usize) -> Result<LogicalLine, Mem>
     ensures within { IfOk result (λ line. at + line.taken ≤ length text.now) }
     ensures units { IfOk result (λ line. length line.units.items ≤ line.taken) }
     ensures joints { IfOk result (λ line. joints line.units.items + 1 ≤ line.taken) }
+    ensures continuations { IfOk result (λ line. line.continuations ≡ joints line.units.items) }
 {
     Ok(logical_line(alloc, &text[at..])?)
 }

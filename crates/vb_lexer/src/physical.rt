@@ -1,5 +1,5 @@
 //! Physical lines, and the logical line that begins a text.
-ghost use Rattle.std.specs.Prelude.{◌≡◌, ◌+◌, ◌<◌, ◌≤◌, true, not, List, [], ◌∷◌, ◌++◌, length, take, drop, IfOk, IfSome, option_map};
+ghost use Rattle.std.specs.Prelude.{◌≡◌, ◌+◌, ◌-◌, ◌<◌, ◌≤◌, true, false, not, List, [], ◌∷◌, ◌++◌, length, get_or, take, drop, IfOk, IfSome, option_map};
 ghost use Rattle.std.specs.List.{list_all};
 ghost use Rattle.vb_tree.specs.Tokens.{is_blank, is_line_end, run};
 ghost use Rattle.vb_tree.specs.LogicalLines.{physical_lines, is_continuation, continued, joined, joints, joint};
@@ -94,19 +94,36 @@ fn is_continuation_at(line: &[u16], at: usize) -> bool
     is_continuation(&line[at..])
 }
 
-// How many units stand before the continuation that ends a line.
+// How many units stand before the blanks that end a line.
+fn solid_units(line: &[u16]) -> usize
+    ensures within { result ≤ length line.now }
+    ensures blank { list_all is_blank (drop result line.now) ≡ true }
+    ensures solid { 0 < result → is_blank (get_or line.now (result - 1) 0) ≡ false }
+{
+    let mut n = line.len();
+    'blanks: while n > 0 {
+        if !is_blank(line[n - 1]) {
+            return n;
+        }
+        n -= 1;
+    }
+    n
+}
+
+// How many units stand before the continuation that ends a line. No place but the last two units before the blanks at the end
+// can hold it.
 fn continuation(line: &[u16]) -> Option<usize>
     ensures continued { continued line.now ≡ option_map (λ k. take k line.now) result }
     ensures within { IfSome result (λ k. k + 2 ≤ length line.now) }
 {
-    let mut at = 0;
-    while at < line.len() {
-        if is_continuation_at(line, at) {
-            return Some(at);
-        }
-        at += 1;
+    let n = solid_units(line);
+    if n < 2 {
+        return None;
     }
-    None
+    if !is_continuation_at(line, n - 2) {
+        return None;
+    }
+    Some(n - 2)
 }
 
 /// The logical line that begins a text.
@@ -114,6 +131,8 @@ fn continuation(line: &[u16]) -> Option<usize>
 pub(crate) struct LogicalLine {
     /// Its units, where each continuation is a line feed, or a carriage return where no line follows it.
     pub(crate) units: Vec<u16>,
+    /// How many continuations it has.
+    pub(crate) continuations: usize,
     /// How many units of the text it takes.
     pub(crate) taken: usize,
 }
@@ -125,8 +144,10 @@ pub(crate) fn logical_line(alloc: Global, text: &[u16]) -> Result<LogicalLine, M
     ensures within { IfOk result (λ line. line.taken ≤ length text.now) }
     ensures units { IfOk result (λ line. length line.units.items ≤ line.taken) }
     ensures joints { IfOk result (λ line. joints line.units.items + 1 ≤ line.taken) }
+    ensures continuations { IfOk result (λ line. line.continuations ≡ joints line.units.items) }
 {
     let mut units = Vec::new(alloc);
+    let mut continuations = 0;
     let mut taken = 0;
     'lines: loop {
         let (line, whole) = line_at(text, taken);
@@ -134,13 +155,22 @@ pub(crate) fn logical_line(alloc: Global, text: &[u16]) -> Result<LogicalLine, M
         match continuation(line) {
             None => {
                 units.extend_from_slice(line)?;
-                return Ok(LogicalLine { units, taken });
+                return Ok(LogicalLine {
+                    units,
+                    continuations,
+                    taken,
+                });
             }
             Some(front) => {
                 units.extend_from_slice(&line[..front])?;
+                continuations += 1;
                 if taken == text.len() {
                     units.push(13)?;
-                    return Ok(LogicalLine { units, taken });
+                    return Ok(LogicalLine {
+                        units,
+                        continuations,
+                        taken,
+                    });
                 }
                 units.push(10)?;
             }

@@ -1,12 +1,12 @@
 //! A logical line, read.
 ghost use Rattle.std.specs.Prelude.{◌≡◌, ◌+◌, ◌<◌, ◌^◌, length, IfOk};
-ghost use Rattle.vb_tree.specs.LogicalLines.{reading, joints};
+ghost use Rattle.vb_tree.specs.LogicalLines.{reading, joints, shown};
 ghost use Rattle.vb_lexer.specs.Readings.{reading_of};
 
 use crate::content::{read_content, shown};
 use crate::faults::{directive, first_fault};
 use std::alloc::Global;
-use up_base::{Fault, Mem, Place};
+use up_base::{Fault, Mem, Place, Wide};
 use vb_tree::{Line, Tokens};
 
 /// A logical line, and its first fault.
@@ -16,33 +16,49 @@ pub(crate) struct Reading {
     pub(crate) fault: Option<Fault>,
 }
 
-/// What a line comes to whose first physical line has this number.
+/// What a line comes to whose first physical line has this number, and which has so many continuations.
 #[tactic(auto, unfolding(vb_tree::specs::LogicalLines::reading))]
 pub(crate) fn read_line(
     alloc: Global,
     file: u32,
     number: u32,
-    units: &[u16],
+    units: Vec<u16>,
+    continuations: usize,
 ) -> Result<Reading, Mem>
-    requires units { length units.now < 2 ^ 32 }
-    requires lines { number + joints units.now < 2 ^ 32 }
-    ensures { IfOk result (λ r. reading_of r ≡ reading file number units.now) }
+    requires units { length units.items < 2 ^ 32 }
+    requires lines { number + joints units.items < 2 ^ 32 }
+    requires continuations { continuations ≡ joints units.items }
+    ensures { IfOk result (λ r. reading_of r ≡ reading file number units.items) }
 {
-    let content = read_content(alloc, number, units)?;
+    let content = read_content(alloc, number, &units)?;
     let place = Place { file, line: number };
     let fault = first_fault(
         directive(content.tokens.as_slice()),
         content.stop,
         place,
-        units,
+        &units,
     );
     let line = Line {
         place,
-        text: shown(alloc, units)?,
+        text: text_of(alloc, units, continuations)?,
         tokens: fitted(content.tokens),
         comment: content.comment,
     };
     Ok(Reading { line, fault })
+}
+
+// What is shown of a line with so many continuations: where it has none, its very units.
+#[tactic(auto, using(crate::proofs::PhysicalLines::shown_unjoined))]
+fn text_of(alloc: Global, units: Vec<u16>, continuations: usize) -> Result<Wide, Mem>
+    requires { continuations ≡ joints units.items }
+    ensures { IfOk result (λ text. text ≡ shown units.items) }
+{
+    if continuations == 0 {
+        let mut text = Wide::from_vec(units);
+        text.shrink_to_fit();
+        return Ok(text);
+    }
+    Ok(shown(alloc, &units)?)
 }
 
 // The same tokens, in no more memory than they fill.

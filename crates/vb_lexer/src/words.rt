@@ -88,26 +88,20 @@ fn name_byte(c: u16) -> u8
     c as u8
 }
 
-fn name_bytes(alloc: Global, units: &[u16]) -> Result<Vec<u8>, Mem>
-    requires { list_all is_name_unit units.now ≡ true }
-    ensures { IfOk result (λ bytes. bytes.items ≡ units.now) }
-{
-    let mut bytes = Vec::with_capacity(alloc, units.len())?;
-    for c in units {
-        bytes.push(name_byte(*c))?;
-    }
-    Ok(bytes)
-}
+// The most units of a name.
+const NAME_LIMIT: usize = 255;
 
-#[tactic(auto, using(crate::proofs::Runs::are_printable))]
 fn name_of(alloc: Global, units: &[u16]) -> Result<Name, Mem>
     requires all { list_all is_name_unit units.now ≡ true }
     requires some { 0 < length units.now }
     requires few { length units.now ≤ 255 }
     ensures { IfOk result (λ name. name ≡ units.now) }
 {
-    let bytes = name_bytes(alloc, units)?;
-    Ok(Name::from_valid(alloc, &bytes)?)
+    let mut bytes = [0; NAME_LIMIT];
+    for (at, c) in units.iter().enumerate() {
+        bytes[at] = name_byte(*c);
+    }
+    Ok(Name::from_valid(alloc, &bytes[..units.len()])?)
 }
 
 // A name with the suffix that stands behind it, unless it is too long.
@@ -116,7 +110,7 @@ fn named(alloc: Global, units: &[u16], after: &[u16]) -> Result<Option<(Name, Su
     requires some { 0 < length units.now }
     ensures { IfOk result (λ found. found ≡ (if nat_le (length units.now) 255 then Some (units.now, name_suffix after.now) else None)) }
 {
-    if units.len() > 255 {
+    if units.len() > NAME_LIMIT {
         return Ok(None);
     }
     Ok(Some((name_of(alloc, units)?, name_suffix(after))))

@@ -5,6 +5,7 @@ use Rattle.vb_lexer.specs.Contents.{part_of, kinds_back, with_front, IsBefore, I
 use Rattle.vb_lexer.specs.declared.content.Part.TheVariants as code
 use Rattle.vb_tree.specs.declared.token.TokenKind.{TokenKind}
 use Rattle.vb_lexer.proofs.ReadingContents.{joints-drop, drop_more, kinds_back-push, note_step, stuck_step, lexeme_step}
+use Rattle.vb_lexer.proofs.Blanks.{blanks_step}
 use Rattle.vb_lexer.proofs.content.read_content.Goals as goal
 
 -- the part by what the tokens before say
@@ -24,6 +25,20 @@ returns-in-Stuck c =
     let part : stuck ≡ part_at c.parts.before.statement (drop c.parts.at c.args.units.now) = ap part_of (sym c.in-Stuck.is) ∙ c.in_ok-part_from.ensures.part in
     stuck_step c.parts.tokens c.parts.line c.parts.at c.args.units.now (content_from [] c.args.number 0 0 c.args.units.now) c.parts-test.true
     (there _ c.parts.tokens _ _ c.parts.invariant.before.statement part) c.parts.invariant.whole
+
+pub parts-preserved-then-blanks-gt0 : goal.parts-preserved-then-blanks-gt0
+parts-preserved-then-blanks-gt0 c =
+    let units : List ℕ = c.args.units.now in
+    let place : ℕ = c.parts.at in
+    let n : ℕ = c.blanks_from-blanks.result in
+    let room : place + n ≤ length units = c.blanks_from-blanks.ensures.within in
+    let fewer : joints (drop n (drop place units)) ≤ joints (drop place units) = joints-drop n (drop place units) in
+    record {
+      within = room;
+      lines = subst (λ (u : List ℕ). c.parts.line + joints u ≤ c.args.number + joints units) (drop_more place n units) (omega arith);
+      before = c.parts.invariant.before;
+      whole = blanks_step c.parts.tokens c.parts.line place n units (content_from [] c.args.number 0 0 units) c.blanks_from-blanks.ensures.count c.parts.invariant.whole;
+    }
 
 pub parts-preserved : goal.parts-preserved
 parts-preserved c =

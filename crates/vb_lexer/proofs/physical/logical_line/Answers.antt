@@ -10,10 +10,17 @@ lines-init c = record {
   whole = rw c.new-units.ensures.items (sym (onto_none c.args.text.now c.requires));
   units = rw c.new-units.ensures.items (omega arith);
   joints = rw c.new-units.ensures.items (omega arith);
+  continuations = rw c.new-units.ensures.items refl;
 }
 
 pub returns-in-None-clause-joints : goal.returns-in-None-clause-joints
 returns-in-None-clause-joints c =
+    let both = joints-append c.lines.units.items c.line_at-whole.result.0.now in
+    let items : c.extend_from_slice.new.self.items ≡ c.lines.units.items ++ c.line_at-whole.result.0.now = c.in_ok-extend_from_slice-in-None.ensures.items in
+    rw (items, both) (omega arith)
+
+pub returns-in-None-clause-continuations : goal.returns-in-None-clause-continuations
+returns-in-None-clause-continuations c =
     let both = joints-append c.lines.units.items c.line_at-whole.result.0.now in
     let items : c.extend_from_slice.new.self.items ≡ c.lines.units.items ++ c.line_at-whole.result.0.now = c.in_ok-extend_from_slice-in-None.ensures.items in
     rw (items, both) (omega arith)
@@ -24,6 +31,16 @@ returns-then-taken-text-clause-joints c =
     let kept : c.extend_from_slice-in-Some.new.self.items ≡ c.lines.units.items ++ front = c.in_ok-extend_from_slice-in-Some.ensures.items in
     let made : c.push.new.self.items ≡ c.extend_from_slice-in-Some.new.self.items ++ 13 ∷ [] = c.in_ok-push-in-Some.ensures.items in
     let room : c.in-Some.front + 2 ≤ length c.line_at-whole.result.0.now = c.in-Some.ensures.within in
+    let few : joints front ≤ joints c.line_at-whole.result.0.now = joints-take c.in-Some.front c.line_at-whole.result.0.now in
+    let all : joints ((c.lines.units.items ++ front) ++ 13 ∷ []) ≡ joints (c.lines.units.items ++ front) + 1 = joints-append (c.lines.units.items ++ front) (13 ∷ []) in
+    let both : joints (c.lines.units.items ++ front) ≡ joints c.lines.units.items + joints front = joints-append c.lines.units.items front in
+    rw (made, kept, all, both) (omega arith)
+
+pub returns-then-taken-text-clause-continuations : goal.returns-then-taken-text-clause-continuations
+returns-then-taken-text-clause-continuations c =
+    let front : List ℕ = take c.in-Some.front c.line_at-whole.result.0.now in
+    let kept : c.extend_from_slice-in-Some.new.self.items ≡ c.lines.units.items ++ front = c.in_ok-extend_from_slice-in-Some.ensures.items in
+    let made : c.push.new.self.items ≡ c.extend_from_slice-in-Some.new.self.items ++ 13 ∷ [] = c.in_ok-push-in-Some.ensures.items in
     let few : joints front ≤ joints c.line_at-whole.result.0.now = joints-take c.in-Some.front c.line_at-whole.result.0.now in
     let all : joints ((c.lines.units.items ++ front) ++ 13 ∷ []) ≡ joints (c.lines.units.items ++ front) + 1 = joints-append (c.lines.units.items ++ front) (13 ∷ []) in
     let both : joints (c.lines.units.items ++ front) ≡ joints c.lines.units.items + joints front = joints-append c.lines.units.items front in
@@ -50,4 +67,5 @@ lines-preserved c =
           ∙ onto_next c.lines.units.items front line (physical_lines after) on (lines_some after some));
       units = rw whole (simp (length-append, length-take) (omega arith));
       joints = rw (whole, all, both) (omega arith);
+      continuations = rw (whole, all, both) (omega arith);
     }

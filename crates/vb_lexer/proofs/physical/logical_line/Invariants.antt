@@ -8,6 +8,7 @@ invariant-lines l = record {
   within : l.taken < length l.text;
   whole : joined (physical_lines l.text) ≡ onto_first l.units.items (joined (physical_lines (drop l.taken l.text)));
   units : length l.units.items ≤ l.taken;
+  continuations : l.continuations ≡ joints l.units.items;
   joints : joints l.units.items ≤ l.taken;
 }
 
