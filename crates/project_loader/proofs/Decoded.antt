@@ -1,5 +1,5 @@
 -- The text of bytes of which some may have no character.
-use Rattle.std.proofs.Common.{◌≡◌, ℕ, suc, ◌+◌, ◌-◌, ◌≤◌, Bool, true, false, not, cond, nat_lt, ◌&&◌, List, [], ◌∷◌, map, length, get_or, position, Option, Some, None, is_none, unwrap_or, refl, sym, ap, ◌∙◌, arith}
+use Rattle.std.proofs.Common.{◌≡◌, ℕ, suc, ◌+◌, ◌-◌, ◌≤◌, Bool, true, false, not, cond, nat_lt, ◌&&◌, List, [], ◌∷◌, map, length, get_or, position, Option, Some, None, is_none, unwrap_or, Fits, w8, refl, sym, ap, ◌∙◌, arith}
 use Rattle.std.proofs.lemmas.List.FromFn.{get_or-map-range_with_len}
 use Rattle.std.specs.List.{range_with_len, position_or_len, prefix_len}
 use Rattle.up_base.specs.Windows1252.{unit_of, is_undefined, AreUnits}
@@ -54,6 +54,30 @@ same_units (x ∷ xs) (y ∷ ys) h =
 
 pub filled_decoded : (bytes units : List ℕ) → are_bytes bytes ≡ true → AreUnits (map filled bytes) units → units ≡ decoded bytes
 filled_decoded bytes units bytes_are h = same_units units (decoded bytes) (h ∙ filled_units bytes bytes_are)
+
+-- what type bytes have says that they are bytes
+fits_byte : (byte : ℕ) → Fits w8 byte → is_byte byte ≡ true
+fits_byte byte h =
+    let small = h.fits in
+    grind arith
+
+pub bytes_fit : (bytes : List ℕ) → ((k : ℕ) → Fits w8 (get_or bytes k 0)) → are_bytes bytes ≡ true
+bytes_fit [] h = refl
+bytes_fit (b ∷ bs) h = ap (λ t. t && are_bytes bs) (fits_byte b (h 0)) ∙ bytes_fit bs (λ k. h (suc k))
+
+-- where each byte has its character, nothing is filled
+none_filled : (f : ℕ → Option ℕ) (bytes units : List ℕ) → map Some units ≡ map f bytes → map (λ b. cond (is_none (f b)) 127 b) bytes ≡ bytes
+none_filled f [] units h = refl
+none_filled f (b ∷ bs) [] h = cc
+none_filled f (b ∷ bs) (u ∷ us) h =
+    let first : f b ≡ Some u = cc in
+    let rest : map Some us ≡ map f bs = cc in
+    ap (λ o. cond (is_none o) 127 b ∷ map (λ x. cond (is_none (f x)) 127 x) bs) first
+    ∙ ap (λ xs. b ∷ xs) (none_filled f bs us rest)
+
+pub bytes_decoded : (bytes units : List ℕ) → are_bytes bytes ≡ true → AreUnits bytes units → units ≡ decoded bytes
+bytes_decoded bytes units bytes_are h =
+    filled_decoded bytes units bytes_are (h ∙ ap (λ xs. map unit_of xs) (sym (none_filled unit_of bytes units h)))
 
 filled_defined : (byte : ℕ) → is_undefined (filled byte) ≡ false
 filled_defined byte = by (unit_of byte) refl

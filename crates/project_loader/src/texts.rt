@@ -135,6 +135,18 @@ pub(crate) fn decoded(alloc: Global, bytes: &[u8]) -> Result<Wide, Mem>
     requires { length bytes.now < 2 ^ 32 }
     ensures { IfOk result (λ text. text ≡ decoded bytes.now) }
 {
+    match decode_1252(alloc, bytes) {
+        Ok(text) => Ok(text),
+        Err(DecodeFail::Undefined(_)) => Ok(filled_and_decoded(alloc, bytes)?),
+        Err(DecodeFail::Mem) => Err(Mem),
+    }
+}
+
+// The text of bytes of which some have no character, by a copy of them.
+fn filled_and_decoded(alloc: Global, bytes: &[u8]) -> Result<Wide, Mem>
+    requires { length bytes.now < 2 ^ 32 }
+    ensures { IfOk result (λ text. text ≡ decoded bytes.now) }
+{
     let filled = filled_bytes(alloc, bytes)?;
     match decode_1252(alloc, &filled) {
         Ok(text) => Ok(text),
