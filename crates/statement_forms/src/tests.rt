@@ -219,6 +219,62 @@ const JUMPS: [(&str, &str); 20] = [
     ("GoSub x", "kept"),
 ];
 
+const WORDS: [(&str, &str); 20] = [
+    ("Else If", ""),
+    ("Case Else a", ""),
+    ("Do a", ""),
+    ("Do While", ""),
+    ("Do Until", ""),
+    ("Loop a", ""),
+    ("Loop Until", ""),
+    ("While", ""),
+    ("Wend a", ""),
+    ("With", ""),
+    ("Set a = b", "set"),
+    ("Exit Sub", "exit"),
+    ("Exit", ""),
+    ("On Error GoTo", "kept"),
+    ("On Error Resume", ""),
+    ("Resume x$", ""),
+    ("Resume Next x", ""),
+    ("Foo . x", "invoke"),
+    ("Foo$ ( 1 ) . x", "invoke"),
+    ("Debug . Print f ( a , b )", "print"),
+];
+
+const KEPT: [(&str, &str); 20] = [
+    ("Error 1", "kept"),
+    ("Get # 1 , , a", "kept"),
+    ("Kill a", "kept"),
+    ("Line Input # 1 , a", "kept"),
+    ("Open a For Input As # 1", "kept"),
+    ("Print # 1 , a", "kept"),
+    ("Unload a", "kept"),
+    ("Write", "kept"),
+    ("Write . a", "invoke"),
+    ("Write = 1", "assign"),
+    ("Write ( 1 ) = a", "assign"),
+    ("Return", "kept"),
+    ("Stop", "kept"),
+    ("End", "kept"),
+    ("LSet a = b", "kept"),
+    ("RaiseEvent e ( 1 )", "kept"),
+    ("Mid ( a ) = b", "kept"),
+    ("Mid ( a ) . b = c", "assign"),
+    ("Debug . Print Spc ( 1 )", "kept"),
+    ("Form1 . Circle ( 0 , 0 ) , 1", "kept"),
+];
+
+#[test]
+fn reads_words(rt: HostRuntime) -> Result<(), Fail> {
+    reads(&rt, rt.alloc(), &WORDS)
+}
+
+#[test]
+fn reads_kept_lines(rt: HostRuntime) -> Result<(), Fail> {
+    reads(&rt, rt.alloc(), &KEPT)
+}
+
 #[test]
 fn reads_calls(rt: HostRuntime) -> Result<(), Fail> {
     reads(&rt, rt.alloc(), &CALLS)

@@ -23,7 +23,7 @@ const HEADS: [(&str, &str); 20] = [
     ("Global Property Get n", ""),
 ];
 
-const PARAMETERS: [(&str, &str); 14] = [
+const PARAMETERS: [(&str, &str); 15] = [
     ("Sub a ( Optional ByVal b As Long = 1 )", "sub"),
     ("Sub a ( ParamArray b ( ) As Variant )", "sub"),
     ("Sub a ( Optional b As String * 5 = 1 )", "sub"),
@@ -35,6 +35,7 @@ const PARAMETERS: [(&str, &str); 14] = [
     ("Sub a ( Optional )", ""),
     ("Sub a ( b ( 1 ) )", ""),
     ("Sub a ( b = )", ""),
+    ("Sub a ( Optional b As String * ( 5 = 1 ) = )", ""),
     ("Sub a ( b As )", ""),
     ("Sub a ( , )", ""),
     ("Sub a ( b ) ( c )", ""),

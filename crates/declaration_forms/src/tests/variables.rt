@@ -44,11 +44,12 @@ const TYPED: [(&str, &str); 18] = [
     ("Private WithEvents WithEvents a As b", ""),
 ];
 
-const CONSTANTS: [(&str, &str); 19] = [
+const CONSTANTS: [(&str, &str); 20] = [
     ("Const a = 1", "constants"),
     ("Public Const a As Long = 1 , b% = 2", "constants"),
     ("Global Const a As String * 5 = 1", "constants"),
     ("Const a = 1 = 2", "constants"),
+    ("Const a As String * ( 5 = 1 )", ""),
     ("Friend Const a = 1", ""),
     ("Const a", ""),
     ("Const a ( ) = 1", ""),

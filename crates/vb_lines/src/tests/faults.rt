@@ -38,9 +38,30 @@ fn expressions_are_64_deep(rt: HostRuntime) -> Result<(), Fail> {
         ("Do\nLoop While ", "", "F14 at 3"),
         ("Select Case a\nCase ", "\nEnd Select", "F14 at 3"),
         ("a: b = ", ": c", "F14 at 2"),
+        ("On ", " GoTo x", "F14 at 2"),
+        ("Mid(", ", 1) = b", "F14 at 2"),
     ];
     for (before, behind, wanted) in rows.iter() {
         assert!(rt; is_deepest(rt.alloc(), before, behind, wanted)?, "{before}");
+    }
+    Ok(())
+}
+
+#[test]
+fn opaque_lines_keep_their_tokens_alone(rt: HostRuntime) -> Result<(), Fail> {
+    let rows = [
+        ("Print #1, ", ""),
+        ("Debug.Print a, ", ""),
+        ("Mid(a, 1) = ", ""),
+        ("Form1.Line (0, 0)-", ""),
+    ];
+    let alloc = rt.alloc();
+    for (before, behind) in rows.iter() {
+        let answer = told(alloc, false, deep(alloc, 65, before, behind)?.as_str())?;
+        assert!(rt;
+            answer.as_str().starts_with("Sub f()@1|"),
+            "{before}: {answer}"
+        );
     }
     Ok(())
 }

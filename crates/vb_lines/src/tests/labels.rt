@@ -19,6 +19,10 @@ fn labels_stand_in_procedures(rt: HostRuntime) -> Result<(), Fail> {
         ("Loop: a", "F11 at 2"),
         ("a: 10", "F10 at 2"),
         ("&H10 a", "F10 at 2"),
+        ("010 a", "010@2|a@2|"),
+        ("GoTo 010", "GoTo 010@2|"),
+        ("GoTo &H10", "F10 at 2"),
+        ("GoTo 1.5", "F10 at 2"),
     ];
     check_inside(&rt, rt.alloc(), &rows)
 }

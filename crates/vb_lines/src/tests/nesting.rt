@@ -12,7 +12,11 @@ fn closing_lines_at_module_level(rt: HostRuntime) -> Result<(), Fail> {
         ("Loop", "F10 at 1"),
         ("End Select", "F10 at 1"),
         ("Do", "F10 at 1"),
+        ("End With", "F10 at 1"),
+        ("Wend", "F10 at 1"),
         ("a = 1", "F10 at 1"),
+        ("Debug.Print a", "F10 at 1"),
+        ("Close", "F10 at 1"),
         ("End Sub", "F11 at 1"),
         ("End Function", "F11 at 1"),
         ("End Property", "F11 at 1"),
@@ -97,6 +101,26 @@ fn blocks_end_in_their_own_lines(rt: HostRuntime) -> Result<(), Fail> {
         ("If a Then\nCase 1", "F11 at 3"),
         ("Do\nEnd If", "F11 at 3"),
         ("End Type", "End Type@2|"),
+        ("End Enum", "End Enum@2|"),
+    ];
+    check_inside(&rt, rt.alloc(), &rows)
+}
+
+#[test]
+fn only_the_kind_of_the_block_is_asked(rt: HostRuntime) -> Result<(), Fail> {
+    let rows = [
+        (
+            "Select Case a\nb\nCase 1\nEnd Select",
+            "Select Case a@2|b@3|Case 1@4|End Select@5|",
+        ),
+        (
+            "If a Then\nElse\nElse\nElseIf b Then\nEnd If",
+            "If a Then@2|Else@3|Else@4|ElseIf b Then@5|End If@6|",
+        ),
+        ("Do While a\nLoop While b", "Do While a@2|Loop While b@3|"),
+        ("Do Until a\nLoop Until b", "Do Until a@2|Loop Until b@3|"),
+        ("While a\nLoop", "F11 at 3"),
+        ("For i = 1 To 2\nWend", "F11 at 3"),
     ];
     check_inside(&rt, rt.alloc(), &rows)
 }
