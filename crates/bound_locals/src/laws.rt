@@ -1,7 +1,8 @@
-//! That the locals of a procedure are those that its lines declare.
+//! That the locals of a procedure are those that its lines declare, and how deep its bound lines are nested.
 ghost use Rattle.std.specs.Prelude.{◌≡◌, true};
 ghost use Rattle.std.specs.List.{list_all};
 ghost use Rattle.vb_tree.specs.Tree.{Project};
+ghost use Rattle.vb6_run.specs.Depth.{is_shallow_bound, is_shallow_module};
 ghost use Rattle.scalar_binder.specs.Declarations.{declarations};
 ghost use Rattle.scalar_binder.specs.Scalars.{bound};
 ghost use Rattle.net_rewrite.specs.Modules.{LocalsAreDeclared};
@@ -17,4 +18,11 @@ pub fn locals_are_declared()
 #[tactic(auto, using(crate::proofs::Names::variables_named))]
 pub fn variables_are_named()
     ensures { (P : Project) → list_all is_named_module P.modules ≡ true → list_all is_named_variable (declarations P).vars ≡ true }
+{}
+
+/// A law: where the lines of its modules stay within the limits of the grammar, so do those of its procedures with their
+/// names bound.
+#[tactic(auto, using(crate::proofs::Depths::bound_shallow))]
+pub fn bound_lines_are_shallow()
+    ensures { (P : Project) → list_all is_shallow_module P.modules ≡ true → is_shallow_bound (bound P) ≡ true }
 {}

@@ -3,4 +3,4 @@
 
 mod laws;
 
-pub use laws::{locals_are_declared, variables_are_named};
+pub use laws::{bound_lines_are_shallow, locals_are_declared, variables_are_named};

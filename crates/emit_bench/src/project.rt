@@ -1,10 +1,11 @@
 //! A project of one long procedure.
-ghost use Rattle.std.specs.Prelude.{◌≡◌, true, false, map, codes, IfOk};
+ghost use Rattle.std.specs.Prelude.{◌≡◌, suc, max, true, false, map, codes, IfOk};
 ghost use Rattle.std.specs.List.{list_all};
 ghost use Rattle.net_tree.specs.declared.block.NetRole.TheVariants.{Plain};
 ghost use Rattle.net_tree.specs.View.{exp_of, line_of, module_of, project_of};
 ghost use Rattle.net_tree.specs.Blocks.{role_of, nests};
 ghost use Rattle.net_tree.specs.Spelling.{is_identifier};
+ghost use Rattle.net_tree.specs.Depth.{depth_exp};
 ghost use Rattle.net_tree.specs.Expressions.{is_writable_exp};
 ghost use Rattle.net_tree.specs.Lines.{is_writable_line};
 ghost use Rattle.net_tree.specs.Text.{is_writable_module, IsWritable};
@@ -17,7 +18,8 @@ use std::alloc::Global;
 use up_base::{Mem, Name, Sequence};
 
 fn total(alloc: Global) -> Result<NetExpr, Mem>
-    ensures { IfOk result (λ e. is_writable_exp (exp_of e) ≡ true) }
+    ensures written { IfOk result (λ e. is_writable_exp (exp_of e) ≡ true) }
+    ensures depth { IfOk result (λ e. depth_exp (exp_of e) ≡ 1) }
 {
     let mut path = Sequence::new(alloc);
     path.push(Name::from_valid(alloc, b"total")?)?;
@@ -27,7 +29,8 @@ fn total(alloc: Global) -> Result<NetExpr, Mem>
 fn operation(alloc: Global, operator: NetBin, a: NetExpr, b: NetExpr) -> Result<NetExpr, Mem>
     requires left { is_writable_exp (exp_of a) ≡ true }
     requires right { is_writable_exp (exp_of b) ≡ true }
-    ensures { IfOk result (λ e. is_writable_exp (exp_of e) ≡ true) }
+    ensures written { IfOk result (λ e. is_writable_exp (exp_of e) ≡ true) }
+    ensures depth { IfOk result (λ e. depth_exp (exp_of e) ≡ suc (max (depth_exp (exp_of a)) (depth_exp (exp_of b)))) }
 {
     Ok(NetExpr::Binary(operator, Box::new(alloc, a)?, Box::new(alloc, b)?))
 }

@@ -37,7 +37,7 @@ use Rattle.form_parts.specs.Words.{is_key}
 use Rattle.form_parts.specs.declared.cuts.Separator.TheVariants.{Comma, Equal}
 use Rattle.std.specs.Prelude.{ℤ, pos}
 use Rattle.std.specs.Ordering.{int_eq}
-use Rattle.module_names.proofs.Statements.{is_well_named, option_names, found_names, either_names}
+use Rattle.module_names.proofs.Statements.{is_good_form, option_names, found_names, either_names}
 use Rattle.net_rewrite.proofs.Lists.{by_test, and_true, all_more, all_first, all_rest}
 use Rattle.module_names.proofs.Cuts.{are_named}
 use Rattle.module_names.proofs.Tokens.{is_named_kind, is_named_token}
@@ -346,45 +346,45 @@ end_form_names block.Type = refl
 end_form_names block.Enum = refl
 end_form_names _ = refl
 
-outlines_names : (Is : Outline → Form → Type 0) (o : Option Outline) (f : Form) → is_named_outline o ≡ true → ((o : Outline) → is_identifier o.name ≡ true → Is o f → is_well_named f ≡ true) → Outlines Is o f → is_well_named f ≡ true
+outlines_names : (Is : Outline → Form → Type 0) (o : Option Outline) (f : Form) → is_named_outline o ≡ true → ((o : Outline) → is_identifier o.name ≡ true → Is o f → is_good_form f ≡ true) → Outlines Is o f → is_good_form f ≡ true
 outlines_names Is None f h each e = absurd e
 outlines_names Is (Some o) f h each e = each o h e
 
-head_names : (k : ProcKind) (v : Option Visibility) (o : Outline) (f : Form) → is_identifier o.name ≡ true → HeadLine k v (head_form k) o f → is_well_named f ≡ true
-head_names proc.Sub v o f h l = ap is_well_named l.form ∙ and_true (is_identifier l.signature.name) true (ap is_identifier l.head.signed.name ∙ h) refl
-head_names proc.Function v o f h l = ap is_well_named l.form
-head_names proc.Get v o f h l = ap is_well_named l.form
-head_names proc.Let v o f h l = ap is_well_named l.form
-head_names proc.Set v o f h l = ap is_well_named l.form
+head_names : (k : ProcKind) (v : Option Visibility) (o : Outline) (f : Form) → is_identifier o.name ≡ true → HeadLine k v (head_form k) o f → is_good_form f ≡ true
+head_names proc.Sub v o f h l = ap is_good_form l.form ∙ and_true (is_identifier l.signature.name) true (ap is_identifier l.head.signed.name ∙ h) refl
+head_names proc.Function v o f h l = ap is_good_form l.form
+head_names proc.Get v o f h l = ap is_good_form l.form
+head_names proc.Let v o f h l = ap is_good_form l.form
+head_names proc.Set v o f h l = ap is_good_form l.form
 
-member_names : (behind : Option (List Token)) (o : Option Outline) (f : Form) → Outlines (MemberOf behind) o f → is_well_named f ≡ true
+member_names : (behind : Option (List Token)) (o : Option Outline) (f : Form) → Outlines (MemberOf behind) o f → is_good_form f ≡ true
 member_names behind None f e = absurd e
-member_names behind (Some o) f e = ap is_well_named e.form
+member_names behind (Some o) f e = ap is_good_form e.form
 
-fits_names : (s : Start) (line rest : List Token) (f : Form) → are_named rest ≡ true → Fits s line rest f → is_well_named f ≡ true
-fits_names start.Attribute line rest f h e = ap is_well_named e
+fits_names : (s : Start) (line rest : List Token) (f : Form) → are_named rest ≡ true → Fits s line rest f → is_good_form f ≡ true
+fits_names start.Attribute line rest f h e = ap is_good_form e
 fits_names start.Option line rest f h e = found_names (option_line rest) f (option_line_names rest) e
-fits_names (start.Def w) line rest f h e = ap is_well_named e.form
+fits_names (start.Def w) line rest f h e = ap is_good_form e.form
 fits_names (start.Variables w) line rest f h e =
-    ap is_well_named e.form ∙ declarators_named (pieces Comma rest) e.declarators (pieces_named Comma 0 rest h) e.each
-fits_names start.Events line rest f h e = ap is_well_named e.form
-fits_names (start.Constants v) line rest f h e = ap is_well_named e.form
-fits_names (start.Type v) line rest f h e = outlines_names _ (outline_of rest) f (outline_names rest h) (λ o n l. ap is_well_named l.form) e
-fits_names (start.Enum v) line rest f h e = outlines_names _ (outline_of rest) f (outline_names rest h) (λ o n l. ap is_well_named l.form) e
+    ap is_good_form e.form ∙ declarators_named (pieces Comma rest) e.declarators (pieces_named Comma 0 rest h) e.each
+fits_names start.Events line rest f h e = ap is_good_form e.form
+fits_names (start.Constants v) line rest f h e = ap is_good_form e.form
+fits_names (start.Type v) line rest f h e = outlines_names _ (outline_of rest) f (outline_names rest h) (λ o n l. ap is_good_form l.form) e
+fits_names (start.Enum v) line rest f h e = outlines_names _ (outline_of rest) f (outline_names rest h) (λ o n l. ap is_good_form l.form) e
 fits_names (start.Head k v) line rest f h e = outlines_names _ (outline_of rest) f (outline_names rest h) (λ o n l. head_names k v o f n l) e
-fits_names (start.StaticHead k v) line rest f h e = outlines_names _ (outline_of rest) f (outline_names rest h) (λ o n l. ap is_well_named l.form) e
+fits_names (start.StaticHead k v) line rest f h e = outlines_names _ (outline_of rest) f (outline_names rest h) (λ o n l. ap is_good_form l.form) e
 fits_names (start.End k) line rest f h e = found_names (end_form k) f (end_form_names k) e
-fits_names start.Opaque line rest f h e = ap is_well_named e
-fits_names start.Field line rest f h e = outlines_names FieldOf (outline_of rest) f (outline_names rest h) (λ o n l. ap is_well_named l.form) e
+fits_names start.Opaque line rest f h e = ap is_good_form e
+fits_names start.Field line rest f h e = outlines_names FieldOf (outline_of rest) f (outline_names rest h) (λ o n l. ap is_good_form l.form) e
 fits_names start.Member line rest f h e = of_cut (parted Equal rest) e
   where
-    of_cut : (cut : Option (List Token × List Token)) → IsMemberCut rest cut f → is_well_named f ≡ true
+    of_cut : (cut : Option (List Token × List Token)) → IsMemberCut rest cut f → is_good_form f ≡ true
     of_cut None k = member_names None (outline_of rest) f k
     of_cut (Some cut) k = member_names (Some cut.1) (outline_of cut.0) f k
 
-pub declaration_names : (place : Spot) (line : List Token) (f : Form) → are_named line ≡ true → IsDeclaration place line f → is_well_named f ≡ true
+pub declaration_names : (place : Spot) (line : List Token) (f : Form) → are_named line ≡ true → IsDeclaration place line f → is_good_form f ≡ true
 declaration_names place line f h e = of_start (start_of place line) (start_begun place line h) e
   where
-    of_start : (b : Begun) → is_begun b ≡ true → FitsStart b line f → is_well_named f ≡ true
+    of_start : (b : Begun) → is_begun b ≡ true → FitsStart b line f → is_good_form f ≡ true
     of_start None k e = absurd e
     of_start (Some s) k e = fits_names s.0 line s.1 f k e

@@ -1,5 +1,6 @@
--- The code lines that parts give: their texts can stand in comments, and the names of Subs and variables are identifiers.
-use Rattle.std.proofs.Common.{◌≡◌, ℕ, ◌-◌, ◌==◌, Bool, true, false, ◌&&◌, if◌then◌else◌, is_some, Option, Some, None, List, [], ◌∷◌, ◌++◌, map, take, drop, length, codes, refl, sym, ap, ◌∙◌, subst}
+-- The code lines that parts give: their texts can stand in comments, the names of Subs and variables are identifiers, and
+-- they are within the limits of the grammar.
+use Rattle.std.proofs.Common.{◌≡◌, ℕ, ◌≤◌, ◌-◌, ◌==◌, Bool, true, false, ◌&&◌, if◌then◌else◌, is_some, Option, Some, None, List, [], ◌∷◌, ◌++◌, map, take, drop, length, codes, refl, sym, ap, ◌∙◌, subst}
 use Rattle.std.specs.List.{list_all}
 use Rattle.up_base.specs.declared.place.Place.{Place}
 use Rattle.vb_tree.specs.declared.token.Token.{Token}
@@ -18,13 +19,14 @@ use Rattle.vb_lines.specs.Statements.{Cut, label_cut, statement_cut, head_cut, j
 use Rattle.module_names.proofs.Cuts.{are_named, is_named_cut, is_good_part}
 use Rattle.module_names.proofs.Declarations.{declaration_names}
 use Rattle.net_rewrite.proofs.Lists.{by_test, both_true, and_true, all_more, all_first, all_rest, all_append, all_take, all_drop}
-use Rattle.module_names.proofs.Statements.{is_well_named, meant_names, item_means_names}
+use Rattle.module_names.proofs.Statements.{is_good_form, meant_names, item_means_names}
 use Rattle.module_names.proofs.Tokens.{is_named_token}
 use Rattle.module_names.proofs.Units.{is_simple}
 
--- a code line whose text can stand in a comment and that names a Sub and variables, if it does, by identifiers
+-- a code line within the limits of the grammar, whose text can stand in a comment and that names a Sub and variables, if it
+-- does, by identifiers
 abbrev pub is_good_code : tree.Line → Bool
-is_good_code l = list_all is_simple l.text && is_well_named l.form
+is_good_code l = list_all is_simple l.text && is_good_form l.form
 
 -- ---- texts
 
@@ -42,7 +44,7 @@ piece_simple text tokens start end h =
 -- ---- forms
 
 abbrev is_named_piece : PlainPiece → Bool
-is_named_piece p = is_well_named p.form
+is_named_piece p = is_good_form p.form
 
 abbrev are_named_pieces : List PlainPiece → Bool
 are_named_pieces pieces = list_all is_named_piece pieces
@@ -58,20 +60,20 @@ declares_names place tokens (has_form pieces) h d =
 declares_names place tokens no_form h d = tt
 declares_names place tokens too_deep h d = tt
 
-given_names : (M : Meaning) (slots : List Slot) (pieces : List PlainPiece) → ((ts : List Token) (f : Form) (n : ℕ) → M ts f n → is_well_named f ≡ true) → AreGiven M slots pieces → are_named_pieces pieces ≡ true
+given_names : (M : Meaning) (slots : List Slot) (pieces : List PlainPiece) → ((ts : List Token) (f : Form) (n : ℕ) → n ≤ 64 → M ts f n → is_good_form f ≡ true) → AreGiven M slots pieces → are_named_pieces pieces ≡ true
 given_names M [] [] means g = refl
 given_names M [] (p ∷ ps) means g = absurd g
 given_names M (s ∷ ss) [] means g = absurd g
 given_names M (s ∷ ss) (p ∷ ps) means g =
-    all_more is_named_piece p ps (means s.0 p.form g.0.0.0 g.0.0.1) (given_names M ss ps means g.1)
+    all_more is_named_piece p ps (means s.0 p.form g.0.0.0 g.0.0.2 g.0.0.1) (given_names M ss ps means g.1)
 
-slots_names : (M : Meaning) (slots : List Slot) (a : FormAnswer) → ((ts : List Token) (f : Form) (n : ℕ) → M ts f n → is_well_named f ≡ true) → SlotsMean M slots a → NamedAnswer a
+slots_names : (M : Meaning) (slots : List Slot) (a : FormAnswer) → ((ts : List Token) (f : Form) (n : ℕ) → n ≤ 64 → M ts f n → is_good_form f ≡ true) → SlotsMean M slots a → NamedAnswer a
 slots_names M slots (has_form pieces) means g = given_names M slots pieces means g
 slots_names M slots no_form means g = tt
 slots_names M slots too_deep means g = tt
 
 list_names : (tokens : List Token) (l : Option (Bool × List Token)) (a : FormAnswer) → ListMeans tokens l a → NamedAnswer a
-list_names tokens (Some l) a g = slots_names (ItemMeans l.0) (list_slots l.1) a (item_means_names l.0) g
+list_names tokens (Some l) a g = slots_names (ItemMeans l.0) (list_slots l.1) a (λ ts f n shallow means. item_means_names l.0 ts f n means) g
 list_names tokens None a g = slots_names IsMeant ((tokens, (0, length tokens)) ∷ []) a meant_names g
 
 there_names : (place : Spot) (tokens : List Token) (a : FormAnswer) → are_named tokens ≡ true → MeansThere place tokens a → NamedAnswer a
@@ -95,7 +97,7 @@ pieces_good : (place : Place) (text : List ℕ) (tokens : List Token) (pieces : 
 pieces_good place text tokens [] h k = refl
 pieces_good place text tokens (p ∷ ps) h k =
     all_more is_good_code (piece_line place text tokens p) (map (piece_line place text tokens) ps)
-    (and_true (list_all is_simple (piece_text text tokens p.start p.end)) (is_well_named p.form) (piece_simple text tokens p.start p.end h) (all_first is_named_piece p ps k))
+    (and_true (list_all is_simple (piece_text text tokens p.start p.end)) (is_good_form p.form) (piece_simple text tokens p.start p.end h) (all_first is_named_piece p ps k))
     (pieces_good place text tokens ps h (all_rest is_named_piece p ps k))
 
 answer_good : (place : Place) (text : List ℕ) (tokens : List Token) (a : FormAnswer) → list_all is_simple text ≡ true → NamedAnswer a → GoodOutcome (statement_outcome place text tokens a)
@@ -103,9 +105,9 @@ answer_good place text tokens (has_form pieces) h k = pieces_good place text tok
 answer_good place text tokens no_form h k = tt
 answer_good place text tokens too_deep h k = tt
 
-one_good : (place : Place) (text : List ℕ) (f : Form) → list_all is_simple text ≡ true → is_well_named f ≡ true → list_all is_good_code (record { place = place; text = text; form = f } ∷ []) ≡ true
+one_good : (place : Place) (text : List ℕ) (f : Form) → list_all is_simple text ≡ true → is_good_form f ≡ true → list_all is_good_code (record { place = place; text = text; form = f } ∷ []) ≡ true
 one_good place text f h k =
-    all_more is_good_code (record { place = place; text = text; form = f }) [] (and_true (list_all is_simple text) (is_well_named f) h k) refl
+    all_more is_good_code (record { place = place; text = text; form = f }) [] (and_true (list_all is_simple text) (is_good_form f) h k) refl
 
 same_good : (o p : Outcome) → o ≡ p → GoodOutcome p → GoodOutcome o
 same_good o p e h = subst GoodOutcome (sym e) h
@@ -128,7 +130,7 @@ head_good : (at : Spot) (place : Place) (text : List ℕ) (tokens : List Token) 
 head_good at place text tokens o h s = same_good o (head_outcome place text tokens s.0) s.2 (of_answer s.0 s.1)
   where
     of_answer : (a : HeadAnswer) → HeadOf at tokens a → GoodOutcome (head_outcome place text tokens a)
-    of_answer (has_head f) m = one_good place (text_of text tokens) f (text_simple text tokens h) (ap is_well_named m.is.3)
+    of_answer (has_head f) m = one_good place (text_of text tokens) f (text_simple text tokens h) (ap is_good_form m.is.3)
     of_answer no_head m = tt
     of_answer deep_head m = tt
 

@@ -1,4 +1,4 @@
--- The names and the texts of a module that was read.
+-- The names, the texts and the depth of the lines of a module that was read.
 use Rattle.std.proofs.Common.{◌≡◌, ℕ, Bool, true, false, not, ◌&&◌, ◌||◌, if◌then◌else◌, nat_le, Option, Some, None, List, [], ◌∷◌, ◌++◌, length, codes, refl, sym, ap, ◌∙◌, arith}
 use Rattle.std.proofs.lemmas.Bool.Decides.{nat_tests}
 use Rattle.std.specs.List.{list_all, flat_map}
@@ -13,6 +13,7 @@ use Rattle.vb_lines.specs.Parts.{all_parts}
 use Rattle.project_loader.specs.Modules.{TextIsModule}
 use Rattle.net_tree.specs.Comments.{is_comment}
 use Rattle.net_tree.specs.Spelling.{is_word_part, is_identifier}
+use Rattle.vb6_run.specs.Depth.{has_shallow_form, has_shallow_line, is_shallow_module}
 use Rattle.vb6_run.specs.Program.{procedures_in}
 use Rattle.net_rewrite.specs.Modules.{Comment}
 use Rattle.net_rewrite.specs.Writable.{are_comments, has_comment_text, names_sub, names_variables, is_named_head, is_named_module}
@@ -21,7 +22,7 @@ use Rattle.module_names.proofs.Contents.{is_good_line, has_simple_comment, lines
 use Rattle.module_names.proofs.Cuts.{are_named, all_parts_good}
 use Rattle.module_names.proofs.Lines.{is_good_code, read_good}
 use Rattle.net_rewrite.proofs.Lists.{both_true, and_true, all_more, all_first, all_rest, all_append, all_left, all_right, all_leads, all_flat}
-use Rattle.module_names.proofs.Statements.{is_well_named}
+use Rattle.module_names.proofs.Statements.{is_good_form}
 use Rattle.module_names.proofs.Units.{is_simple, simple_is_comment}
 
 -- ---- the name of a module
@@ -98,10 +99,16 @@ comments_good lines h = all_flat is_good_line is_comment_at (λ l. comment_at l.
 -- ---- members
 
 code_has_comment : (l : tree.Line) → is_good_code l ≡ true → has_comment_text l ≡ true
-code_has_comment l h = simple_is_comment l.text (both_true (list_all is_simple l.text) (is_well_named l.form) h).0
+code_has_comment l h = simple_is_comment l.text (both_true (list_all is_simple l.text) (is_good_form l.form) h).0
 
 code_names : (l : tree.Line) → is_good_code l ≡ true → (names_sub l.form ≡ true) × (names_variables l ≡ true)
-code_names l h = both_true (names_sub l.form) (names_variables l) (both_true (list_all is_simple l.text) (is_well_named l.form) h).1
+code_names l h =
+    let form = (both_true (list_all is_simple l.text) (is_good_form l.form) h).1 in
+    both_true (names_sub l.form) (names_variables l) (both_true (has_shallow_form l.form) (names_sub l.form && names_variables l) form).1
+
+code_is_shallow : (l : tree.Line) → is_good_code l ≡ true → has_shallow_line l ≡ true
+code_is_shallow l h =
+    (both_true (has_shallow_form l.form) (names_sub l.form && names_variables l) (both_true (list_all is_simple l.text) (is_good_form l.form) h).1).0
 
 member_heads : (m : Member) → list_all is_good_code (member_lines m) ≡ true → list_all is_named_head (procedures_in m) ≡ true
 member_heads (alone l) h = refl
@@ -120,10 +127,13 @@ heads_good (m ∷ ms) h =
 
 -- ---- a module
 
+body_lines : (entry : Entry) (number : ℕ) (body : List Line) (m : Module) → list_all is_good_line body ≡ true → IsModuleOf entry number body m → list_all is_good_code (module_lines m) ≡ true
+body_lines entry number body m k is =
+    ap (λ ls. list_all is_good_code ls) is.tree.in_order ∙ read_good [] (all_parts body) is.lines (all_parts_good body k) is.read
+
 of_body : (entry : Entry) (number : ℕ) (body : List Line) (m : Module) → is_module_name entry.name ≡ true → list_all is_good_line body ≡ true → IsModuleOf entry number body m → is_named_module m ≡ true
 of_body entry number body m h k is =
-    let lines : list_all is_good_code (module_lines m) ≡ true =
-    ap (λ ls. list_all is_good_code ls) is.tree.in_order ∙ read_good [] (all_parts body) is.lines (all_parts_good body k) is.read in
+    let lines = body_lines entry number body m k is in
     let texts = and_true (is_identifier m.name && are_comments m.comments) (list_all has_comment_text (module_lines m))
     (and_true (is_identifier m.name) (are_comments m.comments)
     (ap is_identifier is.name ∙ module_name_is_identifier entry.name h)
@@ -138,8 +148,17 @@ of_head entry number (ended body) m h k is = of_body entry number body m h k is
 of_head entry number (malformed place) m h k is = absurd is
 of_head entry number unended m h k is = absurd is
 
+shallow_head : (entry : Entry) (number : ℕ) (head : Head) (m : Module) → GoodHead head → IsModule entry number head m → is_shallow_module m ≡ true
+shallow_head entry number (ended body) m k is = all_leads is_good_code has_shallow_line code_is_shallow (module_lines m) (body_lines entry number body m k is)
+shallow_head entry number (malformed place) m k is = absurd is
+shallow_head entry number unended m k is = absurd is
+
+text_head : (entry : Entry) (number : ℕ) (text : List ℕ) (m : Module) → are_single text ≡ true → (is : TextIsModule entry number text m) → GoodHead (head_of entry.class is.lines)
+text_head entry number text m k is =
+    head_good entry.class is.lines (ap (λ ls. list_all is_good_line ls) (sym is.lexed.before) ∙ lines_good number text k)
+
 pub named_module : (entry : Entry) (number : ℕ) (text : List ℕ) (m : Module) → is_module_name entry.name ≡ true → are_single text ≡ true → TextIsModule entry number text m → is_named_module m ≡ true
-named_module entry number text m h k is =
-    of_head entry number (head_of entry.class is.lines) m h
-    (head_good entry.class is.lines (ap (λ ls. list_all is_good_line ls) (sym is.lexed.before) ∙ lines_good number text k))
-    is.is
+named_module entry number text m h k is = of_head entry number (head_of entry.class is.lines) m h (text_head entry number text m k is) is.is
+
+pub shallow_module : (entry : Entry) (number : ℕ) (text : List ℕ) (m : Module) → are_single text ≡ true → TextIsModule entry number text m → is_shallow_module m ≡ true
+shallow_module entry number text m k is = shallow_head entry number (head_of entry.class is.lines) m (text_head entry number text m k is) is.is

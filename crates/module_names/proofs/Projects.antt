@@ -1,4 +1,4 @@
--- The names and the texts of a project that a folder holds, and of one of the grammar.
+-- The names and the texts of a project that a folder holds, and of one of the grammar, and the depth of its lines.
 use Rattle.std.proofs.Common.{◌≡◌, ℕ, ◌+◌, true, List, [], ◌∷◌, refl, ap, ◌∙◌}
 use Rattle.std.specs.List.{list_all}
 use Rattle.up_base.specs.Names.{is_name}
@@ -11,9 +11,10 @@ use Rattle.project_file.proofs.EntryNames.{named_entries}
 use Rattle.project_loader.specs.Held.{TextIsFile, HeldEntries, HeldProject, AreModules, IsOfGrammar}
 use Rattle.project_loader.specs.Modules.{TextIsModule}
 use Rattle.project_loader.specs.Texts.{size_of, decoded}
+use Rattle.vb6_run.specs.Depth.{is_shallow_module}
 use Rattle.net_rewrite.specs.Writable.{is_named_module}
 use Rattle.net_rewrite.proofs.Lists.{both_true, all_more, all_first, all_rest}
-use Rattle.module_names.proofs.Modules.{named_module}
+use Rattle.module_names.proofs.Modules.{named_module, shallow_module}
 use Rattle.module_names.proofs.Units.{decoded_singly}
 
 entry_named : (entry : Entry) (k : ℕ) (bytes : List ℕ) (m : Module) → is_named entry ≡ true → TextIsModule entry k (decoded bytes) m → is_named_module m ≡ true
@@ -46,3 +47,15 @@ named_project files name P h =
 
 pub named_grammar : (P : Project) → IsOfGrammar P → list_all is_named_module P.modules ≡ true
 named_grammar P h = read_entries 1 P.file.entries P.modules (file_entries (decoded h.bytes) P.file h.file) h.modules
+
+shallow_entries : (k : ℕ) (entries : List Entry) (modules : List Module) → AreModules k entries modules → list_all is_shallow_module modules ≡ true
+shallow_entries k [] [] e = refl
+shallow_entries k [] (m ∷ ms) e = absurd e
+shallow_entries k (entry ∷ entries) [] e = absurd e
+shallow_entries k (entry ∷ entries) (m ∷ ms) e =
+    all_more is_shallow_module m ms
+    (shallow_module entry k (decoded e.0.0) m (decoded_singly e.0.0) e.0.1)
+    (shallow_entries (k + 1) entries ms e.1)
+
+pub shallow_grammar : (P : Project) → IsOfGrammar P → list_all is_shallow_module P.modules ≡ true
+shallow_grammar P h = shallow_entries 1 P.file.entries P.modules h.modules

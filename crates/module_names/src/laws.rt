@@ -1,4 +1,5 @@
-//! That names are identifiers, and that comments and lines can stand in comments.
+//! That names are identifiers, that comments and lines can stand in comments, and that lines are within the limits of the
+//! grammar.
 ghost use Rattle.std.specs.Prelude.{◌≡◌, ℕ, List, true};
 ghost use Rattle.std.specs.List.{list_all};
 ghost use Rattle.up_base.specs.Outside.{Files};
@@ -8,6 +9,7 @@ ghost use Rattle.vb_tree.specs.Tree.{Module, Project};
 ghost use Rattle.project_loader.specs.Held.{HeldProject, IsOfGrammar};
 ghost use Rattle.project_loader.specs.Modules.{TextIsModule};
 ghost use Rattle.project_loader.specs.Texts.{decoded};
+ghost use Rattle.vb6_run.specs.Depth.{is_shallow_module};
 ghost use Rattle.net_rewrite.specs.Writable.{is_named_module};
 ghost use Rattle.module_names.specs.Texts.{are_single};
 
@@ -35,4 +37,11 @@ pub fn named_project()
 #[tactic(auto)]
 pub fn named_grammar()
     ensures { (P : Project) → IsOfGrammar P → list_all is_named_module P.modules ≡ true }
+{}
+
+/// A law: in each module of a project of the grammar, the expressions of assignments and of prints are at most 64 deep, and
+/// a print has at most 64 items.
+#[tactic(auto)]
+pub fn shallow_grammar()
+    ensures { (P : Project) → IsOfGrammar P → list_all is_shallow_module P.modules ≡ true }
 {}

@@ -1,5 +1,5 @@
 -- The bytes of characters in UTF-8, and the units that spell a character.
-use Rattle.std.proofs.Common.{◌≡◌, ℕ, ◌+◌, ◌-◌, ◌*◌, ◌/◌, ◌%◌, ◌<◌, ◌≤◌, true, false, cond, List, [], ◌∷◌, ◌++◌, length, drop, get_or, sym, ap, ◌∙◌, append-nil, arith}
+use Rattle.std.proofs.Common.{◌≡◌, ℕ, suc, ◌+◌, ◌-◌, ◌*◌, ◌/◌, ◌%◌, ◌<◌, ◌≤◌, true, false, cond, List, [], ◌∷◌, ◌++◌, length, take, drop, get_or, set, sym, ap, ◌∙◌, append-nil, append_assoc, take-suc-set, arith}
 use Rattle.std.proofs.lemmas.Grind.{common_steps}
 use Rattle.std.specs.Char.{encode_utf8}
 use Rattle.std.specs.Char.Utf16.{is_high_surrogate, surrogate_pair_char}
@@ -47,3 +47,28 @@ pub last_at : (units : List ℕ) (at : ℕ) → at + 1 ≡ length units → utf8
 last_at units at last =
     let none : drop (at + 1) units ≡ [] = grind (arith, common_steps) in
     rw (spelt units at (omega arith), none) (sym (append-nil (encode_utf8 (get_or units at 0))))
+
+-- a unit below 128 is a byte
+plain : (u : ℕ) (units : List ℕ) → u < 0x80 → utf8_of (u ∷ units) ≡ u ∷ utf8_of units
+plain u units small = alone u units (grind (arith, common_steps)) ∙ ap (λ bytes. bytes ++ utf8_of units) (one_byte u small)
+
+plain_at : (units : List ℕ) (at : ℕ) → at < length units → get_or units at 0 < 0x80 → utf8_of (drop at units) ≡ get_or units at 0 ∷ utf8_of (drop (at + 1) units)
+plain_at units at within small = rw (spelt units at within) (plain _ _ small)
+
+put : (piece : List ℕ) (count u : ℕ) → count < length piece → take (count + 1) (set piece count u) ≡ take count piece ++ u ∷ []
+put piece count u within =
+    let next : count + 1 ≡ suc count = omega arith in
+    rw next (take-suc-set piece count u within)
+
+-- one more unit of a byte in a piece
+pub one_more : (piece units : List ℕ) (at count : ℕ) → count < length piece → at + count < length units → get_or units (at + count) 0 < 0x80
+    → take count piece ++ utf8_of (drop (at + count) units) ≡ utf8_of (drop at units)
+    → take (count + 1) (set piece count (get_or units (at + count) 0)) ++ utf8_of (drop (at + (count + 1)) units) ≡ utf8_of (drop at units)
+one_more piece units at count room within small so_far =
+    let u = get_or units (at + count) 0 in
+    let next : at + count + 1 ≡ at + (count + 1) = omega arith in
+    ap (λ bytes. bytes ++ utf8_of (drop (at + (count + 1)) units)) (put piece count u room)
+    ∙ append_assoc (take count piece) (u ∷ []) (utf8_of (drop (at + (count + 1)) units))
+    ∙ ap (λ k. take count piece ++ u ∷ utf8_of (drop k units)) (sym next)
+    ∙ ap (λ bytes. take count piece ++ bytes) (sym (plain_at units (at + count) within small))
+    ∙ so_far

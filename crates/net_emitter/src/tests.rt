@@ -2,6 +2,7 @@ ghost use Rattle.std.specs.Prelude.{◌≡◌, true, false, map, codes, IfOk};
 ghost use Rattle.std.specs.List.{list_all};
 ghost use Rattle.net_tree.specs.View.{exp_of, param_of, module_of, project_of};
 ghost use Rattle.net_tree.specs.Spelling.{is_identifier, is_path};
+ghost use Rattle.net_tree.specs.Depth.{depth_exp};
 ghost use Rattle.net_tree.specs.Expressions.{is_writable_exp};
 ghost use Rattle.net_tree.specs.Declarations.{is_writable_param};
 ghost use Rattle.net_tree.specs.Text.{is_writable_module, IsWritable};
@@ -339,6 +340,7 @@ fn module_of_one(
     requires params { list_all is_writable_param (map param_of params.items) ≡ true }
     requires callee { is_path callee ≡ true }
     requires argument { is_writable_exp (exp_of argument) ≡ true }
+    requires leaf { depth_exp (exp_of argument) ≡ 1 }
     ensures name { IfOk result (λ m. m.name ≡ name) }
     ensures class { IfOk result (λ m. m.class ≡ false) }
     ensures writable { IfOk result (λ m. is_writable_module (module_of m) ≡ true) }

@@ -1,5 +1,5 @@
 -- How the failure of a part becomes that of the whole.
-use Rattle.std.proofs.Common.{◌≡◌, ℕ, ◌≤◌, ◌<◌, Bool, false, List, length, Option, Some, None, Result, Ok, Err, IfOk, Bor, arith}
+use Rattle.std.proofs.Common.{◌≡◌, ℕ, ◌≤◌, ◌<◌, Bool, false, List, length, Option, Some, None, Result, Ok, Err, IfOk, Bor, arith, refl}
 use Rattle.net_exprs.specs.declared.fail.PhraseFail.{PhraseFail}
 use Rattle.net_exprs.specs.declared.fail.PhraseFail.TheVariants as fail
 use Rattle.net_exprs.specs.Answers.{FailsFor, Misfits}
@@ -23,3 +23,8 @@ shorter_up (Err e) m n h k = tt
 pub misfits_always : {X Y : Type 0} (g : Y → Bool) (o : Option (X × List ℕ)) (go : X → List ℕ → Option (Y × List ℕ)) → ((x : X) (rest : List ℕ) → Misfits g (go x rest)) → Misfits g (behind o go)
 misfits_always g None go all = tt
 misfits_always g (Some part) go all = all part.0 part.1
+
+-- a failure that has a cause where it is no want of memory
+pub fails_over : {X : Type 0} (A : Type 0) (f : X → Bool) (o : Option (X × List ℕ)) (e : PhraseFail) (P : Type 0) → (◌≡◌ {A = Result A PhraseFail} (Err e) (Err fail.NotNet) → P) → (P → Misfits f o) → FailsFor f o e
+fails_over A f o fail.NotNet P cause up = up (cause refl)
+fails_over A f o fail.Mem P cause up = tt

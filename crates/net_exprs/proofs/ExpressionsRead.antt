@@ -23,7 +23,7 @@ use Rattle.net_exprs.specs.Names.{name_at}
 use Rattle.net_exprs.specs.Types.{base_at, type_at}
 use Rattle.net_exprs.specs.Expressions.{Group, Stage, bounded, closed, closed_type, type_closed, exp_nested, front_of, group_at, group_by, head_at, items, items_behind, items_from, keyword_of, leaf, opened, operand_behind, operator_at, parenthesized, rank, ranked, start_of, suffix_by, suffix_of, suffixes, value_of, whole, with_group, with_ranks, word_front}
 use Rattle.net_exprs.specs.Fitting.{fits_literal}
-use Rattle.net_exprs.specs.Depth.{depth_exp, depth_exps}
+use Rattle.net_tree.specs.Depth.{depth_exp, depth_exps}
 use Rattle.net_exprs.proofs.Words.{are_identifiers, both_true, name_reads, never}
 use Rattle.net_exprs.proofs.LiteralsRead.{ends_literal}
 use Rattle.net_exprs.proofs.TypesRead.{array_depth, base_is_none, base_is_writable, base_of, base_reads, ends_ranks, is_array, rank_inside, ranks_last, ranks_text, type_parts, type_reads}
@@ -312,7 +312,7 @@ pub dot_reads : (a : Exp) (name : List ℕ) → is_path_exp a ≡ false → is_i
 dot_reads a name p h reads k n rest enough fuel f =
     let again : exp_text (dot a name) ++ rest ≡ exp_text a ++ (46 ∷ (name_text name ++ rest)) = simp append_assoc in
     ap (exp_nested (suc k)) again
-    ∙ reads k (suc n) (46 ∷ (name_text name ++ rest)) enough (omega (arith, fuel, ap length again)) (follows_member a name rest p h)
+    ∙ reads k (suc n) (46 ∷ (name_text name ++ rest)) (omega arith) (omega (arith, fuel, ap length again)) (follows_member a name rest p h)
     ∙ member_step k n (stage_of a) name rest h (name_ends (dot a name) rest f)
     ∙ ap (λ x. Behind k n (whole (dot x name)) rest) (stage_value a)
 

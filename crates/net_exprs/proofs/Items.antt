@@ -1,12 +1,14 @@
 -- Expressions in parentheses that are read one by one.
-use Rattle.std.proofs.Common.{◌≡◌, ℕ, zero, suc, ◌+◌, ◌≤◌, ◌<◌, Bool, true, false, ◌&&◌, ◌==◌, if◌then◌else◌, List, [], ◌∷◌, ◌++◌, length, codes, refl, ap, ◌∙◌, arith, Option, Some, None}
+use Rattle.std.proofs.Common.{◌≡◌, ℕ, zero, suc, ◌+◌, ◌≤◌, ◌<◌, Bool, true, false, ◌&&◌, ◌==◌, if◌then◌else◌, List, [], ◌∷◌, ◌++◌, length, codes, min, max, refl, ap, ◌∙◌, arith, Option, Some, None}
 use Rattle.net_tree.specs.declared.expression.NetExpr.{NetExpr}
 use Rattle.net_tree.specs.Tree.{Exp, Exps, next_exp, no_exps}
 use Rattle.net_tree.specs.View.{exp_of, exps_of}
 use Rattle.net_exprs.specs.Answers.{Misfits}
 use Rattle.net_exprs.specs.Readers.{after, behind, past}
 use Rattle.net_exprs.specs.Expressions.{items_behind, items_from}
-use Rattle.net_exprs.specs.Fitting.{fits_exp, fits_exps}
+use Rattle.net_tree.specs.Depth.{depth_exp, depth_exps}
+use Rattle.net_exprs.specs.Fitting.{fit_in, fits_exp, fits_exps, fits_in}
+use Rattle.net_exprs.proofs.Rooms.{misfit_up}
 use Rattle.net_exprs.proofs.Words.{both_true, by_test}
 
 abbrev Found : Type 0
@@ -89,31 +91,49 @@ pub items_fit : (es : Exps) (e : Exp) → fits_exps es ≡ true → fits_exp e �
 items_fit no_exps e h k = rw k refl
 items_fit (next_exp d es) e h k = let parts = both_true (fits_exp d) (fits_exps es) h in rw (parts.0, items_fit es e parts.1 k) refl
 
-append_misfits : (es : Exps) (e : Exp) (fs : Exps) → fits_exp e ≡ false → fits_exps (append_exps es (next_exp e fs)) ≡ false
-append_misfits no_exps e fs h = rw h refl
-append_misfits (next_exp d es) e fs h = go (fits_exp d) (append_misfits es e fs h)
+append_unfit : (es : Exps) (e : Exp) (fs : Exps) → fits_exp e ≡ false → fits_exps (append_exps es (next_exp e fs)) ≡ false
+append_unfit no_exps e fs h = rw h refl
+append_unfit (next_exp d es) e fs h = go (fits_exp d) (append_unfit es e fs h)
   where
     go : (b : Bool) → fits_exps (append_exps es (next_exp e fs)) ≡ false → b && fits_exps (append_exps es (next_exp e fs)) ≡ false
     go true k = k
     go false k = refl
 
-pub items_misfit : (read : Read) (text : List ℕ) (before : Exps) (rest : List ℕ) → ItemsLeft read text before rest → Misfits fits_exp (read rest) → Misfits fits_exps (items_from read (length text) text)
-unfolding ended
-items_misfit read text before rest left h = rw left.is (from left.most)
-  where
-    more : (e : Exp) → fits_exp e ≡ false → (o : Found) → Misfits fits_exps (with_items before (behind o (λ es rest. Some (next_exp e es, rest))))
-    more e k None = tt
-    more e k (Some part) = append_misfits before e part.0 k
+append_deeper : (es : Exps) (e : Exp) (fs : Exps) → depth_exp e ≤ depth_exps (append_exps es (next_exp e fs))
+append_deeper no_exps e fs = omega arith
+append_deeper (next_exp d es) e fs = omega (arith, append_deeper es e fs)
 
-    by_end : (go : List ℕ → Found) (e : Exp) → fits_exp e ≡ false → (closing comma : Option (List ℕ)) → Misfits fits_exps (with_items before (ended go e closing comma))
-    by_end go e k (Some s) comma = append_misfits before e no_exps k
+append_misfits : (room : ℕ) (es : Exps) (e : Exp) (fs : Exps) → fits_in room e ≡ false → fit_in room (append_exps es (next_exp e fs)) ≡ false
+append_misfits room es e fs h =
+    misfit_up (fits_exp e) (fits_exps (append_exps es (next_exp e fs))) (depth_exp e) room (depth_exps (append_exps es (next_exp e fs))) room (append_unfit es e fs) (λ l. omega (arith, l, append_deeper es e fs)) h
+
+append_depth : (es : Exps) (e : Exp) → depth_exps (append_exps es (next_exp e no_exps)) ≡ max (depth_exps es) (depth_exp e)
+append_depth no_exps e = omega arith
+append_depth (next_exp d es) e = omega (arith, append_depth es e)
+
+-- one more leaves the less of what both leave
+pub items_leave : (room : ℕ) (es : Exps) (e : Exp) (left behind_it : ℕ) → left + depth_exps es ≡ room → behind_it + depth_exp e ≡ room
+    → min left behind_it + depth_exps (append_exps es (next_exp e no_exps)) ≡ room
+items_leave room es e left behind_it h k = omega (arith, h, k, append_depth es e)
+
+pub items_misfit : (room : ℕ) (read : Read) (text : List ℕ) (before : Exps) (rest : List ℕ) → ItemsLeft read text before rest → Misfits (fits_in room) (read rest)
+    → Misfits (fit_in room) (items_from read (length text) text)
+unfolding ended
+items_misfit room read text before rest left h = rw left.is (from left.most)
+  where
+    more : (e : Exp) → fits_in room e ≡ false → (o : Found) → Misfits (fit_in room) (with_items before (behind o (λ es rest. Some (next_exp e es, rest))))
+    more e k None = tt
+    more e k (Some part) = append_misfits room before e part.0 k
+
+    by_end : (go : List ℕ → Found) (e : Exp) → fits_in room e ≡ false → (closing comma : Option (List ℕ)) → Misfits (fit_in room) (with_items before (ended go e closing comma))
+    by_end go e k (Some s) comma = append_misfits room before e no_exps k
     by_end go e k None None = tt
     by_end go e k None (Some s) = more e k (go s)
 
-    item : (go : List ℕ → Found) (o : Option (Exp × List ℕ)) → Misfits fits_exp o → Misfits fits_exps (with_items before (behind o (items_behind go)))
+    item : (go : List ℕ → Found) (o : Option (Exp × List ℕ)) → Misfits (fits_in room) o → Misfits (fit_in room) (with_items before (behind o (items_behind go)))
     item go None k = tt
     item go (Some part) k = rw (item_ended go part.0 part.1) (by_end go part.0 k (after (codes ")") part.1) (after (codes ", ") part.1))
 
-    from : (m : ℕ) → Misfits fits_exps (with_items before (items_from read m rest))
+    from : (m : ℕ) → Misfits (fit_in room) (with_items before (items_from read m rest))
     from zero = tt
     from (suc n) = item (items_from read n) (read rest) h

@@ -3,7 +3,7 @@ use Rattle.std.proofs.Common.{ℕ, suc, ◌+◌, ◌≤◌, List, ◌++◌, leng
 use Rattle.net_tree.specs.Tree.{Exp, Exps, binary, call_of, cast, ctype, dot, lit, me, new_array, new_object, next_exp, no_exps, nothing, paren, path, type_of, unary, with_dot}
 use Rattle.net_tree.specs.Spelling.{name_text, separated}
 use Rattle.net_tree.specs.Expressions.{cast_text, exp_text, exp_texts, operator_text, type_text, unary_text}
-use Rattle.net_exprs.specs.Depth.{depth_exp, depth_exps}
+use Rattle.net_tree.specs.Depth.{depth_exp, depth_exps}
 use Rattle.net_exprs.proofs.TypesRead.{array_depth, base_of, depth_bound, ranks_text, type_parts}
 
 -- the suffixes that are read behind the head
@@ -19,8 +19,7 @@ count_exps no_exps = 0
 count_exps (next_exp e more) = suc (count_exps more)
 
 pub is_nested : (e : Exp) → 1 ≤ depth_exp e
-is_nested (dot e name) = is_nested e
-is_nested (call_of e args) = omega (arith, is_nested e)
+is_nested (lit l) = omega arith
 is_nested _ = omega arith
 
 -- ---- texts

@@ -14,7 +14,8 @@ pub mod Paths
 pub mod Ranks
 pub mod Quotes
 pub mod Staging
+pub mod Rooms
+pub mod Nesting
 pub mod Steps
 pub mod Items
-pub mod Depths
 mod Examples

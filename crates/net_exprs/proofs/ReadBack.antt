@@ -9,13 +9,14 @@ use Rattle.net_tree.specs.Expressions.{are_writable_bounds, are_writable_exps, a
 use Rattle.net_exprs.specs.Readers.{behind}
 use Rattle.net_exprs.specs.Expressions.{arguments_of}
 use Rattle.net_exprs.specs.Fitting.{fits_exp, fits_exps, fits_name, fits_type}
-use Rattle.net_exprs.specs.Laws.{ArgumentsAreRead, ExpressionsAreRead, NestedArgumentsAreRead, NestedExpressionsAreRead, ShallowArgumentsAreRead, ShallowExpressionsAreRead}
-use Rattle.net_exprs.specs.Depth.{depth_exp, depth_exps, most_nested}
+use Rattle.net_exprs.specs.Laws.{ArgumentsAreRead, ArgumentsWithRoomAreRead, ExpressionsAreRead, ExpressionsWithRoomAreRead, NestedArgumentsAreRead, NestedExpressionsAreRead, ShallowArgumentsAreRead, ShallowExpressionsAreRead}
+use Rattle.net_tree.specs.Depth.{depth_exp, depth_exps, most_nested}
 use Rattle.net_exprs.proofs.Words.{both_true, never}
 use Rattle.net_exprs.proofs.TypesRead.{is_array}
 use Rattle.net_exprs.proofs.Heads.{operand_front}
 use Rattle.net_exprs.proofs.ExpressionsRead.{AreItems, Reads, array_reads, binary_reads, call_reads, cast_reads, ctype_reads, dot_reads, group_of, group_reads, is_operand_item, literal_reads, me_reads, no_bound_is_item, nothing_reads, object_reads, paren_reads, path_reads, reads_whole, type_of_reads, unary_reads, with_dot_reads}
 use Rattle.net_exprs.proofs.Lengths.{depth_all_within, depth_within}
+use Rattle.net_exprs.proofs.Rooms.{arguments_kept, exp_kept}
 
 -- ---- each expression, and each list
 
@@ -82,27 +83,33 @@ mutual
 
 -- ---- the laws
 
+pub roomy_expression_reads : ExpressionsWithRoomAreRead
+roomy_expression_reads room e rest d h f ends = reads_whole e (reads e h f) room rest d ends
+
 pub nested_expression_reads : NestedExpressionsAreRead
-nested_expression_reads room e rest d h f ends = reads_whole e (reads e h f) room rest d ends
+nested_expression_reads room e rest d h f ends = exp_kept room (exp_text e ++ rest) e rest (roomy_expression_reads room e rest d h f ends) d
 
 pub expression_reads : ExpressionsAreRead
 expression_reads e rest h f ends =
-    nested_expression_reads (suc (length (exp_text e ++ rest))) e rest (omega (arith, depth_within e, length-append (exp_text e) rest)) h f ends
+    roomy_expression_reads (suc (length (exp_text e ++ rest))) e rest (omega (arith, depth_within e, length-append (exp_text e) rest)) h f ends
 
 group_arguments : (es : Exps) → arguments_of (group_of es) ≡ es
 group_arguments no_exps = refl
 group_arguments (next_exp e more) = refl
 
-pub nested_arguments_read : NestedArgumentsAreRead
-nested_arguments_read room es rest d h f =
+pub roomy_arguments_read : ArgumentsWithRoomAreRead
+roomy_arguments_read room es rest d h f =
     ap (λ o. behind o (λ g rest. Some (arguments_of g, rest))) (group_reads room es rest (are_items es (bounds_of_args es h) f) d)
     ∙ ap (λ x. Some (x, rest)) (group_arguments es)
+
+pub nested_arguments_read : NestedArgumentsAreRead
+nested_arguments_read room es rest d h f = arguments_kept room (arguments_text es ++ rest) es rest (roomy_arguments_read room es rest d h f) d
 
 pub arguments_read : ArgumentsAreRead
 arguments_read es rest h f =
     let fuel : depth_exps es ≤ suc (length (arguments_text es ++ rest)) =
     omega (arith, depth_all_within es, length-append (separated (codes ", ") (exp_texts es) ++ codes ")") rest, length-append (separated (codes ", ") (exp_texts es)) (codes ")")) in
-    nested_arguments_read (suc (length (arguments_text es ++ rest))) es rest fuel h f
+    roomy_arguments_read (suc (length (arguments_text es ++ rest))) es rest fuel h f
 
 pub shallow_expression_reads : ShallowExpressionsAreRead
 shallow_expression_reads e rest d h f ends = nested_expression_reads most_nested e rest (leb-true (depth_exp e) most_nested d) h f ends

@@ -1,14 +1,16 @@
 -- An expression that is read suffix by suffix.
-use Rattle.std.proofs.Common.{◌≡◌, ℕ, zero, suc, ◌-◌, ◌≤◌, ◌<◌, Bool, true, false, ◌&&◌, ◌==◌, if◌then◌else◌, List, [], ◌∷◌, length, codes, refl, sym, ap, ◌∙◌, arith, Option, Some, None, is_some}
+use Rattle.std.proofs.Common.{◌≡◌, ℕ, zero, suc, ◌-◌, ◌≤◌, ◌<◌, Bool, true, false, ◌&&◌, ◌==◌, if◌then◌else◌, List, [], ◌∷◌, length, codes, refl, sym, ap, subst, ◌∙◌, arith, Option, Some, None, is_some}
 use Rattle.net_tree.specs.Types.{TypeName}
 use Rattle.net_tree.specs.Tree.{Exp, Exps, dot, new_array, no_exps}
 use Rattle.net_exprs.specs.Answers.{Misfits}
 use Rattle.net_exprs.specs.Names.{name_at}
 use Rattle.net_exprs.specs.Readers.{after, behind}
 use Rattle.net_exprs.specs.Expressions.{Group, Stage, Suffix, array_made, bounded, braces, braces_behind, braces_or_none, exp_nested, group, group_at, head_at, items, member, no_suffix, object_of, rank, ranked, suffix_by, suffix_of, suffixes, value_of, whole, with_group, with_ranks}
-use Rattle.net_exprs.specs.Fitting.{fits_exp, fits_exps, fits_name, fits_type}
-use Rattle.net_exprs.specs.Stages.{array_stage, fits_group, fits_stage, goes_on, goes_on_by, group_step, step_by, suffix_step}
+use Rattle.net_tree.specs.Depth.{depth_exp, depth_exps}
+use Rattle.net_exprs.specs.Fitting.{fits_exp, fits_exps, fits_in, fits_name, fits_type}
+use Rattle.net_exprs.specs.Stages.{array_stage, fits_group, fits_group_in, fits_stage, fits_stage_in, goes_on, goes_on_by, group_depth, group_step, member_step, stage_depth, step_by, suffix_step}
 use Rattle.net_exprs.proofs.Answering.{misfits_always, misfits_behind}
+use Rattle.net_exprs.proofs.Rooms.{group_deeper, group_holds, is_misfit, misfit_up, too_deep, value_deeper}
 use Rattle.net_exprs.proofs.Staging.{more_misfit}
 use Rattle.net_exprs.proofs.Words.{by_test, never}
 
@@ -87,29 +89,41 @@ array_fits t ranks bounds h = go (fits_type t) refl h
     go true e k = second_false (fits_type (with_ranks t ranks)) (fits_exps bounds) k
     go false e k = both_false (fits_type (with_ranks t ranks)) (fits_exps bounds) (more_misfit t ranks e)
 
-array_misfits : (stage : Stage) (rest : List ℕ) → fits_stage stage ≡ false → Misfits fits_stage (array_stage rest (array_made stage))
-array_misfits (whole e) rest h = tt
-array_misfits (ranked t []) rest h = tt
-array_misfits (ranked t (r ∷ ranks)) rest h = array_fits t ranks no_exps (both_false (fits_type t) true h)
-array_misfits (bounded t ranks bounds) rest h = array_fits t ranks bounds h
+array_misfits : (room : ℕ) (stage : Stage) (rest : List ℕ) → fits_stage_in room stage ≡ false → Misfits (fits_stage_in room) (array_stage rest (array_made stage))
+array_misfits room (whole e) rest h = tt
+array_misfits room (ranked t []) rest h = tt
+array_misfits room (ranked t (r ∷ ranks)) rest h =
+    misfit_up (fits_type t) (fits_exp (new_array (with_ranks t ranks) no_exps)) 1 (suc room) 1 (suc room) (λ f. array_fits t ranks no_exps (both_false (fits_type t) true f)) (λ l. l) h
+array_misfits room (bounded t ranks bounds) rest h =
+    misfit_up (fits_type t && fits_exps bounds) (fits_exp (new_array (with_ranks t ranks) bounds)) (suc (depth_exps bounds)) (suc room) (suc (depth_exps bounds)) (suc room) (array_fits t ranks bounds) (λ l. l) h
+
+value_misfits : (room : ℕ) (stage : Stage) → fits_stage_in room stage ≡ false → fits_in (suc room) (value_of stage) ≡ false
+value_misfits room stage h =
+    misfit_up (fits_stage stage) (fits_exp (value_of stage)) (stage_depth stage) (suc room) (depth_exp (value_of stage)) (suc room) (λ f. value_fits stage ∙ f) (λ l. omega (arith, l, value_deeper stage)) h
 
 -- what doesn't fit so far doesn't fit with a suffix more
-step_misfits : (g : ReadGroup) (stage : Stage) (x : Suffix) → fits_stage stage ≡ false → Misfits fits_stage (step_by g stage x)
-step_misfits g stage (member rest) h =
-    misfits_always fits_stage (name_at rest) (λ name rest. Some (whole (dot (value_of stage) name), rest)) (λ name rest. both_false (fits_exp (value_of stage)) (fits_name name) (value_fits stage ∙ h))
-step_misfits g stage (group rest) h =
-    misfits_always fits_stage (g rest) (λ x rest. Some (with_group stage x, rest)) (λ x rest. group_fits stage x ∙ both_false (fits_stage stage) (fits_group x) h)
-step_misfits g stage (braces rest) h = array_misfits stage rest h
-step_misfits g stage no_suffix h = tt
+step_misfits : (room : ℕ) (g : ReadGroup) (stage : Stage) (x : Suffix) → fits_stage_in room stage ≡ false → Misfits (fits_stage_in room) (step_by g stage x)
+step_misfits room g stage (member rest) h =
+    misfits_always (fits_stage_in room) (name_at rest) (λ name rest. Some (whole (dot (value_of stage) name), rest)) (λ name rest.
+    misfit_up (fits_stage stage) (fits_exp (value_of stage) && fits_name name) (stage_depth stage) (suc room) (suc (depth_exp (value_of stage))) (suc room)
+    (λ f. both_false (fits_exp (value_of stage)) (fits_name name) (value_fits stage ∙ f)) (λ l. omega (arith, l, value_deeper stage)) h)
+step_misfits room g stage (group rest) h =
+    misfits_always (fits_stage_in room) (g rest) (λ x rest. Some (with_group stage x, rest)) (λ x rest.
+    misfit_up (fits_stage stage) (fits_stage (with_group stage x)) (stage_depth stage) (suc room) (stage_depth (with_group stage x)) (suc room)
+    (λ f. group_fits stage x ∙ both_false (fits_stage stage) (fits_group x) f) (λ l. omega (arith, l, group_deeper stage x)) h)
+step_misfits room g stage (braces rest) h = array_misfits room stage rest h
+step_misfits room g stage no_suffix h = tt
 
-suffixes_misfit : (g : ReadGroup) (n : ℕ) (stage : Stage) (s : List ℕ) → fits_stage stage ≡ false → Misfits fits_exp (suffixes g n stage s)
-suffixes_misfit g zero stage s h = value_fits stage ∙ h
-suffixes_misfit g (suc n) stage s h = go (goes_on stage s) refl (suffixes_misfit g n)
+suffixes_misfit : (room : ℕ) (g : ReadGroup) (n : ℕ) (stage : Stage) (s : List ℕ) → fits_stage_in room stage ≡ false → Misfits (fits_in (suc room)) (suffixes g n stage s)
+suffixes_misfit room g zero stage s h = value_misfits room stage h
+suffixes_misfit room g (suc n) stage s h = go (goes_on stage s) refl (suffixes_misfit room g n)
   where
-    go : (b : Bool) → goes_on stage s ≡ b → ((longer : Stage) (rest : List ℕ) → fits_stage longer ≡ false → Misfits fits_exp (suffixes g n longer rest))
-        → Misfits fits_exp (suffix_by (suffixes g n) g stage s (suffix_of s))
-    go true e more = rw (one_step (suffixes g n) g stage s (suffix_of s) e) (misfits_behind fits_stage fits_exp (step_by g stage (suffix_of s)) (suffixes g n) more (step_misfits g stage (suffix_of s) h))
-    go false e more = rw (no_step (suffixes g n) g stage s (suffix_of s) e) (value_fits stage ∙ h)
+    go : (b : Bool) → goes_on stage s ≡ b → ((longer : Stage) (rest : List ℕ) → fits_stage_in room longer ≡ false → Misfits (fits_in (suc room)) (suffixes g n longer rest))
+        → Misfits (fits_in (suc room)) (suffix_by (suffixes g n) g stage s (suffix_of s))
+    go true e more =
+        rw (one_step (suffixes g n) g stage s (suffix_of s) e)
+        (misfits_behind (fits_stage_in room) (fits_in (suc room)) (step_by g stage (suffix_of s)) (suffixes g n) more (step_misfits room g stage (suffix_of s) h))
+    go false e more = rw (no_step (suffixes g n) g stage s (suffix_of s) e) (value_misfits room stage h)
 
 -- ---- all suffixes
 
@@ -153,19 +167,34 @@ suffixes_stop g answer stage rest left off = left.is ∙ go left.most
     go zero = refl
     go (suc n) = no_step (suffixes g n) g stage rest (suffix_of rest) off
 
-pub suffixes_misfits : (g : ReadGroup) (answer : Option (Exp × List ℕ)) (stage : Stage) (rest : List ℕ) → SuffixesLeft g answer stage rest → goes_on stage rest ≡ true
-    → Misfits fits_stage (suffix_step g stage rest) → Misfits fits_exp answer
-suffixes_misfits g answer stage rest left on h = rw left.is (go left.most rest left.long on h)
+-- the room of a whole, where there is one less in it
+in_room : (room : ℕ) (o : Option (Exp × List ℕ)) → 0 < room → Misfits (fits_in (suc (room - 1))) o → Misfits (fits_in room) o
+in_room room o some h =
+    let same : suc (room - 1) ≡ room = omega (arith, some) in
+    subst (λ r. Misfits (fits_in r) o) same h
+
+pub suffixes_misfits : (room : ℕ) (g : ReadGroup) (answer : Option (Exp × List ℕ)) (stage : Stage) (rest : List ℕ) → 0 < room → SuffixesLeft g answer stage rest → goes_on stage rest ≡ true
+    → Misfits (fits_stage_in (room - 1)) (suffix_step g stage rest) → Misfits (fits_in room) answer
+suffixes_misfits room g answer stage rest some left on h = in_room room answer some (rw left.is (go left.most rest left.long on h))
   where
-    go : (m : ℕ) (s : List ℕ) → length s ≤ m → goes_on stage s ≡ true → Misfits fits_stage (suffix_step g stage s) → Misfits fits_exp (suffixes g m stage s)
+    go : (m : ℕ) (s : List ℕ) → length s ≤ m → goes_on stage s ≡ true → Misfits (fits_stage_in (room - 1)) (suffix_step g stage s) → Misfits (fits_in (suc (room - 1))) (suffixes g m stage s)
     go zero [] long e k = never (sym (nothing_more stage) ∙ e)
     go zero (c ∷ s) long e k = absurd (omega (arith, long))
-    go (suc n) s long e k = rw (one_step (suffixes g n) g stage s (suffix_of s) e) (misfits_behind fits_stage fits_exp (suffix_step g stage s) (suffixes g n) (suffixes_misfit g n) k)
+    go (suc n) s long e k =
+        rw (one_step (suffixes g n) g stage s (suffix_of s) e)
+        (misfits_behind (fits_stage_in (room - 1)) (fits_in (suc (room - 1))) (suffix_step g stage s) (suffixes g n) (suffixes_misfit (room - 1) g n) k)
 
-pub head_misfits : (room : ℕ) (text : List ℕ) → 0 < room → Misfits fits_stage (head_at (exp_nested (room - 1)) text) → Misfits fits_exp (exp_nested room text)
+-- the expression that ends there is too deep
+pub end_misfits : (room : ℕ) (answer : Option (Exp × List ℕ)) (stage : Stage) (rest : List ℕ) → 0 < room → answer ≡ Some (value_of stage, rest) → suc (room - 1) < depth_exp (value_of stage)
+    → Misfits (fits_in room) answer
+end_misfits room answer stage rest some h over = in_room room answer some (rw h (too_deep (fits_exp (value_of stage)) (depth_exp (value_of stage)) (suc (room - 1)) over))
+
+pub head_misfits : (room : ℕ) (text : List ℕ) → 0 < room → Misfits (fits_stage_in (room - 1)) (head_at (exp_nested (room - 1)) text) → Misfits (fits_in room) (exp_nested room text)
 head_misfits room text some h =
     let g = group_at (exp_nested (room - 1)) in
-    rw (nested_room room text some) (misfits_behind fits_stage fits_exp (head_at (exp_nested (room - 1)) text) (suffixes g (length text)) (suffixes_misfit g (length text)) h)
+    in_room room (exp_nested room text) some
+    (rw (nested_room room text some)
+    (misfits_behind (fits_stage_in (room - 1)) (fits_in (suc (room - 1))) (head_at (exp_nested (room - 1)) text) (suffixes g (length text)) (suffixes_misfit (room - 1) g (length text)) h))
 
 -- ---- which suffix
 
@@ -196,6 +225,26 @@ is_braces s o p q r = suffix_fronts s ∙ ap (λ o. by_fronts o (after (codes "(
 
 -- ---- parentheses
 
-pub group_misfits : (g : ReadGroup) (stage : Stage) (s : List ℕ) → Misfits fits_group (g s) → Misfits fits_stage (group_step g stage s)
-group_misfits g stage s h =
-    misfits_behind fits_group fits_stage (g s) (λ x rest. Some (with_group stage x, rest)) (λ x rest k. group_fits stage x ∙ second_false (fits_stage stage) (fits_group x) k) h
+pub group_misfits : (room : ℕ) (g : ReadGroup) (stage : Stage) (s : List ℕ) → Misfits (fits_group_in room) (g s) → Misfits (fits_stage_in room) (group_step g stage s)
+group_misfits room g stage s h =
+    misfits_behind (fits_group_in room) (fits_stage_in room) (g s) (λ x rest. Some (with_group stage x, rest)) (λ x rest k.
+    misfit_up (fits_group x) (fits_stage (with_group stage x)) (group_depth x) room (stage_depth (with_group stage x)) (suc room)
+    (λ f. group_fits stage x ∙ second_false (fits_stage stage) (fits_group x) f) (λ l. omega (arith, l, group_holds stage x)) k) h
+
+pub member_misfits : (room : ℕ) (stage : Stage) (s : List ℕ) → Misfits fits_name (name_at s) → Misfits (fits_stage_in room) (member_step stage s)
+member_misfits room stage s h =
+    misfits_behind fits_name (fits_stage_in room) (name_at s) (λ name rest. Some (whole (dot (value_of stage) name), rest)) (λ name rest k.
+    is_misfit (fits_exp (value_of stage) && fits_name name) (suc (depth_exp (value_of stage))) (suc room) (second_false (fits_exp (value_of stage)) (fits_name name) k)) h
+
+-- ---- suffixes for which there is no room
+
+pub member_too_deep : (room : ℕ) (stage : Stage) (s : List ℕ) → room < depth_exp (value_of stage) → Misfits (fits_stage_in room) (member_step stage s)
+member_too_deep room stage s over =
+    misfits_always (fits_stage_in room) (name_at s) (λ name rest. Some (whole (dot (value_of stage) name), rest)) (λ name rest.
+    too_deep (fits_exp (value_of stage) && fits_name name) (suc (depth_exp (value_of stage))) (suc room) (omega (arith, over)))
+
+pub group_too_deep : (room : ℕ) (g : ReadGroup) (stage : Stage) (s : List ℕ) (x : Group) (rest : List ℕ) → g s ≡ Some (x, rest) → suc room < stage_depth (with_group stage x)
+    → Misfits (fits_stage_in room) (group_step g stage s)
+group_too_deep room g stage s x rest h over =
+    subst (λ o. Misfits (fits_stage_in room) (behind o (λ x rest. Some (with_group stage x, rest)))) (sym h)
+    (too_deep (fits_stage (with_group stage x)) (stage_depth (with_group stage x)) (suc room) over)

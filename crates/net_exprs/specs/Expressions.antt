@@ -1,5 +1,5 @@
 -- How expressions and their arguments are read.
-use Rattle.std.specs.Prelude.{ℕ, zero, suc, negsuc, true, false, ◌||◌, ◌==◌, if◌then◌else◌, List, [], ◌∷◌, length, codes, Option, Some, None}
+use Rattle.std.specs.Prelude.{ℕ, zero, suc, negsuc, true, false, nat_le, ◌||◌, ◌==◌, if◌then◌else◌, List, [], ◌∷◌, length, codes, Option, Some, None}
 use Rattle.net_tree.specs.declared.expression.CastWord.{CastWord}
 use Rattle.net_tree.specs.declared.expression.CastWord.TheVariants as word
 use Rattle.net_tree.specs.declared.expression.NetBin.{NetBin}
@@ -9,6 +9,7 @@ use Rattle.net_tree.specs.Types.{TypeName, array_of}
 use Rattle.net_tree.specs.Tree.{Exp, Exps, binary, boolean, call_of, cast, ctype, dot, integer, lit, me, new_array, new_object, next_exp, no_exps, nothing, paren, path, type_of, unary, with_dot}
 use Rattle.net_tree.specs.Spelling.{is_word_part, is_same_text}
 use Rattle.net_tree.specs.Expressions.{operator_text}
+use Rattle.net_tree.specs.Depth.{depth_exp, depth_exps}
 use Rattle.net_exprs.specs.declared.openings.Nest.{Nest}
 use Rattle.net_exprs.specs.declared.openings.Nest.TheVariants as nest
 use Rattle.net_exprs.specs.declared.starts.Front.{Front}
@@ -288,7 +289,7 @@ head_at read s = behind (opening_at s) (opened read)
 
 -- ---- expressions
 
--- An expression in which at most so many are nested. Suffixes nest nothing, but what stands in their parentheses does.
+-- An expression in which at most so many operands, arguments and parentheses are nested; of suffixes there may be more.
 abbrev pub exp_nested : (room : ℕ) → List ℕ → Option (Exp × List ℕ)
 exp_nested zero s = None
 exp_nested (suc room) s = behind (head_at (exp_nested room) s) (suffixes (group_at (exp_nested room)) (length s))
@@ -306,3 +307,16 @@ arguments_nested room s = past (after (codes "(") s) (λ inner. behind (group_at
 
 abbrev pub arguments_at : List ℕ → Option (Exps × List ℕ)
 arguments_at s = arguments_nested (suc (length s)) s
+
+-- ---- what is no deeper than the room
+
+abbrev pub no_deeper : {X : Type 0} → (depth : X → ℕ) → (room : ℕ) → X → List ℕ → Option (X × List ℕ)
+no_deeper depth room x rest = if nat_le (depth x) room then Some (x, rest) else None
+
+-- an expression that is no deeper than that, where members and argument lists behind an expression count too
+abbrev pub exp_within : (room : ℕ) → List ℕ → Option (Exp × List ℕ)
+exp_within room s = behind (exp_nested room s) (no_deeper depth_exp room)
+
+-- arguments, or the bounds of an array, with their parentheses, none of them deeper than that
+abbrev pub arguments_within : (room : ℕ) → List ℕ → Option (Exps × List ℕ)
+arguments_within room s = behind (arguments_nested room s) (no_deeper depth_exps room)

@@ -1,5 +1,6 @@
--- What a tree of the code can hold: numbers that fit their types, and names of 1 to 512 printable characters.
-use Rattle.std.specs.Prelude.{ℕ, ◌^◌, ℤ, pos, negsuc, Bool, true, ◌&&◌, nat_lt, List}
+-- What a tree of the code can hold: numbers that fit their types, and names of 1 to 512 printable characters; and how deep it
+-- may be.
+use Rattle.std.specs.Prelude.{ℕ, ◌^◌, ℤ, pos, negsuc, Bool, true, ◌&&◌, nat_le, nat_lt, List}
 use Rattle.std.specs.List.{list_all}
 use Rattle.up_base.specs.Names.{is_name}
 use Rattle.net_tree.specs.Types as ty
@@ -7,6 +8,7 @@ use Rattle.net_tree.specs.Types.{TypeName}
 use Rattle.net_tree.specs.declared.line.NetLabel.{NetLabel}
 use Rattle.net_tree.specs.declared.line.NetLabel.TheVariants.{Word, Number}
 use Rattle.net_tree.specs.Tree.{Literal, Exp, Exps, binary, boolean, call_of, cast, ctype, decimal, dot, integer, lit, long, me, new_array, new_object, next_exp, no_exps, nothing, paren, path, short, str, type_of, unary, with_dot}
+use Rattle.net_tree.specs.Depth.{depth_exp, depth_exps}
 
 -- whether a number is one of 2 * half, of which half are negative
 abbrev pub fits_half : (half : ℕ) → ℤ → Bool
@@ -60,3 +62,13 @@ abbrev mutual
   pub fits_exps : Exps → Bool
   fits_exps no_exps = true
   fits_exps (next_exp e more) = fits_exp e && fits_exps more
+
+-- what fits and is no deeper than that
+abbrev pub fits_room : {X : Type 0} → (fits : X → Bool) → (depth : X → ℕ) → (room : ℕ) → X → Bool
+fits_room fits depth room x = fits x && nat_le (depth x) room
+
+abbrev pub fits_in : (room : ℕ) → Exp → Bool
+fits_in room = fits_room fits_exp depth_exp room
+
+abbrev pub fit_in : (room : ℕ) → Exps → Bool
+fit_in room = fits_room fits_exps depth_exps room

@@ -10,8 +10,8 @@ use Rattle.net_tree.specs.Expressions.{are_writable_exps, arguments_text, exp_te
 use Rattle.net_exprs.specs.Ends.{ends_expression, ends_name, ends_path, ends_type}
 use Rattle.net_exprs.specs.Names.{label_at, name_at, path_at}
 use Rattle.net_exprs.specs.Types.{rank_at, type_at}
-use Rattle.net_exprs.specs.Expressions.{arguments_at, arguments_nested, exp_at, exp_nested}
-use Rattle.net_exprs.specs.Depth.{are_shallow, depth_exp, depth_exps, is_shallow, most_nested}
+use Rattle.net_exprs.specs.Expressions.{arguments_at, arguments_nested, arguments_within, exp_at, exp_nested, exp_within}
+use Rattle.net_tree.specs.Depth.{are_shallow, depth_exp, depth_exps, is_shallow, most_nested}
 use Rattle.net_exprs.specs.Fitting.{fits_exp, fits_exps, fits_label}
 
 abbrev pub NamesAreRead : Type 0
@@ -38,34 +38,45 @@ abbrev pub ArgumentsAreRead : Type 0
 ArgumentsAreRead = (es : Exps) (rest : List ℕ) → are_writable_exps es ≡ true → fits_exps es ≡ true → arguments_at (arguments_text es ++ rest) ≡ Some (es, rest)
 
 -- An expression is read wherever there is room for its depth.
+abbrev pub ExpressionsWithRoomAreRead : Type 0
+ExpressionsWithRoomAreRead =
+    (room : ℕ) (e : Exp) (rest : List ℕ) → depth_exp e ≤ room → is_writable_exp e ≡ true → fits_exp e ≡ true → ends_expression rest ≡ true
+    → exp_nested room (exp_text e ++ rest) ≡ Some (e, rest)
+
+abbrev pub ArgumentsWithRoomAreRead : Type 0
+ArgumentsWithRoomAreRead =
+    (room : ℕ) (es : Exps) (rest : List ℕ) → depth_exps es ≤ room → are_writable_exps es ≡ true → fits_exps es ≡ true
+    → arguments_nested room (arguments_text es ++ rest) ≡ Some (es, rest)
+
+-- The reader that reads nothing deeper does so too.
 abbrev pub NestedExpressionsAreRead : Type 0
 NestedExpressionsAreRead =
     (room : ℕ) (e : Exp) (rest : List ℕ) → depth_exp e ≤ room → is_writable_exp e ≡ true → fits_exp e ≡ true → ends_expression rest ≡ true
-    → exp_nested room (exp_text e ++ rest) ≡ Some (e, rest)
+    → exp_within room (exp_text e ++ rest) ≡ Some (e, rest)
 
 abbrev pub NestedArgumentsAreRead : Type 0
 NestedArgumentsAreRead =
     (room : ℕ) (es : Exps) (rest : List ℕ) → depth_exps es ≤ room → are_writable_exps es ≡ true → fits_exps es ≡ true
-    → arguments_nested room (arguments_text es ++ rest) ≡ Some (es, rest)
+    → arguments_within room (arguments_text es ++ rest) ≡ Some (es, rest)
 
 -- The code has room for whatever is no deeper than it reads.
 abbrev pub ShallowExpressionsAreRead : Type 0
 ShallowExpressionsAreRead =
     (e : Exp) (rest : List ℕ) → is_shallow e ≡ true → is_writable_exp e ≡ true → fits_exp e ≡ true → ends_expression rest ≡ true
-    → exp_nested most_nested (exp_text e ++ rest) ≡ Some (e, rest)
+    → exp_within most_nested (exp_text e ++ rest) ≡ Some (e, rest)
 
 abbrev pub ShallowArgumentsAreRead : Type 0
 ShallowArgumentsAreRead =
     (es : Exps) (rest : List ℕ) → are_shallow es ≡ true → are_writable_exps es ≡ true → fits_exps es ≡ true
-    → arguments_nested most_nested (arguments_text es ++ rest) ≡ Some (es, rest)
+    → arguments_within most_nested (arguments_text es ++ rest) ≡ Some (es, rest)
 
--- An expression that is read in some room is no deeper than that.
+-- An expression that is read within some room is no deeper than that.
 abbrev pub ReadExpressionsAreShallow : Type 0
-ReadExpressionsAreShallow = (room : ℕ) (s : List ℕ) (e : Exp) (rest : List ℕ) → exp_nested room s ≡ Some (e, rest) → depth_exp e ≤ room
+ReadExpressionsAreShallow = (room : ℕ) (s : List ℕ) (e : Exp) (rest : List ℕ) → exp_within room s ≡ Some (e, rest) → depth_exp e ≤ room
 
--- None of the arguments that are read in some room is deeper than that.
+-- None of the arguments that are read within some room is deeper than that.
 abbrev pub ReadArgumentsAreShallow : Type 0
-ReadArgumentsAreShallow = (room : ℕ) (s : List ℕ) (es : Exps) (rest : List ℕ) → arguments_nested room s ≡ Some (es, rest) → depth_exps es ≤ room
+ReadArgumentsAreShallow = (room : ℕ) (s : List ℕ) (es : Exps) (rest : List ℕ) → arguments_within room s ≡ Some (es, rest) → depth_exps es ≤ room
 
 -- whether all of a text is printable, so that it holds no end of a line
 abbrev pub stays_within_line : List ℕ → Bool

@@ -4,7 +4,6 @@ pub mod Names
 pub mod Literals
 pub mod Types
 pub mod Expressions
-pub mod Depth
 pub mod Fitting
 pub mod Answers
 pub mod Stages

@@ -1,5 +1,5 @@
 //! Laws of reading: what was written within a line is read back.
-ghost use Rattle.net_exprs.specs.Laws.{ArgumentsAreRead, ArgumentsStayWithinLine, ExpressionsAreRead, ExpressionsStayWithinLine, LabelsAreRead, LabelsStayWithinLine, NamesAreRead, NamesStayWithinLine, NestedArgumentsAreRead, NestedExpressionsAreRead, PathsAreRead, RanksAreRead, ReadArgumentsAreShallow, ReadExpressionsAreShallow, ShallowArgumentsAreRead, ShallowExpressionsAreRead, TypesAreRead, TypesStayWithinLine};
+ghost use Rattle.net_exprs.specs.Laws.{ArgumentsAreRead, ArgumentsStayWithinLine, ArgumentsWithRoomAreRead, ExpressionsAreRead, ExpressionsStayWithinLine, ExpressionsWithRoomAreRead, LabelsAreRead, LabelsStayWithinLine, NamesAreRead, NamesStayWithinLine, NestedArgumentsAreRead, NestedExpressionsAreRead, PathsAreRead, RanksAreRead, ReadArgumentsAreShallow, ReadExpressionsAreShallow, ShallowArgumentsAreRead, ShallowExpressionsAreRead, TypesAreRead, TypesStayWithinLine};
 
 /// A law: a name is read back.
 pub fn names_are_read()
@@ -36,12 +36,22 @@ pub fn arguments_are_read()
     ensures { ArgumentsAreRead }
 {}
 
-/// A law: an expression is read back wherever there is room for its depth.
+/// A law: an expression is read back wherever there is room for its depth, with any number of suffixes.
+pub fn expressions_with_room_are_read()
+    ensures { ExpressionsWithRoomAreRead }
+{}
+
+/// A law: arguments are read back wherever there is room for their depth, with any number of suffixes.
+pub fn arguments_with_room_are_read()
+    ensures { ArgumentsWithRoomAreRead }
+{}
+
+/// A law: an expression is read back within the room of its depth.
 pub fn nested_expressions_are_read()
     ensures { NestedExpressionsAreRead }
 {}
 
-/// A law: arguments are read back wherever there is room for their depth.
+/// A law: arguments are read back within the room of their depth.
 pub fn nested_arguments_are_read()
     ensures { NestedArgumentsAreRead }
 {}

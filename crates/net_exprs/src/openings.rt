@@ -11,10 +11,9 @@ use crate::characters::{after, word_at};
 use crate::fail::PhraseFail;
 use crate::literals::read_literal;
 use crate::names::{read_name, read_path};
-use crate::stages::Stage;
 use crate::starts::{Front, Keyword, Start, front_of, keyword_of, start_of};
 use crate::types::read_base;
-use net_tree::{CastWord, NetExpr, NetLit, NetUn};
+use net_tree::{CastWord, NetExpr, NetLit, NetType, NetUn};
 use std::alloc::Global;
 
 /// What an expression is nested in.
@@ -32,14 +31,10 @@ pub enum Nest {
 /// What an expression begins with: what needs no other expression, or what stands before one that is nested.
 #[derive(Drop)]
 pub enum Opening {
-    Leaf(Stage),
+    Leaf(NetExpr),
+    /// `New` and a type
+    Made(NetType),
     Nested(Nest),
-}
-
-fn leaf(expr: NetExpr) -> Opening
-    ensures { opening_view result ≡ model.leaf (model.whole (exp_of expr)) }
-{
-    Opening::Leaf(Stage::Whole(expr))
 }
 
 fn literal(alloc: Global, text: &[u8]) -> Result<(Opening, &[u8]), PhraseFail>
@@ -48,7 +43,7 @@ fn literal(alloc: Global, text: &[u8]) -> Result<(Opening, &[u8]), PhraseFail>
     ensures held { IfOk result (λ read. fits_opening (opening_view read.0) ≡ true) }
 {
     match read_literal(alloc, text) {
-        Ok((literal, rest)) => Ok((leaf(NetExpr::Lit(literal)), rest)),
+        Ok((literal, rest)) => Ok((Opening::Leaf(NetExpr::Lit(literal)), rest)),
         Err(e) => Err(e),
     }
 }
@@ -59,7 +54,7 @@ fn path(alloc: Global, text: &[u8]) -> Result<(Opening, &[u8]), PhraseFail>
     ensures held { IfOk result (λ read. fits_opening (opening_view read.0) ≡ true) }
 {
     match read_path(alloc, text) {
-        Ok((path, rest)) => Ok((leaf(NetExpr::Path(path)), rest)),
+        Ok((path, rest)) => Ok((Opening::Leaf(NetExpr::Path(path)), rest)),
         Err(e) => Err(e),
     }
 }
@@ -71,7 +66,7 @@ fn with_dot(alloc: Global, text: &[u8]) -> Result<(Opening, &[u8]), PhraseFail>
     ensures held { IfOk result (λ read. fits_opening (opening_view read.0) ≡ true) }
 {
     match read_name(alloc, text) {
-        Ok((name, rest)) => Ok((leaf(NetExpr::WithDot(name)), rest)),
+        Ok((name, rest)) => Ok((Opening::Leaf(NetExpr::WithDot(name)), rest)),
         Err(e) => Err(e),
     }
 }
@@ -86,7 +81,7 @@ fn creation(alloc: Global, text: &[u8]) -> Result<(Opening, &[u8]), PhraseFail>
         return Err(PhraseFail::NotNet);
     };
     match read_base(alloc, text) {
-        Ok((ty, rest)) => Ok((Opening::Leaf(Stage::Ranked(ty, Vec::new(alloc))), rest)),
+        Ok((ty, rest)) => Ok((Opening::Made(ty), rest)),
         Err(e) => Err(e),
     }
 }
@@ -130,10 +125,10 @@ fn keyworded<'a>(
     ensures held { IfOk result (λ read. fits_opening (opening_view read.0) ≡ true) }
 {
     match keyword {
-        Keyword::Nothing => Ok((leaf(NetExpr::Nothing), rest)),
-        Keyword::Me => Ok((leaf(NetExpr::Me), rest)),
-        Keyword::True => Ok((leaf(NetExpr::Lit(NetLit::Boolean(true))), rest)),
-        Keyword::False => Ok((leaf(NetExpr::Lit(NetLit::Boolean(false))), rest)),
+        Keyword::Nothing => Ok((Opening::Leaf(NetExpr::Nothing), rest)),
+        Keyword::Me => Ok((Opening::Leaf(NetExpr::Me), rest)),
+        Keyword::True => Ok((Opening::Leaf(NetExpr::Lit(NetLit::Boolean(true))), rest)),
+        Keyword::False => Ok((Opening::Leaf(NetExpr::Lit(NetLit::Boolean(false))), rest)),
         Keyword::Cast(word) => nested(Nest::Cast(word), b"(", rest),
         Keyword::CType => nested(Nest::Convert, b"(", rest),
         Keyword::New => creation(alloc, rest),
@@ -160,7 +155,10 @@ fn minus(text: &[u8]) -> Result<(Opening, &[u8]), PhraseFail>
     ensures held { IfOk result (λ read. fits_opening (opening_view read.0) ≡ true) }
 {
     match after(b"1", text) {
-        Some(rest) => Ok((leaf(NetExpr::Lit(NetLit::Integer(-1, false))), rest)),
+        Some(rest) => Ok((
+            Opening::Leaf(NetExpr::Lit(NetLit::Integer(-1, false))),
+            rest,
+        )),
         None => Err(PhraseFail::NotNet),
     }
 }

@@ -218,6 +218,35 @@ fn nesting_ends_at_a_thousand(rt: HostRuntime) -> Result<(), Fail> {
     Ok(())
 }
 
+// An expression, and a suffix so many times.
+fn suffixed(alloc: Global, front: &[u8], suffix: &[u8], count: usize) -> Result<Vec<u8>, Fail> {
+    let mut text = Vec::new(alloc);
+    text.extend_from_slice(front)?;
+    for _ in 0..count {
+        text.extend_from_slice(suffix)?;
+    }
+    Ok(text)
+}
+
+// Whether an expression of depth 1 is read with 999 suffixes, and with no more.
+fn goes_on(rt: &impl Abort, alloc: Global, front: &[u8], suffix: &[u8]) -> Result<(), Fail> {
+    let deepest = suffixed(alloc, front, suffix, 999)?;
+    assert!(rt; read_expression(alloc, &deepest).is_ok());
+    let deeper = suffixed(alloc, front, suffix, 1000)?;
+    assert!(rt; matches!(read_expression(alloc, &deeper), Err(PhraseFail::NotNet)));
+    Ok(())
+}
+
+#[test]
+fn suffixes_end_at_a_thousand(rt: HostRuntime) -> Result<(), Fail> {
+    let alloc = rt.alloc();
+    goes_on(&rt, alloc, b"Me", b".b")?;
+    goes_on(&rt, alloc, b"a", b"()")?;
+    goes_on(&rt, alloc, b"a", b"(0)")?;
+    goes_on(&rt, alloc, b"New T()", b"()")?;
+    Ok(())
+}
+
 // How many arguments stand at the front.
 fn arguments(alloc: Global, text: &[u8]) -> Option<usize> {
     match read_arguments(alloc, text) {

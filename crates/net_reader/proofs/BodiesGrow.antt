@@ -14,11 +14,11 @@ use Rattle.net_tree.specs.Lines.{is_writable_line, line_text, lines_text}
 use Rattle.net_tree.specs.Spelling.{at_depth}
 use Rattle.net_tree.specs.Tree.{Dim, Head, Line}
 use Rattle.net_exprs.proofs.Words.{both_true, never}
-use Rattle.net_reader.specs.DeclarationReader.{close_at}
+use Rattle.net_reader.specs.DeclarationReader.{close_at, dim_at}
 use Rattle.net_reader.specs.FileLines.{text_of_line}
-use Rattle.net_reader.specs.Fits.{fits_head}
-use Rattle.net_reader.specs.Limited.{dim_at, fits_dim, fits_line, grown, grown_by, grown_by_line, line_at, line_taken}
-use Rattle.net_reader.specs.ModuleReader.{Body, closed, closed_by, going, has_no_blocks, has_no_lines, headed, with_dim, with_line}
+use Rattle.net_reader.specs.Fits.{fits_dim, fits_head, fits_line}
+use Rattle.net_reader.specs.LineReader.{line_at}
+use Rattle.net_reader.specs.ModuleReader.{Body, closed, closed_by, going, grown, grown_by, grown_by_line, has_no_blocks, has_no_lines, headed, line_taken, with_dim, with_line}
 use Rattle.net_reader.proofs.SoFar.{Closes, Goes, GrowsTo, IsBody, body_text}
 use Rattle.net_reader.proofs.TakenLines.{depth_ends, taken_makes}
 use Rattle.net_reader.proofs.Tests.{all_append, and_true}

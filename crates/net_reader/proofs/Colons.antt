@@ -5,11 +5,11 @@ use Rattle.net_tree.specs.Tree.{Exp, Exps, Literal, binary, boolean, call_of, ca
 use Rattle.net_tree.specs.Tree as tree
 use Rattle.net_tree.specs.Spelling.{is_bracketed, is_identifier, is_library_path, is_path, is_word_part, name_text, path_text, separated}
 use Rattle.net_tree.specs.Literals.{amount_text, is_writable_literal, literal_text, quoted_unit, whole_text}
-use Rattle.net_tree.specs.Expressions.{cast_text, exp_text, exp_texts, is_path_exp, is_writable_exp, operator_text, type_text, unary_text}
+use Rattle.net_tree.specs.Expressions.{cast_text, exp_text, exp_texts, is_path_exp, is_writable_exp, is_writable_whole, operator_text, type_text, unary_text}
 use Rattle.net_exprs.specs.Names.{is_digit}
 use Rattle.net_exprs.proofs.Words.{both_true, by_test, is_other, is_word, never}
 use Rattle.net_reader.specs.Words.{ends_with}
-use Rattle.net_reader.proofs.Openings.{decimal_digits, digit_is_part}
+use Rattle.net_reader.proofs.Openings.{decimal_digits, digit_is_part, whole_is_writable}
 use Rattle.net_reader.proofs.Tests.{all_more}
 
 abbrev pub EndsOther : List ℕ → Type 0
@@ -75,7 +75,7 @@ literal_ends (str units) h = ends_last (34 ∷ flat_map quoted_unit units) 34 []
 pub parentheses_end : (a : List ℕ) (texts : List (List ℕ)) → EndsOther (a ++ (40 ∷ separated (codes ", ") texts ++ codes ")"))
 parentheses_end a texts = ends_last a 40 (separated (codes ", ") texts ++ codes ")") ∙ ends_last (40 ∷ separated (codes ", ") texts) 41 []
 
-pub exp_ends : (e : Exp) → is_writable_exp e ≡ true → EndsOther (exp_text e)
+exp_ends : (e : Exp) → is_writable_exp e ≡ true → EndsOther (exp_text e)
 exp_ends (lit l) h = literal_ends l h
 exp_ends nothing h = refl
 exp_ends me h = refl
@@ -92,3 +92,6 @@ exp_ends (paren e) h = ends_last (codes "(" ++ exp_text e) 41 []
 exp_ends (new_object t args) h = parentheses_end (codes "New " ++ type_text t) (exp_texts args)
 exp_ends (new_array t bounds) h = ends_last (codes "New " ++ type_text t ++ (40 ∷ separated (codes ", ") (exp_texts bounds) ++ codes ")")) 32 (codes "{}")
 exp_ends (type_of e t) h = ends_last (codes "(TypeOf " ++ exp_text e ++ codes " Is " ++ type_text t) 41 []
+
+pub whole_ends : (e : Exp) → is_writable_whole e ≡ true → EndsOther (exp_text e)
+whole_ends e h = exp_ends e (whole_is_writable e h)

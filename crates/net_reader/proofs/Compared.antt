@@ -8,7 +8,7 @@ use Rattle.net_tree.specs.Lines.{is_writable_line, line_text}
 use Rattle.net_tree.specs.Spelling.{at_depth, is_same_text}
 use Rattle.net_tree.specs.Tree.{Dim, Line}
 use Rattle.net_exprs.proofs.Words.{both_true}
-use Rattle.net_reader.specs.Limited.{fits_dim, fits_line}
+use Rattle.net_reader.specs.Fits.{fits_dim, fits_line}
 use Rattle.net_reader.specs.ModuleReader.{Body, has_no_lines, taken}
 use Rattle.net_reader.specs.Takings.{dim_within, line_within}
 use Rattle.net_reader.proofs.Tests.{and_true, if_true}

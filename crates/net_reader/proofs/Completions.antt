@@ -13,9 +13,8 @@ use Rattle.net_tree.specs.Tree.{Head, Line, Procedure, end_if, end_select, end_w
 use Rattle.net_tree.specs.Types as ty
 use Rattle.net_exprs.specs.Fitting.{fits_name}
 use Rattle.net_exprs.proofs.Words.{by_test, never}
-use Rattle.net_reader.specs.Fits.{fits_head}
+use Rattle.net_reader.specs.Fits.{fits_head, fits_line}
 use Rattle.net_reader.specs.Laws.{IsModuleOf}
-use Rattle.net_reader.specs.Limited.{fits_line}
 use Rattle.net_reader.specs.ModuleReader.{Body, NotedModule, Promised, State, among_members, at_front, closed_by, ended, gets, has_no_blocks, headed, in_front, in_part, in_procedure, in_property, in_structure, is_kept, module_end_text, module_head_text, sets, with_get, with_line, with_part, with_set}
 use Rattle.net_reader.proofs.BodiesGrow.{close_closes, head_is_body, line_goes}
 use Rattle.net_reader.proofs.Growth.{front_begins, front_goes, module_begins}

@@ -12,16 +12,16 @@ use Rattle.net_tree.specs.Types as ty
 use Rattle.net_tree.specs.Types.{TypeName}
 use Rattle.net_tree.specs.Tree.{Constant, Dim, Exp, Field, Param, Property, Variable, constant, field, field_comment, function, local, set_part, static_local, sub}
 use Rattle.net_tree.specs.Spelling.{is_identifier, name_text, separated}
-use Rattle.net_tree.specs.Expressions.{exp_text, is_writable_exp, is_writable_type, rank_text, type_text}
+use Rattle.net_tree.specs.Expressions.{exp_text, is_writable_whole, is_writable_type, rank_text, type_text}
 use Rattle.net_tree.specs.Lines.{is_writable_option}
 use Rattle.net_tree.specs.Declarations.{close_text, declared_text, dim_text, field_text, is_writable_constant, is_writable_dim, is_writable_field, is_writable_param, is_writable_variable, param_text, params_text, passing_text, value_text, variable_text}
 use Rattle.net_exprs.specs.Ends.{begins_with, ends_type}
-use Rattle.net_exprs.specs.Fitting.{fits_name, fits_type}
+use Rattle.net_exprs.specs.Fitting.{fits_exp, fits_name, fits_type}
 use Rattle.net_exprs.specs.Types.{type_at}
 use Rattle.net_exprs.proofs.Words.{both_true, name_reads}
 use Rattle.net_exprs.proofs.TypesRead.{rank_reads, type_reads}
 use Rattle.net_reader.specs.DeclarationReader.{Declared, Signature, close_at, constant_in, declared_at, declared_behind, dim_at, field_at, function_in, param_at, param_of, params_at, property_in, set_in, signature_at, sub_by, sub_in, value_in, variable_in}
-use Rattle.net_reader.specs.Fits.{fits_constant, fits_dim, fits_exp, fits_field, fits_option, fits_variable}
+use Rattle.net_reader.specs.Fits.{fits_constant, fits_dim, fits_field, fits_option, fits_variable}
 use Rattle.net_reader.specs.LineReader.{exp_in}
 use Rattle.net_reader.specs.Words.{line_words}
 use Rattle.net_reader.proofs.ItemsRead.{all_items_read}
@@ -66,37 +66,36 @@ value_ends : (value : Option Exp) → ends_type (value_text value) ≡ true
 value_ends Option.None = refl
 value_ends (Some e) = refl
 
-module _ (limit : Option ℕ) where
-  value_reads : (value : Option Exp) → is_writable_option value ≡ true → fits_option limit value ≡ true → value_in limit (value_text value) ≡ Some value
-  value_reads Option.None h k = refl
-  value_reads (Some e) h k = ap (option_map (λ (e : Exp). Some e)) (exp_reads limit e h k)
+value_reads : (value : Option Exp) → is_writable_option value ≡ true → fits_option value ≡ true → value_in (value_text value) ≡ Some value
+value_reads Option.None h k = refl
+value_reads (Some e) h k = ap (option_map (λ (e : Exp). Some e)) (exp_reads e h k)
 
-  pub variable_reads : (v : Variable) → is_writable_variable v ≡ true → fits_variable limit v ≡ true → variable_in limit (variable_text v) ≡ Some v
-  variable_reads v h k =
-      let two = both_true (is_identifier v.name && is_writable_type v.ty) (is_writable_option v.value) h in
-      let one = both_true (is_identifier v.name) (is_writable_type v.ty) two.0 in
-      ap (option_and_then (λ (d : Declared × List ℕ).
-      option_map {U = Variable} (λ (value : Option Exp). record { name = d.0.name; ty = d.0.ty; value = value }) (value_in limit d.1)))
-      (declared_reads v.name v.ty (value_text v.value) one.0 one.1 (value_ends v.value))
-      ∙ ap (option_map {U = Variable} (λ (value : Option Exp). record { name = v.name; ty = v.ty; value = value })) (value_reads v.value two.1 (both_true (fits_name v.name && fits_type v.ty) (fits_option limit v.value) k).1)
+pub variable_reads : (v : Variable) → is_writable_variable v ≡ true → fits_variable v ≡ true → variable_in (variable_text v) ≡ Some v
+variable_reads v h k =
+    let two = both_true (is_identifier v.name && is_writable_type v.ty) (is_writable_option v.value) h in
+    let one = both_true (is_identifier v.name) (is_writable_type v.ty) two.0 in
+    ap (option_and_then (λ (d : Declared × List ℕ).
+    option_map {U = Variable} (λ (value : Option Exp). record { name = d.0.name; ty = d.0.ty; value = value }) (value_in d.1)))
+    (declared_reads v.name v.ty (value_text v.value) one.0 one.1 (value_ends v.value))
+    ∙ ap (option_map {U = Variable} (λ (value : Option Exp). record { name = v.name; ty = v.ty; value = value })) (value_reads v.value two.1 (both_true (fits_name v.name && fits_type v.ty) (fits_option v.value) k).1)
 
-  -- a constant behind its word
-  pub constant_reads : (c : Constant) → is_writable_constant c ≡ true → fits_constant limit c ≡ true →
-      constant_in limit (declared_text c.name c.ty ++ codes " = " ++ exp_text c.value) ≡ Some c
-  constant_reads c h k =
-      let two = both_true (is_identifier c.name && is_writable_type c.ty) (is_writable_exp c.value) h in
-      let one = both_true (is_identifier c.name) (is_writable_type c.ty) two.0 in
-      ap (constant_in limit) (append_assoc (declared_text c.name c.ty) (codes " = ") (exp_text c.value))
-      ∙ ap (option_and_then (λ (d : Declared × List ℕ).
-      option_map {U = Constant} (λ (value : Exp). record { name = d.0.name; ty = d.0.ty; value = value }) (exp_in limit (drop 3 d.1))))
-      (declared_reads c.name c.ty (codes " = " ++ exp_text c.value) one.0 one.1 refl)
-      ∙ ap (option_map {U = Constant} (λ (value : Exp). record { name = c.name; ty = c.ty; value = value })) (exp_reads limit c.value two.1 (both_true (fits_name c.name && fits_type c.ty) (fits_exp limit c.value) k).1)
+-- a constant behind its word
+pub constant_reads : (c : Constant) → is_writable_constant c ≡ true → fits_constant c ≡ true →
+    constant_in (declared_text c.name c.ty ++ codes " = " ++ exp_text c.value) ≡ Some c
+constant_reads c h k =
+    let two = both_true (is_identifier c.name && is_writable_type c.ty) (is_writable_whole c.value) h in
+    let one = both_true (is_identifier c.name) (is_writable_type c.ty) two.0 in
+    ap constant_in (append_assoc (declared_text c.name c.ty) (codes " = ") (exp_text c.value))
+    ∙ ap (option_and_then (λ (d : Declared × List ℕ).
+    option_map {U = Constant} (λ (value : Exp). record { name = d.0.name; ty = d.0.ty; value = value }) (exp_in (drop 3 d.1))))
+    (declared_reads c.name c.ty (codes " = " ++ exp_text c.value) one.0 one.1 refl)
+    ∙ ap (option_map {U = Constant} (λ (value : Exp). record { name = c.name; ty = c.ty; value = value })) (exp_reads c.value two.1 (both_true (fits_name c.name && fits_type c.ty) (fits_exp c.value) k).1)
 
-  pub dim_reads : (d : Dim) → is_writable_dim d ≡ true → fits_dim limit d ≡ true → dim_at limit (dim_text d) ≡ Some d
-  unfolding line_words
-  dim_reads (local v) h k = ap (option_map local) (variable_reads v h k)
-  dim_reads (static_local v) h k = ap (option_map static_local) (variable_reads v h k)
-  dim_reads (constant c) h k = ap (option_map constant) (constant_reads c h k)
+pub dim_reads : (d : Dim) → is_writable_dim d ≡ true → fits_dim d ≡ true → dim_at (dim_text d) ≡ Some d
+unfolding line_words
+dim_reads (local v) h k = ap (option_map local) (variable_reads v h k)
+dim_reads (static_local v) h k = ap (option_map static_local) (variable_reads v h k)
+dim_reads (constant c) h k = ap (option_map constant) (constant_reads c h k)
 
 pub dim_closes_none : (d : Dim) → close_at (dim_text d) ≡ Option.None
 unfolding line_words

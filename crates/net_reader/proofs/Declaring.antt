@@ -7,13 +7,13 @@ use Rattle.net_exprs.specs.Answers.{FailsFor}
 use Rattle.net_exprs.specs.Ends.{begins_with}
 use Rattle.net_exprs.specs.Names.{name_at}
 use Rattle.net_exprs.specs.Types.{rank_at, type_at}
-use Rattle.net_exprs.specs.Fitting.{fits_name, fits_rank, fits_type}
+use Rattle.net_exprs.specs.Fitting.{fits_exp, fits_name, fits_rank, fits_type}
 use Rattle.net_exprs.proofs.Answering.{fails_up}
 use Rattle.net_reader.specs.Answers.{FailsWhole}
-use Rattle.net_reader.specs.DeclarationReader.{Declared, declared_at, declared_behind}
+use Rattle.net_reader.specs.DeclarationReader.{Declared, constant_in, declared_at, declared_behind, value_in, variable_in}
 use Rattle.net_reader.specs.FileLines.{units_in}
-use Rattle.net_reader.specs.Fits.{fits_field, fits_text}
-use Rattle.net_reader.specs.Limited.{constant_in, exp_in, fits_constant, fits_dim, fits_exp, fits_option, fits_variable, value_in, variable_in}
+use Rattle.net_reader.specs.Fits.{fits_constant, fits_dim, fits_field, fits_option, fits_text, fits_variable}
+use Rattle.net_reader.specs.LineReader.{exp_in}
 use Rattle.net_reader.specs.Parts.{array_type, fits_declared, present_value, public_field, ranked_type, type_behind}
 use Rattle.net_reader.proofs.Failures.{fails_whole, misfits_always, misfits_end, misfits_map, misfits_then, misfits_whole, whole_always, whole_fails, whole_map}
 

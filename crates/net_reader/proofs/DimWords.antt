@@ -4,8 +4,9 @@ use Rattle.std.specs.Prelude.{option_map}
 use Rattle.net_tree.specs.Tree.{Dim}
 use Rattle.net_exprs.proofs.Words.{by_test}
 use Rattle.net_reader.specs.FileLines.{text_of_line}
-use Rattle.net_reader.specs.Limited.{dim_at, dim_by, grown_by_line, line_at, line_by, line_taken}
-use Rattle.net_reader.specs.ModuleReader.{Body, going, with_dim}
+use Rattle.net_reader.specs.DeclarationReader.{dim_at, dim_by}
+use Rattle.net_reader.specs.LineReader.{line_at, line_by}
+use Rattle.net_reader.specs.ModuleReader.{Body, going, grown_by_line, line_taken, with_dim}
 use Rattle.net_reader.specs.Takings.{declares, dim_within}
 use Rattle.net_reader.specs.Words as w
 use Rattle.net_reader.specs.Words.{keyword_at, line_words}

@@ -16,10 +16,9 @@ use Rattle.net_tree.specs.Lines.{line_text}
 use Rattle.net_tree.specs.Text.{byte_order_mark, files_of, module_text, options_text, response_text}
 use Rattle.net_exprs.specs.Expressions.{front_of, keyword_of, operator_at, start_of, suffix_of, word_front}
 use Rattle.net_exprs.specs.Types.{basic_type_of}
-use Rattle.net_reader.specs.Limited.{line_at, module_in, project_in}
-use Rattle.net_reader.specs.LineReader.{exp_at}
-use Rattle.net_reader.specs.ModuleReader.{complete, stuck}
-use Rattle.net_reader.specs.ProjectReader.{faulty, whole}
+use Rattle.net_reader.specs.LineReader.{exp_at, line_at}
+use Rattle.net_reader.specs.ModuleReader.{complete, module_in, stuck}
+use Rattle.net_reader.specs.ProjectReader.{faulty, project_in, whole}
 use Rattle.net_reader.specs.Words.{line_words, name_words}
 
 abbrev named : List ℕ → Exp

@@ -10,12 +10,11 @@ use Rattle.net_tree.specs.Spelling.{at_depth, is_identifier, is_same_text}
 use Rattle.net_tree.specs.Text.{NetText, file_name, files_of, is_note, is_support, main_text, module_text, response_text, target_text, written_modules}
 use Rattle.net_tree.specs.Tree.{Module, Project}
 use Rattle.net_exprs.proofs.Words.{both_true, by_test, never}
-use Rattle.net_reader.specs.Fits.{fits_main}
+use Rattle.net_reader.specs.Fits.{fits_main, fits_module}
 use Rattle.net_reader.specs.Laws.{IsFineNote, IsModuleOf, IsNoteKnown, ModuleBegins, ModuleFaultsAreFirst, ModulesAreRead, ReadModulesStand}
-use Rattle.net_reader.specs.Limited.{fits_module, module_in, named_by, project_in, read_from}
-use Rattle.net_reader.specs.ModuleReader.{NotedModule, Reading, complete, stuck}
+use Rattle.net_reader.specs.ModuleReader.{NotedModule, Reading, complete, module_in, stuck}
 use Rattle.net_reader.specs.Places.{BeginBefore, BeginUpTo, BeginsAs, IsFileUpTo, IsFirstFault, IsProjectUpTo, IsReadable}
-use Rattle.net_reader.specs.ProjectReader.{Before, Outcome, behind_module, faulty, finished, listed, module_by, module_name, modules_before, none_before, note_before, response_by, response_in, whole}
+use Rattle.net_reader.specs.ProjectReader.{Before, Outcome, behind_module, faulty, finished, listed, module_by, module_name, modules_before, named_by, none_before, note_before, project_in, read_from, response_by, response_in, whole}
 use Rattle.net_reader.proofs.FileCuts.{begins_at_all}
 use Rattle.net_reader.proofs.FileLists.{drop_more, first_of, is_within, next_is, take_all, take_less, take_more}
 use Rattle.net_reader.proofs.FileNames.{IsNamed, fine_name, is_named_for, named_for, no_response, same_names}

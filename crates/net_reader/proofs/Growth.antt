@@ -16,12 +16,11 @@ use Rattle.net_exprs.specs.Fitting.{fits_name}
 use Rattle.net_exprs.specs.Names.{name_at}
 use Rattle.net_exprs.specs.Types.{type_at}
 use Rattle.net_exprs.proofs.Words.{both_true}
-use Rattle.net_reader.specs.DeclarationReader.{Signature, field_at, function_in, property_in, set_in, signature_at, sub_in, visibility_of}
+use Rattle.net_reader.specs.DeclarationReader.{Signature, constant_in, field_at, function_in, property_in, set_in, signature_at, sub_in, variable_in, visibility_of}
 use Rattle.net_reader.specs.FileLines.{text_of_line, units_in}
-use Rattle.net_reader.specs.Fits.{fits_field, fits_head}
+use Rattle.net_reader.specs.Fits.{fits_field, fits_head, fits_member}
 use Rattle.net_reader.specs.Laws.{IsNoteKnown}
-use Rattle.net_reader.specs.Limited.{constant_in, fits_member, grown, member_by, member_of, member_step, member_taken, step, variable_in}
-use Rattle.net_reader.specs.ModuleReader.{Access, NotedModule, Promised, State, among_members, at_front, behind_part, behind_procedure, both_parts, ended, first_step, front_lines, front_step, get_taken, head_taken, headed, in_front, in_part, in_procedure, in_property, in_structure, is_kept, is_line, module_end_text, module_head_text, note_in, opened, promised_text, property_by, property_taken, read_only, set_taken, structure_by, structure_head_text, structure_taken, with_field, with_member, write_only}
+use Rattle.net_reader.specs.ModuleReader.{Access, NotedModule, Promised, State, among_members, at_front, behind_part, behind_procedure, both_parts, ended, first_step, front_lines, front_step, get_taken, grown, head_taken, headed, in_front, in_part, in_procedure, in_property, in_structure, is_kept, is_line, member_by, member_of, member_step, member_taken, module_end_text, module_head_text, note_in, opened, promised_text, property_by, property_taken, read_only, set_taken, step, structure_by, structure_head_text, structure_taken, with_field, with_member, write_only}
 use Rattle.net_reader.specs.Words as w
 use Rattle.net_reader.specs.Words.{behind_word, keyword_at}
 use Rattle.net_reader.proofs.BodiesGrow.{body_grows}

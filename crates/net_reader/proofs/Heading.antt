@@ -9,8 +9,7 @@ use Rattle.net_exprs.specs.Fitting.{fits_type}
 use Rattle.net_exprs.specs.Types.{type_at}
 use Rattle.net_reader.specs.Answers.{FailsWhole}
 use Rattle.net_reader.specs.DeclarationReader.{Signature, declared_at, function_in, property_in, set_in, signature_at, sub_by}
-use Rattle.net_reader.specs.Fits.{fits_head}
-use Rattle.net_reader.specs.Limited.{fits_property}
+use Rattle.net_reader.specs.Fits.{fits_head, fits_property}
 use Rattle.net_reader.specs.Parts.{fits_declared, fits_signature}
 use Rattle.net_reader.proofs.Declaring.{first_false, second_false}
 use Rattle.net_reader.proofs.Failures.{fails_whole, misfits_end, misfits_whole, ends_always}

@@ -1,6 +1,5 @@
 pub mod Tests
 pub mod WordFronts
-pub mod Failing
 pub mod UnitsYielded
 pub mod WordGroups
 pub mod ItemsLeft

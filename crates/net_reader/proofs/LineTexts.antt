@@ -20,14 +20,14 @@ use Rattle.net_tree.specs.Types.{TypeName}
 use Rattle.net_tree.specs.Tree.{CaseItem, Constant, Dim, Exp, Field, Head, Line, Param, Property, ReDimItem, Variable, assign, call, call_of, case_else, case_is, case_line, case_range, case_value, comment, constant, do_head, do_until, do_while, else_if, else_line, end_if, end_select, end_while, end_with, exit, field, field_comment, for_head, function, get_part, goto, if_head, label, local, loop, loop_until, loop_while, next, on_error_goto, on_error_goto_zero, on_error_resume_next, redim, resume, resume_at, resume_next, select, set_part, static_local, sub, sub_new, while_head, with_head}
 use Rattle.net_tree.specs.Spelling.{is_handler_label, is_identifier, is_label, label_text, name_text, separated}
 use Rattle.net_tree.specs.Comments.{comment_text, is_comment, is_within_line}
-use Rattle.net_tree.specs.Expressions.{exp_text, is_writable_exp, is_writable_type, rank_text, sign_text, type_text}
+use Rattle.net_tree.specs.Expressions.{exp_text, is_writable_whole, is_writable_type, rank_text, sign_text, type_text}
 use Rattle.net_tree.specs.Lines.{case_item_text, is_writable_case, is_writable_line, is_writable_option, is_writable_redim, line_text, redim_item_text, step_text}
 use Rattle.net_tree.specs.Declarations.{access_text, close_text, constant_text, declared_text, dim_text, field_text, head_text, is_writable_constant, is_writable_dim, is_writable_field, is_writable_head, is_writable_param, is_writable_variable, param_text, params_text, passing_text, value_text, variable_text, visibility_text}
 use Rattle.net_exprs.proofs.Words.{both_true, never}
 use Rattle.net_exprs.proofs.Printable.{expression_stays, label_stays, name_stays, type_stays}
 use Rattle.net_reader.proofs.CutLines.{IsLine, begins_line}
 use Rattle.net_reader.proofs.LinesRead.{label_opens}
-use Rattle.net_reader.proofs.Openings.{begins_more, begins_text, exp_opens}
+use Rattle.net_reader.proofs.Openings.{begins_more, begins_text, whole_is_writable, whole_opens}
 use Rattle.net_reader.proofs.Tests.{all_append, all_more}
 use Rattle.net_reader.proofs.Units.{utf8_within}
 
@@ -48,8 +48,8 @@ both_within a b h k = all_append is_within_line a b h k
 pub printable : (text : List ℕ) → list_all is_printable text ≡ true → Within text
 printable text h = all_more is_printable is_within_line text printable_within h
 
-exp_within : (e : Exp) → is_writable_exp e ≡ true → Within (exp_text e)
-exp_within e h = printable (exp_text e) (expression_stays e h)
+whole_within : (e : Exp) → is_writable_whole e ≡ true → Within (exp_text e)
+whole_within e h = printable (exp_text e) (expression_stays e (whole_is_writable e h))
 
 label_within : (l : NetLabel) → is_label l ≡ true → Within (label_text l)
 label_within l h = printable (label_text l) (label_stays l h)
@@ -98,31 +98,31 @@ sign_within op.Xor = refl
 sign_within op.Is = refl
 
 case_within : (item : CaseItem) → is_writable_case item ≡ true → Within (case_item_text item)
-case_within (case_value e) h = exp_within e h
+case_within (case_value e) h = whole_within e h
 case_within (case_range a b) h =
-    let both = both_true (is_writable_exp a) (is_writable_exp b) h in
-    both_within (exp_text a ++ codes " To ") (exp_text b) (both_within (exp_text a) (codes " To ") (exp_within a both.0) refl) (exp_within b both.1)
+    let both = both_true (is_writable_whole a) (is_writable_whole b) h in
+    both_within (exp_text a ++ codes " To ") (exp_text b) (both_within (exp_text a) (codes " To ") (whole_within a both.0) refl) (whole_within b both.1)
 case_within (case_is o e) h =
-    both_within (codes "Is " ++ sign_text o ++ codes " ") (exp_text e) (both_within (sign_text o) (codes " ") (sign_within o) refl) (exp_within e (both_true _ (is_writable_exp e) h).1)
+    both_within (codes "Is " ++ sign_text o ++ codes " ") (exp_text e) (both_within (sign_text o) (codes " ") (sign_within o) refl) (whole_within e (both_true _ (is_writable_whole e) h).1)
 
 redim_within : (item : ReDimItem) → is_writable_redim item ≡ true → Within (redim_item_text item)
-redim_within item h = exp_within (call_of item.array item.bounds) h
+redim_within item h = whole_within (call_of item.array item.bounds) h
 
 step_within : (step : Option Exp) → is_writable_option step ≡ true → Within (step_text step)
 step_within Option.None h = refl
-step_within (Some e) h = exp_within e h
+step_within (Some e) h = whole_within e h
 
-for_within : (c from to : Exp) (step : Option Exp) → is_writable_exp c && is_writable_exp from && is_writable_exp to && is_writable_option step ≡ true →
+for_within : (c from to : Exp) (step : Option Exp) → is_writable_whole c && is_writable_whole from && is_writable_whole to && is_writable_option step ≡ true →
     Within (line_text (for_head c from to step))
 for_within c from to step h =
-    let three = both_true (is_writable_exp c && is_writable_exp from && is_writable_exp to) (is_writable_option step) h in
-    let two = both_true (is_writable_exp c && is_writable_exp from) (is_writable_exp to) three.0 in
-    let one = both_true (is_writable_exp c) (is_writable_exp from) two.0 in
+    let three = both_true (is_writable_whole c && is_writable_whole from && is_writable_whole to) (is_writable_option step) h in
+    let two = both_true (is_writable_whole c && is_writable_whole from) (is_writable_whole to) three.0 in
+    let one = both_true (is_writable_whole c) (is_writable_whole from) two.0 in
     both_within (exp_text c ++ codes " = " ++ exp_text from ++ codes " To " ++ exp_text to) (step_text step)
     (both_within (exp_text c ++ codes " = " ++ exp_text from ++ codes " To ") (exp_text to)
     (both_within (exp_text c ++ codes " = " ++ exp_text from) (codes " To ")
-    (both_within (exp_text c ++ codes " = ") (exp_text from) (both_within (exp_text c) (codes " = ") (exp_within c one.0) refl) (exp_within from one.1)) refl)
-    (exp_within to two.1))
+    (both_within (exp_text c ++ codes " = ") (exp_text from) (both_within (exp_text c) (codes " = ") (whole_within c one.0) refl) (whole_within from one.1)) refl)
+    (whole_within to two.1))
     (step_within step three.1)
 
 handler_within : (l : NetLabel) → is_handler_label l ≡ true → Within (label_text l)
@@ -142,20 +142,20 @@ comment_is units h = record { within = utf8_within units h; begins = refl }
 pub line_is : (l : Line) → is_writable_line l ≡ true → IsLine (line_text l)
 line_is (comment units) h = comment_is units h
 line_is (assign a b) h =
-    let both = both_true (is_writable_exp a) (is_writable_exp b) h in
+    let both = both_true (is_writable_whole a) (is_writable_whole b) h in
     record {
-      within = both_within (exp_text a ++ codes " = ") (exp_text b) (both_within (exp_text a) (codes " = ") (exp_within a both.0) refl) (exp_within b both.1);
-      begins = line_begins (exp_text a ++ codes " = ") (exp_text b) (begins_more (exp_text a) (codes " = ") (exp_opens a both.0).begins);
+      within = both_within (exp_text a ++ codes " = ") (exp_text b) (both_within (exp_text a) (codes " = ") (whole_within a both.0) refl) (whole_within b both.1);
+      begins = line_begins (exp_text a ++ codes " = ") (exp_text b) (begins_more (exp_text a) (codes " = ") (whole_opens a both.0).begins);
     }
 line_is (call callee arguments) h = record {
-  within = exp_within (call_of callee arguments) h;
-  begins = text_begins (exp_text (call_of callee arguments)) (exp_opens (call_of callee arguments) h).begins;
+  within = whole_within (call_of callee arguments) h;
+  begins = text_begins (exp_text (call_of callee arguments)) (whole_opens (call_of callee arguments) h).begins;
 }
-line_is (if_head e) h = record { within = both_within (exp_text e) (codes " Then") (exp_within e h) refl; begins = refl }
-line_is (else_if e) h = record { within = both_within (exp_text e) (codes " Then") (exp_within e h) refl; begins = refl }
+line_is (if_head e) h = record { within = both_within (exp_text e) (codes " Then") (whole_within e h) refl; begins = refl }
+line_is (else_if e) h = record { within = both_within (exp_text e) (codes " Then") (whole_within e h) refl; begins = refl }
 line_is else_line h = record { within = refl; begins = refl }
 line_is end_if h = record { within = refl; begins = refl }
-line_is (select e) h = record { within = exp_within e h; begins = refl }
+line_is (select e) h = record { within = whole_within e h; begins = refl }
 line_is (case_line []) h = never h
 line_is (case_line (x ∷ xs)) h = record { within = items_within case_item_text is_writable_case case_within (x ∷ xs) h; begins = refl }
 line_is case_else h = record { within = refl; begins = refl }
@@ -163,14 +163,14 @@ line_is end_select h = record { within = refl; begins = refl }
 line_is (for_head c from to step) h = record { within = for_within c from to step h; begins = refl }
 line_is next h = record { within = refl; begins = refl }
 line_is do_head h = record { within = refl; begins = refl }
-line_is (do_while e) h = record { within = exp_within e h; begins = refl }
-line_is (do_until e) h = record { within = exp_within e h; begins = refl }
+line_is (do_while e) h = record { within = whole_within e h; begins = refl }
+line_is (do_until e) h = record { within = whole_within e h; begins = refl }
 line_is loop h = record { within = refl; begins = refl }
-line_is (loop_while e) h = record { within = exp_within e h; begins = refl }
-line_is (loop_until e) h = record { within = exp_within e h; begins = refl }
-line_is (while_head e) h = record { within = exp_within e h; begins = refl }
+line_is (loop_while e) h = record { within = whole_within e h; begins = refl }
+line_is (loop_until e) h = record { within = whole_within e h; begins = refl }
+line_is (while_head e) h = record { within = whole_within e h; begins = refl }
 line_is end_while h = record { within = refl; begins = refl }
-line_is (with_head e) h = record { within = exp_within e h; begins = refl }
+line_is (with_head e) h = record { within = whole_within e h; begins = refl }
 line_is end_with h = record { within = refl; begins = refl }
 line_is (goto l) h = record { within = label_within l h; begins = refl }
 line_is (label l) h = record {
@@ -208,7 +208,7 @@ declared_within name t h k = plain_within name t h k
 
 value_within : (value : Option Exp) → is_writable_option value ≡ true → Within (value_text value)
 value_within Option.None h = refl
-value_within (Some e) h = exp_within e h
+value_within (Some e) h = whole_within e h
 
 variable_within : (v : Variable) → is_writable_variable v ≡ true → Within (variable_text v)
 variable_within v h =
@@ -218,10 +218,10 @@ variable_within v h =
 
 constant_within : (c : Constant) → is_writable_constant c ≡ true → Within (constant_text c)
 constant_within c h =
-    let two = both_true (is_identifier c.name && is_writable_type c.ty) (is_writable_exp c.value) h in
+    let two = both_true (is_identifier c.name && is_writable_type c.ty) (is_writable_whole c.value) h in
     let one = both_true (is_identifier c.name) (is_writable_type c.ty) two.0 in
     both_within (declared_text c.name c.ty ++ codes " = ") (exp_text c.value)
-    (both_within (declared_text c.name c.ty) (codes " = ") (declared_within c.name c.ty one.0 one.1) refl) (exp_within c.value two.1)
+    (both_within (declared_text c.name c.ty) (codes " = ") (declared_within c.name c.ty one.0 one.1) refl) (whole_within c.value two.1)
 
 pub dim_is : (d : Dim) → is_writable_dim d ≡ true → IsLine (dim_text d)
 dim_is (local v) h = record { within = variable_within v h; begins = refl }

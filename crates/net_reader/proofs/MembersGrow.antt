@@ -9,9 +9,8 @@ use Rattle.net_tree.specs.Spelling.{at_depth, is_identifier, name_text}
 use Rattle.net_tree.specs.Tree.{Field, Head, Member, Procedure, Structure, function, get_part, proc, property, set_part, structure, sub, sub_new}
 use Rattle.net_exprs.specs.Fitting.{fits_name, fits_type}
 use Rattle.net_exprs.proofs.Words.{both_true, never}
-use Rattle.net_reader.specs.Fits.{fits_field, fits_head, fits_param}
+use Rattle.net_reader.specs.Fits.{fits_field, fits_head, fits_member, fits_param, fits_part}
 use Rattle.net_reader.specs.Laws.{IsModuleOf}
-use Rattle.net_reader.specs.Limited.{fits_member, fits_part}
 use Rattle.net_reader.specs.ModuleReader.{Access, Body, Grown, NotedModule, Promised, behind_part, behind_procedure, both_parts, closed, gets, going, headed, is_fine_property, is_kept, module_head_text, promised_text, read_only, sets, structure_head_text, with_field, with_get, with_member, with_part, with_set, write_only}
 use Rattle.net_reader.proofs.BodiesGrow.{head_alone, head_is_body, one_more}
 use Rattle.net_reader.proofs.SoFar.{Closes, Goes, Grows, GrowsTo, IsAmongMembers, IsInPart, IsInProcedure, IsInProperty, IsInStructure, body_text, front_text, is_next_part, may_get, may_set, open_text, property_front, structure_front}

@@ -7,8 +7,7 @@ use Rattle.net_exprs.specs.Fitting.{fits_name}
 use Rattle.net_exprs.specs.Readers.{after}
 use Rattle.net_reader.specs.FileLines.{file_lines}
 use Rattle.net_reader.specs.Laws.{IsFineNote, IsModuleOf, ModuleBegins, ModuleFaultsAreFirst, ModulesAreRead, ReadModulesStand, file_of}
-use Rattle.net_reader.specs.Limited.{code_limit, module_behind_mark, run, step}
-use Rattle.net_reader.specs.ModuleReader.{NotedModule, Reading, State, at_end, at_front, behind_line, complete, ended, start, stuck}
+use Rattle.net_reader.specs.ModuleReader.{NotedModule, Reading, State, at_end, at_front, behind_line, complete, ended, module_behind_mark, run, start, step, stuck}
 use Rattle.net_reader.proofs.Completions.{completes}
 use Rattle.net_reader.proofs.FileCuts.{begins_at_all}
 use Rattle.net_reader.proofs.Growth.{any_front, grows}
@@ -85,7 +84,7 @@ marked_file : ModulesAreRead → (known : Option (Option (List ℕ))) (name rest
 marked_file are_read known name rest line fine h k e =
     let first =
     faults step at_end (Holds known name) stops (grows known name h k) (start known name) (IsModuleOf known name) unmarked (begins known name h k fine)
-    (completes known name h k) (λ m is. sym (run_is (start known name) 1 (file_lines (unmarked m))) ∙ are_read code_limit known name m is)
+    (completes known name h k) (λ m is. sym (run_is (start known name) 1 (file_lines (unmarked m))) ∙ are_read known name m is)
     rest line (sym (run_is (start known name) 1 (file_lines rest)) ∙ e) in (
       first.0,
       (first.1.0, first.1.1, begins_marked (line - 1) rest (unmarked first.1.0) first.1.2),

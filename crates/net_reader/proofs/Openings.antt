@@ -12,7 +12,8 @@ use Rattle.net_tree.specs.Tree.{Exp, Exps, Literal, binary, boolean, call_of, ca
 use Rattle.net_tree.specs.Tree as tree
 use Rattle.net_tree.specs.Spelling.{is_bracketed, is_identifier, is_library_path, is_path, is_same_text, is_word_part, name_text, path_text, separated}
 use Rattle.net_tree.specs.Literals.{amount_text, fraction_text, is_writable_literal, literal_text}
-use Rattle.net_tree.specs.Expressions.{arguments_text, cast_text, exp_text, is_path_exp, is_writable_exp}
+use Rattle.net_tree.specs.Depth.{is_shallow}
+use Rattle.net_tree.specs.Expressions.{arguments_text, cast_text, exp_text, is_path_exp, is_writable_exp, is_writable_whole}
 use Rattle.net_exprs.specs.Ends.{ends_name}
 use Rattle.net_exprs.specs.Names.{begins_digit, is_digit}
 use Rattle.net_exprs.specs.Readers.{look_up}
@@ -190,7 +191,7 @@ cast_opens word.CObj more = record { begins = refl; word = λ rest e. refl }
 reassociated : (a b c d : List ℕ) → a ++ (b ++ (c ++ d)) ≡ a ++ b ++ c ++ d
 reassociated a b c d = simp append_assoc
 
-pub exp_opens : (e : Exp) → is_writable_exp e ≡ true → Opens (exp_text e)
+exp_opens : (e : Exp) → is_writable_exp e ≡ true → Opens (exp_text e)
 unfolding line_words
 exp_opens (lit l) h = literal_opens l h
 exp_opens nothing h = unlisted_opens (codes "Nothing") refl refl
@@ -211,3 +212,10 @@ exp_opens (paren e) h = record { begins = refl; word = λ rest e. refl }
 exp_opens (new_object t args) h = record { begins = refl; word = λ rest e. refl }
 exp_opens (new_array t bounds) h = record { begins = refl; word = λ rest e. refl }
 exp_opens (type_of e t) h = record { begins = refl; word = λ rest e. refl }
+
+-- what can stand in a line can be written
+pub whole_is_writable : (e : Exp) → is_writable_whole e ≡ true → is_writable_exp e ≡ true
+whole_is_writable e h = (both_true (is_shallow e) (is_writable_exp e) h).1
+
+pub whole_opens : (e : Exp) → is_writable_whole e ≡ true → Opens (exp_text e)
+whole_opens e h = exp_opens e (whole_is_writable e h)

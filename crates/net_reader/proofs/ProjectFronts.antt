@@ -7,8 +7,8 @@ use Rattle.net_tree.specs.Text.{file_name, is_note, is_writable_module, module_t
 use Rattle.net_tree.specs.Tree.{Module}
 use Rattle.net_exprs.proofs.Words.{both_true}
 use Rattle.net_reader.specs.Laws.{IsModuleOf, ModulesAreRead}
-use Rattle.net_reader.specs.Limited.{code_limit, fits_module, module_in}
-use Rattle.net_reader.specs.ModuleReader.{NotedModule, Reading, complete, stuck}
+use Rattle.net_reader.specs.Fits.{fits_module}
+use Rattle.net_reader.specs.ModuleReader.{NotedModule, Reading, complete, module_in, stuck}
 use Rattle.net_reader.proofs.FileLists.{first_of}
 use Rattle.net_reader.proofs.FileNames.{no_response, same_names}
 use Rattle.net_reader.proofs.Tests.{all_append, and_true}
@@ -76,8 +76,8 @@ is_module_of known own m fine h = record { is_known = tt; note = h; named = refl
 pub same_modules : ModulesAreRead → (a b : Option (List ℕ)) (m n : Module) → is_note a ≡ true → is_note b ≡ true → IsFine m → IsFine n → file_name m ≡ file_name n → module_text a m ≡ module_text b n → (a ≡ b) × (m ≡ n)
 same_modules read a b m n ha hb hm hn names texts =
     let name = same_names m n names in
-    let first = read code_limit Option.None m.name (record { note = a; tree = m }) (is_module_of Option.None a m hm ha) in
-    let second = read code_limit Option.None n.name (record { note = b; tree = n }) (is_module_of Option.None b n hn hb) in
+    let first = read Option.None m.name (record { note = a; tree = m }) (is_module_of Option.None a m hm ha) in
+    let second = read Option.None n.name (record { note = b; tree = n }) (is_module_of Option.None b n hn hb) in
     let one : ◌≡◌ {A = Reading NotedModule} (complete (record { note = a; tree = m })) (complete (record { note = b; tree = n })) =
     sym first ∙ ap (λ name. module_in Option.None name (module_text a m)) name ∙ ap (module_in Option.None n.name) texts ∙ second in
     let same = ap (λ r. module_of r (record { note = a; tree = m })) one in

@@ -5,7 +5,7 @@ use Rattle.net_tree.specs.Text.{NetText, files_of}
 use Rattle.net_tree.specs.Tree.{Project}
 use Rattle.net_tree.specs.View.{project_of}
 use Rattle.net_tree.specs.declared.project.NetProject.{NetProject}
-use Rattle.net_reader.specs.Limited.{project_in}
+use Rattle.net_reader.specs.ProjectReader.{project_in}
 use Rattle.net_reader.specs.Places.{IsReadable}
 use Rattle.net_reader.specs.Reads.{FaultIs, Gives, IsNoRefusal, IsPlaceOf, NotRefused, TellsPlace}
 use Rattle.net_reader.specs.declared.fail.NetReadFail.{NetReadFail}

@@ -8,9 +8,8 @@ use Rattle.net_tree.specs.Lines.{is_writable_line, lines_text}
 use Rattle.net_tree.specs.Declarations.{dim_text, field_text, head_text, is_get, is_set, is_writable_dim, is_writable_head, is_writable_part, is_writable_procedure, is_writable_structure, member_text, part_text, procedure_text}
 use Rattle.net_tree.specs.Text.{is_note, note_text, options_text}
 use Rattle.net_tree.specs.Tree.{Head, Line, Procedure, Structure}
-use Rattle.net_reader.specs.Fits.{fits_head, fits_structure}
+use Rattle.net_reader.specs.Fits.{fits_dim, fits_head, fits_line, fits_part, fits_procedure, fits_structure}
 use Rattle.net_reader.specs.Laws.{IsModuleOf, IsNoteKnown}
-use Rattle.net_reader.specs.Limited.{fits_dim, fits_line, fits_part, fits_procedure}
 use Rattle.net_reader.specs.ModuleReader.{Body, Grown, NotedModule, Promised, State, among_members, at_front, closed, ended, gets, going, in_front, in_part, in_procedure, in_property, in_structure, is_fine_property, module_end_text, module_head_text, promised_text, sets, structure_head_text}
 use Rattle.net_reader.proofs.FileCuts.{ends_line}
 

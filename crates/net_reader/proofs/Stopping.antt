@@ -18,11 +18,11 @@ use Rattle.net_exprs.specs.Fitting.{fits_name, fits_type}
 use Rattle.net_exprs.specs.Names.{name_at}
 use Rattle.net_exprs.specs.Types.{type_at}
 use Rattle.net_reader.specs.Answers.{FailsWhole}
-use Rattle.net_reader.specs.DeclarationReader.{Signature, field_at, function_in, property_in, set_in, signature_at, sub_in}
+use Rattle.net_reader.specs.DeclarationReader.{Signature, constant_in, dim_at, field_at, function_in, property_in, set_in, signature_at, sub_in, variable_in}
 use Rattle.net_reader.specs.FileLines.{units_in}
-use Rattle.net_reader.specs.Fits.{fits_field, fits_head, fits_param, fits_text}
-use Rattle.net_reader.specs.Limited.{constant_in, dim_at, fits_constant, fits_dim, fits_line, fits_member, fits_property, fits_variable, line_at, member_taken, variable_in}
-use Rattle.net_reader.specs.ModuleReader.{Access, Body, has_no_lines, NotedModule, Promised, head_taken, is_fine_property, property_taken, structure_taken}
+use Rattle.net_reader.specs.Fits.{fits_constant, fits_dim, fits_field, fits_head, fits_line, fits_member, fits_param, fits_property, fits_text, fits_variable}
+use Rattle.net_reader.specs.LineReader.{line_at}
+use Rattle.net_reader.specs.ModuleReader.{Access, Body, NotedModule, Promised, has_no_lines, head_taken, is_fine_property, member_taken, property_taken, structure_taken}
 use Rattle.net_reader.specs.Steps.{StopsFor}
 use Rattle.net_reader.specs.Takings.{dim_within, field_within, line_within, may_set, set_within}
 

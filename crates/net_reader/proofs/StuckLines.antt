@@ -6,8 +6,7 @@ use Rattle.net_exprs.specs.Readers.{after}
 use Rattle.net_exprs.proofs.Words.{by_test}
 use Rattle.net_reader.specs.FileLines.{file_lines}
 use Rattle.net_reader.specs.FileSteps.{file_reading, is_last_support, last_reading, named_reading, project_by, read_as, started_by}
-use Rattle.net_reader.specs.Limited.{module_behind_mark, module_in, step}
-use Rattle.net_reader.specs.ModuleReader.{Reading, at_end, complete, start, stuck}
+use Rattle.net_reader.specs.ModuleReader.{Reading, at_end, complete, module_behind_mark, module_in, start, step, stuck}
 use Rattle.net_reader.specs.ProjectReader.{Before, at_target, behind_module, module_name, modules_before, project_with, response_end, response_in, response_step}
 use Rattle.net_reader.proofs.Machines.{not_past, same_number, stuck_complete}
 use Rattle.net_reader.proofs.Marks.{behind_mark, no_fewer_lines}

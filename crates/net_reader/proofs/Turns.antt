@@ -1,7 +1,6 @@
 -- The reader of a module, one line after the other.
 use Rattle.std.proofs.Common.{◌≡◌, ℕ, suc, ◌+◌, List, ◌∷◌, sym, ap, ◌∙◌, add-one, Some, None}
-use Rattle.net_reader.specs.Limited.{run, step}
-use Rattle.net_reader.specs.ModuleReader.{State, behind_line, stuck}
+use Rattle.net_reader.specs.ModuleReader.{State, behind_line, run, step, stuck}
 
 pub goes_on : (s next : State) (number : ℕ) (lines : List (List ℕ)) (line : List ℕ) (more : List (List ℕ)) → lines ≡ line ∷ more → step s line ≡ Some next →
     run s number lines ≡ run next (number + 1) more

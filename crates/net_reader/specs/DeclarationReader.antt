@@ -32,29 +32,28 @@ declared_behind name text = cond (begins_with 40 text)
 abbrev pub declared_at : List ℕ → Option (Declared × List ℕ)
 declared_at text = option_and_then (λ (r : List ℕ × List ℕ). declared_behind r.0 r.1) (name_at text)
 
-module _ (limit : Option ℕ) where
-  -- the value that a variable begins with
-  abbrev pub value_in : List ℕ → Option (Option Exp)
-  value_in [] = Some None
-  value_in (c ∷ cs) = option_map (λ (e : Exp). Some e) (exp_in limit (drop 3 (c ∷ cs)))
+-- the value that a variable begins with
+abbrev pub value_in : List ℕ → Option (Option Exp)
+value_in [] = Some None
+value_in (c ∷ cs) = option_map (λ (e : Exp). Some e) (exp_in (drop 3 (c ∷ cs)))
 
-  abbrev pub variable_in : List ℕ → Option Variable
-  variable_in text = option_and_then (λ (d : Declared × List ℕ).
-      option_map (λ (value : Option Exp). record { name = d.0.name; ty = d.0.ty; value = value }) (value_in d.1)) (declared_at text)
+abbrev pub variable_in : List ℕ → Option Variable
+variable_in text = option_and_then (λ (d : Declared × List ℕ).
+    option_map (λ (value : Option Exp). record { name = d.0.name; ty = d.0.ty; value = value }) (value_in d.1)) (declared_at text)
 
-  abbrev pub constant_in : List ℕ → Option Constant
-  constant_in text = option_and_then (λ (d : Declared × List ℕ).
-      option_map (λ (value : Exp). record { name = d.0.name; ty = d.0.ty; value = value }) (exp_in limit (drop 3 d.1))) (declared_at text)
+abbrev pub constant_in : List ℕ → Option Constant
+constant_in text = option_and_then (λ (d : Declared × List ℕ).
+    option_map (λ (value : Exp). record { name = d.0.name; ty = d.0.ty; value = value }) (exp_in (drop 3 d.1))) (declared_at text)
 
-  -- a declaration at the head of a procedure, by the word that begins it and what follows
-  abbrev pub dim_by : Option w.Word → List ℕ → Option Dim
-  dim_by (Some w.dim_word) text = option_map local (variable_in text)
-  dim_by (Some w.static_word) text = option_map static_local (variable_in text)
-  dim_by (Some w.const_word) text = option_map constant (constant_in text)
-  dim_by _ text = None
+-- a declaration at the head of a procedure, by the word that begins it and what follows
+abbrev pub dim_by : Option w.Word → List ℕ → Option Dim
+dim_by (Some w.dim_word) text = option_map local (variable_in text)
+dim_by (Some w.static_word) text = option_map static_local (variable_in text)
+dim_by (Some w.const_word) text = option_map constant (constant_in text)
+dim_by _ text = None
 
-  abbrev pub dim_at : List ℕ → Option Dim
-  dim_at text = dim_by (keyword_at text) (drop 1 (behind_word text))
+abbrev pub dim_at : List ℕ → Option Dim
+dim_at text = dim_by (keyword_at text) (drop 1 (behind_word text))
 
 abbrev pub param_of : NetPassing → List ℕ → Option (Param × List ℕ)
 param_of passing text =

@@ -5,8 +5,7 @@ use Rattle.net_tree.specs.Spelling.{at_depth}
 use Rattle.net_tree.specs.Text.{is_support}
 use Rattle.net_tree.specs.Tree.{Module, Project}
 use Rattle.net_reader.specs.FileLines.{file_lines}
-use Rattle.net_reader.specs.Limited.{module_in}
-use Rattle.net_reader.specs.ModuleReader.{Reading, complete, is_line, stuck}
+use Rattle.net_reader.specs.ModuleReader.{Reading, complete, is_line, module_in, stuck}
 use Rattle.net_reader.specs.ProjectReader.{Before, Outcome, behind_module, faulty, main_line, module_name, modules_before, project_with, response_in, whole}
 
 -- ---- the response file

@@ -1,18 +1,15 @@
--- The laws of reading: what was written is read back, where its expressions are nested no deeper than is read.
+-- The laws of reading: what was written is read back, and what is read was written.
 use Rattle.std.specs.Prelude.{◌≡◌, ◌≤◌, ◌-◌, ℕ, true, List, Option, Some, None}
 use Rattle.net_tree.specs.Tree.{Line, Project}
 use Rattle.net_tree.specs.Spelling.{is_identifier}
 use Rattle.net_exprs.specs.Fitting.{fits_name}
 use Rattle.net_tree.specs.Lines.{line_text, is_writable_line}
 use Rattle.net_tree.specs.Text.{IsWritable, NetText, files_of, is_note, is_writable_module, module_text}
-use Rattle.net_reader.specs.Fits.{fits_line, fits_module, fits_project}
-use Rattle.net_reader.specs.Limited.{code_limit, module_in, project_in}
+use Rattle.net_reader.specs.Fits.{can_be_held, fits_line, fits_module}
 use Rattle.net_reader.specs.LineReader.{line_at}
 use Rattle.net_reader.specs.Places.{BeginsAs, IsFirstFault, IsReadable}
-use Rattle.net_reader.specs.ModuleReader as modules
-use Rattle.net_reader.specs.ModuleReader.{NotedModule, complete, stuck}
-use Rattle.net_reader.specs.ProjectReader as projects
-use Rattle.net_reader.specs.ProjectReader.{faulty, whole}
+use Rattle.net_reader.specs.ModuleReader.{NotedModule, complete, module_in, stuck}
+use Rattle.net_reader.specs.ProjectReader.{faulty, project_in, whole}
 
 -- whether the comment at the head of a file may be this, by what is known of it
 abbrev pub IsNoteKnown : Option (Option (List ℕ)) → Option (List ℕ) → Type 0
@@ -21,7 +18,7 @@ IsNoteKnown (Some known) head = known ≡ head
 
 -- A law: a line of a procedure is read back.
 abbrev pub LinesAreRead : Type 0
-LinesAreRead = (limit : Option ℕ) (l : Line) → is_writable_line l ≡ true → fits_line limit l ≡ true → line_at limit (line_text l) ≡ Some l
+LinesAreRead = (l : Line) → is_writable_line l ≡ true → fits_line l ≡ true → line_at (line_text l) ≡ Some l
 
 -- what is known of the comment can stand there
 abbrev pub IsFineNote : Option (Option (List ℕ)) → Type 0
@@ -29,24 +26,19 @@ IsFineNote None = Unit {0}
 IsFineNote (Some known) = is_note known ≡ true
 
 -- a module of a name that can be written and read back, with a comment at the head of its file as it is known
-pub record IsModuleWithin (limit : Option ℕ) (known : Option (Option (List ℕ))) (name : List ℕ) (m : NotedModule) : Type 0 where
+pub record IsModuleOf (known : Option (Option (List ℕ))) (name : List ℕ) (m : NotedModule) : Type 0 where
   pub is_known : IsNoteKnown known m.note
   pub note : is_note m.note ≡ true
   pub named : m.tree.name ≡ name
   pub writable : is_writable_module m.tree ≡ true
-  pub fits : fits_module limit m.tree ≡ true
-
--- the same up to the limit of the code
-abbrev pub IsModuleOf : Option (Option (List ℕ)) → (name : List ℕ) → NotedModule → Type 0
-IsModuleOf known name m = IsModuleWithin code_limit known name m
+  pub fits : fits_module m.tree ≡ true
 
 abbrev pub file_of : NotedModule → List ℕ
 file_of m = module_text m.note m.tree
 
 -- A law: a module is read back from its file, whether the comment at its head is known before or not.
 abbrev pub ModulesAreRead : Type 0
-ModulesAreRead = (limit : Option ℕ) (known : Option (Option (List ℕ))) (name : List ℕ) (m : NotedModule) →
-    IsModuleWithin limit known name m → modules.module_in limit known name (file_of m) ≡ complete m
+ModulesAreRead = (known : Option (Option (List ℕ))) (name : List ℕ) (m : NotedModule) → IsModuleOf known name m → module_in known name (file_of m) ≡ complete m
 
 -- A law: a module that is read is one that its file stands for.
 abbrev pub ReadModulesStand : Type 0
@@ -65,7 +57,7 @@ ModuleFaultsAreFirst = (known : Option (Option (List ℕ))) (name file : List �
 
 -- A law: a project is read back from its files.
 abbrev pub ProjectsAreRead : Type 0
-ProjectsAreRead = (limit : Option ℕ) (N : Project) → IsWritable N → fits_project limit N ≡ true → projects.project_in limit (files_of N) ≡ whole N
+ProjectsAreRead = (N : Project) → IsWritable N → can_be_held N ≡ true → project_in (files_of N) ≡ whole N
 
 -- A law: what is read is a project that its files stand for.
 abbrev pub ReadFilesStand : Type 0

@@ -8,7 +8,6 @@ pub mod ModuleReader
 pub mod Places
 pub mod ProjectReader
 pub mod Fits
-pub mod Limited
 pub mod Answers
 pub mod Parts
 pub mod Laws

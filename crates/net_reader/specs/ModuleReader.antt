@@ -134,31 +134,30 @@ close_taken depth b line c =
     option_map (λ (c : NetClose). closed (closed_by b c))
     (taken (λ (c : NetClose). closes b.tree.head c && has_no_blocks b.blocks) (λ (c : NetClose). at_depth depth (close_text c)) line (Some c))
 
-module _ (limit : Option ℕ) where
-  -- a declaration stands before all other lines
-  abbrev pub dim_taken : (depth : ℕ) → Body → List ℕ → Dim → Option Grown
-  dim_taken depth b line d =
-      option_map (λ (d : Dim). going (with_dim b d))
-      (taken (λ (d : Dim). has_no_lines b.tree.lines && is_writable_dim d && fits_dim limit d) (λ (d : Dim). at_depth (suc depth) (dim_text d)) line (Some d))
+-- a declaration stands before all other lines
+abbrev pub dim_taken : (depth : ℕ) → Body → List ℕ → Dim → Option Grown
+dim_taken depth b line d =
+    option_map (λ (d : Dim). going (with_dim b d))
+    (taken (λ (d : Dim). has_no_lines b.tree.lines && is_writable_dim d && fits_dim d) (λ (d : Dim). at_depth (suc depth) (dim_text d)) line (Some d))
 
-  -- a line that fits among the blocks round it
-  abbrev pub line_taken : (depth : ℕ) → Body → List ℕ → Option Grown
-  line_taken depth b line =
-      option_map (λ (l : Line). going (with_line b l))
-      (taken (λ (l : Line). is_writable_line l && fits_line limit l && fits_in (role_of l) b.blocks)
-      (λ (l : Line). at_depth (depth_at (role_of l) (suc depth + length b.blocks)) (line_text l)) line (line_at limit (text_of_line line)))
+-- a line that fits among the blocks round it
+abbrev pub line_taken : (depth : ℕ) → Body → List ℕ → Option Grown
+line_taken depth b line =
+    option_map (λ (l : Line). going (with_line b l))
+    (taken (λ (l : Line). is_writable_line l && fits_line l && fits_in (role_of l) b.blocks)
+    (λ (l : Line). at_depth (depth_at (role_of l) (suc depth + length b.blocks)) (line_text l)) line (line_at (text_of_line line)))
 
-  abbrev pub grown_by_line : (depth : ℕ) → Body → Option Dim → List ℕ → Option Grown
-  grown_by_line depth b (Some d) line = dim_taken depth b line d
-  grown_by_line depth b None line = line_taken depth b line
+abbrev pub grown_by_line : (depth : ℕ) → Body → Option Dim → List ℕ → Option Grown
+grown_by_line depth b (Some d) line = dim_taken depth b line d
+grown_by_line depth b None line = line_taken depth b line
 
-  abbrev pub grown_by : (depth : ℕ) → Body → Option NetClose → List ℕ → Option Grown
-  grown_by depth b (Some c) line = close_taken depth b line c
-  grown_by depth b None line = grown_by_line depth b (dim_at limit (text_of_line line)) line
+abbrev pub grown_by : (depth : ℕ) → Body → Option NetClose → List ℕ → Option Grown
+grown_by depth b (Some c) line = close_taken depth b line c
+grown_by depth b None line = grown_by_line depth b (dim_at (text_of_line line)) line
 
-  -- a line of a procedure whose head stands at a depth
-  abbrev pub grown : (depth : ℕ) → Body → List ℕ → Option Grown
-  grown depth b line = grown_by depth b (close_at (text_of_line line)) line
+-- a line of a procedure whose head stands at a depth
+abbrev pub grown : (depth : ℕ) → Body → List ℕ → Option Grown
+grown depth b line = grown_by depth b (close_at (text_of_line line)) line
 
 abbrev pub behind_procedure : NotedModule → Grown → State
 behind_procedure m (going b) = in_procedure m b
@@ -235,33 +234,32 @@ structure_taken m line found =
 abbrev pub module_end_text : (class : Bool) → List ℕ
 module_end_text class = codes "End " ++ kind_text class
 
-module _ (limit : Option ℕ) where
-  -- a member of one line
-  abbrev pub member_taken : NotedModule → List ℕ → Option Member → Option State
-  member_taken m line found =
-      option_map (λ (member : Member). among_members (with_member m member))
-      (taken (λ (member : Member). is_writable_member member && fits_member limit member) member_text line found)
+-- a member of one line
+abbrev pub member_taken : NotedModule → List ℕ → Option Member → Option State
+member_taken m line found =
+    option_map (λ (member : Member). among_members (with_member m member))
+    (taken (λ (member : Member). is_writable_member member && fits_member member) member_text line found)
 
-  -- a declaration behind its visibility, by the word there and the text from that word on
-  abbrev pub member_of : NotedModule → NetVisibility → Option w.Word → (text line : List ℕ) → Option State
-  member_of m visibility None text line = member_taken m line (option_map (variable visibility) (variable_in limit text))
-  member_of m visibility (Some w.const_word) text line = member_taken m line (option_map (const_member visibility) (constant_in limit (drop 6 text)))
-  member_of m visibility (Some w.structure_word) text line = structure_taken m line (name_at (drop 10 text))
-  member_of m visibility (Some w.sub_word) text line = head_taken m line (sub_in visibility (drop 4 text))
-  member_of m visibility (Some w.function_word) text line = head_taken m line (function_in visibility (drop 9 text))
-  member_of m visibility (Some w.property_word) text line = property_taken m both_parts line (property_in visibility (drop 9 text))
-  member_of m visibility (Some w.read_only_word) text line = property_taken m read_only line (property_in visibility (drop 18 text))
-  member_of m visibility (Some w.write_only_word) text line = property_taken m write_only line (property_in visibility (drop 19 text))
-  member_of m visibility (Some _) text line = None
+-- a declaration behind its visibility, by the word there and the text from that word on
+abbrev pub member_of : NotedModule → NetVisibility → Option w.Word → (text line : List ℕ) → Option State
+member_of m visibility None text line = member_taken m line (option_map (variable visibility) (variable_in text))
+member_of m visibility (Some w.const_word) text line = member_taken m line (option_map (const_member visibility) (constant_in (drop 6 text)))
+member_of m visibility (Some w.structure_word) text line = structure_taken m line (name_at (drop 10 text))
+member_of m visibility (Some w.sub_word) text line = head_taken m line (sub_in visibility (drop 4 text))
+member_of m visibility (Some w.function_word) text line = head_taken m line (function_in visibility (drop 9 text))
+member_of m visibility (Some w.property_word) text line = property_taken m both_parts line (property_in visibility (drop 9 text))
+member_of m visibility (Some w.read_only_word) text line = property_taken m read_only line (property_in visibility (drop 18 text))
+member_of m visibility (Some w.write_only_word) text line = property_taken m write_only line (property_in visibility (drop 19 text))
+member_of m visibility (Some _) text line = None
 
-  abbrev pub member_by : NotedModule → Option w.Word → (text line : List ℕ) → Option State
-  member_by m (Some w.end_word) text line = cond (is_line 0 (module_end_text m.tree.class) line) (Some (ended m)) None
-  member_by m word text line = option_and_then (λ (visibility : NetVisibility). member_of m visibility (keyword_at text) text line) (visibility_of word)
+abbrev pub member_by : NotedModule → Option w.Word → (text line : List ℕ) → Option State
+member_by m (Some w.end_word) text line = cond (is_line 0 (module_end_text m.tree.class) line) (Some (ended m)) None
+member_by m word text line = option_and_then (λ (visibility : NetVisibility). member_of m visibility (keyword_at text) text line) (visibility_of word)
 
-  -- a line among the members of a module, whose text is this
-  abbrev pub member_step : NotedModule → (text line : List ℕ) → Option State
-  member_step m text line = cond (begins_with 39 text) (member_taken m line (option_map member_comment (units_in (drop 1 text))))
-      (member_by m (keyword_at text) (drop 1 (behind_word text)) line)
+-- a line among the members of a module, whose text is this
+abbrev pub member_step : NotedModule → (text line : List ℕ) → Option State
+member_step m text line = cond (begins_with 39 text) (member_taken m line (option_map member_comment (units_in (drop 1 text))))
+    (member_by m (keyword_at text) (drop 1 (behind_word text)) line)
 
 -- ---- the front of a file
 
@@ -312,26 +310,25 @@ abbrev pub behind_line : {S X : Type 0} → (number : ℕ) → Option S → (S �
 behind_line number None go = stuck number
 behind_line number (Some s) go = go s
 
-module _ (limit : Option ℕ) where
-  -- where the line behind a line stands
-  abbrev pub step : State → (line : List ℕ) → Option State
-  step (at_front name) line = first_step name (note_in (text_of_line line)) line
-  step (in_front note name texts) line = front_step note name texts line
-  step (among_members m) line = member_step limit m (text_of_line line) line
-  step (in_structure m s) line = structure_by m s (keyword_at (text_of_line line)) line
-  step (in_property m p) line = property_by m p (keyword_at (text_of_line line)) line
-  step (in_procedure m b) line = option_map (behind_procedure m) (grown limit 1 b line)
-  step (in_part m p b) line = option_map (behind_part m p) (grown limit 2 b line)
-  step (ended m) line = None
+-- where the line behind a line stands
+abbrev pub step : State → (line : List ℕ) → Option State
+step (at_front name) line = first_step name (note_in (text_of_line line)) line
+step (in_front note name texts) line = front_step note name texts line
+step (among_members m) line = member_step m (text_of_line line) line
+step (in_structure m s) line = structure_by m s (keyword_at (text_of_line line)) line
+step (in_property m p) line = property_by m p (keyword_at (text_of_line line)) line
+step (in_procedure m b) line = option_map (behind_procedure m) (grown 1 b line)
+step (in_part m p b) line = option_map (behind_part m p) (grown 2 b line)
+step (ended m) line = None
 
-  abbrev pub run : State → (number : ℕ) → List (List ℕ) → Reading NotedModule
-  run s number [] = at_end s number
-  run s number (line ∷ lines) = behind_line number (step s line) (λ next. run next (suc number) lines)
+abbrev pub run : State → (number : ℕ) → List (List ℕ) → Reading NotedModule
+run s number [] = at_end s number
+run s number (line ∷ lines) = behind_line number (step s line) (λ next. run next (suc number) lines)
 
-  -- the module of a file of a name, which begins with the mark of UTF-8
-  abbrev pub module_behind_mark : Option (Option (List ℕ)) → (name : List ℕ) → Option (List ℕ) → Reading NotedModule
-  module_behind_mark known name None = stuck 1
-  module_behind_mark known name (Some rest) = run (start known name) 1 (file_lines rest)
+-- the module of a file of a name, which begins with the mark of UTF-8
+abbrev pub module_behind_mark : Option (Option (List ℕ)) → (name : List ℕ) → Option (List ℕ) → Reading NotedModule
+module_behind_mark known name None = stuck 1
+module_behind_mark known name (Some rest) = run (start known name) 1 (file_lines rest)
 
-  abbrev pub module_in : Option (Option (List ℕ)) → (name file : List ℕ) → Reading NotedModule
-  module_in known name file = module_behind_mark known name (after byte_order_mark file)
+abbrev pub module_in : Option (Option (List ℕ)) → (name file : List ℕ) → Reading NotedModule
+module_in known name file = module_behind_mark known name (after byte_order_mark file)

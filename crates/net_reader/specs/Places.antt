@@ -3,12 +3,12 @@ use Rattle.std.specs.Prelude.{◌≡◌, true, ℕ, zero, suc, ◌<◌, cond, na
 use Rattle.net_tree.specs.Text.{IsWritable, files_of}
 use Rattle.net_tree.specs.Tree.{Project}
 use Rattle.net_reader.specs.FileLines.{file_lines}
-use Rattle.net_reader.specs.Limited.{fits_project}
+use Rattle.net_reader.specs.Fits.{can_be_held}
 
--- A project that a list of files can stand for, and that can be read back from it.
+-- A project that a list of files can stand for, and that a tree of the code can hold, so that it can be read back from them.
 pub record IsReadable (N : Project) : Type 0 where
   pub writable : IsWritable N
-  pub fits : fits_project N ≡ true
+  pub fits : can_be_held N ≡ true
 
 -- A file begins with the first lines of a text, so many; a number past the lines of the text stands for its end too.
 abbrev pub BeginsAs : (lines : ℕ) → (text file : List ℕ) → Type 0

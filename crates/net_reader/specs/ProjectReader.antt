@@ -117,17 +117,16 @@ abbrev pub module_by : (file : ℕ) → Before → Reading NotedModule → (Befo
 module_by k b (stuck line) go = faulty k line
 module_by k b (complete m) go = go (behind_module b m)
 
-module _ (limit : Option ℕ) where
-  abbrev pub named_by : (file : ℕ) → Before → Option (List ℕ) → (text : List ℕ) → (Before → Outcome) → Outcome
-  named_by k b None text go = faulty k 0
-  named_by k b (Some name) text go = module_by k b (module_in limit b.note name text) go
+abbrev pub named_by : (file : ℕ) → Before → Option (List ℕ) → (text : List ℕ) → (Before → Outcome) → Outcome
+named_by k b None text go = faulty k 0
+named_by k b (Some name) text go = module_by k b (module_in b.note name text) go
 
-  -- a missing file counts as an empty one
-  abbrev pub read_from : (file : ℕ) → Before → List (List ℕ × List ℕ) → Outcome
-  read_from k b [] = faulty k 1
-  read_from k b (file ∷ files) = cond (is_same_text file.0 (codes "upgrade.rsp")) (response_by k b b.last file.1 files)
-      (named_by k b (module_name file.0) file.1 (λ next. read_from (suc k) next files))
+-- a missing file counts as an empty one
+abbrev pub read_from : (file : ℕ) → Before → List (List ℕ × List ℕ) → Outcome
+read_from k b [] = faulty k 1
+read_from k b (file ∷ files) = cond (is_same_text file.0 (codes "upgrade.rsp")) (response_by k b b.last file.1 files)
+    (named_by k b (module_name file.0) file.1 (λ next. read_from (suc k) next files))
 
-  -- what is read of the files of a project
-  abbrev pub project_in : List (List ℕ × List ℕ) → Outcome
-  project_in files = read_from 0 none_before files
+-- what is read of the files of a project
+abbrev pub project_in : List (List ℕ × List ℕ) → Outcome
+project_in files = read_from 0 none_before files

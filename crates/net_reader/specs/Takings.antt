@@ -7,8 +7,7 @@ use Rattle.net_tree.specs.Lines.{is_writable_line, line_text}
 use Rattle.net_tree.specs.Spelling.{at_depth, is_identifier}
 use Rattle.net_tree.specs.Tree.{Dim, Field, Head, Line, Member, Property}
 use Rattle.net_exprs.specs.Fitting.{fits_name}
-use Rattle.net_reader.specs.Fits.{fits_field, fits_head}
-use Rattle.net_reader.specs.Limited.{fits_dim, fits_line, fits_member}
+use Rattle.net_reader.specs.Fits.{fits_dim, fits_field, fits_head, fits_line, fits_member}
 use Rattle.net_reader.specs.Words as w
 use Rattle.net_reader.specs.ModuleReader.{Access, Body, Promised, gets, has_no_lines, is_fine_property, promised_text, sets, structure_head_text, taken}
 

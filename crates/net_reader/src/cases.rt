@@ -4,8 +4,9 @@ ghost use Rattle.net_tree.specs.View.{case_item_of, exp_of, line_of};
 ghost use Rattle.net_exprs.specs.Answers.{Answers};
 ghost use Rattle.net_exprs.specs.Readers.{look_up};
 ghost use Rattle.net_reader.specs.Answers.{AnswersWhole};
-ghost use Rattle.net_reader.specs.Limited.{case_is_at, case_item_by, case_of, case_value_of, fits_case, fits_exp, fits_line};
-ghost use Rattle.net_reader.specs.LineReader.{comparisons};
+ghost use Rattle.net_exprs.specs.Fitting.{fits_exp};
+ghost use Rattle.net_reader.specs.Fits.{fits_case, fits_line};
+ghost use Rattle.net_reader.specs.LineReader.{case_is_at, case_item_by, case_of, case_value_of, comparisons};
 ghost use Rattle.net_reader.specs.WordView.{word_of};
 
 use crate::characters::{before_blank, begins_with, behind, is};
@@ -95,7 +96,8 @@ fn case_item(alloc: Global, word: Option<Word>, text: &[u8]) -> Result<(NetCase,
 impl Item for NetCase {
     ghost use Rattle.net_tree.specs.Tree.{CaseItem};
     ghost use Rattle.net_tree.specs.View.{case_item_of};
-    ghost use Rattle.net_reader.specs.Limited.{case_item_at, fits_case};
+    ghost use Rattle.net_reader.specs.Fits.{fits_case};
+    ghost use Rattle.net_reader.specs.LineReader.{case_item_at};
 
     ghost Plain = { CaseItem };
 

@@ -6,10 +6,10 @@ ghost use Rattle.net_tree.specs.View.{constant_of, dim_of, field_of, type_name_o
 ghost use Rattle.net_exprs.specs.Answers.{Answers};
 ghost use Rattle.net_exprs.specs.Fitting.{fits_type};
 ghost use Rattle.net_reader.specs.Answers.{AnswersWhole};
-ghost use Rattle.net_reader.specs.DeclarationReader.{declared_at, field_at, field_by};
+ghost use Rattle.net_reader.specs.DeclarationReader.{constant_in, declared_at, dim_at, dim_by, field_at, field_by, value_in, variable_in};
 ghost use Rattle.net_reader.specs.FileLines.{units_in};
-ghost use Rattle.net_reader.specs.Fits.{fits_field};
-ghost use Rattle.net_reader.specs.Limited.{constant_in, dim_at, dim_by, exp_in, fits_constant, fits_dim, fits_option, fits_variable, value_in, variable_in};
+ghost use Rattle.net_reader.specs.Fits.{fits_constant, fits_dim, fits_field, fits_option, fits_variable};
+ghost use Rattle.net_reader.specs.LineReader.{exp_in};
 ghost use Rattle.net_reader.specs.Parts.{array_type, declared_of, fits_declared, present_value, public_field, ranked_type, type_behind, value_of};
 ghost use Rattle.net_reader.specs.WordView.{word_of};
 

@@ -2,10 +2,9 @@
 ghost use Rattle.std.specs.Prelude.{◌≡◌, ◌<◌, true, length, IfOk};
 ghost use Rattle.net_tree.specs.View.{exp_of};
 ghost use Rattle.net_exprs.specs.Answers.{Answers};
-ghost use Rattle.net_exprs.specs.Fitting.{fits_label};
+ghost use Rattle.net_exprs.specs.Fitting.{fits_exp, fits_label};
 ghost use Rattle.net_reader.specs.Answers.{AnswersWhole};
-ghost use Rattle.net_reader.specs.Limited.{exp_at, exp_in, fits_exp};
-ghost use Rattle.net_reader.specs.LineReader.{label_in};
+ghost use Rattle.net_reader.specs.LineReader.{exp_at, exp_in, label_in};
 
 use net_exprs::{PhraseFail, read_expression, read_label};
 use net_tree::{NetExpr, NetLabel};
@@ -17,10 +16,7 @@ pub(crate) fn expression(alloc: Global, text: &[u8]) -> Result<(NetExpr, &[u8]),
     ensures shorter { IfOk result (λ read. length read.1.now < length text.now) }
     ensures held { IfOk result (λ read. fits_exp (exp_of read.0) ≡ true) }
 {
-    match read_expression(alloc, text) {
-        Ok(read) => Ok(read),
-        Err(e) => Err(e),
-    }
+    read_expression(alloc, text)
 }
 
 /// The expression that a text begins with, in a box.

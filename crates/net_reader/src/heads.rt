@@ -4,8 +4,7 @@ ghost use Rattle.std.specs.Prelude.{◌≡◌, true, None, option_map, IfOk};
 ghost use Rattle.net_tree.specs.View.{head_of};
 ghost use Rattle.net_reader.specs.Answers.{AnswersWhole};
 ghost use Rattle.net_reader.specs.DeclarationReader as model;
-ghost use Rattle.net_reader.specs.Fits.{fits_head};
-ghost use Rattle.net_reader.specs.Limited.{fits_property};
+ghost use Rattle.net_reader.specs.Fits.{fits_head, fits_property};
 ghost use Rattle.net_reader.specs.Parts.{property_head_of};
 ghost use Rattle.net_reader.specs.WordView.{word_of};
 

@@ -4,7 +4,7 @@ ghost use Rattle.net_tree.specs.Tree as tree;
 ghost use Rattle.net_tree.specs.View.{line_of};
 ghost use Rattle.net_exprs.specs.Fitting.{fits_label};
 ghost use Rattle.net_reader.specs.Answers.{AnswersWhole};
-ghost use Rattle.net_reader.specs.Limited.{fits_line};
+ghost use Rattle.net_reader.specs.Fits.{fits_line};
 ghost use Rattle.net_reader.specs.LineReader as model;
 ghost use Rattle.net_reader.specs.LineReader.{exit_of, handler_of};
 ghost use Rattle.net_reader.specs.WordView.{word_of};

@@ -5,9 +5,10 @@ ghost use Rattle.net_tree.specs.Tree.{Exp};
 ghost use Rattle.net_tree.specs.View.{exp_of, line_of};
 ghost use Rattle.net_reader.specs.Answers.{AnswersWhole};
 ghost use Rattle.net_reader.specs.FileLines.{units_in};
-ghost use Rattle.net_reader.specs.Limited.{exp_at, exp_in, fits_exp, fits_line, line_at, line_of_word, plain_line, statement_of};
+ghost use Rattle.net_exprs.specs.Fitting.{fits_exp};
+ghost use Rattle.net_reader.specs.Fits.{fits_line};
 ghost use Rattle.net_reader.specs.LineReader as model;
-ghost use Rattle.net_reader.specs.LineReader.{call_in};
+ghost use Rattle.net_reader.specs.LineReader.{call_in, exp_at, exp_in, line_at, line_of_word, plain_line, statement_of};
 ghost use Rattle.net_reader.specs.WordView.{word_of};
 
 use crate::cases::case_of;

@@ -3,8 +3,9 @@ ghost use Rattle.std.specs.Prelude.{◌≡◌, true, option_map, IfOk};
 ghost use Rattle.net_tree.specs.Tree as tree;
 ghost use Rattle.net_tree.specs.View.{exp_of, line_of};
 ghost use Rattle.net_reader.specs.Answers.{AnswersWhole};
-ghost use Rattle.net_reader.specs.Limited as limited;
-ghost use Rattle.net_reader.specs.Limited.{exp_in, fits_line, fits_option, for_in, step_in};
+ghost use Rattle.net_reader.specs.Fits.{fits_line, fits_option};
+ghost use Rattle.net_reader.specs.LineReader as model;
+ghost use Rattle.net_reader.specs.LineReader.{exp_in, for_in, step_in};
 ghost use Rattle.net_reader.specs.WordView.{word_of};
 
 use crate::characters::behind;
@@ -87,7 +88,7 @@ fn loop_until(alloc: Global, text: &[u8]) -> Result<NetLine, PhraseFail>
 
 /// Reads a Do, by the word behind it and what follows that.
 pub(crate) fn do_of(alloc: Global, word: Option<Word>, text: &[u8]) -> Result<NetLine, PhraseFail>
-    ensures answers { AnswersWhole line_of fits_line (limited.do_of (option_map word_of word) text.now) result }
+    ensures answers { AnswersWhole line_of fits_line (model.do_of (option_map word_of word) text.now) result }
     ensures held { IfOk result (λ line. fits_line (line_of line) ≡ true) }
 {
     match word {
@@ -100,7 +101,7 @@ pub(crate) fn do_of(alloc: Global, word: Option<Word>, text: &[u8]) -> Result<Ne
 
 /// Reads a Loop, by the word behind it and what follows that.
 pub(crate) fn loop_of(alloc: Global, word: Option<Word>, text: &[u8]) -> Result<NetLine, PhraseFail>
-    ensures answers { AnswersWhole line_of fits_line (limited.loop_of (option_map word_of word) text.now) result }
+    ensures answers { AnswersWhole line_of fits_line (model.loop_of (option_map word_of word) text.now) result }
     ensures held { IfOk result (λ line. fits_line (line_of line) ≡ true) }
 {
     match word {

@@ -5,11 +5,9 @@ ghost use Rattle.net_tree.specs.View.{head_of, member_of};
 ghost use Rattle.net_exprs.specs.Fitting.{fits_name};
 ghost use Rattle.net_exprs.specs.Names.{name_at};
 ghost use Rattle.net_reader.specs.Answers.{AnswersWhole};
-ghost use Rattle.net_reader.specs.DeclarationReader.{function_in, property_in, sub_in, visibility_of};
+ghost use Rattle.net_reader.specs.DeclarationReader.{constant_in, function_in, property_in, sub_in, variable_in, visibility_of};
 ghost use Rattle.net_reader.specs.FileLines.{text_of_line, units_in};
-ghost use Rattle.net_reader.specs.Fits.{fits_head};
-ghost use Rattle.net_reader.specs.Limited as limited;
-ghost use Rattle.net_reader.specs.Limited.{constant_in, fits_member, fits_property, variable_in};
+ghost use Rattle.net_reader.specs.Fits.{fits_head, fits_member, fits_property};
 ghost use Rattle.net_reader.specs.ModuleReader as model;
 ghost use Rattle.net_reader.specs.Parts.{property_head_of};
 ghost use Rattle.net_reader.specs.StateView.{access_of, noted_of, state_of};
@@ -41,7 +39,7 @@ fn member_taken(
     member: NetMember,
 ) -> Result<State, PhraseFail>
     requires { fits_member (member_of member) ≡ true }
-    ensures { Steps state_of (limited.member_taken (noted_of noted) line.now (Some (member_of member))) result }
+    ensures { Steps state_of (model.member_taken (noted_of noted) line.now (Some (member_of member))) result }
 {
     match checked_member(alloc, line, member) {
         Ok(member) => Ok(State::AmongMembers(with_member(noted, member)?)),
@@ -125,7 +123,7 @@ fn comment_step(
     text: &[u8],
     line: &[u8],
 ) -> Result<State, PhraseFail>
-    ensures { Steps state_of (limited.member_taken (noted_of noted) line.now (option_map member_comment (units_in text.now))) result }
+    ensures { Steps state_of (model.member_taken (noted_of noted) line.now (option_map member_comment (units_in text.now))) result }
 {
     match comment(alloc, text) {
         Ok(member) => member_taken(alloc, noted, line, member),
@@ -164,7 +162,7 @@ fn variable_step(
     text: &[u8],
     line: &[u8],
 ) -> Result<State, PhraseFail>
-    ensures { Steps state_of (limited.member_taken (noted_of noted) line.now (option_map (variable visibility) (variable_in text.now))) result }
+    ensures { Steps state_of (model.member_taken (noted_of noted) line.now (option_map (variable visibility) (variable_in text.now))) result }
 {
     match variable(alloc, visibility, text) {
         Ok(member) => member_taken(alloc, noted, line, member),
@@ -180,7 +178,7 @@ fn constant_step(
     text: &[u8],
     line: &[u8],
 ) -> Result<State, PhraseFail>
-    ensures { Steps state_of (limited.member_taken (noted_of noted) line.now (option_map (const_member visibility) (constant_in text.now))) result }
+    ensures { Steps state_of (model.member_taken (noted_of noted) line.now (option_map (const_member visibility) (constant_in text.now))) result }
 {
     match constant(alloc, visibility, text) {
         Ok(member) => member_taken(alloc, noted, line, member),
@@ -246,7 +244,7 @@ fn member_of(
     text: &[u8],
     line: &[u8],
 ) -> Result<State, PhraseFail>
-    ensures { Steps state_of (limited.member_of (noted_of noted) visibility (option_map word_of word) text.now line.now) result }
+    ensures { Steps state_of (model.member_of (noted_of noted) visibility (option_map word_of word) text.now line.now) result }
 {
     match word {
         None => variable_step(alloc, noted, visibility, text, line),
@@ -303,7 +301,7 @@ fn module_end(
     text: &[u8],
     line: &[u8],
 ) -> Result<State, PhraseFail>
-    ensures { Steps state_of (limited.member_by (noted_of noted) (Some w.end_word) text.now line.now) result }
+    ensures { Steps state_of (model.member_by (noted_of noted) (Some w.end_word) text.now line.now) result }
 {
     if !is_ending(alloc, noted.tree.class, line)? {
         return Err(PhraseFail::NotNet);
@@ -318,7 +316,7 @@ fn declared_step(
     text: &[u8],
     line: &[u8],
 ) -> Result<State, PhraseFail>
-    ensures { Steps state_of (option_and_then (λ visibility. limited.member_of (noted_of noted) visibility (keyword_at text.now) text.now line.now) (visibility_of (option_map word_of word))) result }
+    ensures { Steps state_of (option_and_then (λ visibility. model.member_of (noted_of noted) visibility (keyword_at text.now) text.now line.now) (visibility_of (option_map word_of word))) result }
 {
     match visibility_of(word) {
         Some(visibility) => member_of(alloc, noted, visibility, keyword_at(text), text, line),
@@ -333,7 +331,7 @@ fn member_by(
     text: &[u8],
     line: &[u8],
 ) -> Result<State, PhraseFail>
-    ensures { Steps state_of (limited.member_by (noted_of noted) (option_map word_of word) text.now line.now) result }
+    ensures { Steps state_of (model.member_by (noted_of noted) (option_map word_of word) text.now line.now) result }
 {
     match word {
         Some(Word::End) => module_end(alloc, noted, text, line),
@@ -347,7 +345,7 @@ pub(crate) fn member_step(
     noted: NotedModule,
     line: &[u8],
 ) -> Result<State, PhraseFail>
-    ensures { Steps state_of (limited.member_step (noted_of noted) (text_of_line line.now) line.now) result }
+    ensures { Steps state_of (model.member_step (noted_of noted) (text_of_line line.now) line.now) result }
 {
     let text = text_of_line(line);
     if begins_with(b'\'', text) {

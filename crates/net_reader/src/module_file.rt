@@ -4,7 +4,6 @@ ghost use Rattle.net_exprs.specs.Answers.{now_of};
 ghost use Rattle.net_exprs.specs.Readers.{after};
 ghost use Rattle.net_tree.specs.Text.{byte_order_mark};
 ghost use Rattle.net_reader.specs.FileLines.{file_lines};
-ghost use Rattle.net_reader.specs.Limited as limited;
 ghost use Rattle.net_reader.specs.ModuleReader as model;
 ghost use Rattle.net_reader.specs.ReadingView.{reading_of};
 ghost use Rattle.net_reader.specs.StateView.{noted_of, state_of};
@@ -36,7 +35,7 @@ fn end_of(state: State, number: usize) -> FileReading<NotedModule>
 
 // Reads lines from a state on.
 fn run(alloc: Global, first: State, text: &[u8]) -> Result<FileReading<NotedModule>, Mem>
-    ensures { IfOk result (λ reading. reading_of noted_of reading ≡ limited.run (state_of first) 1 (file_lines text.now)) }
+    ensures { IfOk result (λ reading. reading_of noted_of reading ≡ model.run (state_of first) 1 (file_lines text.now)) }
 {
     let mut state = first;
     let mut rest = text;
@@ -69,7 +68,7 @@ pub(crate) fn read_module(
     name: Name,
     file: &[u8],
 ) -> Result<FileReading<NotedModule>, Mem>
-    ensures { IfOk result (λ reading. reading_of noted_of reading ≡ limited.module_in known.now name file.now) }
+    ensures { IfOk result (λ reading. reading_of noted_of reading ≡ model.module_in known.now name file.now) }
 {
     match behind_mark(file) {
         Some(text) => {

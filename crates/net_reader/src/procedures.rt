@@ -1,8 +1,8 @@
 //! Reads the lines of procedures, one after the other.
 ghost use Rattle.std.specs.Prelude.{◌≡◌, ◌≤◌, ◌||◌, option_map, Some};
 ghost use Rattle.net_reader.specs.FileLines.{text_of_line};
-ghost use Rattle.net_reader.specs.Limited as limited;
-ghost use Rattle.net_reader.specs.Limited.{dim_at, line_at};
+ghost use Rattle.net_reader.specs.DeclarationReader.{dim_at};
+ghost use Rattle.net_reader.specs.LineReader.{line_at};
 ghost use Rattle.net_reader.specs.ModuleReader as model;
 ghost use Rattle.net_reader.specs.StateView.{body_of, grown_of};
 ghost use Rattle.net_reader.specs.Steps.{Steps};
@@ -33,7 +33,7 @@ fn dim_taken(alloc: Global, depth: usize, body: Body, line: &[u8]) -> Result<Gro
 #[tactic(auto, using(crate::proofs::Stopping::map_stops))]
 fn line_taken(alloc: Global, depth: usize, body: Body, line: &[u8]) -> Result<Grown, PhraseFail>
     requires { depth ≤ 2 }
-    ensures { Steps grown_of (limited.line_taken depth (body_of body) line.now) result }
+    ensures { Steps grown_of (model.line_taken depth (body_of body) line.now) result }
 {
     match take_line(alloc, depth, &body.blocks, line) {
         Ok(read) => Ok(Grown::Going(with_line(body, read)?)),
@@ -72,7 +72,7 @@ fn declares(word: Option<Word>) -> bool
 #[tactic(auto, using(crate::proofs::DimWords::dim_alone, crate::proofs::DimWords::line_alone))]
 fn grown_by_line(alloc: Global, depth: usize, body: Body, line: &[u8]) -> Result<Grown, PhraseFail>
     requires { depth ≤ 2 }
-    ensures { Steps grown_of (limited.grown_by_line depth (body_of body) (dim_at (text_of_line line.now)) line.now) result }
+    ensures { Steps grown_of (model.grown_by_line depth (body_of body) (dim_at (text_of_line line.now)) line.now) result }
 {
     if declares(keyword_at(text_of_line(line))) {
         return dim_taken(alloc, depth, body, line);
@@ -88,7 +88,7 @@ pub(crate) fn grown(
     line: &[u8],
 ) -> Result<Grown, PhraseFail>
     requires { depth ≤ 2 }
-    ensures { Steps grown_of (limited.grown depth (body_of body) line.now) result }
+    ensures { Steps grown_of (model.grown depth (body_of body) line.now) result }
 {
     match close_at(text_of_line(line)) {
         Some(close) => close_taken(alloc, depth, body, line, close),

@@ -3,8 +3,8 @@ ghost use Rattle.std.specs.Prelude.{◌≡◌, ◌<◌, true, length, option_map
 ghost use Rattle.net_tree.specs.View.{exp_of, line_of, redim_item_of};
 ghost use Rattle.net_exprs.specs.Answers.{Answers};
 ghost use Rattle.net_reader.specs.Answers.{AnswersWhole};
-ghost use Rattle.net_reader.specs.Limited as limited;
-ghost use Rattle.net_reader.specs.Limited.{fits_exp, fits_line, fits_redim};
+ghost use Rattle.net_exprs.specs.Fitting.{fits_exp};
+ghost use Rattle.net_reader.specs.Fits.{fits_line, fits_redim};
 ghost use Rattle.net_reader.specs.LineReader as model;
 ghost use Rattle.net_reader.specs.WordView.{word_of};
 
@@ -38,7 +38,7 @@ fn array(e: NetExpr, text: &[u8]) -> Result<(NetReDim, &[u8]), PhraseFail>
 }
 
 fn redim_item(alloc: Global, text: &[u8]) -> Result<(NetReDim, &[u8]), PhraseFail>
-    ensures answers { Answers redim_item_of fits_redim (limited.redim_item_at text.now) result }
+    ensures answers { Answers redim_item_of fits_redim (model.redim_item_at text.now) result }
     ensures shorter { IfOk result (λ read. length read.1.now < length text.now) }
     ensures held { IfOk result (λ read. fits_redim (redim_item_of read.0) ≡ true) }
 {
@@ -49,7 +49,8 @@ fn redim_item(alloc: Global, text: &[u8]) -> Result<(NetReDim, &[u8]), PhraseFai
 impl Item for NetReDim {
     ghost use Rattle.net_tree.specs.Tree.{ReDimItem};
     ghost use Rattle.net_tree.specs.View.{redim_item_of};
-    ghost use Rattle.net_reader.specs.Limited.{fits_redim, redim_item_at};
+    ghost use Rattle.net_reader.specs.Fits.{fits_redim};
+    ghost use Rattle.net_reader.specs.LineReader.{redim_item_at};
 
     ghost Plain = { ReDimItem };
 
@@ -65,7 +66,7 @@ impl Item for NetReDim {
 }
 
 fn redim(alloc: Global, preserve: bool, text: &[u8]) -> Result<NetLine, PhraseFail>
-    ensures answers { AnswersWhole line_of fits_line (limited.redim_in preserve text.now) result }
+    ensures answers { AnswersWhole line_of fits_line (model.redim_in preserve text.now) result }
     ensures held { IfOk result (λ line. fits_line (line_of line) ≡ true) }
 {
     match items(alloc, text) {
@@ -80,7 +81,7 @@ pub(crate) fn redim_by(
     word: Option<Word>,
     text: &[u8],
 ) -> Result<NetLine, PhraseFail>
-    ensures answers { AnswersWhole line_of fits_line (limited.redim_by (option_map word_of word) text.now) result }
+    ensures answers { AnswersWhole line_of fits_line (model.redim_by (option_map word_of word) text.now) result }
     ensures held { IfOk result (λ line. fits_line (line_of line) ≡ true) }
 {
     match word {

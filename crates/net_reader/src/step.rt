@@ -1,7 +1,6 @@
 //! Goes from line to line of the file of a module.
 ghost use Rattle.std.specs.Prelude.{◌≡◌, option_map, IfOk};
 ghost use Rattle.net_reader.specs.FileLines.{text_of_line};
-ghost use Rattle.net_reader.specs.Limited as limited;
 ghost use Rattle.net_reader.specs.ModuleReader as model;
 ghost use Rattle.net_reader.specs.StateView.{body_of, grown_of, noted_of, promised_of, state_of};
 ghost use Rattle.net_reader.specs.Steps.{Steps};
@@ -53,7 +52,7 @@ fn procedure_step(
     body: Body,
     line: &[u8],
 ) -> Result<State, PhraseFail>
-    ensures { Steps state_of (option_map (model.behind_procedure (noted_of noted)) (limited.grown 1 (body_of body) line.now)) result }
+    ensures { Steps state_of (option_map (model.behind_procedure (noted_of noted)) (model.grown 1 (body_of body) line.now)) result }
 {
     match grown(alloc, 1, body, line) {
         Ok(grown) => Ok(behind_procedure(alloc, noted, grown)?),
@@ -69,7 +68,7 @@ fn part_step(
     body: Body,
     line: &[u8],
 ) -> Result<State, PhraseFail>
-    ensures { Steps state_of (option_map (model.behind_part (noted_of noted) (promised_of promised)) (limited.grown 2 (body_of body) line.now)) result }
+    ensures { Steps state_of (option_map (model.behind_part (noted_of noted) (promised_of promised)) (model.grown 2 (body_of body) line.now)) result }
 {
     match grown(alloc, 2, body, line) {
         Ok(grown) => Ok(behind_part(alloc, noted, promised, grown)?),
@@ -80,7 +79,7 @@ fn part_step(
 /// Where the line behind a line stands, and what is read up to there. It fails with `NotNet` where no written file of a module
 /// goes on with the line.
 pub(crate) fn step(alloc: Global, state: State, line: &[u8]) -> Result<State, PhraseFail>
-    ensures { Steps state_of (limited.step (state_of state) line.now) result }
+    ensures { Steps state_of (model.step (state_of state) line.now) result }
 {
     match state {
         State::AtFront(name) => first_step(alloc, name, line),

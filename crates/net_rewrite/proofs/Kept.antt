@@ -1,5 +1,5 @@
 -- A procedure all of whose lines are translated is a translated procedure.
-use Rattle.std.proofs.Common.{◌≡◌, ◌⊎◌, inl, inr, ℕ, zero, suc, Bool, true, false, not, ◌&&◌, ◌||◌, cond, List, [], ◌∷◌, ◌++◌, map, Some, None, refl, sym, ap, ◌∙◌, subst}
+use Rattle.std.proofs.Common.{◌≡◌, ◌⊎◌, inl, inr, ℕ, zero, suc, Bool, true, false, not, ◌&&◌, ◌||◌, cond, List, [], ◌∷◌, ◌++◌, map, Option, Some, None, refl, sym, ap, ◌∙◌, subst}
 use Rattle.std.proofs.lemmas.List.{map-append}
 use Rattle.std.proofs.lemmas.Slice.Eq.{bytes_eq-Decides}
 use Rattle.std.specs.List.{list_all, flat_map}
@@ -11,9 +11,9 @@ use Rattle.vb_tree.specs.BoundTree.{Variable, Expr, Body, Bound}
 use Rattle.vb_tree.specs.FlatLines.{Flat, flat_body, flat_lines, node_lines, middle_lines, code_lines, name_of}
 use Rattle.vb_tree.specs.Tree.{Declarator, Form, assign, debug_print, Line, Node, Nodes, Middles, proc}
 use Rattle.vb_tree.specs.Tree as tree
-use Rattle.vb6_run.specs.Program.{Written, procedures_of, with_exprs, lines_from, bound_lines, locals_of}
+use Rattle.vb6_run.specs.Program.{Written, BoundLine, procedures_of, with_exprs, lines_from, bound_lines, locals_of}
 use Rattle.net_rewrite.specs.Marks.{is_among, taken_names, declared_by, is_scalar_name, declares_scalars, is_translated_declaration, has_fit_constants, is_translated_code, placed_lines, placed_in, placed_middles, first_exprs, later_exprs, marked, is_lost, marked_users, exprs_at, Place6, is_translated_head, is_kept}
-use Rattle.net_rewrite.specs.Modules.{dim_names, LocalsAreDeclared}
+use Rattle.net_rewrite.specs.Modules.{lines_at, dim_names, LocalsAreDeclared}
 use Rattle.net_rewrite.specs.Translated.{is_scalar, is_translated_form, is_translated_line, is_scalar_local, is_straight_form, is_straight, is_plain_sub, has_straight_body, are_translated, is_translated_procedure}
 use Rattle.net_rewrite.proofs.Characters.{not_of}
 use Rattle.net_rewrite.proofs.Lists.{both_true, and_true, all_first, all_rest, all_append, all_left, all_leads}
@@ -141,27 +141,33 @@ all_straight taken locals (x ∷ xs) ess e = of_line (first_line taken locals x 
 
 -- ---- code lines
 
-with_first : (locals : List (ℕ × Variable)) (f : Flat) (fs : List Flat) (ess : List (List Expr)) → is_translated_form locals f.line.form (first_exprs ess) ≡ true
-    → list_all (is_translated_line locals) (with_exprs fs (later_exprs ess)) ≡ true → list_all (is_translated_line locals) (with_exprs (f ∷ fs) ess) ≡ true
-with_first locals f fs [] h k = and_true (is_translated_form locals f.line.form []) (list_all (is_translated_line locals) (with_exprs fs [])) h k
-with_first locals f fs (es ∷ ess) h k = and_true (is_translated_form locals f.line.form es) (list_all (is_translated_line locals) (with_exprs fs ess)) h k
+abbrev pub has_fit_line : BoundLine → Bool
+has_fit_line l = list_all has_fit_constants l.exprs
 
-code_translated : (taken : List (List ℕ)) (locals : List (ℕ × Variable)) (n : ℕ) (xs : List (Bool × Line)) (ess : List (List Expr))
-    → list_all is_done (marked taken locals xs ess) ≡ true → list_all (is_translated_line locals) (with_exprs (numbered n (code_lines (map placed_line xs))) ess) ≡ true
-code_translated taken locals n [] ess e = refl
-code_translated taken locals n (x ∷ xs) ess e = of_line (first_line taken locals x xs ess e) (λ m t es h. code_translated t locals m xs es h)
+-- a line that is translated, whose constants fit
+abbrev is_kept_line : List (ℕ × Variable) → BoundLine → Bool
+is_kept_line locals l = is_translated_code locals l.flat.line.form l.exprs
+
+with_first : (locals : List (ℕ × Variable)) (f : Flat) (fs : List Flat) (ess : List (List Expr)) → is_translated_code locals f.line.form (first_exprs ess) ≡ true
+    → list_all (is_kept_line locals) (with_exprs fs (later_exprs ess)) ≡ true → list_all (is_kept_line locals) (with_exprs (f ∷ fs) ess) ≡ true
+with_first locals f fs [] h k = and_true (is_translated_code locals f.line.form []) (list_all (is_kept_line locals) (with_exprs fs [])) h k
+with_first locals f fs (es ∷ ess) h k = and_true (is_translated_code locals f.line.form es) (list_all (is_kept_line locals) (with_exprs fs ess)) h k
+
+code_kept : (taken : List (List ℕ)) (locals : List (ℕ × Variable)) (n : ℕ) (xs : List (Bool × Line)) (ess : List (List Expr))
+    → list_all is_done (marked taken locals xs ess) ≡ true → list_all (is_kept_line locals) (with_exprs (numbered n (code_lines (map placed_line xs))) ess) ≡ true
+code_kept taken locals n [] ess e = refl
+code_kept taken locals n (x ∷ xs) ess e = of_line (first_line taken locals x xs ess e) (λ m t es h. code_kept t locals m xs es h)
   where
     of_line : CodeFirst taken locals x xs ess ⊎ DeclarationFirst taken locals x xs ess
         → ((m : ℕ) (t : List (List ℕ)) (es : List (List Expr)) → list_all is_done (marked t locals xs es) ≡ true
-        → list_all (is_translated_line locals) (with_exprs (numbered m (code_lines (map placed_line xs))) es) ≡ true)
-        → list_all (is_translated_line locals) (with_exprs (numbered n (cond (is_code x.1.form) (x.1 ∷ code_lines (map placed_line xs)) (code_lines (map placed_line xs)))) ess) ≡ true
+        → list_all (is_kept_line locals) (with_exprs (numbered m (code_lines (map placed_line xs))) es) ≡ true)
+        → list_all (is_kept_line locals) (with_exprs (numbered n (cond (is_code x.1.form) (x.1 ∷ code_lines (map placed_line xs)) (code_lines (map placed_line xs)))) ess) ≡ true
     of_line (inl h) rest =
-        let form = both_true (is_translated_form locals x.1.form (first_exprs ess)) (list_all has_fit_constants (first_exprs ess)) h.translated in
-        subst (λ b. list_all (is_translated_line locals) (with_exprs (numbered n (cond b (x.1 ∷ code_lines (map placed_line xs)) (code_lines (map placed_line xs)))) ess) ≡ true) (sym h.code)
-        (with_first locals (record { line = x.1; after = suc n; otherwise = None; back = None; leave = None }) (numbered (suc n) (code_lines (map placed_line xs))) ess form.0
+        subst (λ b. list_all (is_kept_line locals) (with_exprs (numbered n (cond b (x.1 ∷ code_lines (map placed_line xs)) (code_lines (map placed_line xs)))) ess) ≡ true) (sym h.code)
+        (with_first locals (record { line = x.1; after = suc n; otherwise = None; back = None; leave = None }) (numbered (suc n) (code_lines (map placed_line xs))) ess h.translated
         (rest (suc n) taken (later_exprs ess) h.more))
     of_line (inr h) rest =
-        subst (λ b. list_all (is_translated_line locals) (with_exprs (numbered n (cond b (x.1 ∷ code_lines (map placed_line xs)) (code_lines (map placed_line xs)))) ess) ≡ true) (sym h.code)
+        subst (λ b. list_all (is_kept_line locals) (with_exprs (numbered n (cond b (x.1 ∷ code_lines (map placed_line xs)) (code_lines (map placed_line xs)))) ess) ≡ true) (sym h.code)
         (rest n (declared_by x.1.form ++ taken) ess h.more)
 
 -- the lines of a procedure with what is bound in them
@@ -323,18 +329,43 @@ kept_is_straight P at head body close e =
     body_is_straight body
     (all_straight (taken_names P.declarations.project.modules) (locals_of P at.procedure) (placed_lines body) (exprs_at (slice_get P.bodies at.procedure)) (kept_parts P at head body close e).lines)
 
+abbrev are_kept_lines : List (ℕ × Variable) → Option (List BoundLine) → Bool
+are_kept_lines locals None = false
+are_kept_lines locals (Some lines) = list_all (is_kept_line locals) lines
+
+kept_code : (P : Bound) (at : Place6) (head : Line) (body : Nodes) (close : Line) → is_kept P at (proc head body close) ≡ true
+    → slice_get (procedures_of P.declarations.project) at.procedure ≡ Some (record { head = head; body = body })
+    → are_kept_lines (locals_of P at.procedure) (slice_get (bound_lines P) at.procedure) ≡ true
+kept_code P at head body close e found =
+    let parts = kept_parts P at head body close e in
+    let locals = locals_of P at.procedure in
+    let ess = exprs_at (slice_get P.bodies at.procedure) in
+    ap (are_kept_lines locals) (lines_at_number (procedures_of P.declarations.project) P.bodies at.procedure (record { head = head; body = body }) found)
+    ∙ ap (λ fs. list_all (is_kept_line locals) (with_exprs fs ess)) (straight_body body (kept_is_straight P at head body close e))
+    ∙ ap (λ ls. list_all (is_kept_line locals) (with_exprs (numbered 1 (code_lines ls)) ess)) (sym (placed_are body))
+    ∙ code_kept (taken_names P.declarations.project.modules) locals 1 (placed_lines body) ess parts.lines
+
+all_translated : (locals : List (ℕ × Variable)) (o : Option (List BoundLine)) → are_kept_lines locals o ≡ true → are_translated locals o ≡ true
+all_translated locals None e = e
+all_translated locals (Some lines) e =
+    all_leads (is_kept_line locals) (is_translated_line locals) (λ l h. (both_true (is_translated_form locals l.flat.line.form l.exprs) (list_all has_fit_constants l.exprs) h).0) lines e
+
+all_fit : (locals : List (ℕ × Variable)) (o : Option (List BoundLine)) → are_kept_lines locals o ≡ true → list_all has_fit_line (lines_at o) ≡ true
+all_fit locals None e = refl
+all_fit locals (Some lines) e =
+    all_leads (is_kept_line locals) has_fit_line (λ l h. (both_true (is_translated_form locals l.flat.line.form l.exprs) (list_all has_fit_constants l.exprs) h).1) lines e
+
 -- the code lines are translated
 pub kept_lines : (P : Bound) (at : Place6) (head : Line) (body : Nodes) (close : Line) → is_kept P at (proc head body close) ≡ true
     → slice_get (procedures_of P.declarations.project) at.procedure ≡ Some (record { head = head; body = body })
     → are_translated (locals_of P at.procedure) (slice_get (bound_lines P) at.procedure) ≡ true
-kept_lines P at head body close e found =
-    let parts = kept_parts P at head body close e in
-    let locals = locals_of P at.procedure in
-    let ess = exprs_at (slice_get P.bodies at.procedure) in
-    ap (are_translated locals) (lines_at_number (procedures_of P.declarations.project) P.bodies at.procedure (record { head = head; body = body }) found)
-    ∙ ap (λ fs. list_all (is_translated_line locals) (with_exprs fs ess)) (straight_body body (kept_is_straight P at head body close e))
-    ∙ ap (λ ls. list_all (is_translated_line locals) (with_exprs (numbered 1 (code_lines ls)) ess)) (sym (placed_are body))
-    ∙ code_translated (taken_names P.declarations.project.modules) locals 1 (placed_lines body) ess parts.lines
+kept_lines P at head body close e found = all_translated (locals_of P at.procedure) (slice_get (bound_lines P) at.procedure) (kept_code P at head body close e found)
+
+-- the constants of the code lines fit
+pub kept_constants : (P : Bound) (at : Place6) (head : Line) (body : Nodes) (close : Line) → is_kept P at (proc head body close) ≡ true
+    → slice_get (procedures_of P.declarations.project) at.procedure ≡ Some (record { head = head; body = body })
+    → list_all has_fit_line (lines_at (slice_get (bound_lines P) at.procedure)) ≡ true
+kept_constants P at head body close e found = all_fit (locals_of P at.procedure) (slice_get (bound_lines P) at.procedure) (kept_code P at head body close e found)
 
 -- the names of the locals are distinct, each the name of a scalar
 kept_names : (P : Bound) (at : Place6) (head : Line) (body : Nodes) (close : Line) → LocalsAreDeclared P → is_kept P at (proc head body close) ≡ true

@@ -14,6 +14,7 @@ pub mod Straight
 mod Runs
 pub mod Kept
 pub mod Placing
+mod WrittenDepths
 mod WritableExpressions
 pub mod WritableModules
 pub mod WritableProjects

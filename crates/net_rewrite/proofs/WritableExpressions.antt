@@ -1,7 +1,7 @@
 -- What is written for expressions and lines that are translated can be written.
 use Rattle.std.proofs.Common.{◌≡◌, ℕ, Bool, true, false, not, ◌&&◌, cond, codes, pos, negsuc, List, [], ◌∷◌, Option, Some, None, refl, sym, subst}
 use Rattle.std.specs.List.{list_all}
-use Rattle.std.specs.Prelude.{nat_eq}
+use Rattle.std.specs.Prelude.{nat_eq, nat_le, length}
 use Rattle.up_base.specs.Names.{is_printable}
 use Rattle.vb_tree.specs.BoundTree as types
 use Rattle.vb_tree.specs.BoundTree.{Ty, Variable, Expr, typed, Term, constant, variable, field, element, call, library, unary, binary, convert, new_object, me, with_object, err_number, err_raise, err_clear, is_same, loose}
@@ -9,11 +9,13 @@ use Rattle.vb_tree.specs.declared.value.Value6.{Value6}
 use Rattle.vb_tree.specs.declared.value.Value6.TheVariants as v
 use Rattle.vb_tree.specs.Tree.{Form, assign, debug_print}
 use Rattle.up_base.specs.Names.{is_same_name}
+use Rattle.vb6_run.specs.Depth.{is_shallow_expr, are_shallow_exprs}
 use Rattle.vb6_run.specs.Program.{BoundLine, type_of}
 use Rattle.vb6_run.specs.Store.{is_same_scalar}
 use Rattle.net_tree.specs.declared.expression.CastWord.{CastWord}
 use Rattle.net_tree.specs.declared.expression.CastWord.TheVariants as word
-use Rattle.net_tree.specs.Expressions.{is_writable_exp}
+use Rattle.net_tree.specs.Depth.{is_shallow}
+use Rattle.net_tree.specs.Expressions.{is_writable_exp, is_writable_whole}
 use Rattle.net_tree.specs.Lines.{is_writable_line}
 use Rattle.net_tree.specs.Spelling.{is_identifier, is_same_text, is_same_path}
 use Rattle.net_tree.specs.Tree.{Exp}
@@ -21,10 +23,12 @@ use Rattle.net_tree.specs.Tree as net
 use Rattle.net_meaning.specs.WrittenLiterals.{Piece, quoted, unit, Pieces, pieces_of, behind, in_front, is_plain, write_constant}
 use Rattle.net_meaning.specs.WrittenRows.{Row, operand_a, operand_b, no_text, cast, Call, cur, cur_text, fix, var_as, var_str, Written, write_operator, write_unary, write_conversion}
 use Rattle.net_meaning.specs.WrittenRows as row
+use Rattle.net_rewrite.specs.Marks.{has_fit_constants}
 use Rattle.net_rewrite.specs.Written.{piece_exp, joined_exp, exp_or_nothing, call_path, Operand, plain, cast_exp, decimal_for, row_exp, operator_exp, literal_as, literal_exp, operand_of, converted_exp, local_name, local_exp, exp_of, term_exp, item_exp, printed_item, joined_items, items_exp, print_path, assign_line, line_of, written_line}
 use Rattle.net_rewrite.specs.Translated.{is_scalar, is_plain_call, is_over_a, is_over_b, is_over_both, is_safe, is_operand_a, is_to_decimal, is_not, goes_to_decimal, has_not, is_first, unary_fits, binary_fits, conversion_fits, compares_objects, is_translated, is_translated_term, is_target, is_target_of, is_assignment, is_item, is_translated_form, is_translated_line}
-use Rattle.net_rewrite.proofs.Lists.{both_true, and_true}
+use Rattle.net_rewrite.proofs.Lists.{both_true, and_true, all_first}
 use Rattle.net_rewrite.proofs.LocalNames.{local_is}
+use Rattle.net_rewrite.proofs.WrittenDepths.{expr_is_shallow, print_is_shallow}
 
 -- ---- constants
 
@@ -302,23 +306,36 @@ target_can ls (typed ty term) s n i = of_term term (both_true (is_target ls ty t
     of_term (is_same a c) j = absurd (cc j)
     of_term (loose a) j = absurd (cc j)
 
-assignment_can : (ls : List (ℕ × Variable)) (es : List Expr) → are_named ls ≡ true → is_assignment ls es ≡ true → is_writable_line (assign_line ls es) ≡ true
-assignment_can ls (to ∷ e ∷ []) n i =
-    let both = both_true (is_target_of ls to (type_of e)) (is_translated ls e) i in
-    and_true (is_writable_exp (exp_of ls to)) (is_writable_exp (exp_of ls e)) (target_can ls to (type_of e) n both.0) (exp_can ls e n both.1)
-assignment_can ls [] n i = absurd (cc i)
-assignment_can ls (to ∷ []) n i = absurd (cc i)
-assignment_can ls (to ∷ e ∷ d ∷ es) n i = absurd (cc i)
+-- an expression within the limits of the grammar whose constants fit is no deeper than is read back
+whole_can : (ls : List (ℕ × Variable)) (e : Expr) → Can (exp_of ls e) → has_fit_constants e ≡ true → is_shallow_expr e ≡ true → is_writable_whole (exp_of ls e) ≡ true
+whole_can ls e h fit shallow = and_true (is_shallow (exp_of ls e)) (is_writable_exp (exp_of ls e)) (expr_is_shallow ls e fit shallow) h
 
-print_can : (ended : Bool) (e : Exp) → Can e → is_writable_line (net.call (net.path (print_path ended)) (net.next_exp e net.no_exps)) ≡ true
+assignment_can : (ls : List (ℕ × Variable)) (es : List Expr) → are_named ls ≡ true → is_assignment ls es ≡ true → list_all has_fit_constants es ≡ true → list_all is_shallow_expr es ≡ true → is_writable_line (assign_line ls es) ≡ true
+assignment_can ls (to ∷ e ∷ []) n i fit shallow =
+    let both = both_true (is_target_of ls to (type_of e)) (is_translated ls e) i in
+    let fits = both_true (has_fit_constants to) (list_all has_fit_constants (e ∷ [])) fit in
+    let within = both_true (is_shallow_expr to) (list_all is_shallow_expr (e ∷ [])) shallow in
+    and_true (is_writable_whole (exp_of ls to)) (is_writable_whole (exp_of ls e))
+    (whole_can ls to (target_can ls to (type_of e) n both.0) fits.0 within.0)
+    (whole_can ls e (exp_can ls e n both.1) (all_first has_fit_constants e [] fits.1) (all_first is_shallow_expr e [] within.1))
+assignment_can ls [] n i fit shallow = absurd (cc i)
+assignment_can ls (to ∷ []) n i fit shallow = absurd (cc i)
+assignment_can ls (to ∷ e ∷ d ∷ es) n i fit shallow = absurd (cc i)
+
+abbrev print_exp : Bool → Exp → Exp
+print_exp ended e = net.call_of (net.path (print_path ended)) (net.next_exp e net.no_exps)
+
+print_can : (ended : Bool) (e : Exp) → Can e → Can (print_exp ended e)
 print_can true e h = and_true (is_writable_exp e) true h refl
 print_can false e h = and_true (is_writable_exp e) true h refl
 
-form_can : (ls : List (ℕ × Variable)) (f : Form) (es : List Expr) → are_named ls ≡ true → is_translated_form ls f es ≡ true → is_writable_line (line_of ls f es) ≡ true
-form_can ls (assign target value) es n i = assignment_can ls es n i
-form_can ls (debug_print items ended) es n i = print_can ended (items_exp ls es) (items_can ls es n i)
-form_can ls _ es n i = absurd (cc i)
+form_can : (ls : List (ℕ × Variable)) (f : Form) (es : List Expr) → are_named ls ≡ true → is_translated_form ls f es ≡ true → list_all has_fit_constants es ≡ true → are_shallow_exprs es ≡ true → is_writable_line (line_of ls f es) ≡ true
+form_can ls (assign target value) es n i fit shallow = assignment_can ls es n i fit (both_true (nat_le (length es) 64) (list_all is_shallow_expr es) shallow).1
+form_can ls (debug_print items ended) es n i fit shallow =
+    and_true (is_shallow (print_exp ended (items_exp ls es))) (is_writable_exp (print_exp ended (items_exp ls es))) (print_is_shallow ls (print_path ended) es fit shallow)
+    (print_can ended (items_exp ls es) (items_can ls es n i))
+form_can ls _ es n i fit shallow = absurd (cc i)
 
--- a line that is translated can be written
-pub line_can : (ls : List (ℕ × Variable)) (l : BoundLine) → are_named ls ≡ true → is_translated_line ls l ≡ true → is_writable_line (written_line ls l) ≡ true
-line_can ls l n i = form_can ls l.flat.line.form l.exprs n i
+-- a line that is translated can be written, where its constants fit and its expressions are within the limits of the grammar
+pub line_can : (ls : List (ℕ × Variable)) (l : BoundLine) → are_named ls ≡ true → is_translated_line ls l ≡ true → list_all has_fit_constants l.exprs ≡ true → are_shallow_exprs l.exprs ≡ true → is_writable_line (written_line ls l) ≡ true
+line_can ls l n i fit shallow = form_can ls l.flat.line.form l.exprs n i fit shallow

@@ -1,14 +1,16 @@
--- What is written for the modules of a project can be written, where its names and texts are such.
+-- What is written for the modules of a project can be written, where its names and texts are such and its lines are within the
+-- limits of the grammar.
 use Rattle.std.proofs.Common.{◌≡◌, ℕ, zero, suc, ◌+◌, Bool, true, false, not, ◌&&◌, ◌||◌, cond, codes, List, [], ◌∷◌, ◌++◌, map, length, Option, Some, None, refl, sym, ap, ◌∙◌, arith}
 use Rattle.std.specs.List.{list_all, flat_map}
 use Rattle.std.specs.Prelude.{slice_get, nat_le}
 use Rattle.vb_tree.specs.BoundTree as types
-use Rattle.vb_tree.specs.BoundTree.{Ty, Variable, Expr, Bound}
+use Rattle.vb_tree.specs.BoundTree.{Ty, Variable, Expr, Body, Bound}
 use Rattle.vb_tree.specs.Blocks.{is_code}
 use Rattle.vb_tree.specs.FlatLines as flat
 use Rattle.vb_tree.specs.Tree as tree
 use Rattle.vb_tree.specs.Tree.{Form, sub_head, Line, Member, alone, group, proc, Module}
-use Rattle.vb6_run.specs.Program.{Written, procedures_in, procedures_of, BoundLine, bound_lines, is_local_of, locals_from, locals_of}
+use Rattle.vb6_run.specs.Depth.{are_shallow_exprs, is_shallow_body, is_shallow_bound}
+use Rattle.vb6_run.specs.Program.{Written, procedures_in, procedures_of, BoundLine, with_exprs, lines_from, bound_lines, is_local_of, locals_from, locals_of}
 use Rattle.net_tree.specs.declared.block.NetRole.TheVariants.{Plain}
 use Rattle.net_tree.specs.Blocks as net_blocks
 use Rattle.net_tree.specs.Comments.{is_comment, is_well_formed, is_within_line, is_surrogate}
@@ -26,8 +28,8 @@ use Rattle.net_rewrite.specs.Writable.{are_comments, has_comment_text, names_sub
 use Rattle.net_rewrite.specs.Written.{net_type, assign_line, line_of, written_line, written_local}
 use Rattle.net_rewrite.proofs.LostNames.{users_all}
 use Rattle.net_rewrite.proofs.Characters.{not_of, formed_behind}
-use Rattle.net_rewrite.proofs.Kept.{placed_line, placed_are, kept_is_plain, kept_lines}
-use Rattle.net_rewrite.proofs.Lists.{both_true, and_true, all_append, all_left, all_right}
+use Rattle.net_rewrite.proofs.Kept.{placed_line, placed_are, has_fit_line, kept_is_plain, kept_lines, kept_constants}
+use Rattle.net_rewrite.proofs.Lists.{both_true, and_true, all_first, all_rest, all_append, all_left, all_right}
 use Rattle.net_rewrite.proofs.Placing.{in_front, at_back, procedures_in_module, number_of_members}
 use Rattle.net_rewrite.proofs.WritableExpressions.{are_named, line_can}
 
@@ -114,15 +116,21 @@ written_is_plain locals l = of_form l.flat.line.form l.exprs
     of_form (tree.debug_print items ended) es = refl
     of_form _ es = refl
 
-lines_can : (ls : List (ℕ × Variable)) (cs : List Comment) (lines : List BoundLine) (close : ℕ) → are_named ls ≡ true → are_comments cs ≡ true → list_all (is_translated_line ls) lines ≡ true → CanLines (with_comments ls cs lines close)
-lines_can ls cs [] close n h e = comments_can (up_to close cs) (up_to_can close cs h)
-lines_can ls cs (l ∷ lines) close n h e =
+abbrev is_shallow_line : BoundLine → Bool
+is_shallow_line l = are_shallow_exprs l.exprs
+
+lines_can : (ls : List (ℕ × Variable)) (cs : List Comment) (lines : List BoundLine) (close : ℕ) → are_named ls ≡ true → are_comments cs ≡ true
+    → list_all (is_translated_line ls) lines ≡ true → list_all has_fit_line lines ≡ true → list_all is_shallow_line lines ≡ true → CanLines (with_comments ls cs lines close)
+lines_can ls cs [] close n h e fit shallow = comments_can (up_to close cs) (up_to_can close cs h)
+lines_can ls cs (l ∷ lines) close n h e fit shallow =
     let both = both_true (is_translated_line ls l) (list_all (is_translated_line ls) lines) e in
+    let fits = both_true (has_fit_line l) (list_all has_fit_line lines) fit in
+    let within = both_true (is_shallow_line l) (list_all is_shallow_line lines) shallow in
     let at = l.flat.line.place.line in
     let first = comments_can (up_to at cs) (up_to_can at cs h) in
-    let more = lines_can ls (past at cs) lines close n (past_can at cs h) both.1 in (
+    let more = lines_can ls (past at cs) lines close n (past_can at cs h) both.1 fits.1 within.1 in (
       all_append is_writable_line (comment_lines (up_to at cs)) (written_line ls l ∷ with_comments ls (past at cs) lines close) first.0
-          (and_true (is_writable_line (written_line ls l)) (list_all is_writable_line (with_comments ls (past at cs) lines close)) (line_can ls l n both.0) more.0),
+          (and_true (is_writable_line (written_line ls l)) (list_all is_writable_line (with_comments ls (past at cs) lines close)) (line_can ls l n both.0 fits.0 within.0) more.0),
       all_append is_plain_line (comment_lines (up_to at cs)) (written_line ls l ∷ with_comments ls (past at cs) lines close) first.1
           (and_true (is_plain_line (written_line ls l)) (list_all is_plain_line (with_comments ls (past at cs) lines close)) (written_is_plain ls l) more.1),
     )
@@ -156,11 +164,27 @@ translated_lines : (ls : List (ℕ × Variable)) (o : Option (List BoundLine)) �
 translated_lines ls None e = refl
 translated_lines ls (Some lines) e = e
 
-procedure_can : (P : Bound) (p : ℕ) (cs : List Comment) (head close : Line) → are_named (locals_of P p) ≡ true → are_comments cs ≡ true → is_plain_sub head.form ≡ true → names_sub head.form ≡ true
-    → are_translated (locals_of P p) (slice_get (bound_lines P) p) ≡ true → is_writable_member (net.proc (written_procedure P p cs head close)) ≡ true
-procedure_can P p cs head close n h plain named e =
+with_shallow : (fs : List flat.Flat) (ess : List (List Expr)) → list_all are_shallow_exprs ess ≡ true → list_all is_shallow_line (with_exprs fs ess) ≡ true
+with_shallow [] ess h = refl
+with_shallow (f ∷ fs) [] h = with_shallow fs [] refl
+with_shallow (f ∷ fs) (es ∷ ess) h =
+    let both = both_true (are_shallow_exprs es) (list_all are_shallow_exprs ess) h in
+    and_true (are_shallow_exprs es) (list_all is_shallow_line (with_exprs fs ess)) both.0 (with_shallow fs ess both.1)
+
+-- the lines of a procedure have the expressions of its body
+lines_shallow : (ws : List Written) (bs : List Body) (p : ℕ) → list_all is_shallow_body bs ≡ true → list_all is_shallow_line (lines_at (slice_get (lines_from ws bs) p)) ≡ true
+lines_shallow [] bs p h = refl
+lines_shallow (w ∷ ws) [] zero h = with_shallow (flat.flat_body w.body) [] refl
+lines_shallow (w ∷ ws) (b ∷ bs) zero h = with_shallow (flat.flat_body w.body) b.lines (all_first is_shallow_body b bs h)
+lines_shallow (w ∷ ws) [] (suc p) h = lines_shallow ws [] p refl
+lines_shallow (w ∷ ws) (b ∷ bs) (suc p) h = lines_shallow ws bs p (all_rest is_shallow_body b bs h)
+
+procedure_can : (P : Bound) (p : ℕ) (cs : List Comment) (head close : Line) → are_named (locals_of P p) ≡ true → is_shallow_bound P ≡ true → are_comments cs ≡ true → is_plain_sub head.form ≡ true → names_sub head.form ≡ true
+    → are_translated (locals_of P p) (slice_get (bound_lines P) p) ≡ true → list_all has_fit_line (lines_at (slice_get (bound_lines P) p)) ≡ true → is_writable_member (net.proc (written_procedure P p cs head close)) ≡ true
+procedure_can P p cs head close n shallow h plain named e fit =
     let heads = head_can head.form plain named in
-    let lines = lines_can (locals_of P p) cs (lines_at (slice_get (bound_lines P) p)) close.place.line n h (translated_lines (locals_of P p) (slice_get (bound_lines P) p) e) in
+    let within = lines_shallow (procedures_of P.declarations.project) P.bodies p shallow in
+    let lines = lines_can (locals_of P p) cs (lines_at (slice_get (bound_lines P) p)) close.place.line n h (translated_lines (locals_of P p) (slice_get (bound_lines P) p) e) fit within in
     let written = with_comments (locals_of P p) cs (lines_at (slice_get (bound_lines P) p)) close.place.line in
     let h1 = and_true (is_writable_head (written_head head.form)) (closes (written_head head.form) EndSub) heads.0 heads.1 in
     let h2 = and_true (is_writable_head (written_head head.form) && closes (written_head head.form) EndSub) (list_all is_writable_dim (map written_local (locals_of P p))) h1 (locals_can (locals_of P p) n) in
@@ -247,21 +271,21 @@ located_behind P p w ws h j v e =
     let there : (1 + p) + j ≡ p + suc j = omega arith in
     ap (slice_get (procedures_of P.declarations.project)) there ∙ h (suc j) v e
 
-members_can : (P : Bound) (at : Place6) (ms : List Member) (cs : List Comment) → list_all is_named_variable P.declarations.vars ≡ true → Located P at.procedure (flat_map procedures_in ms) → list_all is_named_head (flat_map procedures_in ms) ≡ true
+members_can : (P : Bound) (at : Place6) (ms : List Member) (cs : List Comment) → list_all is_named_variable P.declarations.vars ≡ true → is_shallow_bound P ≡ true → Located P at.procedure (flat_map procedures_in ms) → list_all is_named_head (flat_map procedures_in ms) ≡ true
     → list_all has_comment_text (flat_map flat.member_lines ms) ≡ true → are_comments cs ≡ true → list_all is_writable_member (written_members P at cs ms) ≡ true
-members_can P at [] cs n found heads texts h = member_comments_can cs h
-members_can P at (alone l ∷ ms) cs n found heads texts h =
+members_can P at [] cs n shallow found heads texts h = member_comments_can cs h
+members_can P at (alone l ∷ ms) cs n shallow found heads texts h =
     let rest = flat_map flat.member_lines ms in
     all_append is_writable_member (all_left_out cs (marked_lines P at (alone l))) (written_members P (behind at (alone l)) (past l.place.line cs) ms)
     (left_out_can cs (marked_lines P at (alone l)) h (member_texts P at (alone l) (all_left has_comment_text (l ∷ []) rest texts)))
-    (members_can P (behind at (alone l)) ms (past l.place.line cs) n found heads (all_right has_comment_text (l ∷ []) rest texts) (past_can l.place.line cs h))
-members_can P at (group head lines close ∷ ms) cs n found heads texts h =
+    (members_can P (behind at (alone l)) ms (past l.place.line cs) n shallow found heads (all_right has_comment_text (l ∷ []) rest texts) (past_can l.place.line cs h))
+members_can P at (group head lines close ∷ ms) cs n shallow found heads texts h =
     let own = flat.member_lines (group head lines close) in
     let rest = flat_map flat.member_lines ms in
     all_append is_writable_member (all_left_out cs (marked_lines P at (group head lines close))) (written_members P (behind at (group head lines close)) (past close.place.line cs) ms)
     (left_out_can cs (marked_lines P at (group head lines close)) h (member_texts P at (group head lines close) (all_left has_comment_text own rest texts)))
-    (members_can P (behind at (group head lines close)) ms (past close.place.line cs) n found heads (all_right has_comment_text own rest texts) (past_can close.place.line cs h))
-members_can P at (proc head body close ∷ ms) cs n found heads texts h =
+    (members_can P (behind at (group head lines close)) ms (past close.place.line cs) n shallow found heads (all_right has_comment_text own rest texts) (past_can close.place.line cs h))
+members_can P at (proc head body close ∷ ms) cs n shallow found heads texts h =
     let own = flat.member_lines (proc head body close) in
     let rest = flat_map flat.member_lines ms in
     let named = both_true (names_sub head.form) (list_all is_named_head (flat_map procedures_in ms)) heads in
@@ -269,7 +293,7 @@ members_can P at (proc head body close ∷ ms) cs n found heads texts h =
     let stands = sym (ap (slice_get (procedures_of P.declarations.project)) here) ∙ found zero (record { head = head; body = body }) refl in
     all_append is_writable_member (written_member P at cs (proc head body close)) (written_members P (behind at (proc head body close)) (past close.place.line cs) ms)
     (of_kept (is_kept P at (proc head body close)) refl named.0 stands (left_out_can cs (marked_lines P at (proc head body close)) h (member_texts P at (proc head body close) (all_left has_comment_text own rest texts))))
-    (members_can P (behind at (proc head body close)) ms (past close.place.line cs) n (located_behind P at.procedure (record { head = head; body = body }) (flat_map procedures_in ms) found) named.1 (all_right has_comment_text own rest texts) (past_can close.place.line cs h))
+    (members_can P (behind at (proc head body close)) ms (past close.place.line cs) n shallow (located_behind P at.procedure (record { head = head; body = body }) (flat_map procedures_in ms) found) named.1 (all_right has_comment_text own rest texts) (past_can close.place.line cs h))
   where
     of_kept : (b : Bool) → is_kept P at (proc head body close) ≡ b → names_sub head.form ≡ true → slice_get (procedures_of P.declarations.project) at.procedure ≡ Some (record { head = head; body = body })
         → list_all is_writable_member (all_left_out cs (marked_lines P at (proc head body close))) ≡ true
@@ -279,11 +303,11 @@ members_can P at (proc head body close ∷ ms) cs n found heads texts h =
         all_append is_writable_member (member_comments (up_to head.place.line cs)) (net.proc (written_procedure P at.procedure (past head.place.line cs) head close) ∷ [])
         (member_comments_can (up_to head.place.line cs) (up_to_can head.place.line cs h))
         (and_true (is_writable_member (net.proc (written_procedure P at.procedure (past head.place.line cs) head close))) true
-        (procedure_can P at.procedure (past head.place.line cs) head close (locals_named at.procedure 0 P.declarations.vars n) (past_can head.place.line cs h) (kept_is_plain P at head body close k) named (kept_lines P at head body close k found)) refl)
+        (procedure_can P at.procedure (past head.place.line cs) head close (locals_named at.procedure 0 P.declarations.vars n) shallow (past_can head.place.line cs h) (kept_is_plain P at head body close k) named (kept_lines P at head body close k found) (kept_constants P at head body close k found)) refl)
 
-modules_can : (P : Bound) (ms : List Module) (p : ℕ) → list_all is_named_variable P.declarations.vars ≡ true → Located P p (flat_map procedures_in_module ms) → list_all is_named_module ms ≡ true → list_all is_writable_module (written_modules P p ms) ≡ true
-modules_can P [] p n found named = refl
-modules_can P (m ∷ ms) p n found named =
+modules_can : (P : Bound) (ms : List Module) (p : ℕ) → list_all is_named_variable P.declarations.vars ≡ true → is_shallow_bound P ≡ true → Located P p (flat_map procedures_in_module ms) → list_all is_named_module ms ≡ true → list_all is_writable_module (written_modules P p ms) ≡ true
+modules_can P [] p n shallow found named = refl
+modules_can P (m ∷ ms) p n shallow found named =
     let at = first_place P.declarations.project.modules p m in
     let next = (behind_all at m.members).procedure in
     let both = both_true (is_named_module m) (list_all is_named_module ms) named in
@@ -293,8 +317,8 @@ modules_can P (m ∷ ms) p n found named =
     let first = both_true (is_identifier m.name) (are_comments m.comments) second.0 in
     and_true (is_writable_module (written_module P at m)) (list_all is_writable_module (written_modules P next ms))
     (and_true (is_identifier m.name) (list_all is_writable_member (written_members P at m.comments m.members)) first.0
-    (members_can P at m.members m.comments n (λ j w e. found j w (in_front (procedures_in_module m) (flat_map procedures_in_module ms) j w e)) third.1 second.1 first.1))
-    (modules_can P ms next n (λ j w e. moved at j w (found (length (procedures_in_module m) + j) w (at_back (procedures_in_module m) (flat_map procedures_in_module ms) j w e))) both.1)
+    (members_can P at m.members m.comments n shallow (λ j w e. found j w (in_front (procedures_in_module m) (flat_map procedures_in_module ms) j w e)) third.1 second.1 first.1))
+    (modules_can P ms next n shallow (λ j w e. moved at j w (found (length (procedures_in_module m) + j) w (at_back (procedures_in_module m) (flat_map procedures_in_module ms) j w e))) both.1)
   where
     moved : (at : Place6) (j : ℕ) (w : Written) → slice_get (procedures_of P.declarations.project) (at.procedure + (length (procedures_in_module m) + j)) ≡ Some w
         → slice_get (procedures_of P.declarations.project) ((behind_all at m.members).procedure + j) ≡ Some w
@@ -304,7 +328,7 @@ modules_can P (m ∷ ms) p n found named =
         ap (slice_get (procedures_of P.declarations.project)) same ∙ e
 
 -- what is written for the modules can be written
-pub written_can : (P : Bound) → is_named P ≡ true → list_all is_writable_module (written_modules P 0 P.declarations.project.modules) ≡ true
-written_can P h =
+pub written_can : (P : Bound) → is_named P ≡ true → is_shallow_bound P ≡ true → list_all is_writable_module (written_modules P 0 P.declarations.project.modules) ≡ true
+written_can P h shallow =
     let both = both_true (list_all is_named_variable P.declarations.vars) (list_all is_named_module P.declarations.project.modules) h in
-    modules_can P P.declarations.project.modules 0 both.0 (λ j w e. let here : 0 + j ≡ j = omega arith in ap (slice_get (procedures_of P.declarations.project)) here ∙ e) both.1
+    modules_can P P.declarations.project.modules 0 both.0 shallow (λ j w e. let here : 0 + j ≡ j = omega arith in ap (slice_get (procedures_of P.declarations.project)) here ∙ e) both.1

@@ -1,5 +1,6 @@
--- What is written for a project can be written, where its names and texts are such.
-use Rattle.std.proofs.Common.{◌≡◌, ℕ, Bool, true, false, ◌&&◌, cond, codes, List, [], ◌∷◌, ◌++◌, map, Option, Some, None, refl, sym, ap, ◌∙◌}
+-- What is written for a project can be written, where its names and texts are such and its lines are within the limits of the
+-- grammar.
+use Rattle.std.proofs.Common.{◌≡◌, ℕ, Bool, true, false, ◌&&◌, cond, List, [], ◌∷◌, map, Option, Some, None, refl}
 use Rattle.std.specs.List.{list_all, flat_map}
 use Rattle.std.specs.Prelude.{filter}
 use Rattle.up_base.specs.Names.{is_name}
@@ -8,6 +9,7 @@ use Rattle.vb_tree.specs.declared.project.ProjectKind.{ProjectKind}
 use Rattle.vb_tree.specs.declared.project.ProjectKind.TheVariants as kind
 use Rattle.vb_tree.specs.FlatLines.{module_lines}
 use Rattle.vb_tree.specs.Tree.{Module}
+use Rattle.vb6_run.specs.Depth.{is_shallow_bound}
 use Rattle.vb6_run.specs.Program.{procedures_in}
 use Rattle.net_tree.specs.Spelling.{is_identifier}
 use Rattle.net_tree.specs.Text.{is_writable_module, is_main, file_name, IsWritable}
@@ -16,7 +18,7 @@ use Rattle.support_text.specs.Needs.{support_module}
 use Rattle.support_text.proofs.Writable.{support_can}
 use Rattle.net_rewrite.specs.Marks.{first_place, behind_all}
 use Rattle.net_rewrite.specs.Modules.{written_modules}
-use Rattle.net_rewrite.specs.Projects.{declares_main, only, only_main, started, main_of, written_project, has_file_name, can_be_named}
+use Rattle.net_rewrite.specs.Projects.{declares_main, only, started, written_project, has_file_name, can_be_named}
 use Rattle.net_rewrite.specs.Writable.{are_comments, has_comment_text, is_named_head, names_variables, is_named_module, is_named_variable, is_named}
 use Rattle.net_rewrite.proofs.Lists.{both_true, and_true, all_append}
 use Rattle.net_rewrite.proofs.WritableModules.{written_can}
@@ -56,8 +58,8 @@ files_named P p (m ∷ ms) h =
     let next = (behind_all (first_place P.declarations.project.modules p m) m.members).procedure in
     and_true (has_file_name m) (list_all (λ (m : net.Module). is_name (file_name m)) (written_modules P next ms)) both.0 (files_named P next ms both.1)
 
-pub project_can : (P : Bound) → can_be_named P ≡ true → IsWritable (written_project P)
-project_can P h =
+pub project_can : (P : Bound) → can_be_named P ≡ true → is_shallow_bound P ≡ true → IsWritable (written_project P)
+project_can P h shallow =
     let ms = P.declarations.project.modules in
     let both = both_true (is_named P) (list_all has_file_name ms) h in
     let named = both_true (list_all is_named_variable P.declarations.vars) (list_all is_named_module ms) both.0 in
@@ -67,7 +69,7 @@ project_can P h =
       note = refl;
       main = main_named P.declarations.project.file.kind P.declarations.project.file.startup ms named.1;
       target = refl;
-      modules = all_append is_writable_module modules (support_module modules ∷ []) (written_can P both.0) (and_true (is_writable_module (support_module modules)) true support.writable refl);
+      modules = all_append is_writable_module modules (support_module modules ∷ []) (written_can P both.0 shallow) (and_true (is_writable_module (support_module modules)) true support.writable refl);
       support = support.support;
       file_names = all_append (λ (m : net.Module). is_name (file_name m)) modules (support_module modules ∷ []) (files_named P 0 ms both.1) (and_true (is_name (file_name (support_module modules))) true support.file_name refl);
     }

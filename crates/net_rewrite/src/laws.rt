@@ -1,6 +1,7 @@
 //! That what is written does the same.
 ghost use Rattle.std.specs.Prelude.{◌≡◌, ℕ, true};
 ghost use Rattle.vb_tree.specs.BoundTree.{Bound};
+ghost use Rattle.vb6_run.specs.Depth.{is_shallow_bound};
 ghost use Rattle.std.specs.List.{list_all};
 ghost use Rattle.net_tree.specs.Text.{is_writable_module, IsWritable};
 ghost use Rattle.net_tree.specs.Tree.{Project};
@@ -34,15 +35,15 @@ pub fn same_runs_of_modules()
         → (q : ℕ) × IsWrittenAs P N p q × SameLines P N p q × SameRun P N p q }
 {}
 
-/// A law: where the names of a project are identifiers and its texts can stand in comments, what is written for its modules
-/// can be written.
+/// A law: where the names of a project are identifiers, its texts can stand in comments and its lines are within the limits of
+/// the grammar, what is written for its modules can be written.
 #[tactic(auto, using(crate::proofs::WritableModules::written_can))]
 pub fn modules_can_be_written()
-    ensures { (P : Bound) → is_named P ≡ true → list_all is_writable_module (written_modules P 0 P.declarations.project.modules) ≡ true }
+    ensures { (P : Bound) → is_named P ≡ true → is_shallow_bound P ≡ true → list_all is_writable_module (written_modules P 0 P.declarations.project.modules) ≡ true }
 {}
 
 /// A law: so can what is written for the whole project, where files can be named for its modules.
 #[tactic(auto)]
 pub fn project_can_be_written()
-    ensures { (P : Bound) → can_be_named P ≡ true → IsWritable (written_project P) }
+    ensures { (P : Bound) → can_be_named P ≡ true → is_shallow_bound P ≡ true → IsWritable (written_project P) }
 {}

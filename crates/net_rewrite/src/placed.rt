@@ -20,7 +20,8 @@ pub(crate) struct PlacedLine<'a> {
 pub(crate) fn placed_lines(alloc: Global, body: &[Node6]) -> Result<Vec<PlacedLine>, Mem>
     ensures { IfOk result (λ lines. map placed_of lines.items ≡ marks.placed_lines (nodes_of body.now)) }
 {
-    let mut lines = Vec::with_capacity(alloc, body.len())?;
+    // With room for two more, so that the hole that they leave is large enough for the marks.
+    let mut lines = Vec::with_capacity(alloc, body.len().saturating_add(2))?;
     push_body(&mut lines, body)?;
     Ok(lines)
 }

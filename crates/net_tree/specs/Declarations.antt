@@ -13,7 +13,7 @@ use Rattle.net_tree.specs.Tree.{Constant, Dim, Exp, Field, Head, Member, Param, 
 use Rattle.net_tree.specs.Blocks.{nests}
 use Rattle.net_tree.specs.Spelling.{at_depth, in_parentheses, name_text, is_identifier}
 use Rattle.net_tree.specs.Comments.{comment_text, is_comment}
-use Rattle.net_tree.specs.Expressions.{exp_text, rank_text, type_text, is_writable_exp, is_writable_type}
+use Rattle.net_tree.specs.Expressions.{exp_text, rank_text, type_text, is_writable_whole, is_writable_type}
 use Rattle.net_tree.specs.Lines.{lines_text, is_writable_line, is_writable_option}
 
 -- what a name is declared as: the parentheses of an array stand behind the name
@@ -112,7 +112,7 @@ abbrev pub is_writable_variable : Variable → Bool
 is_writable_variable v = is_identifier v.name && is_writable_type v.ty && is_writable_option v.value
 
 abbrev pub is_writable_constant : Constant → Bool
-is_writable_constant c = is_identifier c.name && is_writable_type c.ty && is_writable_exp c.value
+is_writable_constant c = is_identifier c.name && is_writable_type c.ty && is_writable_whole c.value
 
 abbrev pub is_writable_dim : Dim → Bool
 is_writable_dim (local v) = is_writable_variable v

@@ -11,6 +11,7 @@ use Rattle.net_tree.specs.Types.{TypeName}
 use Rattle.net_tree.specs.Tree.{Exp, Exps, binary, call_of, cast, ctype, dot, integer, lit, me, new_array, new_object, next_exp, no_exps, nothing, paren, path, type_of, unary, with_dot}
 use Rattle.net_tree.specs.Spelling.{in_parentheses, name_text, path_text, is_identifier, is_path}
 use Rattle.net_tree.specs.Literals.{literal_text, is_writable_literal}
+use Rattle.net_tree.specs.Depth.{is_shallow}
 
 -- the parentheses of an array, with a comma between its dimensions
 abbrev pub rank_text : ℕ → List ℕ
@@ -140,3 +141,7 @@ abbrev mutual
   pub are_writable_bounds : Exps → Bool
   are_writable_bounds no_exps = true
   are_writable_bounds (next_exp e more) = (is_no_bound e || is_writable_exp e) && are_writable_bounds more
+
+-- An expression that is no part of another one can stand in a line where it is nested no deeper than is read back.
+abbrev pub is_writable_whole : Exp → Bool
+is_writable_whole e = is_shallow e && is_writable_exp e

@@ -5,11 +5,11 @@ use Rattle.net_tree.specs.declared.expression.NetBin.{NetBin}
 use Rattle.net_tree.specs.declared.expression.NetBin.TheVariants as op
 use Rattle.net_tree.specs.declared.line.NetExit.{NetExit}
 use Rattle.net_tree.specs.declared.line.NetExit.TheVariants as leaving
-use Rattle.net_tree.specs.Tree.{CaseItem, Exp, Line, ReDimItem, assign, call, case_else, case_is, case_line, case_range, case_value, comment, do_head, do_until, do_while, else_if, else_line, end_if, end_select, end_while, end_with, exit, for_head, goto, if_head, label, loop, loop_until, loop_while, next, on_error_goto, on_error_goto_zero, on_error_resume_next, redim, resume, resume_at, resume_next, select, while_head, with_head}
+use Rattle.net_tree.specs.Tree.{CaseItem, Exp, Line, ReDimItem, assign, call, call_of, case_else, case_is, case_line, case_range, case_value, comment, do_head, do_until, do_while, else_if, else_line, end_if, end_select, end_while, end_with, exit, for_head, goto, if_head, label, loop, loop_until, loop_while, next, on_error_goto, on_error_goto_zero, on_error_resume_next, redim, resume, resume_at, resume_next, select, while_head, with_head}
 use Rattle.net_tree.specs.Blocks.{role_of, depth_at, depth_behind}
 use Rattle.net_tree.specs.Spelling.{at_depth, separated, label_text, is_label, is_handler_label}
 use Rattle.net_tree.specs.Comments.{comment_text, is_comment}
-use Rattle.net_tree.specs.Expressions.{exp_text, arguments_text, sign_text, is_writable_exp, are_writable_exps}
+use Rattle.net_tree.specs.Expressions.{exp_text, arguments_text, sign_text, is_writable_whole}
 
 abbrev pub case_item_text : CaseItem → List ℕ
 case_item_text (case_value e) = exp_text e
@@ -85,16 +85,16 @@ is_comparison op.GreaterEqual = true
 is_comparison _ = false
 
 abbrev pub is_writable_case : CaseItem → Bool
-is_writable_case (case_value e) = is_writable_exp e
-is_writable_case (case_range a b) = is_writable_exp a && is_writable_exp b
-is_writable_case (case_is o e) = is_comparison o && is_writable_exp e
+is_writable_case (case_value e) = is_writable_whole e
+is_writable_case (case_range a b) = is_writable_whole a && is_writable_whole b
+is_writable_case (case_is o e) = is_comparison o && is_writable_whole e
 
 abbrev pub is_writable_redim : ReDimItem → Bool
-is_writable_redim r = is_writable_exp r.array && are_writable_exps r.bounds
+is_writable_redim r = is_writable_whole (call_of r.array r.bounds)
 
 abbrev pub is_writable_option : Option Exp → Bool
 is_writable_option None = true
-is_writable_option (Some e) = is_writable_exp e
+is_writable_option (Some e) = is_writable_whole e
 
 abbrev pub is_some_item : {A : Type 0} → List A → Bool
 is_some_item [] = false
@@ -103,27 +103,27 @@ is_some_item (x ∷ xs) = true
 -- A Case has an item and a ReDim an array, and no error is sent to the label 0.
 abbrev pub is_writable_line : Line → Bool
 is_writable_line (comment units) = is_comment units
-is_writable_line (assign target value) = is_writable_exp target && is_writable_exp value
-is_writable_line (call callee arguments) = is_writable_exp callee && are_writable_exps arguments
-is_writable_line (if_head condition) = is_writable_exp condition
-is_writable_line (else_if condition) = is_writable_exp condition
+is_writable_line (assign target value) = is_writable_whole target && is_writable_whole value
+is_writable_line (call callee arguments) = is_writable_whole (call_of callee arguments)
+is_writable_line (if_head condition) = is_writable_whole condition
+is_writable_line (else_if condition) = is_writable_whole condition
 is_writable_line else_line = true
 is_writable_line end_if = true
-is_writable_line (select value) = is_writable_exp value
+is_writable_line (select value) = is_writable_whole value
 is_writable_line (case_line items) = is_some_item items && list_all is_writable_case items
 is_writable_line case_else = true
 is_writable_line end_select = true
-is_writable_line (for_head counter from to step) = is_writable_exp counter && is_writable_exp from && is_writable_exp to && is_writable_option step
+is_writable_line (for_head counter from to step) = is_writable_whole counter && is_writable_whole from && is_writable_whole to && is_writable_option step
 is_writable_line next = true
 is_writable_line do_head = true
-is_writable_line (do_while condition) = is_writable_exp condition
-is_writable_line (do_until condition) = is_writable_exp condition
+is_writable_line (do_while condition) = is_writable_whole condition
+is_writable_line (do_until condition) = is_writable_whole condition
 is_writable_line loop = true
-is_writable_line (loop_while condition) = is_writable_exp condition
-is_writable_line (loop_until condition) = is_writable_exp condition
-is_writable_line (while_head condition) = is_writable_exp condition
+is_writable_line (loop_while condition) = is_writable_whole condition
+is_writable_line (loop_until condition) = is_writable_whole condition
+is_writable_line (while_head condition) = is_writable_whole condition
 is_writable_line end_while = true
-is_writable_line (with_head object) = is_writable_exp object
+is_writable_line (with_head object) = is_writable_whole object
 is_writable_line end_with = true
 is_writable_line (goto l) = is_label l
 is_writable_line (label l) = is_label l

@@ -1,4 +1,5 @@
 mod Pairs
 mod Listed
+mod Depths
 mod Decided
 mod FileNames

@@ -14,40 +14,40 @@ fn is_same_block(a: NetBlock, b: NetBlock) -> bool
 }
 
 // Whether the innermost of the blocks that are open is of a kind.
-fn is_innermost(kind: NetBlock, open: &Vec<NetBlock>) -> bool
-    ensures { result ≡ is_innermost kind (reverse open.now.items) }
+fn is_innermost(kind: NetBlock, around: &Vec<NetBlock>) -> bool
+    ensures { result ≡ is_innermost kind (reverse around.now.items) }
 {
-    match open.last() {
+    match around.last() {
         Some(round) => is_same_block(kind, *round),
         None => false,
     }
 }
 
 /// Whether a line fits in the blocks that are open.
-pub fn fits_in(role: NetRole, open: &Vec<NetBlock>) -> bool
-    ensures { result ≡ fits_in role (reverse open.now.items) }
+pub fn fits_in(role: NetRole, around: &Vec<NetBlock>) -> bool
+    ensures { result ≡ fits_in role (reverse around.now.items) }
 {
     match role {
         NetRole::Plain => true,
         NetRole::Opens(_) => true,
-        NetRole::Parts(kind) => is_innermost(kind, open),
-        NetRole::Closes(kind) => is_innermost(kind, open),
+        NetRole::Parts(kind) => is_innermost(kind, around),
+        NetRole::Closes(kind) => is_innermost(kind, around),
     }
 }
 
 /// Goes from the blocks that are open before a line to those behind it.
-pub fn pass(role: NetRole, open: &mut Vec<NetBlock>) -> Result<(), Mem>
-    ensures { OnOk result (reverse open.new.items ≡ open_behind role (reverse open.old.items)) }
+pub fn pass(role: NetRole, around: &mut Vec<NetBlock>) -> Result<(), Mem>
+    ensures { OnOk result (reverse around.new.items ≡ open_behind role (reverse around.old.items)) }
 {
     match role {
         NetRole::Plain => Ok(()),
         NetRole::Opens(kind) => {
-            open.push(kind)?;
+            around.push(kind)?;
             Ok(())
         }
         NetRole::Parts(_) => Ok(()),
         NetRole::Closes(_) => {
-            let _innermost = open.pop();
+            let _innermost = around.pop();
             Ok(())
         }
     }
@@ -57,13 +57,13 @@ pub fn pass(role: NetRole, open: &mut Vec<NetBlock>) -> Result<(), Mem>
 pub(crate) fn nests(alloc: Global, lines: &[NetLine]) -> Result<bool, Mem>
     ensures { IfOk result (λ answer. answer ≡ nests (map line_of lines.now)) }
 {
-    let mut open = Vec::new(alloc);
+    let mut around = Vec::new(alloc);
     for line in lines {
         let role = line.role();
-        if !fits_in(role, &open) {
+        if !fits_in(role, &around) {
             return Ok(false);
         }
-        pass(role, &mut open)?;
+        pass(role, &mut around)?;
     }
-    Ok(open.is_empty())
+    Ok(around.is_empty())
 }

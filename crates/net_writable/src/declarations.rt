@@ -10,7 +10,7 @@ ghost use Rattle.net_tree.specs.View.{constant_of, dim_of, exp_of, field_of, hea
 
 use crate::blocks::nests;
 use crate::comments::is_comment;
-use crate::expressions::{is_writable_expression, is_writable_type};
+use crate::expressions::{is_writable_type, is_writable_whole};
 use crate::lines::is_writable_line;
 use crate::spelling::is_identifier;
 use net_tree::{
@@ -32,7 +32,7 @@ fn is_writable_value(value: &Option<Box<NetExpr>>) -> bool
 {
     match value {
         None => true,
-        Some(e) => is_writable_expression(e),
+        Some(e) => is_writable_whole(e),
     }
 }
 
@@ -45,7 +45,7 @@ fn is_writable_variable(variable: &NetVariable) -> bool
 fn is_writable_constant(constant: &NetConstant) -> bool
     ensures { result ≡ is_writable_constant (constant_of constant.now) }
 {
-    can_be_declared(&constant.name, &constant.ty) && is_writable_expression(&constant.value)
+    can_be_declared(&constant.name, &constant.ty) && is_writable_whole(&constant.value)
 }
 
 /// Whether a declaration at the head of a procedure can be written.

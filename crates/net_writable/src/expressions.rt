@@ -1,8 +1,10 @@
 //! Which types and expressions can be written.
 ghost use Rattle.std.specs.Prelude.{◌≡◌, ◌&&◌};
-ghost use Rattle.net_tree.specs.Expressions.{are_writable_bounds, are_writable_exps, is_named, is_no_bound, is_path_exp, is_writable_exp, is_writable_type};
+ghost use Rattle.net_tree.specs.Expressions.{are_writable_bounds, are_writable_exps, is_named, is_no_bound, is_path_exp, is_writable_exp, is_writable_type, is_writable_whole};
+ghost use Rattle.net_tree.specs.Tree.{call_of};
 ghost use Rattle.net_tree.specs.View.{exp_of, exps_of, type_name_of};
 
+use crate::depth::{is_shallow, is_shallow_call};
 use crate::literals::is_writable_literal;
 use crate::spelling::{is_identifier, is_path};
 use net_tree::{NetExpr, NetLit, NetType};
@@ -88,9 +90,9 @@ pub(crate) fn is_writable_expression(e: &NetExpr) -> bool
     }
 }
 
-/// Whether each of these arguments can be written.
+// Whether each of these arguments can be written.
 #[cycle(is_writable_expression)]
-pub(crate) fn are_writable_expressions(list: &[NetExpr]) -> bool
+fn are_writable_expressions(list: &[NetExpr]) -> bool
     ensures { result ≡ are_writable_exps (exps_of list.now) }
 {
     for e in list {
@@ -112,4 +114,20 @@ fn are_writable_bounds(list: &[NetExpr]) -> bool
         }
     }
     true
+}
+
+/// Whether an expression that is no part of another one can be written.
+pub(crate) fn is_writable_whole(e: &NetExpr) -> bool
+    ensures { result ≡ is_writable_whole (exp_of e.now) }
+{
+    is_shallow(e) && is_writable_expression(e)
+}
+
+/// Whether an expression with an argument list, which is no part of another one, can be written.
+pub(crate) fn is_writable_call(callee: &NetExpr, arguments: &[NetExpr]) -> bool
+    ensures { result ≡ is_writable_whole (call_of (exp_of callee.now) (exps_of arguments.now)) }
+{
+    is_shallow_call(callee, arguments)
+        && is_writable_expression(callee)
+        && are_writable_expressions(arguments)
 }

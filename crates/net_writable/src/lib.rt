@@ -4,6 +4,7 @@
 mod blocks;
 mod comments;
 mod declarations;
+mod depth;
 mod expressions;
 mod lines;
 mod literals;

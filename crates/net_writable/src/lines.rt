@@ -1,12 +1,12 @@
 //! Which lines of procedures can be written.
 ghost use Rattle.std.specs.Prelude.{◌≡◌, ◌&&◌, map, option_map};
 ghost use Rattle.std.specs.List.{list_all};
-ghost use Rattle.net_tree.specs.Expressions.{is_writable_exp};
+ghost use Rattle.net_tree.specs.Expressions.{is_writable_whole};
 ghost use Rattle.net_tree.specs.Lines.{is_comparison, is_some_item, is_writable_case, is_writable_line, is_writable_option, is_writable_redim};
 ghost use Rattle.net_tree.specs.View.{case_item_of, exp_of, line_of, redim_item_of};
 
 use crate::comments::is_comment;
-use crate::expressions::{are_writable_expressions, is_writable_expression};
+use crate::expressions::{is_writable_call, is_writable_whole};
 use crate::spelling::{is_handler_label, is_label};
 use net_tree::{NetBin, NetCase, NetCounting, NetExpr, NetLine, NetReDim};
 
@@ -28,11 +28,9 @@ fn is_writable_case(item: &NetCase) -> bool
     ensures { result ≡ is_writable_case (case_item_of item.now) }
 {
     match item {
-        NetCase::Value(e) => is_writable_expression(e),
-        NetCase::Range(lower, upper) => {
-            is_writable_expression(lower) && is_writable_expression(upper)
-        }
-        NetCase::Is(op, e) => is_comparison(*op) && is_writable_expression(e),
+        NetCase::Value(e) => is_writable_whole(e),
+        NetCase::Range(lower, upper) => is_writable_whole(lower) && is_writable_whole(upper),
+        NetCase::Is(op, e) => is_comparison(*op) && is_writable_whole(e),
     }
 }
 
@@ -57,7 +55,7 @@ fn are_items_of_case(items: &[NetCase]) -> bool
 fn is_writable_redim(item: &NetReDim) -> bool
     ensures { result ≡ is_writable_redim (redim_item_of item.now) }
 {
-    is_writable_expression(&item.array) && are_writable_expressions(&item.bounds)
+    is_writable_call(&item.array, &item.bounds)
 }
 
 fn are_writable_redims(items: &[NetReDim]) -> bool
@@ -83,16 +81,16 @@ fn is_writable_step(step: &Option<NetExpr>) -> bool
 {
     match step {
         None => true,
-        Some(e) => is_writable_expression(e),
+        Some(e) => is_writable_whole(e),
     }
 }
 
 fn is_writable_counting(counting: &NetCounting) -> bool
-    ensures { result ≡ (is_writable_exp (exp_of counting.now.counter) && is_writable_exp (exp_of counting.now.start) && is_writable_exp (exp_of counting.now.limit) && is_writable_option (option_map exp_of counting.now.step)) }
+    ensures { result ≡ (is_writable_whole (exp_of counting.now.counter) && is_writable_whole (exp_of counting.now.start) && is_writable_whole (exp_of counting.now.limit) && is_writable_option (option_map exp_of counting.now.step)) }
 {
-    is_writable_expression(&counting.counter)
-        && is_writable_expression(&counting.start)
-        && is_writable_expression(&counting.limit)
+    is_writable_whole(&counting.counter)
+        && is_writable_whole(&counting.start)
+        && is_writable_whole(&counting.limit)
         && is_writable_step(&counting.step)
 }
 
@@ -102,31 +100,27 @@ pub fn is_writable_line(line: &NetLine) -> bool
 {
     match line {
         NetLine::Comment(units) => is_comment(units.as_slice()),
-        NetLine::Assign(target, value) => {
-            is_writable_expression(target) && is_writable_expression(value)
-        }
-        NetLine::Call(callee, arguments) => {
-            is_writable_expression(callee) && are_writable_expressions(arguments.as_slice())
-        }
-        NetLine::If(condition) => is_writable_expression(condition),
-        NetLine::ElseIf(condition) => is_writable_expression(condition),
+        NetLine::Assign(target, value) => is_writable_whole(target) && is_writable_whole(value),
+        NetLine::Call(callee, arguments) => is_writable_call(callee, arguments.as_slice()),
+        NetLine::If(condition) => is_writable_whole(condition),
+        NetLine::ElseIf(condition) => is_writable_whole(condition),
         NetLine::Else => true,
         NetLine::EndIf => true,
-        NetLine::Select(value) => is_writable_expression(value),
+        NetLine::Select(value) => is_writable_whole(value),
         NetLine::Case(items) => are_items_of_case(items.as_slice()),
         NetLine::CaseElse => true,
         NetLine::EndSelect => true,
         NetLine::For(counting) => is_writable_counting(counting),
         NetLine::Next => true,
         NetLine::Do => true,
-        NetLine::DoWhile(condition) => is_writable_expression(condition),
-        NetLine::DoUntil(condition) => is_writable_expression(condition),
+        NetLine::DoWhile(condition) => is_writable_whole(condition),
+        NetLine::DoUntil(condition) => is_writable_whole(condition),
         NetLine::Loop => true,
-        NetLine::LoopWhile(condition) => is_writable_expression(condition),
-        NetLine::LoopUntil(condition) => is_writable_expression(condition),
-        NetLine::While(condition) => is_writable_expression(condition),
+        NetLine::LoopWhile(condition) => is_writable_whole(condition),
+        NetLine::LoopUntil(condition) => is_writable_whole(condition),
+        NetLine::While(condition) => is_writable_whole(condition),
         NetLine::EndWhile => true,
-        NetLine::With(object) => is_writable_expression(object),
+        NetLine::With(object) => is_writable_whole(object),
         NetLine::EndWith => true,
         NetLine::GoTo(label) => is_label(label),
         NetLine::Label(label) => is_label(label),

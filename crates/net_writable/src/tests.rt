@@ -56,6 +56,27 @@ fn is_written_case(alloc: Global, item: Option<NetCase>) -> Result<bool, Fail> {
     Ok(is_writable_line(&NetLine::Case(items)))
 }
 
+// `Nothing` in so many parentheses.
+fn nested(alloc: Global, levels: u32) -> Result<NetExpr, Fail> {
+    let mut e = NetExpr::Nothing;
+    for _level in 0..levels {
+        e = NetExpr::Paren(Box::new(alloc, e)?);
+    }
+    Ok(e)
+}
+
+fn is_written_if(alloc: Global, levels: u32) -> Result<bool, Fail> {
+    let condition = Box::new(alloc, nested(alloc, levels)?)?;
+    Ok(is_writable_line(&NetLine::If(condition)))
+}
+
+fn is_written_call(alloc: Global, levels: u32) -> Result<bool, Fail> {
+    let mut arguments = Sequence::new(alloc);
+    arguments.push(nested(alloc, levels)?)?;
+    let callee = Box::new(alloc, NetExpr::Path(path(alloc, &["Show"])?))?;
+    Ok(is_writable_line(&NetLine::Call(callee, arguments)))
+}
+
 // A part of a property that gets.
 fn get_part(alloc: Global) -> Result<Box<NetProc>, Fail> {
     let part = NetProc {
@@ -166,6 +187,16 @@ fn takes_cases(rt: HostRuntime) -> Result<(), Fail> {
     let alloc = rt.alloc();
     assert!(rt; is_written_case(alloc, Some(NetCase::Value(NetExpr::Nothing)))?);
     assert!(rt; !is_written_case(alloc, None)?);
+    Ok(())
+}
+
+#[test]
+fn takes_a_thousand_levels(rt: HostRuntime) -> Result<(), Fail> {
+    let alloc = rt.alloc();
+    assert!(rt; is_written_if(alloc, 999)?);
+    assert!(rt; !is_written_if(alloc, 1000)?);
+    assert!(rt; is_written_call(alloc, 998)?);
+    assert!(rt; !is_written_call(alloc, 999)?);
     Ok(())
 }
 

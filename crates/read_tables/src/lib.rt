@@ -11,6 +11,8 @@ mod changes;
 #[cfg(test)]
 mod cut;
 #[cfg(test)]
+mod deep;
+#[cfg(test)]
 mod expressions;
 #[cfg(test)]
 mod files;

@@ -24,8 +24,9 @@ use Rattle.net_rewrite.specs.Marks.{Place6, marked_lines, behind, behind_all, fi
 use Rattle.net_rewrite.specs.Projects.{untranslated_in, untranslated_members, untranslated_modules, untranslated, written_project, has_file_name, can_be_named}
 use Rattle.net_rewrite.specs.Writable.{is_named_module, is_named_variable}
 use Rattle.net_rewrite.proofs.WritableProjects.{project_can}
+use Rattle.bound_locals.proofs.Depths.{bound_shallow}
 use Rattle.bound_locals.proofs.Names.{variables_named}
-use Rattle.module_names.proofs.Projects.{named_grammar}
+use Rattle.module_names.proofs.Projects.{named_grammar, shallow_grammar}
 use Rattle.wizard_cli.specs.Breaks.{dropped_issue, untranslated_issue, rules_broken_in, broken_rules, AreIssues}
 use Rattle.wizard_cli.specs.Headline.{in_folder}
 use Rattle.wizard_cli.proofs.Apart.{NamedAs}
@@ -96,7 +97,7 @@ grammar_can_be_named P g =
     (modules_have_files 1 P.file.entries P.modules (entries_named P g) (modules_are_of P g))
 
 pub grammar_can_be_written : (P : Project) → IsOfGrammar P → IsWritable (written_project (bound P))
-grammar_can_be_written P g = project_can (bound P) (grammar_can_be_named P g)
+grammar_can_be_written P g = project_can (bound P) (grammar_can_be_named P g) (bound_shallow P (shallow_grammar P g))
 
 -- ---- files in the folder
 

@@ -1,8 +1,9 @@
 use Rattle.std.proofs.Common.{◌≡◌, ◌+◌, ◌-◌, ◌*◌, ◌<◌, ◌≤◌, true, length}
 use Rattle.net_tree.specs.View.{exps_of}
+use Rattle.net_tree.specs.Depth.{depth_exps}
 use Rattle.net_exprs.specs.Expressions.{exp_nested, group_at}
 use Rattle.net_exprs.specs.Fitting.{fits_exps}
-use Rattle.net_exprs.specs.Stages.{fits_stage, stage_view}
+use Rattle.net_exprs.specs.Stages.{StageLeaves, fits_stage, stage_view}
 use Rattle.net_exprs.proofs.Items.{ItemsLeft}
 use Rattle.net_exprs.proofs.Steps.{SuffixesLeft}
 use Rattle.net_exprs.proofs.expressions.+read.Given as goal
@@ -36,6 +37,7 @@ invariant-expression-suffixes l = record {
   left : SuffixesLeft (group_at (exp_nested (l.room - 1))) (exp_nested l.room l.fn.text) (stage_view l.stage) l.rest;
   shorter : length l.rest < length l.fn.text;
   held : fits_stage (stage_view l.stage) ≡ true;
+  leaves : StageLeaves (l.room - 1) l.stage;
 }
 
 abbrev pub decreases-expression-suffixes : goal.decreases-expression-suffixes
@@ -46,6 +48,7 @@ invariant-items-items l = record {
   left : ItemsLeft (exp_nested l.room) l.fn.text (exps_of l.items.items) l.rest;
   shorter : length l.rest ≤ length l.fn.text;
   held : fits_exps (exps_of l.items.items) ≡ true;
+  leaves : l.left + depth_exps (exps_of l.items.items) ≡ l.room;
 }
 
 abbrev pub decreases-items-items : goal.decreases-items-items

@@ -1,6 +1,6 @@
 use Rattle.std.proofs.Common.{◌≡◌, ◌+◌, ◌≤◌, length}
 use Rattle.net_reader.specs.FileLines.{file_lines}
-use Rattle.net_reader.specs.Limited.{run}
+use Rattle.net_reader.specs.ModuleReader.{run}
 use Rattle.net_reader.specs.StateView.{state_of}
 use Rattle.net_reader.proofs.module_file.run.Given as goal
 

@@ -1,5 +1,5 @@
 use Rattle.std.proofs.Common.{◌≡◌, drop}
-use Rattle.net_reader.specs.Limited.{project_in, read_from}
+use Rattle.net_reader.specs.ProjectReader.{project_in, read_from}
 use Rattle.net_reader.specs.Reads.{before_of}
 use Rattle.net_reader.proofs.project_files.read_files.Given as goal
 

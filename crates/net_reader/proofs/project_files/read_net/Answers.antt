@@ -1,5 +1,5 @@
 use Rattle.std.proofs.Common.{subst}
-use Rattle.net_reader.specs.Limited.{project_in}
+use Rattle.net_reader.specs.ProjectReader.{project_in}
 use Rattle.net_reader.specs.Reads.{Gives}
 use Rattle.net_reader.proofs.ReadFiles.{is_readable, not_refused, stands, tells_place}
 use Rattle.net_reader.proofs.project_files.read_net.Goals as goal

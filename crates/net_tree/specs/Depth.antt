@@ -1,8 +1,8 @@
--- How deep expressions are nested, as they are read: an operand or an argument is nested, but what a suffix follows isn't.
+-- How deep expressions are nested: an operand, an argument and what a member or an argument list stands behind.
 use Rattle.std.specs.Prelude.{ℕ, suc, max, Bool, nat_le}
 use Rattle.net_tree.specs.Tree.{Exp, Exps, binary, call_of, cast, ctype, dot, lit, me, new_array, new_object, next_exp, no_exps, nothing, paren, path, type_of, unary, with_dot}
 
--- the depth of the deepest expression that the code reads
+-- The deepest expression that is written: reading goes down the stack, and a file of parentheses needs no deep one.
 abbrev pub most_nested : ℕ
 most_nested = 1000
 
@@ -13,8 +13,8 @@ abbrev mutual
   depth_exp me = 1
   depth_exp (path names) = 1
   depth_exp (with_dot name) = 1
-  depth_exp (dot e name) = depth_exp e
-  depth_exp (call_of e args) = max (depth_exp e) (suc (depth_exps args))
+  depth_exp (dot e name) = suc (depth_exp e)
+  depth_exp (call_of e args) = suc (max (depth_exp e) (depth_exps args))
   depth_exp (cast w e) = suc (depth_exp e)
   depth_exp (ctype e t) = suc (depth_exp e)
   depth_exp (unary o e) = suc (depth_exp e)
@@ -29,7 +29,7 @@ abbrev mutual
   depth_exps no_exps = 0
   depth_exps (next_exp e more) = max (depth_exp e) (depth_exps more)
 
--- whether the code has room for an expression, or for each of a list
+-- whether an expression is nested no deeper than that, or each of a list
 abbrev pub is_shallow : Exp → Bool
 is_shallow e = nat_le (depth_exp e) most_nested
 
