@@ -1,5 +1,5 @@
 -- Expressions are read back: each form, given that its parts are.
-use Rattle.std.proofs.Common.{◌≡◌, ℕ, zero, suc, ◌+◌, ◌-◌, ◌≤◌, negsuc, Bool, true, false, not, ◌==◌, List, [], ◌∷◌, ◌++◌, replicate, codes, refl, sym, ap, ◌∙◌, arith, append_assoc, zero-add, Option, Some, length, length-append}
+use Rattle.std.proofs.Common.{◌≡◌, ℕ, zero, suc, ◌+◌, ◌-◌, ◌≤◌, negsuc, Bool, true, false, ◌==◌, List, [], ◌∷◌, ◌++◌, replicate, codes, refl, sym, ap, ◌∙◌, arith, append_assoc, zero-add, Option, Some, length, length-append}
 use Rattle.std.specs.Fmt.{digits}
 use Rattle.std.proofs.lemmas.Bool.{not-true}
 use Rattle.net_tree.specs.declared.expression.CastWord.{CastWord}
@@ -23,10 +23,11 @@ use Rattle.net_exprs.specs.Names.{name_at}
 use Rattle.net_exprs.specs.Types.{base_at, type_at}
 use Rattle.net_exprs.specs.Expressions.{Group, Stage, bounded, closed, closed_type, type_closed, exp_nested, front_of, group_at, group_by, head_at, items, items_behind, items_from, keyword_of, leaf, opened, operand_behind, operator_at, parenthesized, rank, ranked, start_of, suffix_by, suffix_of, suffixes, value_of, whole, with_group, with_ranks, word_front}
 use Rattle.net_exprs.specs.Fitting.{fits_literal}
-use Rattle.net_tree.specs.Depth.{depth_exp, depth_exps}
-use Rattle.net_exprs.proofs.Words.{are_identifiers, both_true, name_reads, never}
+use Rattle.net_tree.specs.Depth.{depth_exp, depth_exps, depth_type}
+use Rattle.net_tree.proofs.TypeDepths.{element_can}
+use Rattle.net_exprs.proofs.Words.{are_identifiers, name_reads, never}
 use Rattle.net_exprs.proofs.LiteralsRead.{ends_literal}
-use Rattle.net_exprs.proofs.TypesRead.{array_depth, base_is_none, base_is_writable, base_of, base_reads, ends_ranks, is_array, rank_inside, ranks_last, ranks_text, type_parts, type_reads}
+use Rattle.net_exprs.proofs.TypesRead.{base_is_none, base_is_writable, base_of, base_reads, ends_ranks, is_array, rank_inside, ranks_last, ranks_text, type_parts, type_reads}
 use Rattle.net_exprs.proofs.Heads.{follows, follows_end, follows_member, literal_ends, literal_head, name_ends, path_ends, path_head, suffix_ends, word_head}
 use Rattle.net_exprs.proofs.Lengths.{count_exps, count_within, is_nested, spent, spent_within}
 
@@ -445,12 +446,12 @@ unfolding suffix_of
 rank_step k n t ranks r rest h = ap (λ o. behind o (λ g. Behind k n (with_group (ranked t ranks) g))) (rank_group (exp_nested k) r rest h)
 
 ranks_read : (t : TypeName) (k n : ℕ) (rest : List ℕ) → is_writable_type t ≡ true
-    → Behind k (array_depth t + n) (ranked (base_of t) []) (ranks_text t ++ rest) ≡ Behind k n (ranked (base_of t) (ranks_of t)) rest
+    → Behind k (depth_type t + n) (ranked (base_of t) []) (ranks_text t ++ rest) ≡ Behind k n (ranked (base_of t) (ranks_of t)) rest
 ranks_read (ty.array_of element r) k n rest h =
-    let parts = both_true (is_writable_type element) (not (r == 0)) h in
-    let depth : suc (array_depth element) + n ≡ array_depth element + suc n = omega arith in
+    let parts = element_can element r h in
+    let depth : suc (depth_type element) + n ≡ depth_type element + suc n = omega arith in
     ap (λ m. Behind k m (ranked (base_of element) []) (ranks_text (ty.array_of element r) ++ rest)) depth
-    ∙ ap (Behind k (array_depth element + suc n) (ranked (base_of element) [])) (ranks_last element r rest)
+    ∙ ap (Behind k (depth_type element + suc n) (ranked (base_of element) [])) (ranks_last element r rest)
     ∙ ranks_read element k (suc n) (rank_text r ++ rest) parts.0
     ∙ rank_step k n (base_of element) (ranks_of element) r rest (not-true (r == 0) parts.1)
 ranks_read ty.boolean k n rest h = ap (λ m. Behind k m (ranked ty.boolean []) rest) (zero-add n)
@@ -480,9 +481,9 @@ array_reads t bounds w are k n rest enough fuel f =
     let tail = 40 ∷ inside bounds (codes " {}" ++ rest) in
     let again : exp_text (new_array t bounds) ++ rest ≡ codes "New " ++ (type_text (base_of t) ++ (ranks_text t ++ tail))
     = ap (λ s. (codes "New " ++ s ++ arguments_text bounds ++ codes " {}") ++ rest) (type_parts t) ∙ array_text (type_text (base_of t)) (ranks_text t) (separated (codes ", ") (exp_texts bounds)) rest in
-    let count : length (codes "New " ++ (type_text (base_of t) ++ (ranks_text t ++ tail))) ≡ array_depth t + suc (suc n) = omega (arith, fuel, ap length again) in
+    let count : length (codes "New " ++ (type_text (base_of t) ++ (ranks_text t ++ tail))) ≡ depth_type t + suc (suc n) = omega (arith, fuel, ap length again) in
     ap (exp_nested (suc k)) again
-    ∙ new_reads k (array_depth t + suc (suc n)) (base_of t) (ranks_text t ++ tail) (base_is_none t) (base_is_writable t w) (ends_ranks t tail refl) count
+    ∙ new_reads k (depth_type t + suc (suc n)) (base_of t) (ranks_text t ++ tail) (base_is_none t) (base_is_writable t w) (ends_ranks t tail refl) count
     ∙ ranks_read t k (suc (suc n)) tail w
     ∙ group_step k (suc n) (ranked (base_of t) (ranks_of t)) bounds (codes " {}" ++ rest) are (omega arith)
     ∙ braces_step k n (base_of t) (ranks_of t) bounds rest

@@ -4,14 +4,15 @@ use Rattle.net_tree.specs.Tree.{Exp, Exps, binary, call_of, cast, ctype, dot, li
 use Rattle.net_tree.specs.Spelling.{name_text, separated}
 use Rattle.net_tree.specs.Expressions.{cast_text, exp_text, exp_texts, operator_text, type_text, unary_text}
 use Rattle.net_tree.specs.Depth.{depth_exp, depth_exps}
-use Rattle.net_exprs.proofs.TypesRead.{array_depth, base_of, depth_bound, ranks_text, type_parts}
+use Rattle.net_tree.specs.Depth.{depth_type}
+use Rattle.net_exprs.proofs.TypesRead.{base_of, depth_bound, ranks_text, type_parts}
 
 -- the suffixes that are read behind the head
 abbrev pub spent : Exp → ℕ
 spent (dot e name) = suc (spent e)
 spent (call_of e args) = suc (spent e)
 spent (new_object t args) = 1
-spent (new_array t bounds) = 2 + array_depth t
+spent (new_array t bounds) = 2 + depth_type t
 spent _ = 0
 
 abbrev pub count_exps : Exps → ℕ

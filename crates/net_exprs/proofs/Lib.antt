@@ -11,6 +11,7 @@ pub mod Printable
 pub mod Answering
 pub mod Fronts
 pub mod Paths
+pub mod ArrayFits
 pub mod Ranks
 pub mod Quotes
 pub mod Staging

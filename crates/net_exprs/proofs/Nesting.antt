@@ -17,15 +17,15 @@ use Rattle.net_exprs.specs.declared.starts.Start.{Start}
 use Rattle.net_exprs.specs.declared.starts.Start.TheVariants as start
 use Rattle.net_exprs.specs.Readers.{after, behind, past, word_at}
 use Rattle.net_exprs.specs.declared.fail.PhraseFail.{PhraseFail}
-use Rattle.net_exprs.specs.Answers.{Answers, Misfits}
+use Rattle.net_exprs.specs.Answers.{Answers, FailsFor, Misfits}
 use Rattle.net_exprs.specs.Names.{name_at, path_at}
 use Rattle.net_exprs.specs.Literals.{literal_at}
-use Rattle.net_exprs.specs.Types.{base_at}
-use Rattle.net_exprs.specs.Expressions.{Opening, Stage, bounded, closed, closed_type, exp_nested, front_of, head_at, keyword_of, leaf, nest_behind, nested, nested_past, new_opening, opened, opening_at, operand_behind, operator_at, parenthesized, path_opening, ranked, start_of, started, type_behind, whole, worded}
+use Rattle.net_exprs.specs.Types.{base_at, type_at}
+use Rattle.net_exprs.specs.Expressions.{Opening, Stage, bounded, closed, closed_type, exp_nested, front_of, head_at, keyword_of, leaf, nest_behind, nested, nested_past, new_opening, opened, opening_at, operand_behind, operator_at, parenthesized, path_opening, ranked, start_of, started, type_behind, type_closed, whole, worded}
 use Rattle.net_exprs.specs.Fitting.{fits_exp, fits_in, fits_type}
 use Rattle.net_exprs.specs.Openings.{fits_opening}
 use Rattle.net_exprs.specs.Stages.{fits_stage, fits_stage_in, stage_depth}
-use Rattle.net_exprs.proofs.Answering.{misfits_always, misfits_behind}
+use Rattle.net_exprs.proofs.Answering.{fails_up, misfits_always, misfits_behind}
 use Rattle.net_exprs.proofs.Rooms.{Each, answers_room, is_misfit, misfit_up}
 use Rattle.net_exprs.proofs.Words.{by_test, never}
 
@@ -37,6 +37,12 @@ Read = List ℕ → Option (Exp × List ℕ)
 misfits_past : {X : Type 0} (fits : X → Bool) (o : Option (List ℕ)) (go : List ℕ → Option (X × List ℕ)) → ((s : List ℕ) → Misfits fits (go s)) → Misfits fits (past o go)
 misfits_past fits None go all = tt
 misfits_past fits (Some s) go all = all s
+
+type_behind_misfits : (s : List ℕ) → Misfits fits_type (type_at s) → Misfits fits_type (behind (type_at s) type_closed)
+type_behind_misfits s h = misfits_behind fits_type fits_type (type_at s) type_closed (λ t rest k. misfits_past fits_type (after (codes ")") rest) (λ rest. Some (t, rest)) (λ rest. k)) h
+
+pub type_behind_fails : (text s beyond : List ℕ) (e : PhraseFail) → after text s ≡ Some beyond → FailsFor fits_type (type_at beyond) e → FailsFor fits_type (type_behind text s) e
+type_behind_fails text s beyond e h k = rw h (fails_up fits_type fits_type (type_at beyond) (behind (type_at beyond) type_closed) e (type_behind_misfits beyond) k)
 
 closed_misfits : (room : ℕ) (make : Exp → Exp) (e : Exp) (s : List ℕ) → fits_in (suc room) (make e) ≡ false → Misfits (fits_stage_in room) (closed make e s)
 closed_misfits room make e s h = misfits_past (fits_stage_in room) (after (codes ")") s) (λ rest. Some (whole (make e), rest)) (λ rest. h)

@@ -23,6 +23,7 @@ use Rattle.net_tree.specs.Tree.{Exp, Exps, Literal, binary, boolean, call_of, ca
 use Rattle.net_tree.specs.Spelling.{is_bracketed, is_identifier, is_library_path, is_path, is_same_path, is_word_part, name_text, path_text, separated}
 use Rattle.net_tree.specs.Literals.{amount_text, bit_pattern, fraction_text, hexadecimal, is_writable_literal, literal_text, number_text, places_text, quoted_unit, whole_text}
 use Rattle.net_tree.specs.Expressions.{are_writable_bounds, are_writable_exps, arguments_text, cast_text, exp_text, exp_texts, is_named, is_no_bound, is_path_exp, is_writable_exp, is_writable_type, operator_text, rank_text, type_text, unary_text}
+use Rattle.net_tree.proofs.TypeDepths.{element_can}
 use Rattle.net_exprs.specs.Laws.{ArgumentsStayWithinLine, ExpressionsStayWithinLine, LabelsStayWithinLine, NamesStayWithinLine, TypesStayWithinLine, stays_within_line}
 use Rattle.net_exprs.proofs.Words.{both_true, by_test, is_word, never}
 use Rattle.net_exprs.proofs.LiteralsRead.{one_byte}
@@ -186,7 +187,7 @@ type_stays ty.object h = refl
 type_stays ty.system_array h = refl
 type_stays (ty.named names) h = path_stays names h
 type_stays (ty.array_of element rank) h =
-    both_stay (type_text element) (rank_text rank) (type_stays element (both_true (is_writable_type element) (not (rank == 0)) h).0) (rank_stays rank)
+    both_stay (type_text element) (rank_text rank) (type_stays element (element_can element rank h).0) (rank_stays rank)
 
 -- ---- expressions
 

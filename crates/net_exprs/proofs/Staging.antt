@@ -1,12 +1,14 @@
 -- The stages of an expression as the code builds them.
-use Rattle.std.proofs.Common.{◌≡◌, ℕ, zero, suc, ◌-◌, ◌<◌, ◌≤◌, Bool, true, false, ◌&&◌, get_or, List, [], ◌∷◌, ◌++◌, length, take, reverse, Option, Some, refl, sym, ap, ◌∙◌, arith}
+use Rattle.std.proofs.Common.{◌≡◌, ℕ, zero, suc, ◌+◌, ◌-◌, ◌<◌, ◌≤◌, false, get_or, List, [], ◌∷◌, ◌++◌, length, take, reverse, Option, Some, refl, sym, ap, ◌∙◌, arith}
 use Rattle.std.proofs.lemmas.List.{reverse-append, length-reverse}
+use Rattle.net_tree.specs.Depth.{depth_type, most_nested}
 use Rattle.net_tree.specs.Types as ty
 use Rattle.net_tree.specs.Types.{TypeName}
 use Rattle.net_tree.specs.Tree.{Exps, call_of, new_array, no_exps}
 use Rattle.net_exprs.specs.Expressions.{Stage, array_made, object_of, ranked, whole, with_ranks}
 use Rattle.net_exprs.specs.Fitting.{fits_rank, fits_type}
 use Rattle.net_exprs.specs.Stages.{array_stage, object_calls}
+use Rattle.net_exprs.proofs.ArrayFits.{ranked_depth, too_many, unfit_element, unfit_rank}
 
 -- how often an object is called depends on how many ranks there are
 object_counts : (t : TypeName) (ranks : List ℕ) → object_of t ranks ≡ object_calls t (length ranks - 1)
@@ -31,16 +33,16 @@ with_first_rank t r ranks = ap (with_ranks t) (reverse-append (r ∷ []) ranks) 
 
 pub more_misfit : (t : TypeName) (ranks : List ℕ) → fits_type t ≡ false → fits_type (with_ranks t ranks) ≡ false
 more_misfit t [] h = h
-more_misfit t (r ∷ ranks) h = rw (more_misfit t ranks h) refl
+more_misfit t (r ∷ ranks) h = unfit_element (with_ranks t ranks) r (more_misfit t ranks h)
 
 pub ranks_misfit : (t : TypeName) (ranks : List ℕ) (i : ℕ) → i < length ranks → fits_rank (get_or ranks i 0) ≡ false → fits_type (with_ranks t (reverse ranks)) ≡ false
 ranks_misfit t [] i less h = absurd (omega arith)
-ranks_misfit t (r ∷ ranks) zero less h = rw (with_first_rank t r ranks) (more_misfit (ty.array_of t r) (reverse ranks) (both (fits_type t)))
-  where
-    both : (b : Bool) → b && fits_rank r ≡ false
-    both true = h
-    both false = refl
+ranks_misfit t (r ∷ ranks) zero less h = rw (with_first_rank t r ranks) (more_misfit (ty.array_of t r) (reverse ranks) (unfit_rank t r h))
 ranks_misfit t (r ∷ ranks) (suc i) less h = rw (with_first_rank t r ranks) (ranks_misfit (ty.array_of t r) ranks i (omega arith) h)
+
+-- more ranks than arrays can be in each other
+pub deep_misfit : (t : TypeName) (ranks : List ℕ) → most_nested < length ranks + depth_type t → fits_type (with_ranks t (reverse ranks)) ≡ false
+deep_misfit t ranks h = too_many (with_ranks t (reverse ranks)) (omega (arith, h, ranked_depth t (reverse ranks), length-reverse ranks))
 
 -- ---- arrays
 

@@ -4,8 +4,10 @@ use Rattle.std.specs.List.{list_all}
 use Rattle.std.proofs.lemmas.Bool.{not-true}
 use Rattle.net_tree.specs.Types as ty
 use Rattle.net_tree.specs.Types.{TypeName}
+use Rattle.net_tree.specs.Depth.{depth_type}
 use Rattle.net_tree.specs.Spelling.{is_bracketed, is_identifier, is_same_path, is_word_part, path_text}
 use Rattle.net_tree.specs.Expressions.{is_writable_type, rank_text, type_text}
+use Rattle.net_tree.proofs.TypeDepths.{element_can}
 use Rattle.net_exprs.specs.Readers.{behind, word_at}
 use Rattle.net_exprs.specs.Ends.{begins_with, ends_name, ends_path, ends_type}
 use Rattle.net_exprs.specs.Types.{arrays_behind, arrays_from, base_at, base_by, basic_type_of, basic_types, commas_from, path_type, rank_at, type_at}
@@ -72,11 +74,6 @@ base_reads (ty.array_of element rank) rest a h e = never (sym a)
 
 -- ---- types
 
--- how many arrays a type is nested in
-abbrev pub array_depth : TypeName → ℕ
-array_depth (ty.array_of element rank) = suc (array_depth element)
-array_depth _ = 0
-
 abbrev pub base_of : TypeName → TypeName
 base_of (ty.array_of element rank) = base_of element
 base_of t = t
@@ -116,7 +113,7 @@ base_is_none (ty.array_of element rank) = base_is_none element
 base_is_none _ = refl
 
 pub base_is_writable : (t : TypeName) → is_writable_type t ≡ true → is_writable_type (base_of t) ≡ true
-base_is_writable (ty.array_of element rank) h = base_is_writable element (both_true (is_writable_type element) (not (rank == 0)) h).0
+base_is_writable (ty.array_of element rank) h = base_is_writable element (element_can element rank h).0
 base_is_writable ty.boolean h = h
 base_is_writable ty.byte h = h
 base_is_writable ty.short h = h
@@ -141,17 +138,17 @@ ends_ranks ty.object rest e = e
 ends_ranks ty.system_array rest e = e
 ends_ranks (ty.named names) rest e = e
 
-pub depth_bound : (t : TypeName) → array_depth t ≤ length (ranks_text t)
+pub depth_bound : (t : TypeName) → depth_type t ≤ length (ranks_text t)
 depth_bound (ty.array_of element rank) = omega (arith, depth_bound element, length-append (ranks_text element) (rank_text rank))
 depth_bound _ = omega arith
 
 arrays_read : (t : TypeName) (n : ℕ) (rest : List ℕ) → is_writable_type t ≡ true
-    → arrays_from (array_depth t + n) (base_of t) (ranks_text t ++ rest) ≡ arrays_from n t rest
+    → arrays_from (depth_type t + n) (base_of t) (ranks_text t ++ rest) ≡ arrays_from n t rest
 arrays_read (ty.array_of element rank) n rest h =
-    let parts = both_true (is_writable_type element) (not (rank == 0)) h in
-    let depth : suc (array_depth element) + n ≡ array_depth element + suc n = omega arith in
+    let parts = element_can element rank h in
+    let depth : suc (depth_type element) + n ≡ depth_type element + suc n = omega arith in
     ap (λ k. arrays_from k (base_of element) (ranks_text (ty.array_of element rank) ++ rest)) depth
-    ∙ ap (arrays_from (array_depth element + suc n) (base_of element)) (ranks_last element rank rest)
+    ∙ ap (arrays_from (depth_type element + suc n) (base_of element)) (ranks_last element rank rest)
     ∙ arrays_read element (suc n) (rank_text rank ++ rest) parts.0
     ∙ ap (arrays_behind (arrays_from n) element (rank_text rank ++ rest)) (rank_reads rank rest (not-true (rank == 0) parts.1))
 arrays_read ty.boolean n rest h = ap (λ k. arrays_from k ty.boolean rest) (zero-add n)
@@ -169,8 +166,8 @@ pub type_reads : TypesAreRead
 type_reads t rest h e =
     let path = (both_true (ends_path rest) (not (begins_with 40 rest)) e).0 in
     let again : type_text t ++ rest ≡ type_text (base_of t) ++ (ranks_text t ++ rest) = ap (λ s. s ++ rest) (type_parts t) ∙ append_assoc (type_text (base_of t)) (ranks_text t) rest in
-    let n = length (ranks_text t ++ rest) - array_depth t in
-    let fuel : length (ranks_text t ++ rest) ≡ array_depth t + n = omega (arith, depth_bound t, length-append (ranks_text t) rest) in
+    let n = length (ranks_text t ++ rest) - depth_type t in
+    let fuel : length (ranks_text t ++ rest) ≡ depth_type t + n = omega (arith, depth_bound t, length-append (ranks_text t) rest) in
     ap type_at again
     ∙ ap (λ o. behind o (λ t rest. Some (arrays_from (length rest) t rest))) (base_reads (base_of t) (ranks_text t ++ rest) (base_is_none t) (base_is_writable t h) (ends_ranks t rest path))
     ∙ ap (λ k. Some (arrays_from k (base_of t) (ranks_text t ++ rest))) fuel

@@ -8,7 +8,7 @@ use Rattle.net_tree.specs.Types.{TypeName}
 use Rattle.net_tree.specs.declared.line.NetLabel.{NetLabel}
 use Rattle.net_tree.specs.declared.line.NetLabel.TheVariants.{Word, Number}
 use Rattle.net_tree.specs.Tree.{Literal, Exp, Exps, binary, boolean, call_of, cast, ctype, decimal, dot, integer, lit, long, me, new_array, new_object, next_exp, no_exps, nothing, paren, path, short, str, type_of, unary, with_dot}
-use Rattle.net_tree.specs.Depth.{depth_exp, depth_exps}
+use Rattle.net_tree.specs.Depth.{depth_exp, depth_exps, is_shallow_type}
 
 -- whether a number is one of 2 * half, of which half are negative
 abbrev pub fits_half : (half : ℕ) → ℤ → Bool
@@ -24,10 +24,14 @@ fits_path names = list_all is_name names
 abbrev pub fits_rank : ℕ → Bool
 fits_rank rank = nat_lt rank 256
 
+-- whether the names and ranks of a type can be held
+abbrev pub holds_type : TypeName → Bool
+holds_type (ty.named names) = fits_path names
+holds_type (ty.array_of element rank) = holds_type element && fits_rank rank
+holds_type _ = true
+
 abbrev pub fits_type : TypeName → Bool
-fits_type (ty.named names) = fits_path names
-fits_type (ty.array_of element rank) = fits_type element && fits_rank rank
-fits_type _ = true
+fits_type t = is_shallow_type t && holds_type t
 
 abbrev pub fits_label : NetLabel → Bool
 fits_label (Word name) = fits_name name

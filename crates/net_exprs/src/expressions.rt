@@ -16,11 +16,8 @@ use crate::stages::{Group, ReadExpr, ReadItems, Stage, array_stage, value, with_
 use crate::starts::{Front, front_of, operator_at};
 use crate::suffixes::{goes_on, member};
 use crate::types::commas;
-use net_tree::NetExpr;
+use net_tree::{MOST_NESTED, NetExpr};
 use std::alloc::Global;
-
-// How deep expressions may be: reading one and letting go of it takes some of the stack for each that is nested in it.
-const MOST_NESTED: u16 = 1000;
 
 #[cycle(read)]
 fn expression(alloc: Global, text: &[u8], room: u16) -> Result<(ReadExpr, &[u8]), PhraseFail>

@@ -93,6 +93,7 @@ pub(crate) fn binary(
 }
 
 // A text and a type, up to the closing parenthesis.
+#[tactic(auto, using(crate::proofs::Nesting::type_behind_fails))]
 fn type_behind<'a>(
     alloc: Global,
     front: &[u8],
@@ -105,10 +106,12 @@ fn type_behind<'a>(
     let Some(text) = after(front, text) else {
         return Err(PhraseFail::NotNet);
     };
-    let (ty, rest) = read_type(alloc, text)?;
-    match after(b")", rest) {
-        Some(rest) => Ok((ty, rest)),
-        None => Err(PhraseFail::NotNet),
+    match read_type(alloc, text) {
+        Ok((ty, rest)) => match after(b")", rest) {
+            Some(rest) => Ok((ty, rest)),
+            None => Err(PhraseFail::NotNet),
+        },
+        Err(e) => Err(e),
     }
 }
 

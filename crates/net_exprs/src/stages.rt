@@ -1,6 +1,6 @@
 //! What is read so far of an expression.
-ghost use Rattle.std.specs.Prelude.{◌≡◌, ℕ, suc, ◌+◌, ◌-◌, ◌<◌, true, false, length, reverse, is_some, IfOk, IfSome, IsErrOf, Some, None};
-ghost use Rattle.net_tree.specs.Depth.{depth_exp};
+ghost use Rattle.std.specs.Prelude.{◌≡◌, ℕ, suc, ◌+◌, ◌-◌, ◌<◌, ◌≤◌, nat_le, true, false, length, reverse, is_some, IfOk, IfSome, IsErrOf, Some, None};
+ghost use Rattle.net_tree.specs.Depth.{depth_exp, depth_type, most_nested};
 ghost use Rattle.net_tree.specs.Tree.{call_of, dot, new_array, new_object, no_exps};
 ghost use Rattle.net_tree.specs.View.{exp_of, exps_of, type_name_of};
 ghost use Rattle.net_exprs.specs.Answers.{Answers};
@@ -10,7 +10,7 @@ ghost use Rattle.net_exprs.specs.Expressions as model;
 ghost use Rattle.net_exprs.specs.Stages.{GroupLeaves, LeaveAll, Leaves, StageLeaves, array_stage, fits_stage, group_view, items_view, object_calls, read_view, stage_depth, stage_view};
 
 use crate::fail::PhraseFail;
-use net_tree::{NetExpr, NetType};
+use net_tree::{MOST_NESTED, NetExpr, NetType};
 use std::alloc::Global;
 use up_base::{Mem, Name};
 
@@ -266,8 +266,31 @@ pub(crate) fn with_group(
     }
 }
 
+// Whether so many more arrays of a type are no more than can be in each other.
+fn has_room(ty: &NetType, ranks: usize) -> bool
+    ensures { result ≡ nat_le (ranks + depth_type (type_name_of ty.now)) most_nested }
+{
+    match u16::try_from(ranks) {
+        Ok(ranks) => ranks <= MOST_NESTED && ty.is_within(MOST_NESTED - ranks),
+        Err(_) => false,
+    }
+}
+
 // The array type with these ranks, of which the first stands first.
 fn with_ranks(alloc: Global, ty: NetType, ranks: &[usize]) -> Result<NetType, PhraseFail>
+    ensures ranks { IfOk result (λ array. type_name_of array ≡ with_ranks (type_name_of ty) (reverse ranks.now)) }
+    ensures misfits { IsErrOf result PhraseFail.NotNet → fits_type (with_ranks (type_name_of ty) (reverse ranks.now)) ≡ false }
+    ensures held { fits_type (type_name_of ty) ≡ true → IfOk result (λ array. fits_type (type_name_of array) ≡ true) }
+{
+    if !has_room(&ty, ranks.len()) {
+        return Err(PhraseFail::NotNet);
+    }
+    nested(alloc, ty, ranks)
+}
+
+// The same where there is room for them.
+fn nested(alloc: Global, ty: NetType, ranks: &[usize]) -> Result<NetType, PhraseFail>
+    requires { length ranks.now + depth_type (type_name_of ty) ≤ most_nested }
     ensures ranks { IfOk result (λ array. type_name_of array ≡ with_ranks (type_name_of ty) (reverse ranks.now)) }
     ensures misfits { IsErrOf result PhraseFail.NotNet → fits_type (with_ranks (type_name_of ty) (reverse ranks.now)) ≡ false }
     ensures held { fits_type (type_name_of ty) ≡ true → IfOk result (λ array. fits_type (type_name_of array) ≡ true) }

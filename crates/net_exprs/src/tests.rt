@@ -247,6 +247,34 @@ fn suffixes_end_at_a_thousand(rt: HostRuntime) -> Result<(), Fail> {
     Ok(())
 }
 
+// Whether a type is read with 1000 ranks, and with no more.
+#[test]
+fn ranks_end_at_a_thousand(rt: HostRuntime) -> Result<(), Fail> {
+    let alloc = rt.alloc();
+    let deepest = suffixed(alloc, b"Short", b"()", 1000)?;
+    assert!(rt; read_type(alloc, &deepest).is_ok());
+    let deeper = suffixed(alloc, b"Short", b"()", 1001)?;
+    assert!(rt; matches!(read_type(alloc, &deeper), Err(PhraseFail::NotNet)));
+    Ok(())
+}
+
+// An array of so many arrays in each other that is made.
+fn made(alloc: Global, count: usize) -> Result<Vec<u8>, Fail> {
+    let mut text = suffixed(alloc, b"New Short", b"()", count)?;
+    text.extend_from_slice(b"(0) {}")?;
+    Ok(text)
+}
+
+#[test]
+fn arrays_that_are_made_end_at_a_thousand(rt: HostRuntime) -> Result<(), Fail> {
+    let alloc = rt.alloc();
+    let deepest = made(alloc, 1000)?;
+    assert!(rt; read_expression(alloc, &deepest).is_ok());
+    let deeper = made(alloc, 1001)?;
+    assert!(rt; matches!(read_expression(alloc, &deeper), Err(PhraseFail::NotNet)));
+    Ok(())
+}
+
 // How many arguments stand at the front.
 fn arguments(alloc: Global, text: &[u8]) -> Option<usize> {
     match read_arguments(alloc, text) {

@@ -1,5 +1,6 @@
 //! Reads ranks and types.
 ghost use Rattle.std.specs.Prelude.{◌≡◌, ℕ, ◌<◌, true, codes, [], ◌∷◌, length, option_map, IfOk, IfSome};
+ghost use Rattle.net_tree.specs.Depth.{depth_type};
 ghost use Rattle.net_tree.specs.Spelling.{is_same_path};
 ghost use Rattle.net_tree.specs.View.{type_name_of};
 ghost use Rattle.net_exprs.specs.Answers.{Answers, with_now};
@@ -9,7 +10,7 @@ ghost use Rattle.net_exprs.specs.Types.{base_at, basic_type_of, commas_from, pat
 use crate::characters::{is, word_at};
 use crate::fail::PhraseFail;
 use crate::names::read_path;
-use net_tree::{NetType, Path};
+use net_tree::{MOST_NESTED, NetType, Path};
 use std::alloc::Global;
 
 /// The rank that commas up to the closing parenthesis stand for, and what follows it.
@@ -63,6 +64,7 @@ pub fn read_rank(text: &[u8]) -> Result<(u8, &[u8]), PhraseFail>
 fn basic_type(word: &[u8]) -> Option<NetType>
     ensures type_of_word { option_map type_name_of result ≡ basic_type_of word.now }
     ensures held { IfSome result (λ ty. fits_type (type_name_of ty) ≡ true) }
+    ensures plain { IfSome result (λ ty. depth_type (type_name_of ty) ≡ 0) }
 {
     if is(word, b"Boolean") {
         Some(NetType::Boolean)
@@ -98,6 +100,7 @@ fn is_system_array(path: &Path) -> bool
 fn path_type(path: Path) -> NetType
     ensures type_of_path { type_name_of result ≡ path_type path }
     ensures held { fits_path path ≡ true → fits_type (type_name_of result) ≡ true }
+    ensures plain { depth_type (type_name_of result) ≡ 0 }
 {
     if is_system_array(&path) {
         NetType::SystemArray
@@ -111,6 +114,7 @@ pub(crate) fn read_base(alloc: Global, text: &[u8]) -> Result<(NetType, &[u8]), 
     ensures answers { Answers type_name_of fits_type (base_at text.now) result }
     ensures shorter { IfOk result (λ read. length read.1.now < length text.now) }
     ensures held { IfOk result (λ read. fits_type (type_name_of read.0) ≡ true) }
+    ensures plain { IfOk result (λ read. depth_type (type_name_of read.0) ≡ 0) }
 {
     let (word, rest) = word_at(text);
     if let Some(ty) = basic_type(word) {
@@ -123,18 +127,23 @@ pub(crate) fn read_base(alloc: Global, text: &[u8]) -> Result<(NetType, &[u8]), 
 }
 
 /// Reads a type with the ranks of the arrays that it is. It fails with `NotNet` where none stands there, or one with a
-/// name of more than 512 characters or more than 255 dimensions.
+/// name of more than 512 characters, more than 255 dimensions or more than 1000 arrays in each other.
 pub fn read_type(alloc: Global, text: &[u8]) -> Result<(NetType, &[u8]), PhraseFail>
     ensures answers { Answers type_name_of fits_type (type_at text.now) result }
     ensures shorter { IfOk result (λ read. length read.1.now < length text.now) }
     ensures held { IfOk result (λ read. fits_type (type_name_of read.0) ≡ true) }
 {
     let (mut ty, mut rest) = read_base(alloc, text)?;
+    let mut arrays = 0;
     'ranks: while let Some((rank, beyond)) = rank_at(rest) {
         let Ok(rank) = u8::try_from(rank) else {
             return Err(PhraseFail::NotNet);
         };
+        if arrays == MOST_NESTED {
+            return Err(PhraseFail::NotNet);
+        }
         ty = NetType::ArrayOf(Box::new(alloc, ty)?, rank);
+        arrays += 1;
         rest = beyond;
     }
     Ok((ty, rest))

@@ -13,6 +13,7 @@ use Rattle.net_tree.specs.Types.{TypeName}
 use Rattle.net_tree.specs.Tree.{Constant, Dim, Exp, Field, Param, Property, Variable, constant, field, field_comment, function, local, set_part, static_local, sub}
 use Rattle.net_tree.specs.Spelling.{is_identifier, name_text, separated}
 use Rattle.net_tree.specs.Expressions.{exp_text, is_writable_whole, is_writable_type, rank_text, type_text}
+use Rattle.net_tree.proofs.TypeDepths.{element_can}
 use Rattle.net_tree.specs.Lines.{is_writable_option}
 use Rattle.net_tree.specs.Declarations.{close_text, declared_text, dim_text, field_text, is_writable_constant, is_writable_dim, is_writable_field, is_writable_param, is_writable_variable, param_text, params_text, passing_text, value_text, variable_text}
 use Rattle.net_exprs.specs.Ends.{begins_with, ends_type}
@@ -51,7 +52,7 @@ plain_reads name t rest h k ends =
 pub declared_reads : (name : List ℕ) (t : TypeName) (rest : List ℕ) → is_identifier name ≡ true → is_writable_type t ≡ true → ends_type rest ≡ true →
     declared_at (declared_text name t ++ rest) ≡ Some (declares name t, rest)
 declared_reads name (ty.array_of element rank) rest h k ends =
-    let can = both_true (is_writable_type element) (not (rank == 0)) k in
+    let can = element_can element rank k in
     ap declared_at (array_again (name_text name) (rank_text rank) (type_text element) rest)
     ∙ ap (option_and_then (λ (r : List ℕ × List ℕ). declared_behind r.0 r.1)) (name_reads name (rank_text rank ++ (codes " As " ++ (type_text element ++ rest))) h refl)
     ∙ ap (option_and_then {U = Declared × List ℕ} (λ (rank : ℕ × List ℕ).

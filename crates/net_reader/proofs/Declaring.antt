@@ -1,14 +1,19 @@
 -- What a declaration is read as, by its parts, and where one of them isn't read.
-use Rattle.std.proofs.Common.{◌≡◌, ℕ, ◌≤◌, Bool, true, false, ◌&&◌, cond, List, [], ◌∷◌, length, drop, refl, sym, ap, arith, ◌∙◌, Option, Some, None, option_map, option_and_then}
+use Rattle.std.proofs.Common.{◌≡◌, ℕ, ◌≤◌, ◌<◌, Bool, true, false, ◌&&◌, cond, nat_le, List, [], ◌∷◌, length, drop, refl, sym, ap, arith, ◌∙◌, leb-true, lt-ltb, Option, Some, None, option_map, option_and_then, Result, Err}
+use Rattle.std.proofs.lemmas.Bool.{leb-false}
+use Rattle.net_tree.specs.declared.expression.NetType.{NetType}
+use Rattle.net_tree.specs.Depth.{depth_type}
 use Rattle.net_tree.specs.Types.{TypeName, array_of}
 use Rattle.net_tree.specs.Tree.{Constant, Dim, Exp, Variable, constant, field, field_comment, local, static_local}
 use Rattle.net_exprs.specs.declared.fail.PhraseFail.{PhraseFail}
+use Rattle.net_exprs.specs.declared.fail.PhraseFail.TheVariants as fail
 use Rattle.net_exprs.specs.Answers.{FailsFor}
 use Rattle.net_exprs.specs.Ends.{begins_with}
 use Rattle.net_exprs.specs.Names.{name_at}
 use Rattle.net_exprs.specs.Types.{rank_at, type_at}
 use Rattle.net_exprs.specs.Fitting.{fits_exp, fits_name, fits_rank, fits_type}
-use Rattle.net_exprs.proofs.Answering.{fails_up}
+use Rattle.net_exprs.proofs.Answering.{fails_over, fails_up}
+use Rattle.net_exprs.proofs.ArrayFits.{array_fits, too_many, unfit_element, unfit_rank}
 use Rattle.net_reader.specs.Answers.{FailsWhole}
 use Rattle.net_reader.specs.DeclarationReader.{Declared, constant_in, declared_at, declared_behind, value_in, variable_in}
 use Rattle.net_reader.specs.FileLines.{units_in}
@@ -26,16 +31,28 @@ second_false false b h = refl
 
 -- ---- the type behind a name
 
+pub array_is_too_deep : (t : TypeName) (rank : ℕ) → nat_le (depth_type t) 999 ≡ false → fits_type (array_of t rank) ≡ false
+array_is_too_deep t rank h = let more = leb-false (depth_type t) 999 h in too_many (array_of t rank) (omega (arith, more))
+
+pub array_is_held : (t : TypeName) (rank : ℕ) → nat_le (depth_type t) 999 ≡ true → rank < 256 → fits_type t ≡ true → fits_type (array_of t rank) ≡ true
+array_is_held t rank h r k = let less = leb-true (depth_type t) 999 h in array_fits t rank k (lt-ltb rank 256 r) (omega (arith, less))
+
+pub ranked_is_too_deep : (rank : ℕ) (text : List ℕ) (t : TypeName) (rest : List ℕ) (e : PhraseFail) → type_at (drop 4 text) ≡ Some (t, rest)
+    → (◌≡◌ {A = Result NetType PhraseFail} (Err e) (Err fail.NotNet) → fits_type (array_of t rank) ≡ false) → FailsFor fits_type (ranked_type rank text) e
+ranked_is_too_deep rank text t rest e is h =
+    fails_over NetType fits_type (ranked_type rank text) e (fits_type (array_of t rank) ≡ false) h
+    (λ unfit. rw is unfit)
+
 pub ranked_fails : (rank : ℕ) (text : List ℕ) (e : PhraseFail) → FailsFor fits_type (type_at (drop 4 text)) e → FailsFor fits_type (ranked_type rank text) e
 ranked_fails rank text e h =
     fails_up fits_type fits_type (type_at (drop 4 text)) (ranked_type rank text) e
-    (misfits_map fits_type fits_type (type_at (drop 4 text)) (λ t. (array_of t.0 rank, t.1)) (λ t k. first_false (fits_type t.0) (fits_rank rank) k)) h
+    (misfits_map fits_type fits_type (type_at (drop 4 text)) (λ t. (array_of t.0 rank, t.1)) (λ t k. unfit_element t.0 rank k)) h
 
 pub array_fails : (text : List ℕ) (e : PhraseFail) → FailsFor fits_rank (rank_at text) e → FailsFor fits_type (array_type text) e
 array_fails text e h =
     fails_up fits_rank fits_type (rank_at text) (array_type text) e
     (misfits_then fits_rank fits_type (rank_at text) (λ rank. ranked_type rank.0 rank.1)
-    (λ rank k. misfits_always fits_type (type_at (drop 4 rank.1)) (λ t. (array_of t.0 rank.0, t.1)) (λ t. second_false (fits_type t.0) (fits_rank rank.0) k))) h
+    (λ rank k. misfits_always fits_type (type_at (drop 4 rank.1)) (λ t. (array_of t.0 rank.0, t.1)) (λ t. unfit_rank t.0 rank.0 k))) h
 
 -- ---- a name with its type
 

@@ -21,6 +21,7 @@ use Rattle.net_tree.specs.Tree.{CaseItem, Constant, Dim, Exp, Field, Head, Line,
 use Rattle.net_tree.specs.Spelling.{is_handler_label, is_identifier, is_label, label_text, name_text, separated}
 use Rattle.net_tree.specs.Comments.{comment_text, is_comment, is_within_line}
 use Rattle.net_tree.specs.Expressions.{exp_text, is_writable_whole, is_writable_type, rank_text, sign_text, type_text}
+use Rattle.net_tree.proofs.TypeDepths.{element_can}
 use Rattle.net_tree.specs.Lines.{case_item_text, is_writable_case, is_writable_line, is_writable_option, is_writable_redim, line_text, redim_item_text, step_text}
 use Rattle.net_tree.specs.Declarations.{access_text, close_text, constant_text, declared_text, dim_text, field_text, head_text, is_writable_constant, is_writable_dim, is_writable_field, is_writable_head, is_writable_param, is_writable_variable, param_text, params_text, passing_text, value_text, variable_text, visibility_text}
 use Rattle.net_exprs.proofs.Words.{both_true, never}
@@ -203,7 +204,7 @@ declared_within name (ty.array_of element rank) h k =
     both_within (name_text name ++ rank_text rank ++ codes " As ") (type_text element)
     (both_within (name_text name ++ rank_text rank) (codes " As ")
     (both_within (name_text name) (rank_text rank) (name_within name h) (both_within (replicate (rank - 1) 44) (codes ")") (commas_within (rank - 1)) refl)) refl)
-    (type_within element (both_true (is_writable_type element) (not (rank == 0)) k).0)
+    (type_within element (element_can element rank k).0)
 declared_within name t h k = plain_within name t h k
 
 value_within : (value : Option Exp) → is_writable_option value ≡ true → Within (value_text value)

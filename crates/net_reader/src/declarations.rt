@@ -1,7 +1,8 @@
 //! Reads names with their types, and declarations of them. A reader fails with `NotNet` where no such part stands there,
 //! or one that is too large.
-ghost use Rattle.std.specs.Prelude.{◌≡◌, ◌<◌, true, length, option_map, IfOk};
+ghost use Rattle.std.specs.Prelude.{◌≡◌, ◌<◌, true, false, length, option_map, IfOk, IsErrOf};
 ghost use Rattle.net_tree.specs.Tree as tree;
+ghost use Rattle.net_tree.specs.Types.{array_of};
 ghost use Rattle.net_tree.specs.View.{constant_of, dim_of, field_of, type_name_of, variable_of};
 ghost use Rattle.net_exprs.specs.Answers.{Answers};
 ghost use Rattle.net_exprs.specs.Fitting.{fits_type};
@@ -18,7 +19,7 @@ use crate::expressions::boxed;
 use crate::texts::units;
 use crate::words::{Word, keyword_at};
 use net_exprs::{PhraseFail, read_name, read_rank, read_type};
-use net_tree::{NetConstant, NetDim, NetExpr, NetField, NetType, NetVariable};
+use net_tree::{MOST_NESTED, NetConstant, NetDim, NetExpr, NetField, NetType, NetVariable};
 use std::alloc::Global;
 use up_base::Name;
 
@@ -29,15 +30,31 @@ pub(crate) struct Declared {
     pub(crate) ty: NetType,
 }
 
+// The array of an element type. It fails with `NotNet` where it is too many arrays in each other.
+#[tactic(auto, using(crate::proofs::Declaring::array_is_too_deep, crate::proofs::Declaring::array_is_held))]
+fn array_over(alloc: Global, element: NetType, rank: u8) -> Result<NetType, PhraseFail>
+    ensures ty { IfOk result (λ array. type_name_of array ≡ array_of (type_name_of element) rank) }
+    ensures misfits { IsErrOf result PhraseFail.NotNet → fits_type (array_of (type_name_of element) rank) ≡ false }
+    ensures held { fits_type (type_name_of element) ≡ true → IfOk result (λ array. fits_type (type_name_of array) ≡ true) }
+{
+    if !element.is_within(MOST_NESTED - 1) {
+        return Err(PhraseFail::NotNet);
+    }
+    Ok(NetType::ArrayOf(Box::new(alloc, element)?, rank))
+}
+
 // The type of an array of a rank, from behind its parentheses.
-#[tactic(auto, using(crate::proofs::Declaring::ranked_fails))]
+#[tactic(auto, using(crate::proofs::Declaring::ranked_fails, crate::proofs::Declaring::ranked_is_too_deep))]
 fn ranked_type(alloc: Global, rank: u8, text: &[u8]) -> Result<(NetType, &[u8]), PhraseFail>
     ensures answers { Answers type_name_of fits_type (ranked_type rank text.now) result }
     ensures shorter { IfOk result (λ read. length read.1.now < length text.now) }
     ensures held { IfOk result (λ read. fits_type (type_name_of read.0) ≡ true) }
 {
     match read_type(alloc, behind(4, text)) {
-        Ok((element, rest)) => Ok((NetType::ArrayOf(Box::new(alloc, element)?, rank), rest)),
+        Ok((element, rest)) => match array_over(alloc, element, rank) {
+            Ok(array) => Ok((array, rest)),
+            Err(e) => Err(e),
+        },
         Err(e) => Err(e),
     }
 }

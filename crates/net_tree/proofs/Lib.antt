@@ -1,4 +1,5 @@
 pub mod Views
+pub mod TypeDepths
 mod Examples
 pub mod WrittenLines
 mod LineTexts

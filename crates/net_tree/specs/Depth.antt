@@ -1,8 +1,11 @@
--- How deep expressions are nested: an operand, an argument and what a member or an argument list stands behind.
+-- How deep expressions are nested: an operand, an argument and what a member or an argument list stands behind; and arrays in
+-- each other.
 use Rattle.std.specs.Prelude.{ℕ, suc, max, Bool, nat_le}
+use Rattle.net_tree.specs.Types as ty
+use Rattle.net_tree.specs.Types.{TypeName}
 use Rattle.net_tree.specs.Tree.{Exp, Exps, binary, call_of, cast, ctype, dot, lit, me, new_array, new_object, next_exp, no_exps, nothing, paren, path, type_of, unary, with_dot}
 
--- The deepest expression that is written: reading goes down the stack, and a file of parentheses needs no deep one.
+-- The deepest expression or type that is written: reading goes down the stack, and a file of parentheses needs no deep one.
 abbrev pub most_nested : ℕ
 most_nested = 1000
 
@@ -35,3 +38,11 @@ is_shallow e = nat_le (depth_exp e) most_nested
 
 abbrev pub are_shallow : Exps → Bool
 are_shallow es = nat_le (depth_exps es) most_nested
+
+-- how many arrays a type is
+abbrev pub depth_type : TypeName → ℕ
+depth_type (ty.array_of element rank) = suc (depth_type element)
+depth_type _ = 0
+
+abbrev pub is_shallow_type : TypeName → Bool
+is_shallow_type t = nat_le (depth_type t) most_nested

@@ -11,7 +11,7 @@ use Rattle.net_tree.specs.Types.{TypeName}
 use Rattle.net_tree.specs.Tree.{Exp, Exps, binary, call_of, cast, ctype, dot, integer, lit, me, new_array, new_object, next_exp, no_exps, nothing, paren, path, type_of, unary, with_dot}
 use Rattle.net_tree.specs.Spelling.{in_parentheses, name_text, path_text, is_identifier, is_path}
 use Rattle.net_tree.specs.Literals.{literal_text, is_writable_literal}
-use Rattle.net_tree.specs.Depth.{is_shallow}
+use Rattle.net_tree.specs.Depth.{is_shallow, is_shallow_type}
 
 -- the parentheses of an array, with a comma between its dimensions
 abbrev pub rank_text : ℕ → List ℕ
@@ -95,10 +95,14 @@ abbrev pub arguments_text : Exps → List ℕ
 arguments_text args = in_parentheses (exp_texts args)
 
 -- an array has a dimension
+abbrev pub is_spelt_type : TypeName → Bool
+is_spelt_type (ty.named names) = is_path names
+is_spelt_type (ty.array_of element rank) = is_spelt_type element && not (rank == 0)
+is_spelt_type _ = true
+
+-- A type can be written where it is no more arrays than are read back.
 abbrev pub is_writable_type : TypeName → Bool
-is_writable_type (ty.named names) = is_path names
-is_writable_type (ty.array_of element rank) = is_writable_type element && not (rank == 0)
-is_writable_type _ = true
+is_writable_type t = is_shallow_type t && is_spelt_type t
 
 -- whether a type is a class or a structure
 abbrev pub is_named : TypeName → Bool

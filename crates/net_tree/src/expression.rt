@@ -1,6 +1,13 @@
 //! Types, literals, operators and expressions.
+ghost use Rattle.std.specs.Prelude.{◌≡◌, nat_le};
+ghost use Rattle.net_tree.specs.Depth.{depth_type};
+ghost use Rattle.net_tree.specs.View.{type_name_of};
 
 use up_base::{Name, Sequence, Wide};
+
+/// How deep an expression may be nested, and how many arrays a type may be: reading one and letting go of it takes some of the
+/// stack for each level.
+pub const MOST_NESTED: u16 = 1000;
 
 /// A name with those that qualify it, from the outermost.
 pub type Path = Sequence<Name>;
@@ -23,6 +30,19 @@ pub enum NetType {
     Named(Path),
     /// An array of this element type, with its number of dimensions.
     ArrayOf(Box<NetType>, u8),
+}
+
+impl NetType {
+    /// Whether it is no more than so many arrays, each the element type of the one before.
+    #[tactic(auto, using(crate::proofs::TypeDepths::without_room, crate::proofs::TypeDepths::one_level))]
+    pub fn is_within(&self, room: u16) -> bool
+        ensures { result ≡ nat_le (depth_type (type_name_of self.now)) room }
+    {
+        match self {
+            NetType::ArrayOf(element, _) => room != 0 && element.is_within(room - 1),
+            _ => true,
+        }
+    }
 }
 
 /// A literal. The flag of a Short or an Integer tells whether it is spelt `&H`, as the digits of its bit pattern.

@@ -13,7 +13,7 @@ pub use declaration::{
     NetClose, NetConstant, NetDim, NetField, NetHead, NetMember, NetParam, NetPassing, NetProc,
     NetProperty, NetStructure, NetVariable, NetVisibility,
 };
-pub use expression::{CastWord, NetBin, NetExpr, NetLit, NetType, NetUn, OpN, Path};
+pub use expression::{CastWord, MOST_NESTED, NetBin, NetExpr, NetLit, NetType, NetUn, OpN, Path};
 pub use laws::one_list_of_files;
 pub use line::{NetCase, NetCounting, NetExit, NetLabel, NetLine, NetReDim};
 pub use project::{NetFiles, NetModule, NetProject};

@@ -4,23 +4,21 @@ ghost use Rattle.net_tree.specs.Depth.{depth_exp, depth_exps, is_shallow};
 ghost use Rattle.net_tree.specs.Tree.{call_of};
 ghost use Rattle.net_tree.specs.View.{exp_of, exps_of};
 
-use net_tree::NetExpr;
+use net_tree::{MOST_NESTED, NetExpr};
 
-// How deep an expression of a line may be nested.
-const MOST_NESTED: u32 = 1000;
-
-// Whether an expression is nested no deeper than so. Calls are nested no deeper either, whatever is asked about.
+// Whether an expression is nested no deeper than a room of so many levels. Calls are nested no deeper either, whatever is
+// asked about.
 #[cycle(is_within)]
-fn is_within(e: &NetExpr, room: u32) -> bool
+fn is_within(e: &NetExpr, room: u16) -> bool
     ensures { result ≡ nat_le (depth_exp (exp_of e.now)) room }
 {
     room != 0 && are_parts_within(e, room - 1)
 }
 
-// Whether the parts of an expression are nested no deeper than so.
+// Whether the parts of an expression are nested no deeper than the room.
 #[cycle(is_within)]
 #[tactic(auto, using(crate::proofs::Depths::both_within))]
-fn are_parts_within(e: &NetExpr, room: u32) -> bool
+fn are_parts_within(e: &NetExpr, room: u16) -> bool
     ensures { result ≡ nat_le (depth_exp (exp_of e.now)) (suc room) }
 {
     match e {
@@ -42,9 +40,9 @@ fn are_parts_within(e: &NetExpr, room: u32) -> bool
     }
 }
 
-// Whether each of these is nested no deeper than so.
+// Whether each of these is nested no deeper than the room.
 #[cycle(is_within)]
-fn are_within(list: &[NetExpr], room: u32) -> bool
+fn are_within(list: &[NetExpr], room: u16) -> bool
     ensures { result ≡ nat_le (depth_exps (exps_of list.now)) room }
 {
     for e in list {

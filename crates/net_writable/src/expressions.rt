@@ -1,17 +1,17 @@
 //! Which types and expressions can be written.
 ghost use Rattle.std.specs.Prelude.{◌≡◌, ◌&&◌};
-ghost use Rattle.net_tree.specs.Expressions.{are_writable_bounds, are_writable_exps, is_named, is_no_bound, is_path_exp, is_writable_exp, is_writable_type, is_writable_whole};
+ghost use Rattle.net_tree.specs.Expressions.{are_writable_bounds, are_writable_exps, is_named, is_no_bound, is_path_exp, is_spelt_type, is_writable_exp, is_writable_type, is_writable_whole};
 ghost use Rattle.net_tree.specs.Tree.{call_of};
 ghost use Rattle.net_tree.specs.View.{exp_of, exps_of, type_name_of};
 
 use crate::depth::{is_shallow, is_shallow_call};
 use crate::literals::is_writable_literal;
 use crate::spelling::{is_identifier, is_path};
-use net_tree::{NetExpr, NetLit, NetType};
+use net_tree::{MOST_NESTED, NetExpr, NetLit, NetType};
 
-/// Whether a type can be written.
-pub(crate) fn is_writable_type(ty: &NetType) -> bool
-    ensures { result ≡ is_writable_type (type_name_of ty.now) }
+// Whether a type can be spelt. Calls are nested no deeper than its arrays.
+fn is_spelt_type(ty: &NetType) -> bool
+    ensures { result ≡ is_spelt_type (type_name_of ty.now) }
 {
     match ty {
         NetType::Boolean => true,
@@ -24,8 +24,15 @@ pub(crate) fn is_writable_type(ty: &NetType) -> bool
         NetType::Object => true,
         NetType::SystemArray => true,
         NetType::Named(names) => is_path(names.as_slice()),
-        NetType::ArrayOf(element, rank) => is_writable_type(element) && *rank != 0,
+        NetType::ArrayOf(element, rank) => is_spelt_type(element) && *rank != 0,
     }
+}
+
+/// Whether a type can be written.
+pub(crate) fn is_writable_type(ty: &NetType) -> bool
+    ensures { result ≡ is_writable_type (type_name_of ty.now) }
+{
+    ty.is_within(MOST_NESTED) && is_spelt_type(ty)
 }
 
 // Whether a type is a class or a structure.

@@ -1,6 +1,6 @@
 //! Trees that can be written, and trees beside them that can't.
 use crate::comments::is_comment;
-use crate::expressions::is_writable_expression;
+use crate::expressions::{is_writable_expression, is_writable_type};
 use crate::literals::is_writable_literal;
 use crate::spelling::{is_handler_label, is_label, is_path};
 use crate::{is_writable, is_writable_line, is_writable_member};
@@ -63,6 +63,19 @@ fn nested(alloc: Global, levels: u32) -> Result<NetExpr, Fail> {
         e = NetExpr::Paren(Box::new(alloc, e)?);
     }
     Ok(e)
+}
+
+// So many arrays of Shorts in each other.
+fn arrays(alloc: Global, levels: u32) -> Result<NetType, Fail> {
+    let mut ty = NetType::Short;
+    for _level in 0..levels {
+        ty = NetType::ArrayOf(Box::new(alloc, ty)?, 1);
+    }
+    Ok(ty)
+}
+
+fn is_written_array(alloc: Global, levels: u32) -> Result<bool, Fail> {
+    Ok(is_writable_type(&arrays(alloc, levels)?))
 }
 
 fn is_written_if(alloc: Global, levels: u32) -> Result<bool, Fail> {
@@ -197,6 +210,8 @@ fn takes_a_thousand_levels(rt: HostRuntime) -> Result<(), Fail> {
     assert!(rt; !is_written_if(alloc, 1000)?);
     assert!(rt; is_written_call(alloc, 998)?);
     assert!(rt; !is_written_call(alloc, 999)?);
+    assert!(rt; is_written_array(alloc, 1000)?);
+    assert!(rt; !is_written_array(alloc, 1001)?);
     Ok(())
 }
 

@@ -1,4 +1,4 @@
-//! Lines whose expressions are nested as deep as can be written, and one deeper.
+//! Lines whose expressions or types are nested as deep as can be written, and one deeper.
 use crate::framed::{program_files, round_lines};
 use crate::whole::place_read;
 use net_tree::NetFiles;
@@ -6,8 +6,8 @@ use std::alloc::Global;
 use std::process::Abort;
 use std::test::Fail;
 
-// What stands before an expression, a piece before its innermost part, that part, and a piece behind it.
-const LINES: [(&str, &str, &str, &str); 7] = [
+// What stands before an expression or a type, a piece before its innermost part, that part, and a piece behind it.
+const LINES: [(&str, &str, &str, &str); 8] = [
     ("a = ", "(", "b", ")"),
     ("a = ", "CInt(", "b", ")"),
     ("a = ", "f(", "b", ")"),
@@ -15,9 +15,10 @@ const LINES: [(&str, &str, &str, &str); 7] = [
     ("a = ", "", "f", "()"),
     ("", "", "f", "(1)"),
     ("ReDim ", "", "f", "(1)"),
+    ("Dim a() As ", "", "Short", "()"),
 ];
 
-// So many pieces, round a part that is one deep, are as deep as can be.
+// So many pieces are as deep as can be: the rest of the line is one level.
 const MOST: usize = 999;
 
 fn repeated(alloc: Global, piece: &str, count: usize) -> Result<String, Fail> {
