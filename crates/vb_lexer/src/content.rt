@@ -205,13 +205,19 @@ pub(crate) struct Content {
     pub(crate) stop: Option<usize>,
 }
 
-/// What a line holds whose first physical line has this number.
-pub(crate) fn read_content(alloc: Global, number: u32, units: &[u16]) -> Result<Content, Mem>
+/// What a line holds whose first physical line has this number. The list without tokens is the one that they are put into.
+pub(crate) fn read_content(
+    alloc: Global,
+    number: u32,
+    units: &[u16],
+    room: Tokens,
+) -> Result<Content, Mem>
     requires units { length units.now < 2 ^ 32 }
     requires lines { number + joints units.now < 2 ^ 32 }
+    requires room { room ≡ [] }
     ensures { IfOk result (λ content. content_of content ≡ content_from [] number 0 0 units.now) }
 {
-    let mut tokens = Tokens::new(alloc);
+    let mut tokens = room;
     let mut before = at_start();
     let mut line = number;
     let mut at = 0;

@@ -8,7 +8,7 @@ use crate::physical::{LogicalLine, logical_line};
 use crate::reading::read_line;
 use std::alloc::Global;
 use up_base::{Mem, Wide};
-use vb_tree::Lines;
+use vb_tree::{Lines, Tokens};
 
 /// The logical lines of a text with their tokens and comments, the lines of the file with this number. Physical lines end in
 /// CR LF, LF or CR, and are joined where a blank or tab, an underscore and blanks end a line.
@@ -30,6 +30,7 @@ fn lines_of(alloc: Global, file: u32, text: &[u16]) -> Result<Lines, LexFail>
     ensures { Answers file text.now result }
 {
     let mut lines = Lines::new(alloc);
+    let mut room = Tokens::new(alloc);
     let mut before: u32 = 0;
     let mut at = 0;
     'lines: while at < text.len() {
@@ -38,11 +39,12 @@ fn lines_of(alloc: Global, file: u32, text: &[u16]) -> Result<Lines, LexFail>
             continuations,
             taken,
         } = line_at(alloc, text, at)?;
-        let reading = read_line(alloc, file, before + 1, units, continuations)?;
+        let reading = read_line(alloc, file, before + 1, units, continuations, room)?;
         if let Some(fault) = reading.fault {
             return Err(LexFail::Fault(fault, lines));
         }
         lines.push(reading.line)?;
+        room = reading.room;
         before += continuations as u32 + 1;
         at += taken;
     }

@@ -1,5 +1,5 @@
 //! A logical line, read.
-ghost use Rattle.std.specs.Prelude.{◌≡◌, ◌+◌, ◌<◌, ◌^◌, length, IfOk};
+ghost use Rattle.std.specs.Prelude.{◌≡◌, ◌+◌, ◌<◌, ◌^◌, [], length, IfOk};
 ghost use Rattle.vb_tree.specs.LogicalLines.{reading, joints, shown};
 ghost use Rattle.vb_lexer.specs.Readings.{reading_of};
 
@@ -14,9 +14,12 @@ use vb_tree::{Line, Tokens};
 pub(crate) struct Reading {
     pub(crate) line: Line,
     pub(crate) fault: Option<Fault>,
+    /// A list without tokens, with room for those of the next line.
+    pub(crate) room: Tokens,
 }
 
-/// What a line comes to whose first physical line has this number, and which has so many continuations.
+/// What a line comes to whose first physical line has this number, and which has so many continuations. Its tokens are first
+/// put into the list without tokens.
 #[tactic(auto, unfolding(vb_tree::specs::LogicalLines::reading))]
 pub(crate) fn read_line(
     alloc: Global,
@@ -24,13 +27,16 @@ pub(crate) fn read_line(
     number: u32,
     units: Vec<u16>,
     continuations: usize,
+    room: Tokens,
 ) -> Result<Reading, Mem>
     requires units { length units.items < 2 ^ 32 }
     requires lines { number + joints units.items < 2 ^ 32 }
     requires continuations { continuations ≡ joints units.items }
-    ensures { IfOk result (λ r. reading_of r ≡ reading file number units.items) }
+    requires room { room ≡ [] }
+    ensures reading { IfOk result (λ r. reading_of r ≡ reading file number units.items) }
+    ensures room { IfOk result (λ r. r.room ≡ []) }
 {
-    let content = read_content(alloc, number, &units)?;
+    let content = read_content(alloc, number, &units, room)?;
     let place = Place { file, line: number };
     let fault = first_fault(
         directive(content.tokens.as_slice()),
@@ -38,13 +44,14 @@ pub(crate) fn read_line(
         place,
         &units,
     );
+    let Fitted { tokens, room } = moved(alloc, content.tokens)?;
     let line = Line {
         place,
         text: text_of(alloc, units, continuations)?,
-        tokens: fitted(content.tokens),
+        tokens,
         comment: content.comment,
     };
-    Ok(Reading { line, fault })
+    Ok(Reading { line, fault, room })
 }
 
 // What is shown of a line with so many continuations: where it has none, its very units.
@@ -61,11 +68,22 @@ fn text_of(alloc: Global, units: Vec<u16>, continuations: usize) -> Result<Wide,
     Ok(shown(alloc, &units)?)
 }
 
-// The same tokens, in no more memory than they fill.
-fn fitted(tokens: Tokens) -> Tokens
-    ensures { result ≡ tokens }
+// Tokens in no more memory than they fill, and the list that they were moved out of.
+#[derive(Drop)]
+struct Fitted {
+    tokens: Tokens,
+    room: Tokens,
+}
+
+fn moved(alloc: Global, tokens: Tokens) -> Result<Fitted, Mem>
+    ensures tokens { IfOk result (λ f. f.tokens ≡ tokens) }
+    ensures room { IfOk result (λ f. f.room ≡ []) }
 {
-    let mut fitted = tokens;
-    fitted.shrink_to_fit();
-    fitted
+    let mut room = tokens.into_vec();
+    let mut fitted = Vec::with_capacity(alloc, room.len())?;
+    fitted.append(&mut room)?;
+    Ok(Fitted {
+        tokens: Tokens::from_vec(fitted),
+        room: Tokens::from_vec(room),
+    })
 }
