@@ -1,15 +1,14 @@
 #!/usr/bin/env bash
 # Measures the upgrade wizard on a small project, on two with a module of the largest size, one of printed texts and one
-# of sums, and on one of sixteen modules of code, beside a plain reading of the same files; the lexer on 16 MiB of code,
-# beside universal-ctags where that is installed; and the emitter and the reader of its files on a project of 16 MiB of
-# text. It prints seconds,
-# megabytes (10^6 bytes of input, or of text that is emitted) a second and peak memory, with the targets beside them, and
-# judges nothing: it ends with status 0 whatever the figures.
+# of sums, and on one of sixteen modules of code, as the script `vbup` runs it, beside a plain reading of the same files;
+# the lexer on 16 MiB of code, beside universal-ctags where that is installed; and the emitter and the reader of its files
+# on a project of 16 MiB of text. It prints seconds, megabytes (10^6 bytes of input, or of text that is emitted) a second
+# and peak memory, with the targets beside them, and judges nothing: it ends with status 0 whatever the figures.
 set -euo pipefail
 export LC_ALL=C
 
 root="$(dirname "$(dirname "$(readlink -f "${BASH_SOURCE[0]}")")")"
-program="$root/crates/vbup/out/vbup"
+program="$root/vbup"
 runs=3
 module_limit=1048576
 
