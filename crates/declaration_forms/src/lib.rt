@@ -8,8 +8,6 @@ mod lists;
 mod options;
 mod outlines;
 mod starts;
-#[cfg(test)]
-mod tests;
 mod variables;
 mod wholes;
 mod words;

@@ -3,8 +3,6 @@
 
 mod lines;
 mod reports;
-#[cfg(test)]
-mod tests;
 mod texts;
 mod verdict;
 

@@ -10,8 +10,6 @@ mod layout;
 mod lines;
 mod literals;
 mod names;
-#[cfg(test)]
-mod tests;
 mod words;
 
 pub use declarations::{

@@ -13,8 +13,6 @@ mod openings;
 mod stages;
 mod starts;
 mod suffixes;
-#[cfg(test)]
-mod tests;
 mod types;
 
 pub use expressions::{read_arguments, read_expression};

@@ -7,8 +7,6 @@ mod decimal;
 mod fail;
 mod laws;
 mod operate;
-#[cfg(test)]
-mod tests;
 mod value;
 mod whole;
 

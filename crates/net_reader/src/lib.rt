@@ -3,8 +3,6 @@
 
 mod cases;
 mod characters;
-#[cfg(test)]
-mod declaration_tests;
 mod declarations;
 mod expressions;
 mod fail;
@@ -16,15 +14,11 @@ mod heads;
 mod items;
 mod jumps;
 mod laws;
-#[cfg(test)]
-mod line_tests;
 mod lines;
 mod loops;
 mod margins;
 mod members;
 mod module_file;
-#[cfg(test)]
-mod module_tests;
 mod pieces;
 mod procedures;
 mod project_files;
@@ -36,8 +30,6 @@ mod states;
 mod step;
 mod structures;
 mod taken;
-#[cfg(test)]
-mod tests_files;
 mod texts;
 mod words;
 

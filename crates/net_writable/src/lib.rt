@@ -10,8 +10,6 @@ mod lines;
 mod literals;
 mod project;
 mod spelling;
-#[cfg(test)]
-mod tests;
 
 pub use blocks::{fits_in, pass};
 pub use declarations::{

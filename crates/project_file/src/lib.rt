@@ -4,7 +4,5 @@
 mod lines;
 mod project_line;
 mod reading;
-#[cfg(test)]
-mod tests;
 
 pub use reading::{one_project_answer, read_project};

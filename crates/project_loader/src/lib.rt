@@ -4,8 +4,6 @@
 mod laws;
 mod loading;
 mod modules;
-#[cfg(test)]
-mod tests;
 mod texts;
 
 pub use laws::{no_fault_where_held, one_first_fault, one_held_project};

@@ -24,10 +24,12 @@ const CHANGES: &str = "
 0 7 => 2.5D => 2.50D => 0 7
 0 7 => 2.5D => 2.5 => 0 7
 0 7 => 2.5D => 2,5D => 0 7
+0 7 => 2.5D => ) => 0 7
 0 7 => As => as => 0 7
 0 7 => total => to tal => 0 7
 0 8 => (,) => (, ) => 0 8
 0 8 => String => string => 0 8
+0 8 => (,) => (, => 0 8
 0 8 => Private => private => 0 8
 0 9 => = 7 =>  => 0 9
 0 9 => 7 => 07 => 0 9
@@ -37,12 +39,15 @@ const CHANGES: &str = "
 0 9 => 7 => 7I => 0 9
 0 10 => Public => Private => 0 10
 0 11 => 'in it => in it => 0 11
+0 12 => Public => Private => 0 12
 0 12 => [Next] => Next => 0 12
 0 12 => [Next] => [Nexu] => 0 12
 0 13 => cells() => cells(0) => 0 13
 0 14 => Structure => structure => 0 14
 0 15 => ByVal i => i => 0 15
 0 15 => , ByRef => ,ByRef => 0 15
+0 15 => , ByRef j() As Long => ,  => 0 15
+0 15 =>  As Short =>  => 0 15
 0 16 => Get => get => 0 16
 0 17 => Property => Properly => 0 17
 0 18 => End Get => End Set => 0 18
@@ -56,6 +61,7 @@ const CHANGES: &str = "
 0 30 => Main() => Main( ) => 0 30
 0 30 => Sub => Function => 0 30
 0 31 => Dim => dim => 0 31
+0 31 => a As => As => 0 31
 0 31 => Integer => Int eger => 0 31
 0 32 => -1 => -2 => 0 32
 0 32 =>  {} => {} => 0 32
@@ -70,6 +76,7 @@ const CHANGES: &str = "
 0 36 => \"\" => \" => 0 36
 0 36 => ) =>  => 0 36
 0 36 => PrintLine =>  => 0 36
+0 36 => UpgradeSupport.PrintLine(\"x\"\"y\") => Dim x As Integer => 0 36
 0 37 => Then => then => 0 37
 0 37 => True => true => 0 37
 0 38 => CInt => Cint => 0 38
@@ -103,7 +110,9 @@ const CHANGES: &str = "
 0 78 => C(1, \"z\") => Integer(1) => 0 78
 0 79 => Sub => Function => 0 79
 0 79 => End Sub => Exit Sub => 0 79
+0 79 => End Sub => End If => 0 79
 0 80 => Integer() => Integer( ) => 0 80
+0 80 =>  As Integer() =>  => 0 80
 0 82 => Module => Class => 0 82
 1 5 => Class => Module => 1 9
 1 6 => Public => Private => 1 6
@@ -182,6 +191,6 @@ fn changes_are_found(rt: HostRuntime) -> Result<(), Fail> {
     for row in CHANGES.trim().lines() {
         assert_change(&rt, rt.alloc(), row)?;
     }
-    assert_eq!(rt; CHANGES.trim().lines().count(), 104);
+    assert_eq!(rt; CHANGES.trim().lines().count(), 113);
     Ok(())
 }

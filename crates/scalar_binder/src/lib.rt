@@ -11,8 +11,6 @@ mod lines;
 mod names;
 mod numbers;
 mod operators;
-#[cfg(test)]
-mod tests;
 mod types;
 
 pub use binding::bind_scalars;

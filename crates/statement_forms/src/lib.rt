@@ -9,8 +9,6 @@ mod meanings;
 mod parts;
 mod pieces;
 mod printing;
-#[cfg(test)]
-mod tests;
 mod words;
 
 pub use meanings::one_form;

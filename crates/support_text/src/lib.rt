@@ -6,8 +6,6 @@ mod parts;
 mod procedures;
 mod row;
 mod support;
-#[cfg(test)]
-mod tests;
 mod used;
 mod walk;
 

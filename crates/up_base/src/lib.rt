@@ -23,8 +23,6 @@ mod speech_buffer;
 mod sure_console;
 mod sure_folder;
 mod sure_outlet;
-#[cfg(test)]
-mod tests;
 mod windows_1252;
 
 pub use allocation::Mem;

@@ -11,8 +11,6 @@ mod laws;
 mod number;
 mod operators;
 mod rounding;
-#[cfg(test)]
-mod tests;
 mod texts;
 mod values;
 

@@ -6,8 +6,6 @@ mod fail;
 mod parts;
 mod reader;
 mod scan;
-#[cfg(test)]
-mod tests;
 mod token_class;
 
 pub use expression::{

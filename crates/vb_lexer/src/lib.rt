@@ -11,8 +11,6 @@ mod numbers;
 mod physical;
 mod reading;
 mod signs;
-#[cfg(test)]
-mod tests;
 mod texts;
 mod units;
 mod words;

@@ -9,8 +9,6 @@ mod frame;
 mod module;
 mod nesting;
 mod reading;
-#[cfg(test)]
-mod tests;
 mod texts;
 mod words;
 

@@ -12,8 +12,6 @@ mod form;
 mod form_parts;
 mod module;
 mod project;
-#[cfg(test)]
-mod tests;
 mod token;
 mod value;
 

@@ -1,6 +1,6 @@
 ghost use Rattle.std.specs.Prelude.{◌<◌, ◌≤◌};
 
-use crate::{Spot, begins_declaration, read_declaration};
+use declaration_forms::{Spot, begins_declaration, read_declaration};
 use form_parts::PartFail;
 use std::alloc::Global;
 use std::process::Abort;

@@ -1,7 +1,7 @@
 //! What is read from small texts, and what isn't.
 ghost use Rattle.std.specs.Prelude.{◌≤◌};
 
-use crate::{
+use net_exprs::{
     PhraseFail, read_arguments, read_expression, read_label, read_name, read_rank, read_type,
 };
 use net_tree::{NetExpr, NetLabel, NetLit, NetType};

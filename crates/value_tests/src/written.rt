@@ -1,4 +1,4 @@
-use crate::{OpNFail, ValueN, coerce_net, operate_net};
+use net_meaning::{OpNFail, ValueN, coerce_net, operate_net};
 use net_tree::{NetType, OpN, Path};
 use std::alloc::Global;
 use std::process::Abort;

@@ -1,10 +1,10 @@
 ghost use Rattle.std.specs.Prelude.{◌<◌, ◌≤◌};
 
-use crate::{ExprFail, ExprRead, read_expr};
 use std::alloc::Global;
 use std::process::Abort;
 use std::test::Fail;
 use up_base::Name;
+use vb_exprs::{ExprFail, ExprRead, read_expr};
 use vb_tree::{Arg6, BinOp, Expr6, Literal6, Sign, Suffix, Token, TokenKind, Tokens, UnOp};
 
 mod table;

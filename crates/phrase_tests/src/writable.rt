@@ -1,13 +1,9 @@
 //! Trees that can be written, and trees beside them that can't.
-use crate::comments::is_comment;
-use crate::expressions::{is_writable_expression, is_writable_type};
-use crate::literals::is_writable_literal;
-use crate::spelling::{is_handler_label, is_label, is_path};
-use crate::{is_writable, is_writable_line, is_writable_member};
 use net_tree::{
     NetCase, NetClose, NetExpr, NetHead, NetLabel, NetLine, NetLit, NetMember, NetModule, NetProc,
     NetProject, NetProperty, NetType, NetVisibility, Path,
 };
+use net_writable::{is_writable, is_writable_line, is_writable_member};
 use std::alloc::Global;
 use std::test::Fail;
 use up_base::{Name, Sequence};
@@ -20,9 +16,20 @@ fn path(alloc: Global, names: &[&str]) -> Result<Path, Fail> {
     Ok(path)
 }
 
+// Whether the head of an If can be written with this condition.
+fn is_written(alloc: Global, condition: NetExpr) -> Result<bool, Fail> {
+    let condition = Box::new(alloc, condition)?;
+    Ok(is_writable_line(&NetLine::If(condition)))
+}
+
 fn is_written_path(alloc: Global, names: &[&str]) -> Result<bool, Fail> {
     let path = path(alloc, names)?;
-    Ok(is_path(path.as_slice()))
+    is_written(alloc, NetExpr::Path(path))
+}
+
+fn is_written_comment(alloc: Global, units: &[u16]) -> Result<bool, Fail> {
+    let units = Sequence::from_slice(alloc, units)?;
+    Ok(is_writable_line(&NetLine::Comment(units)))
 }
 
 // A list of the bound -1.
@@ -34,18 +41,18 @@ fn no_bound(alloc: Global) -> Result<Vec<NetExpr>, Fail> {
 
 fn makes_no_items(alloc: Global) -> Result<bool, Fail> {
     let made = NetExpr::NewArray(NetType::Integer, no_bound(alloc)?);
-    Ok(is_writable_expression(&made))
+    is_written(alloc, made)
 }
 
 fn calls_at_minus_one(alloc: Global) -> Result<bool, Fail> {
     let called = NetExpr::Call(Box::new(alloc, NetExpr::Me)?, no_bound(alloc)?);
-    Ok(is_writable_expression(&called))
+    is_written(alloc, called)
 }
 
 fn has_written_member(alloc: Global, object: NetExpr) -> Result<bool, Fail> {
     let object = Box::new(alloc, object)?;
     let member = NetExpr::Dot(object, Name::make(alloc, b"Size")?);
-    Ok(is_writable_expression(&member))
+    is_written(alloc, member)
 }
 
 fn is_written_case(alloc: Global, item: Option<NetCase>) -> Result<bool, Fail> {
@@ -74,13 +81,14 @@ fn arrays(alloc: Global, levels: u32) -> Result<NetType, Fail> {
     Ok(ty)
 }
 
+// Whether a conversion to so many arrays can be written.
 fn is_written_array(alloc: Global, levels: u32) -> Result<bool, Fail> {
-    Ok(is_writable_type(&arrays(alloc, levels)?))
+    let converted = Box::new(alloc, NetExpr::Me)?;
+    is_written(alloc, NetExpr::CType(converted, arrays(alloc, levels)?))
 }
 
 fn is_written_if(alloc: Global, levels: u32) -> Result<bool, Fail> {
-    let condition = Box::new(alloc, nested(alloc, levels)?)?;
-    Ok(is_writable_line(&NetLine::If(condition)))
+    is_written(alloc, nested(alloc, levels)?)
 }
 
 fn is_written_call(alloc: Global, levels: u32) -> Result<bool, Fail> {
@@ -158,24 +166,26 @@ fn takes_paths(rt: HostRuntime) -> Result<(), Fail> {
 
 #[test]
 fn takes_labels(rt: HostRuntime) -> Result<(), Fail> {
-    assert!(rt; is_label(&NetLabel::Number(0)));
-    assert!(rt; !is_handler_label(&NetLabel::Number(0)));
+    assert!(rt; is_writable_line(&NetLine::GoTo(NetLabel::Number(0))));
+    assert!(rt; !is_writable_line(&NetLine::OnErrorGoTo(NetLabel::Number(0))));
     Ok(())
 }
 
 #[test]
 fn takes_comments(rt: HostRuntime) -> Result<(), Fail> {
-    assert!(rt; is_comment(&[65, 0xD83D, 0xDE00]));
-    assert!(rt; !is_comment(&[65, 0xD83D]));
-    assert!(rt; !is_comment(&[0xDE00, 65]));
-    assert!(rt; !is_comment(&[65, 10]));
+    let alloc = rt.alloc();
+    assert!(rt; is_written_comment(alloc, &[65, 0xD83D, 0xDE00])?);
+    assert!(rt; !is_written_comment(alloc, &[65, 0xD83D])?);
+    assert!(rt; !is_written_comment(alloc, &[0xDE00, 65])?);
+    assert!(rt; !is_written_comment(alloc, &[65, 10])?);
     Ok(())
 }
 
 #[test]
 fn takes_literals(rt: HostRuntime) -> Result<(), Fail> {
-    assert!(rt; is_writable_literal(&NetLit::Short(-1, true)));
-    assert!(rt; !is_writable_literal(&NetLit::Short(-1, false)));
+    let alloc = rt.alloc();
+    assert!(rt; is_written(alloc, NetExpr::Lit(NetLit::Short(-1, true)))?);
+    assert!(rt; !is_written(alloc, NetExpr::Lit(NetLit::Short(-1, false)))?);
     Ok(())
 }
 

@@ -1,7 +1,6 @@
 //! What is read from small lines, and what isn't.
-
-use crate::read_line;
 use net_exprs::PhraseFail;
+use net_reader::read_line;
 use net_tree::{NetCase, NetExit, NetLabel, NetLine};
 use std::alloc::Global;
 use std::process::Abort;

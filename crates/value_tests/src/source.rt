@@ -1,9 +1,9 @@
-use crate::{Op6Fail, coerce6, operate6};
 use std::alloc::{AllocError, Global};
 use std::process::Abort;
 use std::test::Fail;
 use up_base::{Mem, Wide};
 use vb_tree::{BinOp, Op6, Type6, UnOp, Value6};
+use vb6_meaning::{Op6Fail, coerce6, operate6};
 
 mod conversions;
 mod operators;

@@ -1,14 +1,14 @@
 ghost use Rattle.std.specs.Prelude.{◌≡◌, IfOk};
 
-use crate::{
-    Bytes, Console, DecodeFail, DirFolder, DirOutlet, Failed, Folder, FolderFail, Found, Issue,
-    Issues, MemoryConsole, MemoryFolder, MemoryOutlet, Name, NameFail, OutConsole, Outlet, Place,
-    SureConsole, SureFolder, SureOutlet, decode_1252,
-};
 use std::alloc::Global;
 use std::rt::{Env, Files};
 use std::test::Fail;
 use std::{env, fs, process};
+use up_base::{
+    Bytes, Console, DecodeFail, DirFolder, DirOutlet, Failed, Folder, FolderFail, Found, Issue,
+    Issues, MemoryConsole, MemoryFolder, MemoryOutlet, Name, NameFail, OutConsole, Outlet, Place,
+    SureConsole, SureFolder, SureOutlet, decode_1252,
+};
 
 fn name(alloc: Global, text: &[u8]) -> Result<Name, Fail>
     ensures { IfOk result (λ n. n ≡ text.now) }

@@ -6,13 +6,13 @@ mod lists;
 mod nesting;
 mod texts;
 
-use crate::read_module;
 use std::alloc::Global;
 use std::fmt::Write;
 use std::process::Abort;
 use std::test::Fail;
 use up_base::{Name, ReadFail, Wide};
 use vb_lexer::logical_lines;
+use vb_lines::read_module;
 use vb_tree::{CodeLine, Entry, Lines, Member6, Module6, flat_lines};
 
 fn wide(alloc: Global, text: &str) -> Result<Wide, Fail> {

@@ -1,5 +1,5 @@
 //! Project files, and what they say.
-use crate::read_project;
+use project_file::read_project;
 use std::alloc::Global;
 use std::fmt::Write;
 use std::process::Abort;

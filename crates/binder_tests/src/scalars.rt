@@ -1,4 +1,4 @@
-use crate::bind_scalars;
+use scalar_binder::bind_scalars;
 use std::alloc::Global;
 use std::rt::HostRuntime;
 use up_base::{Mem, Name, Place, Sequence, Wide};

@@ -1,9 +1,9 @@
-use crate::{
-    Block6, BlockKind, CodeLine, Expr6, Form6, Middle6, Node6, ProcKind, Role, flat_lines,
-};
 use std::alloc::Global;
 use std::rt::HostRuntime;
 use up_base::{Mem, Place, Sequence, Wide};
+use vb_tree::{
+    Block6, BlockKind, CodeLine, Expr6, Form6, Middle6, Node6, ProcKind, Role, flat_lines,
+};
 
 // A line at the place of this number.
 fn at(alloc: Global, line: u32, form: Form6) -> Result<CodeLine, Mem> {

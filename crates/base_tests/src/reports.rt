@@ -2,7 +2,7 @@ ghost use Rattle.std.specs.Prelude.{◌<◌, length, IsSome, IsTrue};
 ghost use Rattle.std.specs.List.{All};
 ghost use Rattle.issue_report.specs.Texts.{rule_text};
 
-use crate::{Part, Verdict, VerdictWord, fault_text, report, report2, rule_text};
+use issue_report::{Part, Verdict, VerdictWord, fault_text, report, report2, rule_text};
 use std::alloc::Global;
 use std::process::Abort;
 use std::test::Fail;

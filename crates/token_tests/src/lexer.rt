@@ -1,8 +1,8 @@
-use crate::{LexFail, logical_lines};
 use std::alloc::Global;
 use std::fmt::Write;
 use std::test::Fail;
 use up_base::Wide;
+use vb_lexer::{LexFail, logical_lines};
 use vb_tree::{Line, Lines, Literal6, Sign, Suffix, TokenKind};
 
 fn wide(alloc: Global, text: &str) -> Result<Wide, Fail> {

@@ -1,20 +1,22 @@
 //! One use of each function, and of all at once.
-use crate::parts::{call_line, word};
-use crate::support_module;
 use net_tree::{
     NetClose, NetExpr, NetHead, NetLine, NetMember, NetModule, NetProc, NetVisibility, Path,
 };
 use std::alloc::Global;
 use std::test::Fail;
+use support_text::support_module;
 use up_base::{Bytes, Name, Sequence};
 
 // The line `UpgradeSupport.n(x)`.
 fn use_of(alloc: Global, name: &[u8]) -> Result<NetLine, Fail> {
-    let mut path = Path::new(alloc);
-    path.push(Name::from_valid(alloc, b"UpgradeSupport")?)?;
-    path.push(Name::make(alloc, name)?)?;
-    let x = word(alloc, b"x")?;
-    Ok(call_line(alloc, NetExpr::Path(path), x)?)
+    let mut callee = Path::new(alloc);
+    callee.push(Name::from_valid(alloc, b"UpgradeSupport")?)?;
+    callee.push(Name::make(alloc, name)?)?;
+    let mut x = Path::new(alloc);
+    x.push(Name::from_valid(alloc, b"x")?)?;
+    let mut arguments = Sequence::new(alloc);
+    arguments.push(NetExpr::Path(x))?;
+    Ok(NetLine::Call(Box::new(alloc, NetExpr::Path(callee))?, arguments))
 }
 
 // A module with one Sub of one line.

@@ -1,6 +1,6 @@
 ghost use Rattle.std.specs.Prelude.{◌<◌, ◌≤◌};
 
-use crate::{FormFail, Piece, read_statement};
+use statement_forms::{FormFail, Piece, read_statement};
 use std::alloc::Global;
 use std::process::Abort;
 use std::test::Fail;

@@ -1,5 +1,5 @@
 //! Projects in a folder in memory, and what loading them comes to.
-use crate::{LoadFail, load_project};
+use project_loader::{LoadFail, load_project};
 use std::alloc::Global;
 use std::fmt::Write;
 use std::process::Abort;
