@@ -23,9 +23,9 @@ use Rattle.net_rewrite.specs.Translated.{is_nil, is_plain_sub, is_translated_for
 use Rattle.net_rewrite.specs.Written.{items_exp, line_of, written_line, written_local}
 use Rattle.net_rewrite.proofs.Kept.{placed_line, placed_are, are_distinct, local_name_of, lines_at_number, kept_is_plain, kept_is_straight, kept_lines, kept_distinct}
 use Rattle.net_rewrite.proofs.Lists.{by_test, both_true, all_append}
-use Rattle.net_rewrite.proofs.Placing.{in_front, at_back, number_of_members, procedures_in_module, lines_found, code_written}
+use Rattle.rewrite_laws.proofs.Placing.{in_front, at_back, number_of_members, procedures_in_module, lines_found, code_written}
 use Rattle.net_rewrite.proofs.Straight.{numbered, straight_body}
-use Rattle.net_rewrite.proofs.WritableModules.{Located, located_behind}
+use Rattle.rewrite_laws.proofs.WritableModules.{Located, located_behind}
 use Rattle.line_order.specs.Order.{AreRising, LinesAreInOrder, AreInOrder}
 use Rattle.correspondence.specs.Corresponds.{Pairwise, Merges, none, from_first, from_second, IsIn, FormCorresponds, LineCorresponds, LocalCorresponds, HeadCorresponds, Source, ProcedureCorresponds, kept_in, all_kept, upgrade_texts, all_upgrade_texts, line_comments, texts, member_comments, is_procedure_or_comment, ModuleCorresponds, ModulesCorrespond, SupportCorresponds, FilesCorrespond}
 use Rattle.correspondence.proofs.Naming.{IsNamed, items_names, assigned_names}

@@ -1,13 +1,4 @@
 pub mod Words
-pub mod Numbers
-pub mod LiteralsRead
-pub mod TypesRead
-pub mod Lengths
-pub mod Heads
-pub mod ExpressionsRead
-pub mod ReadBack
-pub mod FirstWords
-pub mod Printable
 pub mod Answering
 pub mod Fronts
 pub mod Paths
@@ -19,4 +10,3 @@ pub mod Rooms
 pub mod Nesting
 pub mod Steps
 pub mod Items
-mod Examples

@@ -20,7 +20,7 @@ use Rattle.net_exprs.specs.Ends.{begins_with, ends_type}
 use Rattle.net_exprs.specs.Fitting.{fits_exp, fits_name, fits_type}
 use Rattle.net_exprs.specs.Types.{type_at}
 use Rattle.net_exprs.proofs.Words.{both_true, name_reads}
-use Rattle.net_exprs.proofs.TypesRead.{rank_reads, type_reads}
+use Rattle.phrase_laws.proofs.TypesRead.{rank_reads, type_reads}
 use Rattle.net_reader.specs.DeclarationReader.{Declared, Signature, close_at, constant_in, declared_at, declared_behind, dim_at, field_at, function_in, param_at, param_of, params_at, property_in, set_in, signature_at, sub_by, sub_in, value_in, variable_in}
 use Rattle.net_reader.specs.Fits.{fits_constant, fits_dim, fits_field, fits_option, fits_variable}
 use Rattle.net_reader.specs.LineReader.{exp_in}

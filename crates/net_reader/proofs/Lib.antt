@@ -40,7 +40,6 @@ pub mod ResponsesRead
 pub mod LineEnds
 pub mod Stopping
 pub mod DimWords
-pub mod Turns
 pub mod LineLengths
 pub mod Endings
 pub mod ResponseLines

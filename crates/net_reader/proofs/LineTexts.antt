@@ -25,7 +25,7 @@ use Rattle.net_tree.proofs.TypeDepths.{element_can}
 use Rattle.net_tree.specs.Lines.{case_item_text, is_writable_case, is_writable_line, is_writable_option, is_writable_redim, line_text, redim_item_text, step_text}
 use Rattle.net_tree.specs.Declarations.{access_text, close_text, constant_text, declared_text, dim_text, field_text, head_text, is_writable_constant, is_writable_dim, is_writable_field, is_writable_head, is_writable_param, is_writable_variable, param_text, params_text, passing_text, value_text, variable_text, visibility_text}
 use Rattle.net_exprs.proofs.Words.{both_true, never}
-use Rattle.net_exprs.proofs.Printable.{expression_stays, label_stays, name_stays, type_stays}
+use Rattle.phrase_laws.proofs.Printable.{expression_stays, label_stays, name_stays, type_stays}
 use Rattle.net_reader.proofs.CutLines.{IsLine, begins_line}
 use Rattle.net_reader.proofs.LinesRead.{label_opens}
 use Rattle.net_reader.proofs.Openings.{begins_more, begins_text, whole_is_writable, whole_opens}

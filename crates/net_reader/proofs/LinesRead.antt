@@ -17,8 +17,8 @@ use Rattle.net_tree.specs.Lines.{case_item_text, is_writable_case, is_writable_l
 use Rattle.net_exprs.specs.Ends.{begins_with, ends_expression, ends_name}
 use Rattle.net_exprs.specs.Fitting.{fits_exp, fits_label}
 use Rattle.net_exprs.proofs.Words.{both_true, never}
-use Rattle.net_exprs.proofs.Numbers.{label_reads}
-use Rattle.net_exprs.proofs.ReadBack.{shallow_expression_reads}
+use Rattle.phrase_laws.proofs.Numbers.{label_reads}
+use Rattle.phrase_laws.proofs.ReadBack.{shallow_expression_reads}
 use Rattle.net_reader.specs.Fits.{fits_case, fits_line, fits_option, fits_redim}
 use Rattle.net_reader.specs.Items.{items_at}
 use Rattle.net_reader.specs.LineReader.{case_item_at, case_item_by, case_of, case_value_of, exp_at, exp_in, for_in, handler_of, label_in, line_at, line_by, plain_line, redim_by, redim_in, redim_item_at, redim_item_of, resume_of, statement_of, step_in}

@@ -1,23 +1,9 @@
 pub mod Lists
 pub mod LocalLists
 pub mod Characters
-mod Agreeing
-mod Scalars
-mod Memories
-pub mod LocalNames
-mod Rows
-mod Constants
-mod Decimals
-mod Expressions
-mod Lines
+pub mod Scalars
 pub mod Straight
-mod Runs
 pub mod Kept
-pub mod Placing
-mod WrittenDepths
-mod WritableExpressions
-pub mod WritableModules
-pub mod WritableProjects
 pub mod Amounts
 pub mod NumberRows
 pub mod BitRows
@@ -37,4 +23,3 @@ pub mod Walking
 pub mod WrittenProcedures
 pub mod Numbered
 pub mod Mains
-mod Examples

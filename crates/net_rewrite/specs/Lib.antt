@@ -1,7 +1,6 @@
 pub mod Written
 pub mod Translated
 pub mod Marks
-pub mod Match
 pub mod Modules
 pub mod Writable
 pub mod Projects

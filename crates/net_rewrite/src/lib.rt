@@ -11,7 +11,6 @@ mod fit_constants;
 mod fits;
 mod kept_procedure;
 mod kind;
-mod laws;
 mod left_out;
 mod local;
 mod logical;
@@ -35,9 +34,6 @@ mod written_expression;
 mod written_line;
 
 pub use declared_names::add_member;
-pub use laws::{
-    modules_can_be_written, project_can_be_written, same_lines, same_runs, same_runs_of_modules,
-};
 pub use local::Local;
 pub use marked::{MarkedLine, are_kept, marked_member};
 pub use names::NameSet;

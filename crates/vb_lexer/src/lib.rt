@@ -3,7 +3,6 @@
 
 mod content;
 mod faults;
-mod laws;
 mod lex_fail;
 mod lexeme;
 mod lexing;
@@ -15,6 +14,5 @@ mod texts;
 mod units;
 mod words;
 
-pub use laws::{longest_token, one_answer, placed_tokens, spread_tokens};
 pub use lex_fail::LexFail;
 pub use lexing::logical_lines;

@@ -23,7 +23,7 @@ use Rattle.scalar_binder.specs.Scalars.{bound}
 use Rattle.net_rewrite.specs.Marks.{Place6, marked_lines, behind, behind_all, first_place}
 use Rattle.net_rewrite.specs.Projects.{untranslated_in, untranslated_members, untranslated_modules, untranslated, written_project, has_file_name, can_be_named}
 use Rattle.net_rewrite.specs.Writable.{is_named_module, is_named_variable}
-use Rattle.net_rewrite.proofs.WritableProjects.{project_can}
+use Rattle.rewrite_laws.proofs.WritableProjects.{project_can}
 use Rattle.bound_locals.proofs.Depths.{bound_shallow}
 use Rattle.bound_locals.proofs.Names.{variables_named}
 use Rattle.module_names.proofs.Projects.{named_grammar, shallow_grammar}

@@ -16,7 +16,7 @@ use Rattle.scalar_binder.specs.Scalars.{bound}
 use Rattle.net_rewrite.specs.Marks.{first_place, behind_all}
 use Rattle.net_rewrite.specs.Modules.{written_modules}
 use Rattle.net_rewrite.specs.Projects.{written_project}
-use Rattle.net_rewrite.proofs.Placing.{kept_same}
+use Rattle.rewrite_laws.proofs.Placing.{kept_same}
 use Rattle.line_order.proofs.Projects.{ordered_grammar}
 use Rattle.correspondence.specs.Corresponds.{FilesCorrespond}
 use Rattle.correspondence.proofs.Corresponding.{corresponds}

@@ -13,7 +13,7 @@ use Rattle.issue_report.specs.Reports.{report_text}
 use Rattle.project_loader.specs.Held.{HeldProject}
 use Rattle.project_loader.specs.Faults.{file_names}
 use Rattle.scalar_binder.specs.Scalars.{bound}
-use Rattle.net_rewrite.specs.Match.{IsWrittenAs, SameLines, SameRun}
+use Rattle.rewrite_laws.specs.Match.{IsWrittenAs, SameLines, SameRun}
 use Rattle.net_rewrite.specs.Modules.{IsKept}
 use Rattle.net_rewrite.specs.Projects.{written_project}
 use Rattle.correspondence.specs.Corresponds.{FilesCorrespond}

@@ -1,5 +1,0 @@
-use Rattle.net_exprs.proofs.ReadBack.{roomy_expression_reads}
-use Rattle.net_exprs.proofs.laws.expressions_with_room_are_read.Goals as goal
-
-pub returns : goal.returns
-returns c = roomy_expression_reads

@@ -1,5 +1,0 @@
-use Rattle.net_exprs.proofs.Words.{name_reads}
-use Rattle.net_exprs.proofs.laws.names_are_read.Goals as goal
-
-pub returns : goal.returns
-returns c = name_reads

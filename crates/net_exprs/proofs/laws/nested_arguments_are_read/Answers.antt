@@ -1,5 +1,0 @@
-use Rattle.net_exprs.proofs.ReadBack.{nested_arguments_read}
-use Rattle.net_exprs.proofs.laws.nested_arguments_are_read.Goals as goal
-
-pub returns : goal.returns
-returns c = nested_arguments_read

@@ -1,5 +1,0 @@
-use Rattle.net_exprs.proofs.Rooms.{exp_is_shallow}
-use Rattle.net_exprs.proofs.laws.read_expressions_are_shallow.Goals as goal
-
-pub returns : goal.returns
-returns c = exp_is_shallow

@@ -1,0 +1,9 @@
+mod PrintingTexts
+mod BoundsTexts
+mod FixedTextTexts
+mod ErrorsTexts
+mod VariantsTexts
+mod VariantOperatorsTexts
+mod VariantConversionsTexts
+mod AssignmentsTexts
+mod MakerTexts

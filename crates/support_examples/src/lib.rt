@@ -1,0 +1,2 @@
+//! The text of each support function, computed.
+#![tactic(auto)]

@@ -1,0 +1,9 @@
+pub mod Lengths
+pub mod LongestNumbers
+pub mod LongestOthers
+pub mod LongestTokens
+pub mod NumberShapes
+pub mod OtherShapes
+pub mod PlacedTokens
+pub mod SpreadTokens
+pub mod TokenShapes
