@@ -32,7 +32,10 @@ fn to_boolean(alloc: Global, from: &Type6, a: NetExpr) -> Result<NetExpr, Mem>
         Type6::Integer => Ok(cast(alloc, CastWord::CBool, a)?),
         Type6::Long => Ok(cast(alloc, CastWord::CBool, a)?),
         Type6::Currency => Ok(cast(alloc, CastWord::CBool, a)?),
-        _ => Ok(NetExpr::Nothing),
+        _ => {
+            drop(a);
+            Ok(NetExpr::Nothing)
+        }
     }
 }
 
@@ -41,7 +44,10 @@ fn to_kind(alloc: Global, kind: NumberKind, from: &Type6, a: NetExpr) -> Result<
     ensures { IfOk result (λ e. exp_of e ≡ conversion_exp (to_kind kind (type_of from.now) (kind_of (type_of from.now))) (exp_of a)) }
 {
     match kind_of(from) {
-        None => Ok(NetExpr::Nothing),
+        None => {
+            drop(a);
+            Ok(NetExpr::Nothing)
+        }
         Some(_) => Ok(as_kind(alloc, kind, from, Operand::plain(a))?),
     }
 }
@@ -106,7 +112,10 @@ fn to_variant(alloc: Global, from: &Type6, a: NetExpr) -> Result<NetExpr, Mem>
         Type6::Str => Ok(text_to_variant(alloc, a)?),
         Type6::Fixed(_) => Ok(text_to_variant(alloc, a)?),
         Type6::Variant => Ok(a),
-        _ => Ok(NetExpr::Nothing),
+        _ => {
+            drop(a);
+            Ok(NetExpr::Nothing)
+        }
     }
 }
 
@@ -117,7 +126,10 @@ fn to_object(from: &Type6, a: NetExpr) -> NetExpr
         Type6::Object => a,
         Type6::Class(_) => a,
         Type6::Nothing => a,
-        _ => NetExpr::Nothing,
+        _ => {
+            drop(a);
+            NetExpr::Nothing
+        }
     }
 }
 
@@ -125,9 +137,18 @@ fn to_class(class: u32, from: &Type6, a: NetExpr) -> NetExpr
     ensures { exp_of result ≡ conversion_exp (to_class class (type_of from.now)) (exp_of a) }
 {
     match from {
-        Type6::Class(other) => { if class == *other { a } else { NetExpr::Nothing } }
+        Type6::Class(other) => {
+            if class == *other {
+                return a;
+            }
+            drop(a);
+            NetExpr::Nothing
+        }
         Type6::Nothing => a,
-        _ => NetExpr::Nothing,
+        _ => {
+            drop(a);
+            NetExpr::Nothing
+        }
     }
 }
 
@@ -136,7 +157,10 @@ fn to_nothing(from: &Type6, a: NetExpr) -> NetExpr
 {
     match from {
         Type6::Nothing => a,
-        _ => NetExpr::Nothing,
+        _ => {
+            drop(a);
+            NetExpr::Nothing
+        }
     }
 }
 
@@ -158,13 +182,22 @@ pub(crate) fn conversion(
         Type6::Currency => Ok(to_kind(alloc, NumberKind::Currency, from, a)?),
         Type6::Str => Ok(to_text(alloc, from, a)?),
         Type6::Fixed(_) => Ok(to_fixed(alloc, from, a)?),
-        Type6::User(_) => Ok(NetExpr::Nothing),
+        Type6::User(_) => {
+            drop(a);
+            Ok(NetExpr::Nothing)
+        }
         Type6::Class(class) => Ok(to_class(*class, from, a)),
         Type6::Object => Ok(to_object(from, a)),
         Type6::Variant => Ok(to_variant(alloc, from, a)?),
-        Type6::Array(_, _) => Ok(NetExpr::Nothing),
+        Type6::Array(_, _) => {
+            drop(a);
+            Ok(NetExpr::Nothing)
+        }
         Type6::Nothing => Ok(to_nothing(from, a)),
-        Type6::Unknown => Ok(NetExpr::Nothing),
+        Type6::Unknown => {
+            drop(a);
+            Ok(NetExpr::Nothing)
+        }
     }
 }
 

@@ -70,7 +70,7 @@ fn connected_operands(
 ) -> Result<NetExpr, Mem>
     ensures { IfOk result (λ e. exp_of e ≡ row_exp (connective_row connective operand_a operand_b) (operand a) (operand b)) }
 {
-    Ok(connected(alloc, connective, a.exp, b.exp)?)
+    Ok(connected(alloc, connective, a.into_exp(), b.into_exp())?)
 }
 
 // The same of two operands as numbers of a kind.
@@ -124,6 +124,8 @@ fn bits_of_kind(
     ensures { IfOk result (λ e. exp_of e ≡ bits_exp connective kind (type_of s.now) (type_of t.now) (operand a) (operand b)) }
 {
     if has_none(connective, kind) {
+        drop(a);
+        drop(b);
         return Ok(NetExpr::Nothing);
     }
     Ok(connected_numbers(alloc, connective, kind, s, t, a, b)?)
@@ -142,7 +144,11 @@ fn number_bits(
     ensures { IfOk result (λ e. exp_of e ≡ operator_exp (on_numbers (connective_bits connective) (type_of s.now) (type_of t.now)) (operand a) (operand b)) }
 {
     match wider_of(s, t) {
-        None => Ok(NetExpr::Nothing),
+        None => {
+            drop(a);
+            drop(b);
+            Ok(NetExpr::Nothing)
+        }
         Some(kind) => Ok(bits_of_kind(alloc, connective, whole(kind), s, t, a, b)?),
     }
 }

@@ -92,7 +92,11 @@ pub(crate) fn arithmetic(
     ensures { IfOk result (λ e. exp_of e ≡ operator_exp (on_numbers (arithmetic operator) (type_of s.now) (type_of t.now)) (operand a) (operand b)) }
 {
     match wider_of(s, t) {
-        None => Ok(NetExpr::Nothing),
+        None => {
+            drop(a);
+            drop(b);
+            Ok(NetExpr::Nothing)
+        }
         Some(kind) => Ok(checked_both(alloc, kind, operator, s, t, a, b)?),
     }
 }
@@ -110,7 +114,11 @@ pub(crate) fn division(
     ensures { IfOk result (λ e. exp_of e ≡ operator_exp (on_numbers (division operator) (type_of s.now) (type_of t.now)) (operand a) (operand b)) }
 {
     match wider_of(s, t) {
-        None => Ok(NetExpr::Nothing),
+        None => {
+            drop(a);
+            drop(b);
+            Ok(NetExpr::Nothing)
+        }
         Some(kind) => Ok(both_as(alloc, whole(kind), operator, s, t, a, b)?),
     }
 }
@@ -128,7 +136,11 @@ pub(crate) fn compared(
     ensures { IfOk result (λ e. exp_of e ≡ operator_exp (on_numbers (compared operator) (type_of s.now) (type_of t.now)) (operand a) (operand b)) }
 {
     match wider_of(s, t) {
-        None => Ok(NetExpr::Nothing),
+        None => {
+            drop(a);
+            drop(b);
+            Ok(NetExpr::Nothing)
+        }
         Some(kind) => Ok(both_as(alloc, kind, operator, s, t, a, b)?),
     }
 }
@@ -152,6 +164,8 @@ pub(crate) fn product(
     ensures { IfOk result (λ e. exp_of e ≡ operator_exp (on_numbers product (type_of s.now) (type_of t.now)) (operand a) (operand b)) }
 {
     if are_currencies(s, t) {
+        drop(a);
+        drop(b);
         return Ok(NetExpr::Nothing);
     }
     Ok(arithmetic(alloc, NetBin::Mul, s, t, a, b)?)

@@ -32,6 +32,15 @@ impl Operand {
     {
         Operand { exp, decimal: None }
     }
+
+    /// The expression alone.
+    pub(crate) fn into_exp(self) -> NetExpr
+        ensures { result ≡ self.exp }
+    {
+        let Operand { exp, decimal } = self;
+        drop(decimal);
+        exp
+    }
 }
 
 // A conversion of an expression that is also written as a Decimal.
@@ -44,8 +53,14 @@ fn cast_literal(
     ensures { IfOk result (λ e. exp_of e ≡ decimal_or word (exp_of decimal) (net.cast word (exp_of exp))) }
 {
     match word {
-        CastWord::CDec => Ok(decimal),
-        _ => Ok(cast(alloc, word, exp)?),
+        CastWord::CDec => {
+            drop(exp);
+            Ok(decimal)
+        }
+        _ => {
+            drop(decimal);
+            Ok(cast(alloc, word, exp)?)
+        }
     }
 }
 
@@ -71,7 +86,7 @@ pub(crate) fn as_kind(
     ensures { IfOk result (λ e. exp_of e ≡ row_exp (as_kind kind (type_of ty.now) operand_a) (operand a) (operand a)) }
 {
     if is_of_kind(kind, ty) {
-        return Ok(a.exp);
+        return Ok(a.into_exp());
     }
     Ok(cast_operand(alloc, word_of_kind(kind), a)?)
 }

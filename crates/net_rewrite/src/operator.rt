@@ -28,7 +28,7 @@ use vb6_meaning::NumberKind;
 fn as_they_stand(alloc: Global, operator: NetBin, a: Operand, b: Operand) -> Result<NetExpr, Mem>
     ensures { IfOk result (λ e. exp_of e ≡ row_exp (row.binary operator operand_a operand_b) (operand a) (operand b)) }
 {
-    Ok(parts::binary(alloc, operator, a.exp, b.exp)?)
+    Ok(parts::binary(alloc, operator, a.into_exp(), b.into_exp())?)
 }
 
 // A sum of numbers, or two texts joined.
@@ -54,7 +54,10 @@ pub(crate) fn as_text(alloc: Global, ty: &Type6, a: NetExpr) -> Result<Option<Ne
         Type6::Currency => Ok(Some(currency_text(alloc, a)?)),
         Type6::Str => Ok(Some(a)),
         Type6::Fixed(_) => Ok(Some(a)),
-        _ => Ok(None),
+        _ => {
+            drop(a);
+            Ok(None)
+        }
     }
 }
 
@@ -71,9 +74,15 @@ fn joined_texts(alloc: Global, a: Option<NetExpr>, b: Option<NetExpr>) -> Result
     ensures { IfOk result (λ e. exp_of e ≡ joined_texts (option_map exp_of a) (option_map exp_of b)) }
 {
     match a {
-        None => Ok(NetExpr::Nothing),
+        None => {
+            drop(b);
+            Ok(NetExpr::Nothing)
+        }
         Some(a) => match b {
-            None => Ok(NetExpr::Nothing),
+            None => {
+                drop(a);
+                Ok(NetExpr::Nothing)
+            }
             Some(b) => Ok(parts::binary(alloc, NetBin::Concat, a, b)?),
         },
     }
@@ -99,7 +108,7 @@ fn joined_operands(
 ) -> Result<NetExpr, Mem>
     ensures { IfOk result (λ e. exp_of e ≡ operator_exp (joined (type_of s.now) (type_of t.now)) (operand a) (operand b)) }
 {
-    Ok(joined(alloc, s, t, a.exp, b.exp)?)
+    Ok(joined(alloc, s, t, a.into_exp(), b.into_exp())?)
 }
 
 // Two texts or two Booleans are compared as they stand, else numbers.
@@ -128,6 +137,8 @@ fn same_object(alloc: Global, s: &Type6, t: &Type6, a: Operand, b: Operand) -> R
     if are_references(s, t) {
         return Ok(as_they_stand(alloc, NetBin::Is, a, b)?);
     }
+    drop(a);
+    drop(b);
     Ok(NetExpr::Nothing)
 }
 
@@ -185,7 +196,11 @@ fn planned(
     ensures { IfOk result (λ e. exp_of e ≡ operator_exp (planned plan (type_of s.now) (type_of t.now)) (operand a) (operand b)) }
 {
     match plan {
-        Plan::Nothing => Ok(NetExpr::Nothing),
+        Plan::Nothing => {
+            drop(a);
+            drop(b);
+            Ok(NetExpr::Nothing)
+        }
         Plan::Product => Ok(product(alloc, s, t, a, b)?),
         Plan::Division(operator) => Ok(division(alloc, operator, s, t, a, b)?),
         Plan::Sum => Ok(added(alloc, s, t, a, b)?),
@@ -227,9 +242,13 @@ fn negated(alloc: Global, s: &Type6, a: NetExpr) -> Result<NetExpr, Mem>
     ensures { IfOk result (λ e. exp_of e ≡ operator_exp (negated (type_of s.now) (kind_of (type_of s.now))) (plain (exp_of a)) (plain (exp_of a))) }
 {
     match kind_of(s) {
-        None => Ok(NetExpr::Nothing),
+        None => {
+            drop(a);
+            Ok(NetExpr::Nothing)
+        }
         Some(kind) => {
             if is_byte(kind) {
+                drop(a);
                 return Ok(NetExpr::Nothing);
             }
             Ok(minus(alloc, kind, s, a)?)
@@ -250,9 +269,13 @@ fn turned(alloc: Global, s: &Type6, a: NetExpr) -> Result<NetExpr, Mem>
     ensures { IfOk result (λ e. exp_of e ≡ operator_exp (turned (type_of s.now) (kind_of (type_of s.now))) (plain (exp_of a)) (plain (exp_of a))) }
 {
     match kind_of(s) {
-        None => Ok(NetExpr::Nothing),
+        None => {
+            drop(a);
+            Ok(NetExpr::Nothing)
+        }
         Some(kind) => {
             if is_byte(kind) {
+                drop(a);
                 return Ok(NetExpr::Nothing);
             }
             Ok(inverse(alloc, whole(kind), s, a)?)

@@ -1,6 +1,6 @@
 //! Changes of one place in the files, each with the line at which they are no written project.
 use crate::files::{file_text, name_of, push_file, push_own, source};
-use crate::whole::place_read;
+use crate::whole::assert_place;
 use net_tree::NetFiles;
 use std::alloc::Global;
 use std::process::Abort;
@@ -60,6 +60,7 @@ const CHANGES: &str = "
 0 27 => Set(ByVal value As System.Array) => Get => 0 27
 0 30 => Main() => Main( ) => 0 30
 0 30 => Sub => Function => 0 30
+0 30 =>   Public => Public => 0 30
 0 31 => Dim => dim => 0 31
 0 31 => a As => As => 0 31
 0 31 => Integer => Int eger => 0 31
@@ -117,6 +118,7 @@ const CHANGES: &str = "
 1 5 => Class => Module => 1 9
 1 6 => Public => Private => 1 6
 1 8 => Collections => [Collections] => 1 8
+2 1 => checked => other => 2 1
 2 5 => Support =>  => 2 5
 3 1 => exe => EXE => 3 1
 3 1 => exe => library => 3 2
@@ -181,9 +183,7 @@ fn expected(row: &str) -> Result<&str, Fail> {
 
 fn assert_change(rt: &impl Abort, alloc: Global, row: &str) -> Result<(), Fail> {
     let files = changed_files(alloc, row)?;
-    let place = place_read(alloc, &files)?;
-    assert_eq!(rt; place.as_str(), expected(row)?, "after {row}");
-    Ok(())
+    assert_place(rt, alloc, &files, expected(row)?, row)
 }
 
 #[test]
@@ -191,6 +191,6 @@ fn changes_are_found(rt: HostRuntime) -> Result<(), Fail> {
     for row in CHANGES.trim().lines() {
         assert_change(&rt, rt.alloc(), row)?;
     }
-    assert_eq!(rt; CHANGES.trim().lines().count(), 113);
+    assert_eq!(rt; CHANGES.trim().lines().count(), 115);
     Ok(())
 }

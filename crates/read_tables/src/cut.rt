@@ -1,24 +1,10 @@
 //! Files that end too early, files that are missing, and files that are too many.
 use crate::files::{CLASS, MAIN, all_files, file_text, name_of, push_file, push_own};
-use crate::whole::place_read;
+use crate::whole::assert_place;
 use net_tree::NetFiles;
 use std::alloc::Global;
-use std::process::Abort;
 use std::test::Fail;
 use up_base::{Bytes, Sequence};
-
-// Asserts at which place files are no project.
-fn assert_place(
-    rt: &impl Abort,
-    alloc: Global,
-    files: &NetFiles,
-    place: &str,
-    about: &str,
-) -> Result<(), Fail> {
-    let found = place_read(alloc, files)?;
-    assert_eq!(rt; found.as_str(), place, "{about}");
-    Ok(())
-}
 
 // The first lines of a text, so many.
 fn front(alloc: Global, text: &str, count: usize) -> Result<String, Fail> {

@@ -1,6 +1,6 @@
 //! Lines whose expressions or types are nested as deep as can be written, and one deeper.
 use crate::framed::{program_files, round_lines};
-use crate::whole::place_read;
+use crate::whole::assert_place;
 use net_tree::NetFiles;
 use std::alloc::Global;
 use std::process::Abort;
@@ -43,7 +43,7 @@ fn nested_files(
     program_files(alloc, main.as_str())
 }
 
-fn assert_place(
+fn assert_nested(
     rt: &impl Abort,
     alloc: Global,
     row: (&str, &str, &str, &str),
@@ -51,20 +51,15 @@ fn assert_place(
     place: &str,
 ) -> Result<(), Fail> {
     let files = nested_files(alloc, row, count)?;
-    let found = place_read(alloc, &files)?;
     let (before, opening, part, closing) = row;
-    assert_eq!(rt;
-        found.as_str(),
-        place,
-        "in {before}{opening}{part}{closing}"
-    );
-    Ok(())
+    let about = format!(in alloc; "in {before}{opening}{part}{closing}")?;
+    assert_place(rt, alloc, &files, place, about.as_str())
 }
 
 #[test]
 fn deepest_lines_are_read(rt: HostRuntime) -> Result<(), Fail> {
     for row in LINES {
-        assert_place(&rt, rt.alloc(), row, MOST, "read")?;
+        assert_nested(&rt, rt.alloc(), row, MOST, "read")?;
     }
     Ok(())
 }
@@ -72,7 +67,7 @@ fn deepest_lines_are_read(rt: HostRuntime) -> Result<(), Fail> {
 #[test]
 fn deeper_lines_are_no_lines(rt: HostRuntime) -> Result<(), Fail> {
     for row in LINES {
-        assert_place(&rt, rt.alloc(), row, MOST + 1, "0 6")?;
+        assert_nested(&rt, rt.alloc(), row, MOST + 1, "0 6")?;
     }
     Ok(())
 }

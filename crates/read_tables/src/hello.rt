@@ -1,6 +1,6 @@
 //! The files that are written for a project that prints a text.
 use crate::files::push_file;
-use crate::whole::{assert_written_again, place_read};
+use crate::whole::{assert_place, assert_written_again};
 use net_tree::NetFiles;
 use std::alloc::Global;
 use std::test::Fail;
@@ -39,7 +39,5 @@ fn hello_is_read_back(rt: HostRuntime) -> Result<(), Fail> {
 fn hello_lacks_a_parenthesis(rt: HostRuntime) -> Result<(), Fail> {
     let text = MAIN.replacen(rt.alloc(), "\")\r", "\"\r", 1)?;
     let files = hello_files(rt.alloc(), text.as_str())?;
-    let place = place_read(rt.alloc(), &files)?;
-    assert_eq!(&rt; place.as_str(), "0 6");
-    Ok(())
+    assert_place(&rt, rt.alloc(), &files, "0 6", "no parenthesis")
 }

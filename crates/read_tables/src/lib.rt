@@ -25,6 +25,8 @@ mod literals;
 #[cfg(test)]
 mod programs;
 #[cfg(test)]
+mod refused;
+#[cfg(test)]
 mod rows;
 #[cfg(test)]
 mod shown;

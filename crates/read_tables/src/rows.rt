@@ -20,12 +20,14 @@ Nothing => {nothing}
 Me => {me}
 [Me] => {path Me}
 Main1.[Get].x => {path Main1 Get x}
+Microsoft.Is => {path Microsoft Is}
 .x => {with x}
 .[Get] => {with Get}
 Me.x.[Get] => {dot Get{dot x{me}}}
 f().x => {dot x{call{path f}}}
 f(1)(2, 3) => {call{call{path f}{integer 1}}{integer 2}{integer 3}}
 CInt((-a)) => {CInt{neg{path a}}}
+(-1.5D) => {neg{decimal 15000}}
 CType(Nothing, C) => {ctype named C{nothing}}
 CType(a, Integer()(,,)) => {ctype Integer of 1 of 3{path a}}
 (Not (a And b)) => {not{and{path a}{path b}}}
@@ -117,6 +119,7 @@ Public a As Main1.[Next] => public variable a as named Main1 Next|
 Public a(,) As String => public variable a as String of 2|
 Public a(,) As Integer() => public variable a as Integer of 1 of 2|
 Public a As System.Collections.Hashtable => public variable a as named System Collections Hashtable|
+Public [Next] As A.B = New A.B() => public variable Next as named A B{object named A B}|
 Private [Get] As Integer = 5 => private variable Get as Integer{integer 5}|
 Friend a() As Byte = New Byte(-1) {} => friend variable a as Byte of 1{array Byte{integer -1}}|
 Public Const c As Integer = 7 => public const c as Integer{integer 7}|
@@ -129,8 +132,10 @@ Private Sub [Get](ByVal a As Integer, ByRef [Next]() As String)|End Sub => priva
 Friend Sub F(ByRef a As C)|    Dim b As Byte|    a = b|End Sub => friend sub F( byref a as named C)|dim b as Byte|assign{path a}{path b}|end sub|
 Public Function F() As Integer|End Function => public function F()Integer|end function|
 Private Function F(ByVal a As C) As Integer()|    F = a|End Function => private function F( byval a as named C)Integer of 1|assign{path F}{path a}|end function|
+Public Function [Next](ByVal n As Integer) As Integer|    Dim more As Integer|    If (n > 1) Then|        more = n|    End If|End Function => public function Next( byval n as Integer)Integer|dim more as Integer|if{greater{path n}{integer 1}}|assign{path more}{path n}|end if|end function|
 Friend Function F() As String|    Exit Function|End Function => friend function F()String|exit function|end function|
 Public Sub New()|    f()|End Sub => new|call{path f}|end sub|
+Public Sub Newer()|End Sub => public sub Newer()|end sub|
 Public Property P() As Integer|    Get|    End Get|    Set(ByVal v As Integer)|    End Set|End Property => public property P()Integer|get|end get|set v as Integer|end set|end property|
 Private ReadOnly Property P() As C|    Get|        P = a|    End Get|End Property => private property P()named C|get|assign{path P}{path a}|end get|end property|
 Friend WriteOnly Property [Get](ByVal i As Long) As Byte()|    Set(ByVal v() As Byte)|        Exit Property|    End Set|End Property => friend property Get( byval i as Long)Byte of 1|set v as Byte of 1|exit property|end set|end property|
@@ -171,7 +176,7 @@ fn values_are_told(rt: HostRuntime) -> Result<(), Fail> {
     for row in VALUES.trim().lines() {
         assert_value_row(&rt, rt.alloc(), row)?;
     }
-    assert_eq!(rt; VALUES.trim().lines().count(), 30);
+    assert_eq!(rt; VALUES.trim().lines().count(), 32);
     Ok(())
 }
 
@@ -200,6 +205,6 @@ fn members_are_told(rt: HostRuntime) -> Result<(), Fail> {
     for row in MEMBERS.trim().lines() {
         assert_member_row(&rt, rt.alloc(), row)?;
     }
-    assert_eq!(rt; MEMBERS.trim().lines().count(), 33);
+    assert_eq!(rt; MEMBERS.trim().lines().count(), 36);
     Ok(())
 }

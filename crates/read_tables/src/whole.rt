@@ -7,8 +7,8 @@ use std::alloc::Global;
 use std::process::Abort;
 use std::test::Fail;
 
-/// The place at which files are no written project, or `read` where they are one.
-pub(crate) fn place_read(alloc: Global, files: &NetFiles) -> Result<String, Fail> {
+// The place at which files are no written project, or `read` where they are one.
+fn place_read(alloc: Global, files: &NetFiles) -> Result<String, Fail> {
     if !can_be_counted(files) {
         return Err(Fail::from("too many lines"));
     }
@@ -19,6 +19,19 @@ pub(crate) fn place_read(alloc: Global, files: &NetFiles) -> Result<String, Fail
         }
         Err(NetReadFail::Mem) => Err(Fail::from("out of memory")),
     }
+}
+
+/// Asserts at which place files are no written project, or that they are one where the place is `read`.
+pub(crate) fn assert_place(
+    rt: &impl Abort,
+    alloc: Global,
+    files: &NetFiles,
+    place: &str,
+    about: &str,
+) -> Result<(), Fail> {
+    let found = place_read(alloc, files)?;
+    assert_eq!(rt; found.as_str(), place, "{about}");
+    Ok(())
 }
 
 // Asserts that one file is as another.
