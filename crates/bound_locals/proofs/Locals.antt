@@ -12,10 +12,10 @@ use Rattle.vb_tree.specs.declared.form_parts.VarWord.{VarWord}
 use Rattle.vb_tree.specs.declared.form_parts.VarWord.TheVariants as word
 use Rattle.vb_tree.specs.FlatLines.{flat_lines}
 use Rattle.vb_tree.specs.Tree.{Declarator, Form, variables, Line, Nodes, Project}
-use Rattle.vb6_run.specs.Program.{Written, procedures_of, is_local_of, locals_from, locals_of}
+use Rattle.scalar_vb6_run.specs.Program.{Written, procedures_of, is_local_of, locals_from, locals_of}
 use Rattle.scalar_binder.specs.Declarations.{owner_in, variable_in, declared_in, variables_of, variables_from, bodies_of}
 use Rattle.scalar_binder.specs.Scalars.{bound}
-use Rattle.net_rewrite.specs.Modules.{dim_names, LocalsAreDeclared}
+use Rattle.scalar_rewrite.specs.Modules.{dim_names, LocalsAreDeclared}
 
 abbrev Name : Type 0
 Name = List ℕ

@@ -6,10 +6,10 @@ use Rattle.vb_tree.specs.BoundTree.{Variable}
 use Rattle.vb_tree.specs.declared.declared.Owner.{Owner}
 use Rattle.vb_tree.specs.FlatLines.{flat_lines, member_lines, module_lines}
 use Rattle.vb_tree.specs.Tree.{Declarator, Form, variables, Line, Nodes, Member, alone, group, proc, Module, Project}
-use Rattle.vb6_run.specs.Program.{Written, procedures_in, procedures_of}
+use Rattle.scalar_vb6_run.specs.Program.{Written, procedures_in, procedures_of}
 use Rattle.net_tree.specs.Spelling.{is_identifier}
 use Rattle.scalar_binder.specs.Declarations.{owner_in, variable_in, declared_in, variables_of, variables_from, bodies_of, declarations}
-use Rattle.net_rewrite.specs.Writable.{are_comments, has_comment_text, is_named_head, names_variables, is_named_module, is_named_variable}
+use Rattle.scalar_rewrite.specs.Writable.{are_comments, has_comment_text, is_named_head, names_variables, is_named_module, is_named_variable}
 
 both_true : (a b : Bool) → a && b ≡ true → (a ≡ true) × (b ≡ true)
 both_true true b e = (refl, e)

@@ -38,7 +38,7 @@ use Rattle.form_parts.specs.declared.cuts.Separator.TheVariants.{Comma, Equal}
 use Rattle.std.specs.Prelude.{ℤ, pos}
 use Rattle.std.specs.Ordering.{int_eq}
 use Rattle.module_names.proofs.Statements.{is_good_form, option_names, found_names, either_names}
-use Rattle.net_rewrite.proofs.Lists.{by_test, and_true, all_more, all_first, all_rest}
+use Rattle.scalar_rewrite.proofs.Lists.{by_test, and_true, all_more, all_first, all_rest}
 use Rattle.module_names.proofs.Cuts.{are_named}
 use Rattle.module_names.proofs.Tokens.{is_named_kind, is_named_token}
 use Rattle.net_tree.specs.Spelling.{is_identifier}

@@ -13,15 +13,15 @@ use Rattle.vb_lines.specs.Parts.{all_parts}
 use Rattle.project_loader.specs.Modules.{TextIsModule}
 use Rattle.net_tree.specs.Comments.{is_comment}
 use Rattle.net_tree.specs.Spelling.{is_word_part, is_identifier}
-use Rattle.vb6_run.specs.Depth.{has_shallow_form, has_shallow_line, is_shallow_module}
-use Rattle.vb6_run.specs.Program.{procedures_in}
-use Rattle.net_rewrite.specs.Modules.{Comment}
-use Rattle.net_rewrite.specs.Writable.{are_comments, has_comment_text, names_sub, names_variables, is_named_head, is_named_module}
+use Rattle.scalar_vb6_run.specs.Depth.{has_shallow_form, has_shallow_line, is_shallow_module}
+use Rattle.scalar_vb6_run.specs.Program.{procedures_in}
+use Rattle.scalar_rewrite.specs.Modules.{Comment}
+use Rattle.scalar_rewrite.specs.Writable.{are_comments, has_comment_text, names_sub, names_variables, is_named_head, is_named_module}
 use Rattle.module_names.specs.Texts.{are_single}
 use Rattle.module_names.proofs.Contents.{is_good_line, has_simple_comment, lines_good}
 use Rattle.module_names.proofs.Cuts.{are_named, all_parts_good}
 use Rattle.module_names.proofs.Lines.{is_good_code, read_good}
-use Rattle.net_rewrite.proofs.Lists.{both_true, and_true, all_more, all_first, all_rest, all_append, all_left, all_right, all_leads, all_flat}
+use Rattle.scalar_rewrite.proofs.Lists.{both_true, and_true, all_more, all_first, all_rest, all_append, all_left, all_right, all_leads, all_flat}
 use Rattle.module_names.proofs.Statements.{is_good_form}
 use Rattle.module_names.proofs.Units.{is_simple, simple_is_comment}
 

@@ -10,8 +10,8 @@ use Rattle.vb_tree.specs.LogicalLines.{shown_unit, shown}
 use Rattle.net_tree.specs.Comments.{is_surrogate, is_well_formed, is_within_line, is_comment}
 use Rattle.project_loader.specs.Texts.{is_byte, unit_or_delete, decoded}
 use Rattle.module_names.specs.Texts.{is_single, are_single}
-use Rattle.net_rewrite.proofs.Characters.{not_of, formed_behind}
-use Rattle.net_rewrite.proofs.Lists.{by_test, both_true, and_true, all_first, all_rest, all_map, all_through, all_leads}
+use Rattle.scalar_rewrite.proofs.Characters.{not_of, formed_behind}
+use Rattle.scalar_rewrite.proofs.Lists.{by_test, both_true, and_true, all_first, all_rest, all_map, all_through, all_leads}
 
 byte_is_single : (b : ℕ) → nat_lt b 256 ≡ true → is_single b ≡ true
 byte_is_single b h =

@@ -3,9 +3,9 @@ use Rattle.std.proofs.Common.{◌≡◌, List, [], ◌++◌, refl, sym, ap, ◌�
 use Rattle.vb6_meaning.specs.Answers.{Answer}
 use Rattle.vb6_meaning.specs.Answers as value
 use Rattle.net_meaning.specs.SameValues as values
-use Rattle.vb6_run.specs.Running.{Output, Outcome, gives, raises, spent, outside, outputs, after, then, answered}
-use Rattle.vb6_run.specs.Store.{Memory}
-use Rattle.net_run.specs.Store as net_store
+use Rattle.scalar_vb6_run.specs.Running.{Output, Outcome, gives, raises, spent, outside, outputs, after, then, answered}
+use Rattle.scalar_vb6_run.specs.Store.{Memory}
+use Rattle.scalar_net_run.specs.Store as net_store
 use Rattle.rewrite_laws.specs.Match.{Map, MemoryMatch, Later, Agrees}
 
 pub later_self : (w : Memory) → Later w w

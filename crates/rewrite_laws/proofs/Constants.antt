@@ -2,7 +2,7 @@
 use Rattle.std.proofs.Common.{◌≡◌, ℕ, pos, false, List, [], ◌∷◌, refl, sym, ap, ◌∙◌}
 use Rattle.vb6_meaning.specs.Answers.{Answer, then_answer}
 use Rattle.vb6_meaning.specs.Answers as value
-use Rattle.vb6_run.specs.Running.{gives, then, answered}
+use Rattle.scalar_vb6_run.specs.Running.{gives, then, answered}
 use Rattle.net_tree.specs.declared.expression.NetBin.TheVariants as op
 use Rattle.net_tree.specs.declared.expression.OpN.TheVariants.{Bin}
 use Rattle.net_tree.specs.Tree.{Exp}
@@ -11,10 +11,10 @@ use Rattle.net_meaning.specs.declared.value.ValueN.{ValueN}
 use Rattle.net_meaning.specs.declared.value.ValueN.TheVariants as n
 use Rattle.net_meaning.specs.Operators.{operate_net}
 use Rattle.net_meaning.specs.WrittenLiterals.{Piece, quoted, unit, piece_value, joined, Constant, literal, negative, as_byte, text, constant_value}
-use Rattle.net_run.specs.Calls.{character_path}
-use Rattle.net_run.specs.Run.{value_of}
-use Rattle.net_run.specs.Store.{Memory}
-use Rattle.net_rewrite.specs.Written.{piece_exp, joined_exp, constant_exp}
+use Rattle.scalar_net_run.specs.Calls.{character_path}
+use Rattle.scalar_net_run.specs.Run.{value_of}
+use Rattle.scalar_net_run.specs.Store.{Memory}
+use Rattle.scalar_rewrite.specs.Written.{piece_exp, joined_exp, constant_exp}
 use Rattle.rewrite_laws.proofs.Agreeing.{after_nil}
 use Rattle.rewrite_laws.proofs.Rows.{call_gives}
 

@@ -12,8 +12,8 @@ use Rattle.vb6_meaning.specs.Kinds.{fits}
 use Rattle.vb6_meaning.specs.declared.number.NumberKind.TheVariants as kinds
 use Rattle.vb6_meaning.proofs.Limits.{within}
 use Rattle.std.specs.Int.Signed.{mag}
-use Rattle.vb6_run.specs.Running.{gives, then, answered}
-use Rattle.vb6_run.specs.Store.{is_same_scalar}
+use Rattle.scalar_vb6_run.specs.Running.{gives, then, answered}
+use Rattle.scalar_vb6_run.specs.Store.{is_same_scalar}
 use Rattle.net_tree.specs.Tree.{Exp}
 use Rattle.net_tree.specs.Types as net_ty
 use Rattle.net_meaning.specs.declared.value.ValueN.{ValueN}
@@ -24,14 +24,14 @@ use Rattle.net_meaning.specs.Operators.{minus}
 use Rattle.net_meaning.specs.ValueMatch.{Matches, integers, longs}
 use Rattle.net_meaning.specs.WrittenLiterals.{Constant, without_zeros, write_constant, constant_value, is_within, type_of_constant, IsWrittenConstant}
 use Rattle.meaning_laws.proofs.LiteralRows.{constant as literal_constant}
-use Rattle.net_run.specs.Run.{value_of}
-use Rattle.net_run.specs.Store.{Memory}
-use Rattle.net_rewrite.specs.Written.{exp_or_nothing, value_in, spelt, literal_in, literal_exp, operand_of, exp_of, term_exp}
-use Rattle.net_rewrite.specs.Translated.{is_translated, is_translated_term}
+use Rattle.scalar_net_run.specs.Run.{value_of}
+use Rattle.scalar_net_run.specs.Store.{Memory}
+use Rattle.scalar_rewrite.specs.Written.{exp_or_nothing, value_in, spelt, literal_in, literal_exp, operand_of, exp_of, term_exp}
+use Rattle.scalar_rewrite.specs.Translated.{is_translated, is_translated_term}
 use Rattle.rewrite_laws.proofs.Agreeing.{after_nil}
 use Rattle.rewrite_laws.proofs.Constants.{constant_gives}
 use Rattle.rewrite_laws.proofs.Rows.{Fits}
-use Rattle.net_rewrite.proofs.Scalars.{both_true}
+use Rattle.scalar_rewrite.proofs.Scalars.{both_true}
 
 -- a last zero is dropped
 zero_dropped : (scale k : ℕ) → without_zeros (suc scale) (k * 10) ≡ without_zeros scale k

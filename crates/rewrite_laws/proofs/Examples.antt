@@ -14,21 +14,21 @@ use Rattle.vb_tree.specs.declared.value.Value6.TheVariants as v
 use Rattle.vb_tree.specs.FlatLines.{flat_lines}
 use Rattle.vb_tree.specs.Tree.{Declarator, Form, Line, Nodes, sub_head, end_sub, assign, debug_print, no_nodes, next_node, line, proc}
 use Rattle.vb_tree.specs.Tree as tree
-use Rattle.vb6_run.specs.Program.{Written, BoundLine, bound_lines, locals_of}
-use Rattle.vb6_run.specs.Running.{Output, printed, Outcome, raises, spent, outputs, run}
-use Rattle.vb6_run.specs.Store.{Memory, blank}
-use Rattle.vb6_run.specs.Run.{machine_of}
+use Rattle.scalar_vb6_run.specs.Program.{Written, BoundLine, bound_lines, locals_of}
+use Rattle.scalar_vb6_run.specs.Running.{Output, printed, Outcome, raises, spent, outputs, run}
+use Rattle.scalar_vb6_run.specs.Store.{Memory, blank}
+use Rattle.scalar_vb6_run.specs.Run.{machine_of}
 use Rattle.net_tree.specs.declared.declaration.NetClose.TheVariants.{EndSub}
 use Rattle.net_tree.specs.declared.declaration.NetVisibility.TheVariants.{Public}
 use Rattle.net_tree.specs.declared.expression.NetBin.TheVariants as op
 use Rattle.net_tree.specs.Tree as net
-use Rattle.net_run.specs.Calls.{cur_path, print_num_path, print_line_path}
-use Rattle.net_run.specs.Store as net_store
-use Rattle.net_run.specs.Run as net_run
+use Rattle.scalar_net_run.specs.Calls.{cur_path, print_num_path, print_line_path}
+use Rattle.scalar_net_run.specs.Store as net_store
+use Rattle.scalar_net_run.specs.Run as scalar_net_run
 use Rattle.rewrite_laws.specs.Match.{Map, StoreMatch, ResultMatch, Agrees, IsWrittenAs, SameLines, SameRun}
-use Rattle.net_rewrite.specs.Modules.{written_modules, flags_from, IsKept, dim_names, LocalsAreDeclared}
-use Rattle.net_rewrite.specs.Translated.{is_translated_procedure}
-use Rattle.net_rewrite.specs.Written.{written_local, written_line}
+use Rattle.scalar_rewrite.specs.Modules.{written_modules, flags_from, IsKept, dim_names, LocalsAreDeclared}
+use Rattle.scalar_rewrite.specs.Translated.{is_translated_procedure}
+use Rattle.scalar_rewrite.specs.Written.{written_local, written_line}
 use Rattle.rewrite_laws.proofs.Placing.{kept_same}
 use Rattle.rewrite_laws.proofs.Runs.{same_run}
 
@@ -151,7 +151,7 @@ currency_printed : outputs (run (machine_of (main_of currency_locals currency_li
 unfolding digits
 currency_printed = refl
 
-currency_printed_net : outputs (run (net_run.machine_of (written_of currency_locals currency_lines)) 0 20 net_start) ≡ line_text (codes " 2.2 ") ∷ []
+currency_printed_net : outputs (run (scalar_net_run.machine_of (written_of currency_locals currency_lines)) 0 20 net_start) ≡ line_text (codes " 2.2 ") ∷ []
 unfolding digits
 currency_printed_net = refl
 
@@ -187,10 +187,10 @@ sum_written = refl
 sum_raises : raised (run (machine_of (main_of sum_locals sum_lines)) 0 20 start) ≡ Some 6
 sum_raises = refl
 
-sum_raises_net : raised (run (net_run.machine_of (written_of sum_locals sum_lines)) 0 20 net_start) ≡ Some 6
+sum_raises_net : raised (run (scalar_net_run.machine_of (written_of sum_locals sum_lines)) 0 20 net_start) ≡ Some 6
 sum_raises_net = refl
 
-sum_prints_nothing : outputs (run (net_run.machine_of (written_of sum_locals sum_lines)) 0 20 net_start) ≡ []
+sum_prints_nothing : outputs (run (scalar_net_run.machine_of (written_of sum_locals sum_lines)) 0 20 net_start) ≡ []
 sum_prints_nothing = refl
 
 -- with two steps only the entry and the first line are done
@@ -212,7 +212,7 @@ hello_translated = refl
 hello_printed : outputs (run (machine_of (main_of [] hello_lines)) 0 20 start) ≡ line_text (codes "hello") ∷ []
 hello_printed = refl
 
-hello_printed_net : outputs (run (net_run.machine_of (written_of [] hello_lines)) 0 20 net_start) ≡ line_text (codes "hello") ∷ []
+hello_printed_net : outputs (run (scalar_net_run.machine_of (written_of [] hello_lines)) 0 20 net_start) ≡ line_text (codes "hello") ∷ []
 hello_printed_net = refl
 
 -- ---- the end of the range of a Currency: `c = 922337203685477.5807@`, `c = c + 0.0001@`
@@ -233,7 +233,7 @@ range_written = refl
 range_raises : raised (run (machine_of (main_of currency_locals range_lines)) 0 20 start) ≡ Some 6
 range_raises = refl
 
-range_raises_net : raised (run (net_run.machine_of (written_of currency_locals range_lines)) 0 20 net_start) ≡ Some 6
+range_raises_net : raised (run (scalar_net_run.machine_of (written_of currency_locals range_lines)) 0 20 net_start) ≡ Some 6
 range_raises_net = refl
 
 -- ---- hexadecimal literals: `x% = &HFFFF`, `y& = &HFFFF&`, `Debug.Print x; y`, `x = &H8000`, `Debug.Print x`
@@ -263,7 +263,7 @@ hex_printed : outputs (run (machine_of (main_of hex_locals hex_lines)) 0 20 star
 unfolding digits
 hex_printed = refl
 
-hex_printed_net : outputs (run (net_run.machine_of (written_of hex_locals hex_lines)) 0 20 net_start) ≡ line_text (codes "-1  65535 ") ∷ line_text (codes "-32768 ") ∷ []
+hex_printed_net : outputs (run (scalar_net_run.machine_of (written_of hex_locals hex_lines)) 0 20 net_start) ≡ line_text (codes "-1  65535 ") ∷ line_text (codes "-32768 ") ∷ []
 unfolding digits
 hex_printed_net = refl
 
@@ -292,7 +292,7 @@ text_translated = refl
 text_printed : outputs (run (machine_of (main_of text_locals text_lines)) 0 20 start) ≡ line_text (codes "it") ∷ printed (8217 ∷ 115 ∷ []) ∷ line_text (codes "True") ∷ []
 text_printed = refl
 
-text_printed_net : outputs (run (net_run.machine_of (written_of text_locals text_lines)) 0 20 net_start) ≡ line_text (codes "it") ∷ printed (8217 ∷ 115 ∷ []) ∷ line_text (codes "True") ∷ []
+text_printed_net : outputs (run (scalar_net_run.machine_of (written_of text_locals text_lines)) 0 20 net_start) ≡ line_text (codes "it") ∷ printed (8217 ∷ 115 ∷ []) ∷ line_text (codes "True") ∷ []
 text_printed_net = refl
 
 -- ---- the premises of the law hold of such a project, and of the empty stores under a map that moves all numbers
@@ -315,7 +315,7 @@ empty_match k = record {
 hex_is_written : IsWrittenAs (main_of hex_locals hex_lines) (written_of hex_locals hex_lines) 0 0
 hex_is_written = record { lines = _; source = refl; procedure = _; target = refl; locals = refl; code = refl }
 
-hex_same : (k n : ℕ) → Agrees (moved_by k) ResultMatch start (run (machine_of (main_of hex_locals hex_lines)) 0 n start) (run (net_run.machine_of (written_of hex_locals hex_lines)) 0 n (net_start_at k))
+hex_same : (k n : ℕ) → Agrees (moved_by k) ResultMatch start (run (machine_of (main_of hex_locals hex_lines)) 0 n start) (run (scalar_net_run.machine_of (written_of hex_locals hex_lines)) 0 n (net_start_at k))
 hex_same k n = same_run (main_of hex_locals hex_lines) (written_of hex_locals hex_lines) 0 0 refl hex_is_written (moved_by k) start (net_start_at k) n (empty_match k)
 
 -- ---- the premises of the law on modules hold of such a project that declares its locals

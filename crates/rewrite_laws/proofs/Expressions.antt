@@ -12,10 +12,10 @@ use Rattle.vb_tree.specs.declared.value.Value6.TheVariants as v6
 use Rattle.vb6_meaning.specs.Answers.{Answer}
 use Rattle.vb6_meaning.specs.Answers as value
 use Rattle.vb6_meaning.specs.Values.{coerce, operate}
-use Rattle.vb6_run.specs.Program.{type_of}
-use Rattle.vb6_run.specs.Running.{gives, after, then, answered}
-use Rattle.vb6_run.specs.Store.{Memory, scalar_number, is_same_scalar, read_place}
-use Rattle.vb6_run.specs.Run.{is_variant, unary_row, binary_row, value_of, term_value}
+use Rattle.scalar_vb6_run.specs.Program.{type_of}
+use Rattle.scalar_vb6_run.specs.Running.{gives, after, then, answered}
+use Rattle.scalar_vb6_run.specs.Store.{Memory, scalar_number, is_same_scalar, read_place}
+use Rattle.scalar_vb6_run.specs.Run.{is_variant, unary_row, binary_row, value_of, term_value}
 use Rattle.net_tree.specs.Tree.{Exp}
 use Rattle.net_meaning.specs.declared.value.ValueN.{ValueN}
 use Rattle.net_meaning.specs.declared.value.ValueN.TheVariants as n
@@ -27,18 +27,18 @@ use Rattle.net_meaning.specs.WrittenRows.{Row, Written, evaluate, write_operator
 use Rattle.meaning_laws.proofs.SameRows as same
 use Rattle.meaning_laws.proofs.ConversionRows.{conversion, minus, turn}
 use Rattle.meaning_laws.proofs.LiteralRows.{constant as literal_constant}
-use Rattle.net_run.specs.Store as net_store
-use Rattle.net_run.specs.Run as net_run
+use Rattle.scalar_net_run.specs.Store as net_store
+use Rattle.scalar_net_run.specs.Run as scalar_net_run
 use Rattle.rewrite_laws.specs.Match.{Map, are_same, MemoryMatch, VarsMatch, Agrees}
-use Rattle.net_rewrite.specs.Translated.{is_scalar, is_over_a, is_over_both, is_first, unary_fits, binary_fits, compares_objects, row_fits, conversion_fits, is_translated, is_translated_term}
-use Rattle.net_rewrite.specs.Written.{Operand, plain, operand_of, exp_or_nothing, operator_exp, conversion_exp, value_in, spelt, is_whole, takes_literals, literal_in, literal_as, converted_exp, local_name, exp_of, term_exp}
+use Rattle.scalar_rewrite.specs.Translated.{is_scalar, is_over_a, is_over_both, is_first, unary_fits, binary_fits, compares_objects, row_fits, conversion_fits, is_translated, is_translated_term}
+use Rattle.scalar_rewrite.specs.Written.{Operand, plain, operand_of, exp_or_nothing, operator_exp, conversion_exp, value_in, spelt, is_whole, takes_literals, literal_in, literal_as, converted_exp, local_name, exp_of, term_exp}
 use Rattle.rewrite_laws.proofs.Agreeing.{later_self, then_agrees, weakened, answers_agree}
 use Rattle.rewrite_laws.proofs.Constants.{constant_gives}
 use Rattle.rewrite_laws.proofs.LocalNames.{local_is}
 use Rattle.rewrite_laws.proofs.Memories.{read_agrees, variable_agrees}
 use Rattle.rewrite_laws.proofs.Rows.{Fits, plain_fits, over_a, over_both, behind_is}
 use Rattle.rewrite_laws.proofs.Decimals.{operand_fits}
-use Rattle.net_rewrite.proofs.Scalars.{both_true, same_scalar, scalar_is_typed, scalar_no_variant}
+use Rattle.scalar_rewrite.proofs.Scalars.{both_true, same_scalar, scalar_is_typed, scalar_no_variant}
 
 -- each operator but Is
 same_operator : (are_same : ℕ → ℕ → Bool) (o : BinOp) → not (compares_objects o) ≡ true → IsSameOperator are_same o
@@ -105,13 +105,13 @@ module _ (m : Map) where
 
   -- a constant and what is written for it
   -- a constant and what is written for it
-  written_agrees : (x : Value6) (ty : Ty) (c : Option Constant) (vars : List (List ℕ × ℕ)) (s : Memory) (t : net_store.Memory) → type_of_constant x ≡ ty → is_scalar ty ≡ true → IsWritten c → IsWrittenConstant (are_same m) x c → MemoryMatch m s t → Agrees m (At ty) s (gives [] x s) (net_run.value_of vars (exp_or_nothing c) t)
+  written_agrees : (x : Value6) (ty : Ty) (c : Option Constant) (vars : List (List ℕ × ℕ)) (s : Memory) (t : net_store.Memory) → type_of_constant x ≡ ty → is_scalar ty ≡ true → IsWritten c → IsWrittenConstant (are_same m) x c → MemoryMatch m s t → Agrees m (At ty) s (gives [] x s) (scalar_net_run.value_of vars (exp_or_nothing c) t)
   written_agrees x ty None vars s t is scalar w e k = absurd w
   written_agrees x ty (Some c) vars s t is scalar w e k =
       subst (λ z. Agrees m (At ty) s (gives [] x s) z) (sym (constant_gives vars c t ∙ ap (λ a. answered a t) e.1))
       (refl, subst (λ z. At z x e.0) is e.2, k, later_self s)
 
-  constant_agrees : (x : Value6) (ty : Ty) (h : Bool) (vars : List (List ℕ × ℕ)) (s : Memory) (t : net_store.Memory) → is_within x ≡ true → is_same_scalar (type_of_constant x) ty ≡ true → MemoryMatch m s t → Agrees m (At ty) s (gives [] x s) (net_run.value_of vars (exp_or_nothing (write_constant h x)) t)
+  constant_agrees : (x : Value6) (ty : Ty) (h : Bool) (vars : List (List ℕ × ℕ)) (s : Memory) (t : net_store.Memory) → is_within x ≡ true → is_same_scalar (type_of_constant x) ty ≡ true → MemoryMatch m s t → Agrees m (At ty) s (gives [] x s) (scalar_net_run.value_of vars (exp_or_nothing (write_constant h x)) t)
   constant_agrees x ty h vars s t within scalar k =
       let is : type_of_constant x ≡ ty = same_scalar (type_of_constant x) ty scalar in
       written_agrees x ty (write_constant h x) vars s t is (other_scalar (type_of_constant x) ty scalar) (constant_written h x (scalar_of_same (type_of_constant x) ty scalar)) (literal_constant (are_same m) h x within) k
@@ -120,41 +120,41 @@ module _ (m : Map) where
   rows_agree : (o : BinOp) (ty : Ty) (a c : Expr) (w : Option Written) (xs : List (ℕ × ℕ)) (ys : List (List ℕ × ℕ)) (x y : Operand) (s : Memory) (t : net_store.Memory)
       → Fits ys x → Fits ys y → is_scalar (type_of a) ≡ true → is_scalar (type_of c) ≡ true → binary_fits (type_of a) ty w ≡ true
       → ((i j : Value6) (p q : ValueN) → At (type_of a) i p → At (type_of c) j q → IsSame (are_same m) (operate (op6.Typed o) i j) w p q)
-      → Agrees m (At (type_of a)) s (value_of xs a s) (net_run.value_of ys x.exp t)
-      → ((s : Memory) (t : net_store.Memory) → MemoryMatch m s t → Agrees m (At (type_of c)) s (value_of xs c s) (net_run.value_of ys y.exp t))
-      → Agrees m (At ty) s (then (value_of xs a s) (λ i v. then (value_of xs c v) (λ j v. answered (operate (op6.Typed o) i j) v))) (net_run.value_of ys (operator_exp w x y) t)
+      → Agrees m (At (type_of a)) s (value_of xs a s) (scalar_net_run.value_of ys x.exp t)
+      → ((s : Memory) (t : net_store.Memory) → MemoryMatch m s t → Agrees m (At (type_of c)) s (value_of xs c s) (scalar_net_run.value_of ys y.exp t))
+      → Agrees m (At ty) s (then (value_of xs a s) (λ i v. then (value_of xs c v) (λ j v. answered (operate (op6.Typed o) i j) v))) (scalar_net_run.value_of ys (operator_exp w x y) t)
   rows_agree o ty a c None xs ys x y s t fx fy ia ic fits law first second = absurd (cc fits)
   rows_agree o ty a c (Some w) xs ys x y s t fx fy ia ic fits law first second =
       let both = both_true (is_same_scalar w.ty ty) (is_over_both (type_of a) w.row) fits in
       let is : w.ty ≡ ty = same_scalar w.ty ty both.0 in
       subst (λ z. Agrees m (At ty) s (then (value_of xs a s) (λ i v. then (value_of xs c v) (λ j v. answered (operate (op6.Typed o) i j) v))) z) (sym (over_both ys x y fx fy (type_of a) w.row t both.1))
-      (then_agrees m (At (type_of a)) (At ty) s (value_of xs a s) (net_run.value_of ys x.exp t) _ _ first (λ i p s t e h.
+      (then_agrees m (At (type_of a)) (At ty) s (value_of xs a s) (scalar_net_run.value_of ys x.exp t) _ _ first (λ i p s t e h.
       subst (λ z. Agrees m (At ty) s (then (value_of xs c s) (λ j v. answered (operate (op6.Typed o) i j) v)) z) (sym (behind_is ys x y fx fy (are_same m) (type_of a) w.row i p t both.1 e))
-      (then_agrees m (At (type_of c)) (At ty) s (value_of xs c s) (net_run.value_of ys y.exp t) _ _ (second s t h) (λ j q s t f h.
+      (then_agrees m (At (type_of c)) (At ty) s (value_of xs c s) (scalar_net_run.value_of ys y.exp t) _ _ (second s t h) (λ j q s t f h.
       answers_agree m (At ty) s t (operate (op6.Typed o) i j) (evaluate w.row p q) h (subst (λ z. values.Agrees (At z) (operate (op6.Typed o) i j) (evaluate w.row p q)) is (law i j p q e f))))))
 
   -- a unary operator on an expression that does the same
   row_agrees : (o : UnOp) (ty : Ty) (a : Expr) (w : Option Written) (xs : List (ℕ × ℕ)) (ys : List (List ℕ × ℕ)) (x : Exp) (s : Memory) (t : net_store.Memory)
       → unary_fits ty w ≡ true → ((i : Value6) (p : ValueN) → At (type_of a) i p → IsSame (are_same m) (operate (op6.TypedUn o) i i) w p n.Nothing)
-      → Agrees m (At (type_of a)) s (value_of xs a s) (net_run.value_of ys x t)
-      → Agrees m (At ty) s (then (value_of xs a s) (λ i v. answered (operate (op6.TypedUn o) i i) v)) (net_run.value_of ys (operator_exp w (plain x) (plain x)) t)
+      → Agrees m (At (type_of a)) s (value_of xs a s) (scalar_net_run.value_of ys x t)
+      → Agrees m (At ty) s (then (value_of xs a s) (λ i v. answered (operate (op6.TypedUn o) i i) v)) (scalar_net_run.value_of ys (operator_exp w (plain x) (plain x)) t)
   row_agrees o ty a None xs ys x s t fits law first = absurd (cc fits)
   row_agrees o ty a (Some w) xs ys x s t fits law first =
       let both = both_true (is_same_scalar w.ty ty) (is_over_a w.row) fits in
       let is : w.ty ≡ ty = same_scalar w.ty ty both.0 in
       subst (λ z. Agrees m (At ty) s (then (value_of xs a s) (λ i v. answered (operate (op6.TypedUn o) i i) v)) z) (sym (over_a ys (plain x) (plain x) (plain_fits ys x) (plain_fits ys x) w.row n.Nothing t both.1))
-      (then_agrees m (At (type_of a)) (At ty) s (value_of xs a s) (net_run.value_of ys x t) _ _ first (λ i p s t e h.
+      (then_agrees m (At (type_of a)) (At ty) s (value_of xs a s) (scalar_net_run.value_of ys x t) _ _ first (λ i p s t e h.
       answers_agree m (At ty) s t (operate (op6.TypedUn o) i i) (evaluate w.row p n.Nothing) h (subst (λ z. values.Agrees (At z) (operate (op6.TypedUn o) i i) (evaluate w.row p n.Nothing)) is (law i p e))))
 
   -- a conversion by a row
   conversion_agrees : (to : Ty) (a : Expr) (r : Option Row) (xs : List (ℕ × ℕ)) (ys : List (List ℕ × ℕ)) (x : Exp) (s : Memory) (t : net_store.Memory)
       → row_fits r ≡ true → ((i : Value6) (p : ValueN) → At (type_of a) i p → IsGiven (are_same m) to (coerce i to) r p n.Nothing)
-      → Agrees m (At (type_of a)) s (value_of xs a s) (net_run.value_of ys x t)
-      → Agrees m (At to) s (then (value_of xs a s) (λ i v. answered (coerce i to) v)) (net_run.value_of ys (conversion_exp r x) t)
+      → Agrees m (At (type_of a)) s (value_of xs a s) (scalar_net_run.value_of ys x t)
+      → Agrees m (At to) s (then (value_of xs a s) (λ i v. answered (coerce i to) v)) (scalar_net_run.value_of ys (conversion_exp r x) t)
   conversion_agrees to a None xs ys x s t fits law first = absurd (cc fits)
   conversion_agrees to a (Some r) xs ys x s t fits law first =
       subst (λ z. Agrees m (At to) s (then (value_of xs a s) (λ i v. answered (coerce i to) v)) z) (sym (over_a ys (plain x) (plain x) (plain_fits ys x) (plain_fits ys x) r n.Nothing t fits))
-      (then_agrees m (At (type_of a)) (At to) s (value_of xs a s) (net_run.value_of ys x t) _ _ first (λ i p s t e h.
+      (then_agrees m (At (type_of a)) (At to) s (value_of xs a s) (scalar_net_run.value_of ys x t) _ _ first (λ i p s t e h.
       answers_agree m (At to) s t (coerce i to) (evaluate r p n.Nothing) h (law i p e)))
 
   abbrev value_at : Value6 → Option (Value6 × Bool) → Value6
@@ -195,32 +195,32 @@ module _ (m : Map) where
 
   any_conversion_agrees : (to : Ty) (a : Expr) (l : Option (Value6 × Bool)) (xs : List (ℕ × ℕ)) (ys : List (List ℕ × ℕ)) (x : Exp) (s : Memory) (t : net_store.Memory)
       → literal_as to a ≡ l → is_scalar (type_of a) ≡ true → conversion_fits to l (write_conversion (type_of a) to) ≡ true → MemoryMatch m s t
-      → Agrees m (At (type_of a)) s (value_of xs a s) (net_run.value_of ys x t)
-      → Agrees m (At to) s (then (value_of xs a s) (λ i v. answered (coerce i to) v)) (net_run.value_of ys (converted_exp l (write_conversion (type_of a) to) x) t)
+      → Agrees m (At (type_of a)) s (value_of xs a s) (scalar_net_run.value_of ys x t)
+      → Agrees m (At to) s (then (value_of xs a s) (λ i v. answered (coerce i to) v)) (scalar_net_run.value_of ys (converted_exp l (write_conversion (type_of a) to) x) t)
   any_conversion_agrees to a None xs ys x s t is scalar fits h first =
       conversion_agrees to a (write_conversion (type_of a) to) xs ys x s t fits (λ i p e. conversion (are_same m) to (type_of a) i p n.Nothing (scalar_is_typed (type_of a) scalar) e) first
   any_conversion_agrees to a (Some y) xs ys x s t is scalar fits h first =
       let both = both_true (is_within y.0) (is_same_scalar (type_of_constant y.0) to) fits in
-      subst (λ z. Agrees m (At to) s z (net_run.value_of ys (exp_or_nothing (write_constant y.1 y.0)) t)) (sym (literal_value to a y.0 y.1 xs s is))
+      subst (λ z. Agrees m (At to) s z (scalar_net_run.value_of ys (exp_or_nothing (write_constant y.1 y.0)) t)) (sym (literal_value to a y.0 y.1 xs s is))
       (constant_agrees y.0 to y.1 ys s t both.0 both.1 h)
 
   -- an expression and what is written for it
   mutual
-    pub value_agrees : (ls : List (ℕ × Variable)) (xs : List (ℕ × ℕ)) (ys : List (List ℕ × ℕ)) (e : Expr) (s : Memory) (t : net_store.Memory) → VarsMatch m ls xs ys → is_translated ls e ≡ true → MemoryMatch m s t → Agrees m (At (type_of e)) s (value_of xs e s) (net_run.value_of ys (exp_of ls e) t)
+    pub value_agrees : (ls : List (ℕ × Variable)) (xs : List (ℕ × ℕ)) (ys : List (List ℕ × ℕ)) (e : Expr) (s : Memory) (t : net_store.Memory) → VarsMatch m ls xs ys → is_translated ls e ≡ true → MemoryMatch m s t → Agrees m (At (type_of e)) s (value_of xs e s) (scalar_net_run.value_of ys (exp_of ls e) t)
     value_agrees ls xs ys (typed ty term) s t v e h = term_agrees ls xs ys ty term s t v e h
 
-    term_agrees : (ls : List (ℕ × Variable)) (xs : List (ℕ × ℕ)) (ys : List (List ℕ × ℕ)) (ty : Ty) (term : Term) (s : Memory) (t : net_store.Memory) → VarsMatch m ls xs ys → is_translated_term ls ty term ≡ true → MemoryMatch m s t → Agrees m (At ty) s (term_value xs ty term s) (net_run.value_of ys (term_exp ls term) t)
+    term_agrees : (ls : List (ℕ × Variable)) (xs : List (ℕ × ℕ)) (ys : List (List ℕ × ℕ)) (ty : Ty) (term : Term) (s : Memory) (t : net_store.Memory) → VarsMatch m ls xs ys → is_translated_term ls ty term ≡ true → MemoryMatch m s t → Agrees m (At ty) s (term_value xs ty term s) (scalar_net_run.value_of ys (term_exp ls term) t)
     term_agrees ls xs ys ty (constant x k) s t v e h =
         let both = both_true (is_within x) (is_same_scalar (type_of_constant x) ty) e in
         constant_agrees x ty k ys s t both.0 both.1 h
     term_agrees ls xs ys ty (variable id) s t v e h =
         let both = both_true (is_scalar ty) (is_first ls id.0 (local_name ls id.0)) e in
-        subst (λ z. Agrees m (At ty) s (term_value xs ty (variable id) s) (net_run.value_of ys z t)) (sym (local_is ls id.0 (local_name ls id.0) both.1))
+        subst (λ z. Agrees m (At ty) s (term_value xs ty (variable id) s) (scalar_net_run.value_of ys z t)) (sym (local_is ls id.0 (local_name ls id.0) both.1))
         (variable_agrees m (At ty) ls xs ys id.0 (local_name ls id.0) (read_place ty) net_store.read_cell s t v both.1 (λ p. read_agrees m ty p s t h))
     term_agrees ls xs ys ty (unary o a) s t v e h =
         let last = both_true (is_translated ls a && is_scalar (type_of a)) (unary_fits ty (write_unary o (type_of a))) e in
         let first = both_true (is_translated ls a) (is_scalar (type_of a)) last.0 in
-        subst (λ z. Agrees m (At ty) s (then (value_of xs a s) (λ i w. answered (operate z i i) w)) (net_run.value_of ys (term_exp ls (unary o a)) t)) (sym (typed_unary (type_of a) o first.1))
+        subst (λ z. Agrees m (At ty) s (then (value_of xs a s) (λ i w. answered (operate z i i) w)) (scalar_net_run.value_of ys (term_exp ls (unary o a)) t)) (sym (typed_unary (type_of a) o first.1))
         (row_agrees o ty a (write_unary o (type_of a)) xs ys (exp_of ls a) s t last.1 (λ i p f. same_unary (are_same m) o (type_of a) i i p n.Nothing (scalar_is_typed (type_of a) first.1) f) (value_agrees ls xs ys a s t v first.0 h))
     term_agrees ls xs ys ty (binary o a c) s t v e h =
         let last = both_true (is_translated ls a && is_translated ls c && is_scalar (type_of a) && is_scalar (type_of c) && not (compares_objects o)) (binary_fits (type_of a) ty (write_operator o (type_of a) (type_of c))) e in
@@ -228,7 +228,7 @@ module _ (m : Map) where
         let third = both_true (is_translated ls a && is_translated ls c && is_scalar (type_of a)) (is_scalar (type_of c)) fourth.0 in
         let second = both_true (is_translated ls a && is_translated ls c) (is_scalar (type_of a)) third.0 in
         let first = both_true (is_translated ls a) (is_translated ls c) second.0 in
-        subst (λ z. Agrees m (At ty) s (then (value_of xs a s) (λ i w. then (value_of xs c w) (λ j w. answered (operate z i j) w))) (net_run.value_of ys (term_exp ls (binary o a c)) t)) (sym (typed_binary (type_of a) (type_of c) o second.1 third.1))
+        subst (λ z. Agrees m (At ty) s (then (value_of xs a s) (λ i w. then (value_of xs c w) (λ j w. answered (operate z i j) w))) (scalar_net_run.value_of ys (term_exp ls (binary o a c)) t)) (sym (typed_binary (type_of a) (type_of c) o second.1 third.1))
         (rows_agree o ty a c (write_operator o (type_of a) (type_of c)) xs ys (operand_of a (exp_of ls a)) (operand_of c (exp_of ls c)) s t (operand_fits ls ys a first.0) (operand_fits ls ys c first.1) second.1 third.1 last.1
         (λ i j p q f g. same_operator (are_same m) o fourth.1 (type_of a) (type_of c) i j p q (scalar_is_typed (type_of a) second.1) (scalar_is_typed (type_of c) third.1) f g)
         (value_agrees ls xs ys a s t v first.0 h) (λ s t h. value_agrees ls xs ys c s t v first.1 h))

@@ -12,10 +12,10 @@ use Rattle.vb_tree.specs.Tree as tree
 use Rattle.vb6_meaning.specs.Answers.{Answer, then_answer}
 use Rattle.vb6_meaning.specs.Answers as value
 use Rattle.vb6_meaning.specs.NumberTexts.{currency_text, print_text, printed_number, blank_before, places_text, fraction_text}
-use Rattle.vb6_run.specs.Program.{BoundLine, type_of}
-use Rattle.vb6_run.specs.Running.{Outcome, gives, outside, printed, then, answered, Frame, line_end}
-use Rattle.vb6_run.specs.Store.{Memory, is_same_scalar, write_place}
-use Rattle.vb6_run.specs.Run.{value_of, write_variable, write_target, item_text, items_text, behind_print, print, assigns, form_does, line_does}
+use Rattle.scalar_vb6_run.specs.Program.{BoundLine, type_of}
+use Rattle.scalar_vb6_run.specs.Running.{Outcome, gives, outside, printed, then, answered, Frame, line_end}
+use Rattle.scalar_vb6_run.specs.Store.{Memory, is_same_scalar, write_place}
+use Rattle.scalar_vb6_run.specs.Run.{value_of, write_variable, write_target, item_text, items_text, behind_print, print, assigns, form_does, line_does}
 use Rattle.net_tree.specs.declared.expression.CastWord.TheVariants as word
 use Rattle.net_tree.specs.declared.expression.NetBin.TheVariants as op
 use Rattle.net_tree.specs.declared.expression.OpN.TheVariants.{Bin}
@@ -29,18 +29,18 @@ use Rattle.net_meaning.specs.Operators.{operate_net}
 use Rattle.net_meaning.specs.SameValues as values
 use Rattle.net_meaning.specs.Support.{ten_thousandths}
 use Rattle.net_meaning.specs.ValueMatch.{Matches, IsTenThousandths, booleans, bytes, integers, longs, currencies, texts, empty_text}
-use Rattle.net_run.specs.Calls.{print_num_path, function, statement_of}
-use Rattle.net_run.specs.Store as net_store
-use Rattle.net_run.specs.Run as net_run
+use Rattle.scalar_net_run.specs.Calls.{print_num_path, function, statement_of}
+use Rattle.scalar_net_run.specs.Store as net_store
+use Rattle.scalar_net_run.specs.Run as scalar_net_run
 use Rattle.rewrite_laws.specs.Match.{Map, are_same, MemoryMatch, VarsMatch, FrameMatch, NextMatch, Agrees}
-use Rattle.net_rewrite.specs.Translated.{is_scalar, is_first, is_translated, is_item, is_target, is_target_of, is_assignment, is_translated_form, is_translated_line}
-use Rattle.net_rewrite.specs.Written.{local_name, exp_of, call_of_one, item_exp, printed_item, joined_items, items_exp, print_path, call_line, line_of, written_line, written_flat}
+use Rattle.scalar_rewrite.specs.Translated.{is_scalar, is_first, is_translated, is_item, is_target, is_target_of, is_assignment, is_translated_form, is_translated_line}
+use Rattle.scalar_rewrite.specs.Written.{local_name, exp_of, call_of_one, item_exp, printed_item, joined_items, items_exp, print_path, call_line, line_of, written_line, written_flat}
 use Rattle.rewrite_laws.proofs.Agreeing.{later_self, outside_agrees, then_agrees, answers_agree, after_nil, then_assoc}
 use Rattle.rewrite_laws.proofs.Expressions.{value_agrees}
 use Rattle.rewrite_laws.proofs.LocalNames.{local_is}
 use Rattle.rewrite_laws.proofs.Memories.{write_agrees, variable_agrees}
 use Rattle.rewrite_laws.proofs.Rows.{then_gives, call_gives, on_answer}
-use Rattle.net_rewrite.proofs.Scalars.{both_true, by_test, same_scalar}
+use Rattle.scalar_rewrite.proofs.Scalars.{both_true, by_test, same_scalar}
 use Rattle.net_meaning.proofs.Powers.{power_positive}
 use Rattle.std.proofs.Math.Nat.{mul-pos}
 use Rattle.std.proofs.lemmas.Bool.{le-leb}
@@ -100,12 +100,12 @@ module _ (m : Map) where
   -- numbers but Currencies
   whole_item : (ty : Ty) (e : Exp) (r : Outcome Memory Value6) (ys : List (List ℕ × ℕ)) (s : Memory) (t : net_store.Memory)
       → ((v : Value6) (x : ValueN) → At ty v x → (z : ℤ) × (coerce_net x net_ty.decimal ≡ value.gives (n.Decimal z 0)) × (print_text v ≡ value.gives (printed_number z (signed_decimal z))))
-      → Agrees m (At ty) s r (net_run.value_of ys e t)
-      → Agrees m IsText s (then r (λ v w. answered (print_text v) w)) (net_run.value_of ys (call_of_one print_num_path (net.cast word.CDec e)) t)
+      → Agrees m (At ty) s r (scalar_net_run.value_of ys e t)
+      → Agrees m IsText s (then r (λ v w. answered (print_text v) w)) (scalar_net_run.value_of ys (call_of_one print_num_path (net.cast word.CDec e)) t)
   whole_item ty e r ys s t law h =
       subst (λ q. Agrees m IsText s (then r (λ v w. answered (print_text v) w)) q)
-      (sym (call_gives ys print_num_path (net.cast word.CDec e) t ∙ on_answer (net_run.value_of ys e t) (λ x. coerce_net x net_ty.decimal) (function print_num_path)))
-      (then_agrees m (At ty) IsText s r (net_run.value_of ys e t) _ _ h (λ v x s t i k.
+      (sym (call_gives ys print_num_path (net.cast word.CDec e) t ∙ on_answer (scalar_net_run.value_of ys e t) (λ x. coerce_net x net_ty.decimal) (function print_num_path)))
+      (then_agrees m (At ty) IsText s r (scalar_net_run.value_of ys e t) _ _ h (λ v x s t i k.
       let l = law v x i in
       answers_agree m IsText s t (print_text v) (then_answer (coerce_net x net_ty.decimal) (function print_num_path)) k
       (subst (λ q. values.Agrees IsText (print_text v) (then_answer q (function print_num_path))) (sym l.1) (number_given l.0 v l.2))))
@@ -134,18 +134,18 @@ module _ (m : Map) where
 
   -- an item of a scalar type, given what its expression does
   of_type : (ty : Ty) (e : Exp) (r : Outcome Memory Value6) (ys : List (List ℕ × ℕ)) (s : Memory) (t : net_store.Memory) → is_scalar ty ≡ true
-      → Agrees m (At ty) s r (net_run.value_of ys e t) → Agrees m IsText s (then r (λ v w. answered (print_text v) w)) (net_run.value_of ys (item_exp ty e) t)
+      → Agrees m (At ty) s r (scalar_net_run.value_of ys e t) → Agrees m IsText s (then r (λ v w. answered (print_text v) w)) (scalar_net_run.value_of ys (item_exp ty e) t)
   of_type types.boolean e r ys s t i h =
-      then_agrees m (At types.boolean) IsText s r (net_run.value_of ys e t) _ _ h (λ v x s t j k. answers_agree m IsText s t (print_text v) (coerce_net x net_ty.str) k (boolean_item v x j))
+      then_agrees m (At types.boolean) IsText s r (scalar_net_run.value_of ys e t) _ _ h (λ v x s t j k. answers_agree m IsText s t (print_text v) (coerce_net x net_ty.str) k (boolean_item v x j))
   of_type types.byte e r ys s t i h = whole_item types.byte e r ys s t byte_is h
   of_type types.integer e r ys s t i h = whole_item types.integer e r ys s t integer_is h
   of_type types.long e r ys s t i h = whole_item types.long e r ys s t long_is h
   of_type types.currency e r ys s t i h =
       subst (λ q. Agrees m IsText s (then r (λ v w. answered (print_text v) w)) q) (sym (call_gives ys print_num_path e t))
-      (then_agrees m (At types.currency) IsText s r (net_run.value_of ys e t) _ _ h (λ v x s t j k. answers_agree m IsText s t (print_text v) (function print_num_path x) k (currency_item v x j)))
+      (then_agrees m (At types.currency) IsText s r (scalar_net_run.value_of ys e t) _ _ h (λ v x s t j k. answers_agree m IsText s t (print_text v) (function print_num_path x) k (currency_item v x j)))
   of_type types.str e r ys s t i h =
-      subst (λ q. Agrees m IsText s (then r (λ v w. answered (print_text v) w)) q) (then_gives (net_run.value_of ys e t))
-      (then_agrees m (At types.str) IsText s r (net_run.value_of ys e t) _ (λ x w. gives [] x w) h (λ v x s t j k. answers_agree m IsText s t (print_text v) (value.gives x) k (str_item v x j)))
+      subst (λ q. Agrees m IsText s (then r (λ v w. answered (print_text v) w)) q) (then_gives (scalar_net_run.value_of ys e t))
+      (then_agrees m (At types.str) IsText s r (scalar_net_run.value_of ys e t) _ (λ x w. gives [] x w) h (λ v x s t j k. answers_agree m IsText s t (print_text v) (value.gives x) k (str_item v x j)))
   of_type (types.fixed k) e r ys s t i h = absurd (cc i)
   of_type (types.user k) e r ys s t i h = absurd (cc i)
   of_type (types.class k) e r ys s t i h = absurd (cc i)
@@ -156,7 +156,7 @@ module _ (m : Map) where
   of_type types.unknown e r ys s t i h = absurd (cc i)
 
   module _ (ls : List (ℕ × Variable)) (xs : List (ℕ × ℕ)) (ys : List (List ℕ × ℕ)) (vars : VarsMatch m ls xs ys) where
-    item_agrees : (e : Expr) (s : Memory) (t : net_store.Memory) → is_item ls e ≡ true → MemoryMatch m s t → Agrees m IsText s (item_text xs e s) (net_run.value_of ys (printed_item ls e) t)
+    item_agrees : (e : Expr) (s : Memory) (t : net_store.Memory) → is_item ls e ≡ true → MemoryMatch m s t → Agrees m IsText s (item_text xs e s) (scalar_net_run.value_of ys (printed_item ls e) t)
     item_agrees e s t i h =
         let both = both_true (is_scalar (type_of e)) (is_translated ls e) i in
         of_type (type_of e) (exp_of ls e) (value_of xs e s) ys s t both.0 (value_agrees m ls xs ys e s t vars both.1 h)
@@ -196,16 +196,16 @@ module _ (m : Map) where
     behind_nothing : (r : Outcome Memory (List ℕ)) → behind_text r [] ≡ r
     behind_nothing r = ap (λ k. then r k) (λ i p w. gives [] (append-nil p i) w) ∙ then_gives r
 
-    more_agrees : (es : List Expr) (x : Exp) (r : Outcome Memory (List ℕ)) (s : Memory) (t : net_store.Memory) → list_all (is_item ls) es ≡ true → Agrees m IsText s r (net_run.value_of ys x t) → Agrees m IsText s (behind_text r es) (net_run.value_of ys (joined_items ls x es) t)
-    more_agrees [] x r s t i h = subst (λ z. Agrees m IsText s z (net_run.value_of ys x t)) (sym (behind_nothing r)) h
+    more_agrees : (es : List Expr) (x : Exp) (r : Outcome Memory (List ℕ)) (s : Memory) (t : net_store.Memory) → list_all (is_item ls) es ≡ true → Agrees m IsText s r (scalar_net_run.value_of ys x t) → Agrees m IsText s (behind_text r es) (scalar_net_run.value_of ys (joined_items ls x es) t)
+    more_agrees [] x r s t i h = subst (λ z. Agrees m IsText s z (scalar_net_run.value_of ys x t)) (sym (behind_nothing r)) h
     more_agrees (e ∷ es) x r s t i h =
         let both = both_true (is_item ls e) (list_all (is_item ls) es) i in
-        subst (λ z. Agrees m IsText s z (net_run.value_of ys (joined_items ls x (e ∷ es)) t)) (regrouped r e es)
+        subst (λ z. Agrees m IsText s z (scalar_net_run.value_of ys (joined_items ls x (e ∷ es)) t)) (regrouped r e es)
         (more_agrees es (net.binary op.Concat x (printed_item ls e)) (one_more r e) s t both.1
-        (then_agrees m IsText IsText s r (net_run.value_of ys x t) _ _ h (λ p x s t j k.
-        then_agrees m IsText IsText s (item_text xs e s) (net_run.value_of ys (printed_item ls e) t) _ _ (item_agrees e s t both.0 k) (λ q y s t l k. join_agrees p q x y s t j l k))))
+        (then_agrees m IsText IsText s r (scalar_net_run.value_of ys x t) _ _ h (λ p x s t j k.
+        then_agrees m IsText IsText s (item_text xs e s) (scalar_net_run.value_of ys (printed_item ls e) t) _ _ (item_agrees e s t both.0 k) (λ q y s t l k. join_agrees p q x y s t j l k))))
 
-    items_agree : (es : List Expr) (s : Memory) (t : net_store.Memory) → list_all (is_item ls) es ≡ true → MemoryMatch m s t → Agrees m IsText s (items_text xs es s) (net_run.value_of ys (items_exp ls es) t)
+    items_agree : (es : List Expr) (s : Memory) (t : net_store.Memory) → list_all (is_item ls) es ≡ true → MemoryMatch m s t → Agrees m IsText s (items_text xs es s) (scalar_net_run.value_of ys (items_exp ls es) t)
     items_agree [] s t i h = (refl, refl, h, later_self s)
     items_agree (e ∷ es) s t i h =
         let both = both_true (is_item ls e) (list_all (is_item ls) es) i in
@@ -230,28 +230,28 @@ module _ (m : Map) where
         put_out ended units _ i = absurd i
 
     -- a call of one argument as a line
-    line_gives : (ended : Bool) (x : Exp) (t : net_store.Memory) → net_run.line_text_does ys (call_line (print_path ended) x) t ≡ then (net_run.value_of ys x t) (λ x w. statement_of (print_path ended) (x ∷ []) w)
+    line_gives : (ended : Bool) (x : Exp) (t : net_store.Memory) → scalar_net_run.line_text_does ys (call_line (print_path ended) x) t ≡ then (scalar_net_run.value_of ys x t) (λ x w. statement_of (print_path ended) (x ∷ []) w)
     line_gives ended x t =
-        then_assoc (net_run.value_of ys x t) (λ x w. gives [] (x ∷ []) w) (statement_of (print_path ended))
-        ∙ ap (λ k. then (net_run.value_of ys x t) k) (λ i x w. after_nil (statement_of (print_path ended) (x ∷ []) w) i)
+        then_assoc (scalar_net_run.value_of ys x t) (λ x w. gives [] (x ∷ []) w) (statement_of (print_path ended))
+        ∙ ap (λ k. then (scalar_net_run.value_of ys x t) k) (λ i x w. after_nil (statement_of (print_path ended) (x ∷ []) w) i)
 
-    print_agrees : (ended : Bool) (es : List Expr) (s : Memory) (t : net_store.Memory) → list_all (is_item ls) es ≡ true → MemoryMatch m s t → Agrees m Nothing s (then (items_text xs es s) (print ended)) (net_run.line_text_does ys (call_line (print_path ended) (items_exp ls es)) t)
+    print_agrees : (ended : Bool) (es : List Expr) (s : Memory) (t : net_store.Memory) → list_all (is_item ls) es ≡ true → MemoryMatch m s t → Agrees m Nothing s (then (items_text xs es s) (print ended)) (scalar_net_run.line_text_does ys (call_line (print_path ended) (items_exp ls es)) t)
     print_agrees ended es s t i h =
         subst (λ z. Agrees m Nothing s (then (items_text xs es s) (print ended)) z) (sym (line_gives ended (items_exp ls es) t))
-        (then_agrees m IsText Nothing s (items_text xs es s) (net_run.value_of ys (items_exp ls es) t) _ _ (items_agree es s t i h) (λ units x s t j k. printed_agrees ended units x s t j k))
+        (then_agrees m IsText Nothing s (items_text xs es s) (scalar_net_run.value_of ys (items_exp ls es) t) _ _ (items_agree es s t i h) (λ units x s t j k. printed_agrees ended units x s t j k))
 
     -- ---- assignments
 
-    target_agrees : (target : Expr) (ty : Ty) (v : Value6) (x : ValueN) (s : Memory) (t : net_store.Memory) → is_target_of ls target ty ≡ true → At ty v x → MemoryMatch m s t → Agrees m Nothing s (write_target xs target v s) (net_run.write_target ys (exp_of ls target) x t)
+    target_agrees : (target : Expr) (ty : Ty) (v : Value6) (x : ValueN) (s : Memory) (t : net_store.Memory) → is_target_of ls target ty ≡ true → At ty v x → MemoryMatch m s t → Agrees m Nothing s (write_target xs target v s) (scalar_net_run.write_target ys (exp_of ls target) x t)
     target_agrees (typed to term) ty v x s t i e h = of_term term (both_true (is_target ls to term) (is_same_scalar to ty) i).0
       where
         same : to ≡ ty
         same = same_scalar to ty (both_true (is_target ls to term) (is_same_scalar to ty) i).1
 
-        of_term : (term : Term) → is_target ls to term ≡ true → Agrees m Nothing s (write_variable xs to term v s) (net_run.write_target ys (exp_of ls (typed to term)) x t)
+        of_term : (term : Term) → is_target ls to term ≡ true → Agrees m Nothing s (write_variable xs to term v s) (scalar_net_run.write_target ys (exp_of ls (typed to term)) x t)
         of_term (variable id) j =
             let both = both_true (is_scalar to) (is_first ls id.0 (local_name ls id.0)) j in
-            subst (λ z. Agrees m Nothing s (write_variable xs to (variable id) v s) (net_run.write_target ys z x t)) (sym (local_is ls id.0 (local_name ls id.0) both.1))
+            subst (λ z. Agrees m Nothing s (write_variable xs to (variable id) v s) (scalar_net_run.write_target ys z x t)) (sym (local_is ls id.0 (local_name ls id.0) both.1))
             (variable_agrees m Nothing ls xs ys id.0 (local_name ls id.0) (write_place to v) (net_store.write_cell x) s t vars both.1
             (λ p. write_agrees m to v x p s t both.0 (subst (λ z. At z v x) (sym same) e) h))
         of_term (constant y k) j = absurd (cc j)
@@ -271,22 +271,22 @@ module _ (m : Map) where
         of_term (is_same a c) j = absurd (cc j)
         of_term (loose a) j = absurd (cc j)
 
-    assignment_agrees : (es : List Expr) (target value : tree.Exp) (s : Memory) (t : net_store.Memory) → is_assignment ls es ≡ true → MemoryMatch m s t → Agrees m Nothing s (assigns xs es s) (net_run.line_text_does ys (line_of ls (assign target value) es) t)
+    assignment_agrees : (es : List Expr) (target value : tree.Exp) (s : Memory) (t : net_store.Memory) → is_assignment ls es ≡ true → MemoryMatch m s t → Agrees m Nothing s (assigns xs es s) (scalar_net_run.line_text_does ys (line_of ls (assign target value) es) t)
     assignment_agrees (to ∷ e ∷ []) target value s t i h =
         let both = both_true (is_target_of ls to (type_of e)) (is_translated ls e) i in
-        then_agrees m (At (type_of e)) Nothing s (value_of xs e s) (net_run.value_of ys (exp_of ls e) t) _ _ (value_agrees m ls xs ys e s t vars both.1 h)
+        then_agrees m (At (type_of e)) Nothing s (value_of xs e s) (scalar_net_run.value_of ys (exp_of ls e) t) _ _ (value_agrees m ls xs ys e s t vars both.1 h)
         (λ v x s t j k. target_agrees to (type_of e) v x s t both.0 j k)
     assignment_agrees [] target value s t i h = absurd (cc i)
     assignment_agrees (to ∷ []) target value s t i h = absurd (cc i)
     assignment_agrees (to ∷ e ∷ d ∷ es) target value s t i h = absurd (cc i)
 
-    form_agrees : (f : Form) (es : List Expr) (s : Memory) (t : net_store.Memory) → is_translated_form ls f es ≡ true → MemoryMatch m s t → Agrees m Nothing s (form_does xs f es s) (net_run.line_text_does ys (line_of ls f es) t)
+    form_agrees : (f : Form) (es : List Expr) (s : Memory) (t : net_store.Memory) → is_translated_form ls f es ≡ true → MemoryMatch m s t → Agrees m Nothing s (form_does xs f es s) (scalar_net_run.line_text_does ys (line_of ls f es) t)
     form_agrees (assign target value) es s t i h = assignment_agrees es target value s t i h
     form_agrees (debug_print items ended) es s t i h = print_agrees ended es s t i h
     form_agrees _ es s t i h = absurd (cc i)
 
   -- one line and what is written for it, at frames that match
-  pub line_agrees : (ls : List (ℕ × Variable)) (l : BoundLine) (f : Frame ℕ) (g : Frame (List ℕ)) (s : Memory) (t : net_store.Memory) → is_translated_line ls l ≡ true → FrameMatch m ls f g → MemoryMatch m s t → Agrees m (NextMatch m ls) s (line_does f l s) (net_run.line_does g (written_flat ls l) t)
+  pub line_agrees : (ls : List (ℕ × Variable)) (l : BoundLine) (f : Frame ℕ) (g : Frame (List ℕ)) (s : Memory) (t : net_store.Memory) → is_translated_line ls l ≡ true → FrameMatch m ls f g → MemoryMatch m s t → Agrees m (NextMatch m ls) s (line_does f l s) (scalar_net_run.line_does g (written_flat ls l) t)
   line_agrees ls l f g s t i e h =
-      then_agrees m (λ a b. Unit {0}) (NextMatch m ls) s (form_does f.vars l.flat.line.form l.exprs s) (net_run.line_text_does g.vars (written_line ls l) t) _ _
+      then_agrees m (λ a b. Unit {0}) (NextMatch m ls) s (form_does f.vars l.flat.line.form l.exprs s) (scalar_net_run.line_text_does g.vars (written_line ls l) t) _ _
       (form_agrees ls f.vars g.vars e.vars l.flat.line.form l.exprs s t i h) (λ a b s t j k. (refl, record { same_line = refl; vars = e.vars }, k, later_self s))

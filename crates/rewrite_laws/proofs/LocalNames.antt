@@ -4,9 +4,9 @@ use Rattle.std.specs.Prelude.{nat_eq}
 use Rattle.up_base.specs.Names.{is_same_name}
 use Rattle.vb_tree.specs.BoundTree.{Variable}
 use Rattle.net_tree.specs.Tree as net
-use Rattle.net_rewrite.specs.Translated.{is_first}
-use Rattle.net_rewrite.specs.Written.{local_name, local_exp}
-use Rattle.net_rewrite.proofs.Scalars.{both_true}
+use Rattle.scalar_rewrite.specs.Translated.{is_first}
+use Rattle.scalar_rewrite.specs.Written.{local_name, local_exp}
+use Rattle.scalar_rewrite.proofs.Scalars.{both_true}
 
 pub local_is : (ls : List (ℕ × Variable)) (id : ℕ) (name : List ℕ) → is_first ls id name ≡ true → local_exp ls id ≡ net.path (local_name ls id ∷ [])
 local_is [] id name e = absurd (cc e)

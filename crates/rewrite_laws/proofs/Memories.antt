@@ -12,16 +12,16 @@ use Rattle.vb_tree.specs.declared.value.Value6.TheVariants as v
 use Rattle.net_meaning.specs.declared.value.ValueN.{ValueN}
 use Rattle.net_meaning.specs.declared.value.ValueN.TheVariants as n
 use Rattle.net_meaning.specs.ValueMatch.{Matches, booleans, bytes, integers, longs, currencies, empty_text}
-use Rattle.vb6_run.specs.Running.{gives, outside, then, updated, each_made}
-use Rattle.vb6_run.specs.Store.{Held, blank, single, Memory, Does, is_same_scalar, make_with, make_place, held_value, read_place, put, write_place}
-use Rattle.vb6_run.specs.Run.{place_of, at_place, make_local}
-use Rattle.net_run.specs.Store as net_store
-use Rattle.net_run.specs.Run.{cell_of, at_cell, at_path}
+use Rattle.scalar_vb6_run.specs.Running.{gives, outside, then, updated, each_made}
+use Rattle.scalar_vb6_run.specs.Store.{Held, blank, single, Memory, Does, is_same_scalar, make_with, make_place, held_value, read_place, put, write_place}
+use Rattle.scalar_vb6_run.specs.Run.{place_of, at_place, make_local}
+use Rattle.scalar_net_run.specs.Store as net_store
+use Rattle.scalar_net_run.specs.Run.{cell_of, at_cell, at_path}
 use Rattle.rewrite_laws.specs.Match.{Map, are_same, HeldMatch, StoreMatch, MemoryMatch, VarsMatch, Agrees}
-use Rattle.net_rewrite.specs.Translated.{is_scalar, is_first, is_scalar_local}
-use Rattle.net_rewrite.specs.Written.{net_type, written_local}
+use Rattle.scalar_rewrite.specs.Translated.{is_scalar, is_first, is_scalar_local}
+use Rattle.scalar_rewrite.specs.Written.{net_type, written_local}
 use Rattle.rewrite_laws.proofs.Agreeing.{later_self, outside_agrees, then_agrees}
-use Rattle.net_rewrite.proofs.Scalars.{both_true, by_test, same_scalar, matches_type}
+use Rattle.scalar_rewrite.proofs.Scalars.{both_true, by_test, same_scalar, matches_type}
 
 -- a one-to-one map keeps which numbers are equal
 nat_eq_moved : (m : ℕ → ℕ) → ((a b : ℕ) → m a ≡ m b → a ≡ b) → (a b : ℕ) → nat_eq (m a) (m b) ≡ nat_eq a b

@@ -6,19 +6,19 @@ use Rattle.std.specs.List.{flat_map, list_all}
 use Rattle.std.specs.Prelude.{slice_get, filter}
 use Rattle.vb_tree.specs.BoundTree.{Variable, Expr, Bound}
 use Rattle.vb_tree.specs.Tree.{Form, Line, Nodes, Member, alone, group, proc, Module, assign, debug_print}
-use Rattle.vb6_run.specs.Program.{Written, BoundLine, bound_lines, locals_of, procedures_in, procedures_of}
+use Rattle.scalar_vb6_run.specs.Program.{Written, BoundLine, bound_lines, locals_of, procedures_in, procedures_of}
 use Rattle.net_tree.specs.Blocks as net_blocks
 use Rattle.net_tree.specs.FlatLines as net_flat
 use Rattle.net_tree.specs.Tree as net
 use Rattle.rewrite_laws.specs.Match.{IsWrittenAs, SameLines, SameRun}
-use Rattle.net_rewrite.specs.Marks.{Place6, marked_lines, is_kept, behind, behind_all, first_place}
-use Rattle.net_rewrite.specs.Modules.{Comment, up_to, past, comment_lines, with_comments, lines_at, written_procedure, upgrade_comment, member_comments, left_out, all_left_out, written_member, end_of, written_members, written_module, written_modules, members_flags, flags_from, IsKept, AreWritten, LocalsAreDeclared}
-use Rattle.net_rewrite.specs.Translated.{has_straight_body, is_scalar_local, are_translated, is_translated_procedure}
-use Rattle.net_rewrite.specs.Written.{line_of, assign_line, written_line}
-use Rattle.net_rewrite.proofs.Kept as kept
-use Rattle.net_rewrite.proofs.Lists.{both_true}
+use Rattle.scalar_rewrite.specs.Marks.{Place6, marked_lines, is_kept, behind, behind_all, first_place}
+use Rattle.scalar_rewrite.specs.Modules.{Comment, up_to, past, comment_lines, with_comments, lines_at, written_procedure, upgrade_comment, member_comments, left_out, all_left_out, written_member, end_of, written_members, written_module, written_modules, members_flags, flags_from, IsKept, AreWritten, LocalsAreDeclared}
+use Rattle.scalar_rewrite.specs.Translated.{has_straight_body, is_scalar_local, are_translated, is_translated_procedure}
+use Rattle.scalar_rewrite.specs.Written.{line_of, assign_line, written_line}
+use Rattle.scalar_rewrite.proofs.Kept as kept
+use Rattle.scalar_rewrite.proofs.Lists.{both_true}
 use Rattle.rewrite_laws.proofs.Runs.{same_run, same_lines}
-use Rattle.net_rewrite.proofs.Scalars.{chosen}
+use Rattle.scalar_rewrite.proofs.Scalars.{chosen}
 
 -- ---- places in lists
 

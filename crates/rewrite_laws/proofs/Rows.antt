@@ -6,7 +6,7 @@ use Rattle.vb_tree.specs.BoundTree.{Ty}
 use Rattle.vb_tree.specs.declared.value.Value6.{Value6}
 use Rattle.vb6_meaning.specs.Answers.{Answer, then_answer}
 use Rattle.vb6_meaning.specs.Answers as value
-use Rattle.vb6_run.specs.Running.{Outcome, gives, raises, spent, outside, then, answered}
+use Rattle.scalar_vb6_run.specs.Running.{Outcome, gives, raises, spent, outside, then, answered}
 use Rattle.net_tree.specs.declared.expression.CastWord.{CastWord}
 use Rattle.net_tree.specs.declared.expression.CastWord.TheVariants as word
 use Rattle.net_tree.specs.declared.expression.NetUn.{NetUn}
@@ -22,13 +22,13 @@ use Rattle.net_meaning.specs.Operators.{operate_net}
 use Rattle.net_meaning.specs.ValueMatch.{Matches, booleans, bytes, integers, longs}
 use Rattle.net_meaning.specs.WrittenRows.{Row, operand_a, operand_b, no_text, cast, call, Call, cur, cur_text, fix, var_as, var_str, cast_type, called, evaluate}
 use Rattle.net_meaning.specs.WrittenRows as row
-use Rattle.net_run.specs.Calls.{function, function_of}
-use Rattle.net_run.specs.Run.{value_of}
-use Rattle.net_run.specs.Store.{Memory, Does}
-use Rattle.net_rewrite.specs.Translated.{is_plain_call, is_over_a, is_over_b, is_over_both, is_safe, is_operand_a, is_to_decimal, is_not, goes_to_decimal, has_not}
-use Rattle.net_rewrite.specs.Written.{Operand, plain, cast_exp, decimal_for, row_exp, call_path}
+use Rattle.scalar_net_run.specs.Calls.{function, function_of}
+use Rattle.scalar_net_run.specs.Run.{value_of}
+use Rattle.scalar_net_run.specs.Store.{Memory, Does}
+use Rattle.scalar_rewrite.specs.Translated.{is_plain_call, is_over_a, is_over_b, is_over_both, is_safe, is_operand_a, is_to_decimal, is_not, goes_to_decimal, has_not}
+use Rattle.scalar_rewrite.specs.Written.{Operand, plain, cast_exp, decimal_for, row_exp, call_path}
 use Rattle.rewrite_laws.proofs.Agreeing.{after_nil, then_assoc}
-use Rattle.net_rewrite.proofs.Scalars.{both_true}
+use Rattle.scalar_rewrite.proofs.Scalars.{both_true}
 
 -- the value as it stands
 pub then_gives : {M A : Type 0} (r : Outcome M A) → then r (λ x w. gives [] x w) ≡ r

@@ -10,20 +10,20 @@ use Rattle.vb_tree.specs.declared.value.Value6.{Value6}
 use Rattle.net_tree.specs.FlatLines as net_flat
 use Rattle.net_tree.specs.Tree as net
 use Rattle.net_meaning.specs.declared.value.ValueN.{ValueN}
-use Rattle.vb6_run.specs.Program.{Written, procedures_of, BoundLine, with_exprs, lines_from, bound_lines, locals_of}
-use Rattle.vb6_run.specs.Running.{Outcome, gives, raises, spent, outside, then, each_made, Frame, Next, goes_on, leaves, Job, enters, runs, Calls, stepped, follow, line_turn, line_of, body_turn, entry, turn, go}
-use Rattle.vb6_run.specs.Store.{Memory}
-use Rattle.vb6_run.specs.Run.{make_local, line_does, machine_of}
-use Rattle.net_run.specs.Store as net_store
-use Rattle.net_run.specs.Run as net_run
+use Rattle.scalar_vb6_run.specs.Program.{Written, procedures_of, BoundLine, with_exprs, lines_from, bound_lines, locals_of}
+use Rattle.scalar_vb6_run.specs.Running.{Outcome, gives, raises, spent, outside, then, each_made, Frame, Next, goes_on, leaves, Job, enters, runs, Calls, stepped, follow, line_turn, line_of, body_turn, entry, turn, go}
+use Rattle.scalar_vb6_run.specs.Store.{Memory}
+use Rattle.scalar_vb6_run.specs.Run.{make_local, line_does, machine_of}
+use Rattle.scalar_net_run.specs.Store as net_store
+use Rattle.scalar_net_run.specs.Run as scalar_net_run
 use Rattle.rewrite_laws.specs.Match.{Map, StoreMatch, MemoryMatch, VarsMatch, FrameMatch, NextMatch, ResultMatch, Agrees, IsWrittenAs, SameRun, SameLine, SameLines}
-use Rattle.net_rewrite.specs.Translated.{is_plain_sub, is_straight, has_straight_body, is_scalar_local, is_translated_line, are_translated, is_translated_procedure}
-use Rattle.net_rewrite.specs.Written.{written_line, written_flat, written_local}
+use Rattle.scalar_rewrite.specs.Translated.{is_plain_sub, is_straight, has_straight_body, is_scalar_local, is_translated_line, are_translated, is_translated_procedure}
+use Rattle.scalar_rewrite.specs.Written.{written_line, written_flat, written_local}
 use Rattle.rewrite_laws.proofs.Agreeing.{later_self, then_agrees}
 use Rattle.rewrite_laws.proofs.Lines.{line_agrees}
 use Rattle.rewrite_laws.proofs.Memories.{locals_agree}
-use Rattle.net_rewrite.proofs.Straight.{targets_written}
-use Rattle.net_rewrite.proofs.Scalars.{both_true}
+use Rattle.scalar_rewrite.proofs.Straight.{targets_written}
+use Rattle.scalar_rewrite.proofs.Scalars.{both_true}
 
 -- taking a step keeps the memories matched
 pub left_match : (m : Map) (n : ℕ) (s : Memory) (t : net_store.Memory) → StoreMatch m s t → MemoryMatch m (record s { left = n }) (record t { left = n })
@@ -63,7 +63,7 @@ module _ (m : Map) (P : Bound) (N : net.Project) (p q : ℕ) (is : IsWrittenAs P
   line_translated ls zero e = tt
   line_translated ls (suc n) e = line_at ls n e
 
-  step_agrees : {A B : Type 0} (R : A → B → Type 0) (go_on : Memory → Outcome Memory A) (go_on' : net_store.Memory → Outcome net_store.Memory B) (s : Memory) (t : net_store.Memory) → MemoryMatch m s t → ((s : Memory) (t : net_store.Memory) → MemoryMatch m s t → Agrees m R s (go_on s) (go_on' t)) → (n : ℕ) → Agrees m R s (stepped (machine_of P) n go_on s) (stepped (net_run.machine_of N) n go_on' t)
+  step_agrees : {A B : Type 0} (R : A → B → Type 0) (go_on : Memory → Outcome Memory A) (go_on' : net_store.Memory → Outcome net_store.Memory B) (s : Memory) (t : net_store.Memory) → MemoryMatch m s t → ((s : Memory) (t : net_store.Memory) → MemoryMatch m s t → Agrees m R s (go_on s) (go_on' t)) → (n : ℕ) → Agrees m R s (stepped (machine_of P) n go_on s) (stepped (scalar_net_run.machine_of N) n go_on' t)
   step_agrees R go_on go_on' s t h agree zero = (refl, h, later_self s)
   step_agrees R go_on go_on' s t h agree (suc n) =
       later_left m R n s (go_on (record s { left = n })) (go_on' (record t { left = n })) (agree (record s { left = n }) (record t { left = n }) (left_match m n s t h.stores))
@@ -71,8 +71,8 @@ module _ (m : Map) (P : Bound) (N : net.Project) (p q : ℕ) (is : IsWrittenAs P
   net_body : slice_get (map net_flat.flat_lines (net_flat.procedures_of N)) q ≡ Some (map (written_flat (locals_of P p)) is.lines)
   net_body = slice_get-map net_flat.flat_lines (net_flat.procedures_of N) q ∙ ap (option_map net_flat.flat_lines) is.target ∙ ap Some flats
 
-  net_prologue : net_run.prologue_of (slice_get (net_flat.procedures_of N) q) ≡ map written_local (locals_of P p)
-  net_prologue = ap net_run.prologue_of is.target ∙ is.locals
+  net_prologue : scalar_net_run.prologue_of (slice_get (net_flat.procedures_of N) q) ≡ map written_local (locals_of P p)
+  net_prologue = ap scalar_net_run.prologue_of is.target ∙ is.locals
 
   line_of_map : {A B : Type 0} (f : A → B) (ls : List A) (n : ℕ) → line_of (map f ls) n ≡ option_map f (line_of ls n)
   line_of_map f ls zero = refl
@@ -80,52 +80,52 @@ module _ (m : Map) (P : Bound) (N : net.Project) (p q : ℕ) (is : IsWrittenAs P
 
   module _ (oracle : Calls Memory Value6 ℕ) (net_oracle : Calls net_store.Memory ValueN (List ℕ))
       (jobs_agree : (job : Job ℕ) (job' : Job (List ℕ)) (s : Memory) (t : net_store.Memory) → JobMatch job job' → MemoryMatch m s t → Agrees m ResultMatch s (oracle job s) (net_oracle job' t)) where
-    follow_agrees : (next : Next ℕ) (next' : Next (List ℕ)) (s : Memory) (t : net_store.Memory) → NextMatch m (locals_of P p) next next' → MemoryMatch m s t → Agrees m ResultMatch s (follow (machine_of P) oracle p next s) (follow (net_run.machine_of N) net_oracle q next' t)
+    follow_agrees : (next : Next ℕ) (next' : Next (List ℕ)) (s : Memory) (t : net_store.Memory) → NextMatch m (locals_of P p) next next' → MemoryMatch m s t → Agrees m ResultMatch s (follow (machine_of P) oracle p next s) (follow (scalar_net_run.machine_of N) net_oracle q next' t)
     follow_agrees (goes_on f) (goes_on g) s t e h = jobs_agree (runs p f) (runs q g) s t (refl, refl, e) h
     follow_agrees (goes_on f) (leaves g) s t e h = absurd e
     follow_agrees (leaves f) (goes_on g) s t e h = absurd e
     follow_agrees (leaves f) (leaves g) s t e h = (refl, tt, h, later_self s)
 
-    line_turn_agrees : (f : Frame ℕ) (g : Frame (List ℕ)) (o : Option BoundLine) (s : Memory) (t : net_store.Memory) → IsLine o → FrameMatch m (locals_of P p) f g → MemoryMatch m s t → Agrees m ResultMatch s (line_turn (machine_of P) oracle p f o s) (line_turn (net_run.machine_of N) net_oracle q g (option_map (written_flat (locals_of P p)) o) t)
+    line_turn_agrees : (f : Frame ℕ) (g : Frame (List ℕ)) (o : Option BoundLine) (s : Memory) (t : net_store.Memory) → IsLine o → FrameMatch m (locals_of P p) f g → MemoryMatch m s t → Agrees m ResultMatch s (line_turn (machine_of P) oracle p f o s) (line_turn (scalar_net_run.machine_of N) net_oracle q g (option_map (written_flat (locals_of P p)) o) t)
     line_turn_agrees f g None s t i e h = (refl, tt, h, later_self s)
     line_turn_agrees f g (Some l) s t i e h =
-        subst (λ n. Agrees m ResultMatch s (line_turn (machine_of P) oracle p f (Some l) s) (stepped (net_run.machine_of N) n (λ w. then (net_run.line_does g (written_flat (locals_of P p) l) w) (follow (net_run.machine_of N) net_oracle q)) t)) (sym h.steps)
-        (step_agrees ResultMatch (λ w. then (line_does f l w) (follow (machine_of P) oracle p)) (λ w. then (net_run.line_does g (written_flat (locals_of P p) l) w) (follow (net_run.machine_of N) net_oracle q)) s t h
-        (λ s t h. then_agrees m (NextMatch m (locals_of P p)) ResultMatch s (line_does f l s) (net_run.line_does g (written_flat (locals_of P p) l) t) (follow (machine_of P) oracle p) (follow (net_run.machine_of N) net_oracle q) (line_agrees m (locals_of P p) l f g s t i e h) (λ next next' s t e h. follow_agrees next next' s t e h)) s.left)
+        subst (λ n. Agrees m ResultMatch s (line_turn (machine_of P) oracle p f (Some l) s) (stepped (scalar_net_run.machine_of N) n (λ w. then (scalar_net_run.line_does g (written_flat (locals_of P p) l) w) (follow (scalar_net_run.machine_of N) net_oracle q)) t)) (sym h.steps)
+        (step_agrees ResultMatch (λ w. then (line_does f l w) (follow (machine_of P) oracle p)) (λ w. then (scalar_net_run.line_does g (written_flat (locals_of P p) l) w) (follow (scalar_net_run.machine_of N) net_oracle q)) s t h
+        (λ s t h. then_agrees m (NextMatch m (locals_of P p)) ResultMatch s (line_does f l s) (scalar_net_run.line_does g (written_flat (locals_of P p) l) t) (follow (machine_of P) oracle p) (follow (scalar_net_run.machine_of N) net_oracle q) (line_agrees m (locals_of P p) l f g s t i e h) (λ next next' s t e h. follow_agrees next next' s t e h)) s.left)
 
-    body_turn_agrees : (f : Frame ℕ) (g : Frame (List ℕ)) (s : Memory) (t : net_store.Memory) → FrameMatch m (locals_of P p) f g → MemoryMatch m s t → Agrees m ResultMatch s (body_turn (machine_of P) oracle p f (Some is.lines) s) (body_turn (net_run.machine_of N) net_oracle q g (Some (map (written_flat (locals_of P p)) is.lines)) t)
+    body_turn_agrees : (f : Frame ℕ) (g : Frame (List ℕ)) (s : Memory) (t : net_store.Memory) → FrameMatch m (locals_of P p) f g → MemoryMatch m s t → Agrees m ResultMatch s (body_turn (machine_of P) oracle p f (Some is.lines) s) (body_turn (scalar_net_run.machine_of N) net_oracle q g (Some (map (written_flat (locals_of P p)) is.lines)) t)
     body_turn_agrees f g s t e h =
-        subst (λ n. Agrees m ResultMatch s (line_turn (machine_of P) oracle p f (line_of is.lines f.line) s) (line_turn (net_run.machine_of N) net_oracle q g (line_of (map (written_flat (locals_of P p)) is.lines) n) t)) (sym e.same_line)
-        (subst (λ o. Agrees m ResultMatch s (line_turn (machine_of P) oracle p f (line_of is.lines f.line) s) (line_turn (net_run.machine_of N) net_oracle q g o t)) (sym (line_of_map (written_flat (locals_of P p)) is.lines f.line))
+        subst (λ n. Agrees m ResultMatch s (line_turn (machine_of P) oracle p f (line_of is.lines f.line) s) (line_turn (scalar_net_run.machine_of N) net_oracle q g (line_of (map (written_flat (locals_of P p)) is.lines) n) t)) (sym e.same_line)
+        (subst (λ o. Agrees m ResultMatch s (line_turn (machine_of P) oracle p f (line_of is.lines f.line) s) (line_turn (scalar_net_run.machine_of N) net_oracle q g o t)) (sym (line_of_map (written_flat (locals_of P p)) is.lines f.line))
         (line_turn_agrees f g (line_of is.lines f.line) s t (line_translated is.lines f.line translated) e h))
 
-    entry_agrees : (s : Memory) (t : net_store.Memory) → MemoryMatch m s t → Agrees m ResultMatch s (entry (machine_of P) oracle p (Some is.lines) s) (entry (net_run.machine_of N) net_oracle q (Some (map (written_flat (locals_of P p)) is.lines)) t)
+    entry_agrees : (s : Memory) (t : net_store.Memory) → MemoryMatch m s t → Agrees m ResultMatch s (entry (machine_of P) oracle p (Some is.lines) s) (entry (scalar_net_run.machine_of N) net_oracle q (Some (map (written_flat (locals_of P p)) is.lines)) t)
     entry_agrees s t h =
-        then_agrees m (VarsMatch m (locals_of P p)) ResultMatch s (each_made make_local (locals_of P p) s) (each_made net_store.make_local (net_run.prologue_of (slice_get (net_flat.procedures_of N) q)) t) _ _
+        then_agrees m (VarsMatch m (locals_of P p)) ResultMatch s (each_made make_local (locals_of P p) s) (each_made net_store.make_local (scalar_net_run.prologue_of (slice_get (net_flat.procedures_of N) q)) t) _ _
         (subst (λ ds. Agrees m (VarsMatch m (locals_of P p)) s (each_made make_local (locals_of P p) s) (each_made net_store.make_local ds t)) (sym net_prologue) (locals_agree m (locals_of P p) s t scalars h))
         (λ xs ys s t v h. jobs_agree (runs p (record { line = 1; vars = xs })) (runs q (record { line = 1; vars = ys })) s t (refl, refl, record { same_line = refl; vars = v }) h)
 
-    turn_agrees : (job : Job ℕ) (job' : Job (List ℕ)) (s : Memory) (t : net_store.Memory) → JobMatch job job' → MemoryMatch m s t → Agrees m ResultMatch s (turn (machine_of P) oracle job s) (turn (net_run.machine_of N) net_oracle job' t)
+    turn_agrees : (job : Job ℕ) (job' : Job (List ℕ)) (s : Memory) (t : net_store.Memory) → JobMatch job job' → MemoryMatch m s t → Agrees m ResultMatch s (turn (machine_of P) oracle job s) (turn (scalar_net_run.machine_of N) net_oracle job' t)
     turn_agrees (enters a) (enters b) s t e h =
-        subst (λ x. Agrees m ResultMatch s (turn (machine_of P) oracle (enters x) s) (turn (net_run.machine_of N) net_oracle (enters b) t)) (sym e.0)
-        (subst (λ y. Agrees m ResultMatch s (turn (machine_of P) oracle (enters p) s) (turn (net_run.machine_of N) net_oracle (enters y) t)) (sym e.1)
-        (subst (λ o. Agrees m ResultMatch s (stepped (machine_of P) s.left (entry (machine_of P) oracle p o) s) (turn (net_run.machine_of N) net_oracle (enters q) t)) (sym is.source)
-        (subst (λ o. Agrees m ResultMatch s (stepped (machine_of P) s.left (entry (machine_of P) oracle p (Some is.lines)) s) (stepped (net_run.machine_of N) t.left (entry (net_run.machine_of N) net_oracle q o) t)) (sym net_body)
-        (subst (λ n. Agrees m ResultMatch s (stepped (machine_of P) s.left (entry (machine_of P) oracle p (Some is.lines)) s) (stepped (net_run.machine_of N) n (entry (net_run.machine_of N) net_oracle q (Some (map (written_flat (locals_of P p)) is.lines))) t)) (sym h.steps)
-        (step_agrees ResultMatch (entry (machine_of P) oracle p (Some is.lines)) (entry (net_run.machine_of N) net_oracle q (Some (map (written_flat (locals_of P p)) is.lines))) s t h entry_agrees s.left)))))
+        subst (λ x. Agrees m ResultMatch s (turn (machine_of P) oracle (enters x) s) (turn (scalar_net_run.machine_of N) net_oracle (enters b) t)) (sym e.0)
+        (subst (λ y. Agrees m ResultMatch s (turn (machine_of P) oracle (enters p) s) (turn (scalar_net_run.machine_of N) net_oracle (enters y) t)) (sym e.1)
+        (subst (λ o. Agrees m ResultMatch s (stepped (machine_of P) s.left (entry (machine_of P) oracle p o) s) (turn (scalar_net_run.machine_of N) net_oracle (enters q) t)) (sym is.source)
+        (subst (λ o. Agrees m ResultMatch s (stepped (machine_of P) s.left (entry (machine_of P) oracle p (Some is.lines)) s) (stepped (scalar_net_run.machine_of N) t.left (entry (scalar_net_run.machine_of N) net_oracle q o) t)) (sym net_body)
+        (subst (λ n. Agrees m ResultMatch s (stepped (machine_of P) s.left (entry (machine_of P) oracle p (Some is.lines)) s) (stepped (scalar_net_run.machine_of N) n (entry (scalar_net_run.machine_of N) net_oracle q (Some (map (written_flat (locals_of P p)) is.lines))) t)) (sym h.steps)
+        (step_agrees ResultMatch (entry (machine_of P) oracle p (Some is.lines)) (entry (scalar_net_run.machine_of N) net_oracle q (Some (map (written_flat (locals_of P p)) is.lines))) s t h entry_agrees s.left)))))
     turn_agrees (enters a) (runs b g) s t e h = absurd e
     turn_agrees (runs a f) (enters b) s t e h = absurd e
     turn_agrees (runs a f) (runs b g) s t e h =
-        subst (λ x. Agrees m ResultMatch s (turn (machine_of P) oracle (runs x f) s) (turn (net_run.machine_of N) net_oracle (runs b g) t)) (sym e.0)
-        (subst (λ y. Agrees m ResultMatch s (turn (machine_of P) oracle (runs p f) s) (turn (net_run.machine_of N) net_oracle (runs y g) t)) (sym e.1)
-        (subst (λ o. Agrees m ResultMatch s (body_turn (machine_of P) oracle p f o s) (turn (net_run.machine_of N) net_oracle (runs q g) t)) (sym is.source)
-        (subst (λ o. Agrees m ResultMatch s (body_turn (machine_of P) oracle p f (Some is.lines) s) (body_turn (net_run.machine_of N) net_oracle q g o t)) (sym net_body)
+        subst (λ x. Agrees m ResultMatch s (turn (machine_of P) oracle (runs x f) s) (turn (scalar_net_run.machine_of N) net_oracle (runs b g) t)) (sym e.0)
+        (subst (λ y. Agrees m ResultMatch s (turn (machine_of P) oracle (runs p f) s) (turn (scalar_net_run.machine_of N) net_oracle (runs y g) t)) (sym e.1)
+        (subst (λ o. Agrees m ResultMatch s (body_turn (machine_of P) oracle p f o s) (turn (scalar_net_run.machine_of N) net_oracle (runs q g) t)) (sym is.source)
+        (subst (λ o. Agrees m ResultMatch s (body_turn (machine_of P) oracle p f (Some is.lines) s) (body_turn (scalar_net_run.machine_of N) net_oracle q g o t)) (sym net_body)
         (body_turn_agrees f g s t e.2 h))))
 
   -- the one induction
-  go_agrees : (n : ℕ) (job : Job ℕ) (job' : Job (List ℕ)) (s : Memory) (t : net_store.Memory) → JobMatch job job' → MemoryMatch m s t → Agrees m ResultMatch s (go (machine_of P) n job s) (go (net_run.machine_of N) n job' t)
+  go_agrees : (n : ℕ) (job : Job ℕ) (job' : Job (List ℕ)) (s : Memory) (t : net_store.Memory) → JobMatch job job' → MemoryMatch m s t → Agrees m ResultMatch s (go (machine_of P) n job s) (go (scalar_net_run.machine_of N) n job' t)
   go_agrees zero job job' s t e h = (refl, h, later_self s)
-  go_agrees (suc n) job job' s t e h = turn_agrees (go (machine_of P) n) (go (net_run.machine_of N) n) (go_agrees n) job job' s t e h
+  go_agrees (suc n) job job' s t e h = turn_agrees (go (machine_of P) n) (go (scalar_net_run.machine_of N) n) (go_agrees n) job job' s t e h
 
 some_is : {A : Type 0} {x y : A} → ◌≡◌ {A = Option A} (Some x) (Some y) → x ≡ y
 some_is e = cc e
@@ -165,7 +165,7 @@ parts_of P N p q e is =
 pub same_run : (P : Bound) (N : net.Project) (p q : ℕ) → is_translated_procedure P p ≡ true → IsWrittenAs P N p q → SameRun P N p q
 same_run P N p q e is m s t n h =
     let parts = parts_of P N p q e is in
-    later_left m ResultMatch n s (go (machine_of P) (suc n) (enters p) (record s { left = n })) (go (net_run.machine_of N) (suc n) (enters q) (record t { left = n }))
+    later_left m ResultMatch n s (go (machine_of P) (suc n) (enters p) (record s { left = n })) (go (scalar_net_run.machine_of N) (suc n) (enters q) (record t { left = n }))
     (go_agrees m P N p q is parts.scalars parts.translated parts.flats (suc n) (enters p) (enters q) (record s { left = n }) (record t { left = n }) (refl, refl) (left_match m n s t h))
 
 -- ---- line by line

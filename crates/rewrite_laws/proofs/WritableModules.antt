@@ -9,8 +9,8 @@ use Rattle.vb_tree.specs.Blocks.{is_code}
 use Rattle.vb_tree.specs.FlatLines as flat
 use Rattle.vb_tree.specs.Tree as tree
 use Rattle.vb_tree.specs.Tree.{Form, sub_head, Line, Member, alone, group, proc, Module}
-use Rattle.vb6_run.specs.Depth.{are_shallow_exprs, is_shallow_body, is_shallow_bound}
-use Rattle.vb6_run.specs.Program.{Written, procedures_in, procedures_of, BoundLine, with_exprs, lines_from, bound_lines, is_local_of, locals_from, locals_of}
+use Rattle.scalar_vb6_run.specs.Depth.{are_shallow_exprs, is_shallow_body, is_shallow_bound}
+use Rattle.scalar_vb6_run.specs.Program.{Written, procedures_in, procedures_of, BoundLine, with_exprs, lines_from, bound_lines, is_local_of, locals_from, locals_of}
 use Rattle.net_tree.specs.declared.block.NetRole.TheVariants.{Plain}
 use Rattle.net_tree.specs.Blocks as net_blocks
 use Rattle.net_tree.specs.Comments.{is_comment, is_well_formed, is_within_line, is_surrogate}
@@ -21,15 +21,15 @@ use Rattle.net_tree.specs.Lines.{is_writable_line}
 use Rattle.net_tree.specs.Spelling.{is_identifier}
 use Rattle.net_tree.specs.Text.{is_writable_module}
 use Rattle.net_tree.specs.Tree as net
-use Rattle.net_rewrite.specs.Marks.{taken_names, declared_by, is_translated_declaration, is_translated_code, placed_lines, first_exprs, later_exprs, marked, is_lost, marked_users, exprs_at, Place6, marked_lines, is_kept, behind, behind_all, first_place}
-use Rattle.net_rewrite.specs.Modules.{Comment, up_to, past, comment_lines, with_comments, lines_at, written_head, written_procedure, upgrade_text, upgrade_comment, member_comments, left_out, all_left_out, written_member, written_members, written_module, written_modules}
-use Rattle.net_rewrite.specs.Translated.{is_plain_sub, are_translated, is_translated_line}
-use Rattle.net_rewrite.specs.Writable.{are_comments, has_comment_text, names_sub, is_named_head, names_variables, is_named_module, is_named_variable, is_named}
-use Rattle.net_rewrite.specs.Written.{net_type, assign_line, line_of, written_line, written_local}
-use Rattle.net_rewrite.proofs.LostNames.{users_all}
-use Rattle.net_rewrite.proofs.Characters.{not_of, formed_behind}
-use Rattle.net_rewrite.proofs.Kept.{placed_line, placed_are, has_fit_line, kept_is_plain, kept_lines, kept_constants}
-use Rattle.net_rewrite.proofs.Lists.{both_true, and_true, all_first, all_rest, all_append, all_left, all_right}
+use Rattle.scalar_rewrite.specs.Marks.{taken_names, declared_by, is_translated_declaration, is_translated_code, placed_lines, first_exprs, later_exprs, marked, is_lost, marked_users, exprs_at, Place6, marked_lines, is_kept, behind, behind_all, first_place}
+use Rattle.scalar_rewrite.specs.Modules.{Comment, up_to, past, comment_lines, with_comments, lines_at, written_head, written_procedure, upgrade_text, upgrade_comment, member_comments, left_out, all_left_out, written_member, written_members, written_module, written_modules}
+use Rattle.scalar_rewrite.specs.Translated.{is_plain_sub, are_translated, is_translated_line}
+use Rattle.scalar_rewrite.specs.Writable.{are_comments, has_comment_text, names_sub, is_named_head, names_variables, is_named_module, is_named_variable, is_named}
+use Rattle.scalar_rewrite.specs.Written.{net_type, assign_line, line_of, written_line, written_local}
+use Rattle.scalar_rewrite.proofs.LostNames.{users_all}
+use Rattle.scalar_rewrite.proofs.Characters.{not_of, formed_behind}
+use Rattle.scalar_rewrite.proofs.Kept.{placed_line, placed_are, has_fit_line, kept_is_plain, kept_lines, kept_constants}
+use Rattle.scalar_rewrite.proofs.Lists.{both_true, and_true, all_first, all_rest, all_append, all_left, all_right}
 use Rattle.rewrite_laws.proofs.Placing.{in_front, at_back, procedures_in_module, number_of_members}
 use Rattle.rewrite_laws.proofs.WritableExpressions.{are_named, line_can}
 

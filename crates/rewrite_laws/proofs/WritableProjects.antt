@@ -9,18 +9,18 @@ use Rattle.vb_tree.specs.declared.project.ProjectKind.{ProjectKind}
 use Rattle.vb_tree.specs.declared.project.ProjectKind.TheVariants as kind
 use Rattle.vb_tree.specs.FlatLines.{module_lines}
 use Rattle.vb_tree.specs.Tree.{Module}
-use Rattle.vb6_run.specs.Depth.{is_shallow_bound}
-use Rattle.vb6_run.specs.Program.{procedures_in}
+use Rattle.scalar_vb6_run.specs.Depth.{is_shallow_bound}
+use Rattle.scalar_vb6_run.specs.Program.{procedures_in}
 use Rattle.net_tree.specs.Spelling.{is_identifier}
 use Rattle.net_tree.specs.Text.{is_writable_module, is_main, file_name, IsWritable}
 use Rattle.net_tree.specs.Tree as net
 use Rattle.support_text.specs.Needs.{support_module}
 use Rattle.support_text.proofs.Writable.{support_can}
-use Rattle.net_rewrite.specs.Marks.{first_place, behind_all}
-use Rattle.net_rewrite.specs.Modules.{written_modules}
-use Rattle.net_rewrite.specs.Projects.{declares_main, only, started, written_project, has_file_name, can_be_named}
-use Rattle.net_rewrite.specs.Writable.{are_comments, has_comment_text, is_named_head, names_variables, is_named_module, is_named_variable, is_named}
-use Rattle.net_rewrite.proofs.Lists.{both_true, and_true, all_append}
+use Rattle.scalar_rewrite.specs.Marks.{first_place, behind_all}
+use Rattle.scalar_rewrite.specs.Modules.{written_modules}
+use Rattle.scalar_rewrite.specs.Projects.{declares_main, only, started, written_project, has_file_name, can_be_named}
+use Rattle.scalar_rewrite.specs.Writable.{are_comments, has_comment_text, is_named_head, names_variables, is_named_module, is_named_variable, is_named}
+use Rattle.scalar_rewrite.proofs.Lists.{both_true, and_true, all_append}
 use Rattle.rewrite_laws.proofs.WritableModules.{written_can}
 
 by_test : (b : Bool) (P : Bool → Type 0) → (b ≡ true → P true) → (b ≡ false → P false) → P b

@@ -16,8 +16,8 @@ use Rattle.vb6_meaning.specs.Answers as value
 use Rattle.vb6_meaning.specs.Kinds.{fits, wider, whole, is_byte, value as value_of_kind, checked_value}
 use Rattle.vb6_meaning.specs.Numbers.{of_kind, amount_in}
 use Rattle.vb6_meaning.specs.Values.{truth, to_number, are_currencies}
-use Rattle.vb6_run.specs.Depth.{depth_expr, depth_term, most_bound, is_shallow_expr, are_shallow_exprs}
-use Rattle.vb6_run.specs.Program.{type_of}
+use Rattle.scalar_vb6_run.specs.Depth.{depth_expr, depth_term, most_bound, is_shallow_expr, are_shallow_exprs}
+use Rattle.scalar_vb6_run.specs.Program.{type_of}
 use Rattle.net_tree.specs.declared.expression.CastWord.{CastWord}
 use Rattle.net_tree.specs.declared.expression.CastWord.TheVariants as word
 use Rattle.net_tree.specs.declared.expression.NetBin.{NetBin}
@@ -29,9 +29,9 @@ use Rattle.net_tree.specs.Tree as net
 use Rattle.net_meaning.specs.WrittenLiterals.{Piece, quoted, unit, Pieces, pieces_of, behind, is_plain, write_constant}
 use Rattle.net_meaning.specs.WrittenRows.{Row, operand_a, operand_b, no_text, cast, Call, Written, kind_of, type_of_kind, word_of_kind, is_of_kind, as_kind, checked, on_kinds, both_as, arithmetic, product, division, compared, on_numbers, is_text, is_boolean, added, as_text, joined_rows, joined, comparison, and_row, or_row, xor_row, eqv_row, imp_row, bits, signed_bits, logical, is_reference, same_object, write_operator, negated, turned, write_unary, to_boolean, to_kind, to_fixed, to_variant, to_object, to_class, to_nothing, write_conversion}
 use Rattle.net_meaning.specs.WrittenRows as row
-use Rattle.net_rewrite.specs.Marks.{is_plain_unit, is_short, has_fit_constants, are_fit_constants, goes_to}
-use Rattle.net_rewrite.specs.Written.{piece_exp, joined_exp, exp_or_nothing, Operand, plain, cast_exp, decimal_for, row_exp, operator_exp, is_whole, takes_literals, spelt, value_in, literal_in, literal_as, literal_exp, operand_of, converted_exp, local_exp, exp_of, term_exp, item_exp, printed_item, joined_items, items_exp}
-use Rattle.net_rewrite.proofs.Lists.{by_test, both_true}
+use Rattle.scalar_rewrite.specs.Marks.{is_plain_unit, is_short, has_fit_constants, are_fit_constants, goes_to}
+use Rattle.scalar_rewrite.specs.Written.{piece_exp, joined_exp, exp_or_nothing, Operand, plain, cast_exp, decimal_for, row_exp, operator_exp, is_whole, takes_literals, spelt, value_in, literal_in, literal_as, literal_exp, operand_of, converted_exp, local_exp, exp_of, term_exp, item_exp, printed_item, joined_items, items_exp}
+use Rattle.scalar_rewrite.proofs.Lists.{by_test, both_true}
 
 -- ---- constants
 

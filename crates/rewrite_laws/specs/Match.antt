@@ -6,13 +6,13 @@ use Rattle.net_tree.specs.Tree as net
 use Rattle.net_meaning.specs.declared.value.ValueN.{ValueN}
 use Rattle.net_meaning.specs.ValueMatch.{Matches}
 use Rattle.net_tree.specs.FlatLines as net_flat
-use Rattle.vb6_run.specs.Program.{BoundLine, bound_lines, locals_of}
-use Rattle.vb6_run.specs.Running.{Output, Outcome, gives, raises, spent, outside, outputs, Frame, Next, goes_on, leaves, run}
-use Rattle.vb6_run.specs.Store.{Held, blank, single, Memory}
-use Rattle.vb6_run.specs.Run.{line_does, machine_of}
-use Rattle.net_run.specs.Store as net_store
-use Rattle.net_run.specs.Run as net_run
-use Rattle.net_rewrite.specs.Written.{net_type, written_local, written_line}
+use Rattle.scalar_vb6_run.specs.Program.{BoundLine, bound_lines, locals_of}
+use Rattle.scalar_vb6_run.specs.Running.{Output, Outcome, gives, raises, spent, outside, outputs, Frame, Next, goes_on, leaves, run}
+use Rattle.scalar_vb6_run.specs.Store.{Held, blank, single, Memory}
+use Rattle.scalar_vb6_run.specs.Run.{line_does, machine_of}
+use Rattle.scalar_net_run.specs.Store as net_store
+use Rattle.scalar_net_run.specs.Run as scalar_net_run
+use Rattle.scalar_rewrite.specs.Written.{net_type, written_local, written_line}
 
 -- where places and objects of the source stand in the written program
 pub record Map : Type 0 where
@@ -88,7 +88,7 @@ Agrees m R w _ _ = ⊥
 abbrev pub SameRun : Bound → net.Project → (p q : ℕ) → Type 0
 SameRun P N p q =
     (m : Map) (s : Memory) (t : net_store.Memory) (n : ℕ) → StoreMatch m s t
-    → Agrees m ResultMatch s (run (machine_of P) p n s) (run (net_run.machine_of N) q n t)
+    → Agrees m ResultMatch s (run (machine_of P) p n s) (run (scalar_net_run.machine_of N) q n t)
 
 -- The procedure q of the written project is what is written for the procedure p: it declares its locals, and it has one
 -- line for each code line, comments apart.
@@ -105,7 +105,7 @@ pub record IsWrittenAs (P : Bound) (N : net.Project) (p q : ℕ) : Type 0 where
 abbrev pub SameLine : List (ℕ × Variable) → BoundLine → net_flat.Flat → Type 0
 SameLine locals l w =
     (m : Map) (f : Frame ℕ) (g : Frame (List ℕ)) (s : Memory) (t : net_store.Memory) → FrameMatch m locals f g → MemoryMatch m s t
-    → Agrees m (NextMatch m locals) s (line_does f l s) (net_run.line_does g w t)
+    → Agrees m (NextMatch m locals) s (line_does f l s) (scalar_net_run.line_does g w t)
 
 -- Line by line, the procedure q of the written project does the same as the procedure p.
 pub record SameLines (P : Bound) (N : net.Project) (p q : ℕ) : Type 0 where

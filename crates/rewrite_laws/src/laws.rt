@@ -1,15 +1,15 @@
 //! That what is written does the same.
 ghost use Rattle.std.specs.Prelude.{◌≡◌, ℕ, true};
 ghost use Rattle.vb_tree.specs.BoundTree.{Bound};
-ghost use Rattle.vb6_run.specs.Depth.{is_shallow_bound};
+ghost use Rattle.scalar_vb6_run.specs.Depth.{is_shallow_bound};
 ghost use Rattle.std.specs.List.{list_all};
 ghost use Rattle.net_tree.specs.Text.{is_writable_module, IsWritable};
 ghost use Rattle.net_tree.specs.Tree.{Project};
-ghost use Rattle.net_rewrite.specs.Translated.{is_translated_procedure};
+ghost use Rattle.scalar_rewrite.specs.Translated.{is_translated_procedure};
 ghost use Rattle.rewrite_laws.specs.Match.{IsWrittenAs, SameLines, SameRun};
-ghost use Rattle.net_rewrite.specs.Modules.{AreWritten, IsKept, LocalsAreDeclared, written_modules};
-ghost use Rattle.net_rewrite.specs.Projects.{written_project, can_be_named};
-ghost use Rattle.net_rewrite.specs.Writable.{is_named};
+ghost use Rattle.scalar_rewrite.specs.Modules.{AreWritten, IsKept, LocalsAreDeclared, written_modules};
+ghost use Rattle.scalar_rewrite.specs.Projects.{written_project, can_be_named};
+ghost use Rattle.scalar_rewrite.specs.Writable.{is_named};
 
 /// A law: a procedure that is translated does the same as one that is written for it. From stores that match, within any
 /// number of steps, both put out the same, raise the same number or end or are stopped alike, and leave stores that match.

@@ -15,7 +15,7 @@ use Rattle.vb_tree.specs.declared.token.Suffix.TheVariants as suffix
 use Rattle.vb_tree.specs.Tree.{TypeName, named, fixed_string, Bounds, Declarator, Form, variables, sub_head, function_head, get_head, let_head, set_head, opaque, Line, Nodes, Module, Project}
 use Rattle.vb_tree.specs.BoundTree.{Ty, boolean, byte, integer, long, currency, str, variant, nothing, unknown, Variable, ProcedureDecl, Declarations}
 use Rattle.vb_tree.specs.FlatLines.{flat_lines}
-use Rattle.vb6_run.specs.Program.{Written, procedures_in, procedures_of}
+use Rattle.scalar_vb6_run.specs.Program.{Written, procedures_in, procedures_of}
 
 -- whether a name is a word, given in small letters
 abbrev pub is_word : List ℕ → List ℕ → Bool

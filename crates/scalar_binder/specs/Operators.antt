@@ -9,7 +9,7 @@ use Rattle.vb6_meaning.specs.declared.number.NumberKind.{NumberKind}
 use Rattle.vb6_meaning.specs.declared.number.NumberKind.TheVariants as kinds
 use Rattle.vb6_meaning.specs.Kinds.{wider, whole}
 use Rattle.vb6_meaning.specs.Values.{are_currencies}
-use Rattle.vb6_run.specs.Program.{type_of}
+use Rattle.scalar_vb6_run.specs.Program.{type_of}
 use Rattle.net_meaning.specs.WrittenRows.{kind_of, type_of_kind, is_boolean}
 use Rattle.scalar_binder.specs.Types.{is_str, converted}
 

@@ -9,7 +9,7 @@ use Rattle.vb_tree.specs.declared.value.Value6.TheVariants as v
 use Rattle.vb_tree.specs.Tree.{Exp, lit, word, bracketed, unary, binary, paren, Form, assign, debug_print, Line, Nodes, Project}
 use Rattle.vb_tree.specs.BoundTree.{Ty, currency, unknown, Variable, Expr, typed, constant, loose, Body, Bound}
 use Rattle.vb_tree.specs.FlatLines.{Flat, flat_body}
-use Rattle.vb6_run.specs.Program.{type_of}
+use Rattle.scalar_vb6_run.specs.Program.{type_of}
 use Rattle.scalar_binder.specs.Types.{scalar_type, is_same, converted_to}
 use Rattle.scalar_binder.specs.Names.{word_expr, named, literal_expr}
 use Rattle.scalar_binder.specs.Operators.{unary_expr, binary_expr}

@@ -2,7 +2,7 @@
 use Rattle.std.specs.Prelude.{Bool, true, false, cond, Option, Some, None}
 use Rattle.vb_tree.specs.BoundTree.{Ty, boolean, byte, integer, long, currency, str, variant, Expr, typed, convert}
 use Rattle.vb6_meaning.specs.declared.number.NumberKind.TheVariants as kinds
-use Rattle.vb6_run.specs.Program.{type_of}
+use Rattle.scalar_vb6_run.specs.Program.{type_of}
 use Rattle.net_meaning.specs.WrittenRows.{is_boolean, is_of_kind}
 use Rattle.scalar_binder.specs.declared.types.Scalar.{Scalar}
 use Rattle.scalar_binder.specs.declared.types.Scalar.TheVariants as scalar

@@ -4,7 +4,7 @@ ghost use Rattle.std.specs.List.{flat_map};
 ghost use Rattle.vb_tree.specs.Tree as tree;
 ghost use Rattle.vb_tree.specs.View.{line_of, nodes_of, member_of, module_of, project_of};
 ghost use Rattle.vb_tree.specs.BoundView.{expr_of, variable_of, body_of, bound_of};
-ghost use Rattle.vb6_run.specs.Program.{Written, procedures_in};
+ghost use Rattle.scalar_vb6_run.specs.Program.{Written, procedures_in};
 ghost use Rattle.scalar_binder.specs.Declarations.{variables_of, variables_from, bodies_of};
 ghost use Rattle.scalar_binder.specs.Scalars.{line_exprs, body_in, bodies_from, bound};
 

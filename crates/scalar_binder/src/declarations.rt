@@ -4,7 +4,7 @@ ghost use Rattle.std.specs.List.{flat_map};
 ghost use Rattle.vb_tree.specs.Tree as tree;
 ghost use Rattle.vb_tree.specs.View.{type_name_of, declarator_of, form_of, line_of, nodes_of, member_of, module_of};
 ghost use Rattle.vb_tree.specs.BoundView.{type_of, variable_of, procedure_decl_of};
-ghost use Rattle.vb6_run.specs.Program.{Written, procedures_in};
+ghost use Rattle.scalar_vb6_run.specs.Program.{Written, procedures_in};
 ghost use Rattle.scalar_binder.specs.Declarations.{named_type, written_type, suffixed_type, declared_type, owner_in, variable_in, declared_in, variables_of, head_name, head_kind, kept_kind, procedure_decl, module_procedures};
 
 use crate::names::is_word;

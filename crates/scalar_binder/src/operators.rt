@@ -4,7 +4,7 @@ ghost use Rattle.vb_tree.specs.BoundView.{type_of, expr_of};
 ghost use Rattle.vb6_meaning.specs.Kinds.{wider, whole};
 ghost use Rattle.vb6_meaning.specs.Values.{are_currencies};
 ghost use Rattle.net_meaning.specs.WrittenRows.{kind_of, type_of_kind};
-ghost use Rattle.vb6_run.specs.Program as program;
+ghost use Rattle.scalar_vb6_run.specs.Program as program;
 ghost use Rattle.scalar_binder.specs.Types.{ty_of, converted, converted_to};
 ghost use Rattle.scalar_binder.specs.Operators.{on_kinds, alike, sum, division, compared, factor, product, added, has_text, joined, comparison, logical, binary_row, binary_expr, by_row, unary_type, unary_expr, by_type, kind_type};
 ghost use Rattle.scalar_binder.specs.RowView.{row_of};

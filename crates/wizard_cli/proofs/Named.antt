@@ -20,9 +20,9 @@ use Rattle.project_loader.specs.Faults.{file_names}
 use Rattle.project_loader.specs.Held.{IsOfGrammar}
 use Rattle.scalar_binder.specs.Declarations.{declarations}
 use Rattle.scalar_binder.specs.Scalars.{bound}
-use Rattle.net_rewrite.specs.Marks.{Place6, marked_lines, behind, behind_all, first_place}
-use Rattle.net_rewrite.specs.Projects.{untranslated_in, untranslated_members, untranslated_modules, untranslated, written_project, has_file_name, can_be_named}
-use Rattle.net_rewrite.specs.Writable.{is_named_module, is_named_variable}
+use Rattle.scalar_rewrite.specs.Marks.{Place6, marked_lines, behind, behind_all, first_place}
+use Rattle.scalar_rewrite.specs.Projects.{untranslated_in, untranslated_members, untranslated_modules, untranslated, written_project, has_file_name, can_be_named}
+use Rattle.scalar_rewrite.specs.Writable.{is_named_module, is_named_variable}
 use Rattle.rewrite_laws.proofs.WritableProjects.{project_can}
 use Rattle.bound_locals.proofs.Depths.{bound_shallow}
 use Rattle.bound_locals.proofs.Names.{variables_named}

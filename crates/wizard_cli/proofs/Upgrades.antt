@@ -13,13 +13,13 @@ use Rattle.project_loader.specs.Faults.{file_names}
 use Rattle.project_loader.specs.Held.{HeldFile, HeldProject, IsOfGrammar}
 use Rattle.project_loader.specs.Loading.{ReadsAll}
 use Rattle.scalar_binder.specs.Scalars.{bound}
-use Rattle.net_rewrite.specs.Marks.{first_place, behind_all}
-use Rattle.net_rewrite.specs.Modules.{written_modules}
-use Rattle.net_rewrite.specs.Projects.{written_project}
+use Rattle.scalar_rewrite.specs.Marks.{first_place, behind_all}
+use Rattle.scalar_rewrite.specs.Modules.{written_modules}
+use Rattle.scalar_rewrite.specs.Projects.{written_project}
 use Rattle.rewrite_laws.proofs.Placing.{kept_same}
 use Rattle.line_order.proofs.Projects.{ordered_grammar}
-use Rattle.correspondence.specs.Corresponds.{FilesCorrespond}
-use Rattle.correspondence.proofs.Corresponding.{corresponds}
+use Rattle.scalar_correspondence.specs.Corresponds.{FilesCorrespond}
+use Rattle.scalar_correspondence.proofs.Corresponding.{corresponds}
 use Rattle.bound_locals.proofs.Locals.{locals_declared}
 use Rattle.wizard_cli.specs.declared.answer.Answer.{Answer}
 use Rattle.wizard_cli.specs.declared.answer.Answer.TheVariants.{Done, BadWords, Refused, ReadFault, WriteFault, OutOfMemory}

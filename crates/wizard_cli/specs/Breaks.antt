@@ -7,7 +7,7 @@ use Rattle.up_base.specs.declared.place.Place.{Place}
 use Rattle.vb_tree.specs.BoundTree.{Bound}
 use Rattle.vb_tree.specs.Tree.{Project}
 use Rattle.scalar_binder.specs.Scalars.{bound}
-use Rattle.net_rewrite.specs.Projects.{untranslated}
+use Rattle.scalar_rewrite.specs.Projects.{untranslated}
 
 -- a line of the project file that isn't carried over
 abbrev pub dropped_issue : (line : ℕ) → Issue

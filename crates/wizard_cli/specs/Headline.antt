@@ -6,7 +6,7 @@ use Rattle.up_base.specs.declared.issue.Issue.{Issue}
 use Rattle.vb_tree.specs.declared.form_parts.Compare.{Compare}
 use Rattle.vb_tree.specs.declared.form_parts.Compare.TheVariants as compare
 use Rattle.vb_tree.specs.Tree.{Form, option_compare, Member, alone, group, proc, Module, Project}
-use Rattle.vb6_run.specs.Program.{procedures_in}
+use Rattle.scalar_vb6_run.specs.Program.{procedures_in}
 use Rattle.net_tree.specs.Tree as net
 use Rattle.net_tree.specs.Text.{files_of, NetText}
 use Rattle.issue_report.specs.Reports.{report_text}
@@ -14,9 +14,9 @@ use Rattle.project_loader.specs.Held.{HeldProject}
 use Rattle.project_loader.specs.Faults.{file_names}
 use Rattle.scalar_binder.specs.Scalars.{bound}
 use Rattle.rewrite_laws.specs.Match.{IsWrittenAs, SameLines, SameRun}
-use Rattle.net_rewrite.specs.Modules.{IsKept}
-use Rattle.net_rewrite.specs.Projects.{written_project}
-use Rattle.correspondence.specs.Corresponds.{FilesCorrespond}
+use Rattle.scalar_rewrite.specs.Modules.{IsKept}
+use Rattle.scalar_rewrite.specs.Projects.{written_project}
+use Rattle.scalar_correspondence.specs.Corresponds.{FilesCorrespond}
 use Rattle.wizard_cli.specs.Breaks.{broken_rules, AreIssues}
 
 -- ---- clean procedures

@@ -7,7 +7,7 @@ use Rattle.net_tree.specs.View.{project_of}
 use Rattle.issue_report.specs.Reports.{report_text}
 use Rattle.project_loader.specs.Faults.{file_names}
 use Rattle.scalar_binder.specs.Scalars.{bound}
-use Rattle.net_rewrite.specs.Projects.{written_project}
+use Rattle.scalar_rewrite.specs.Projects.{written_project}
 use Rattle.wizard_cli.specs.declared.upgrading.WrittenFiles.{WrittenFiles}
 use Rattle.wizard_cli.specs.declared.upgrading.Translation.{Translation}
 use Rattle.wizard_cli.specs.Breaks.{broken_rules, AreIssues}

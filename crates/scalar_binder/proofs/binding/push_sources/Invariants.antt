@@ -1,7 +1,7 @@
 use Rattle.std.proofs.Common.{◌≡◌, ◌++◌, map, take}
 use Rattle.std.specs.List.{flat_map}
 use Rattle.vb_tree.specs.View.{nodes_of, member_of}
-use Rattle.vb6_run.specs.Program.{Written, procedures_in}
+use Rattle.scalar_vb6_run.specs.Program.{Written, procedures_in}
 use Rattle.scalar_binder.proofs.binding.push_sources.Given as goal
 
 abbrev pub invariant-loop-member : goal.invariant-loop-member

@@ -2,7 +2,7 @@ use Rattle.std.proofs.Common.{◌≡◌, map, take}
 use Rattle.std.specs.List.{flat_map}
 use Rattle.vb_tree.specs.Tree.{Module}
 use Rattle.vb_tree.specs.View.{nodes_of, module_of}
-use Rattle.vb6_run.specs.Program.{Written, procedures_in}
+use Rattle.scalar_vb6_run.specs.Program.{Written, procedures_in}
 use Rattle.scalar_binder.proofs.binding.sources.Given as goal
 
 abbrev pub invariant-loop-source : goal.invariant-loop-source

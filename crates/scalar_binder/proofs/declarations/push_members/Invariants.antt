@@ -2,7 +2,7 @@ use Rattle.std.proofs.Common.{◌≡◌, ◌++◌, map, take}
 use Rattle.std.specs.List.{flat_map}
 use Rattle.vb_tree.specs.BoundView.{procedure_decl_of}
 use Rattle.vb_tree.specs.View.{member_of}
-use Rattle.vb6_run.specs.Program.{procedures_in}
+use Rattle.scalar_vb6_run.specs.Program.{procedures_in}
 use Rattle.scalar_binder.specs.Declarations.{procedure_decl}
 use Rattle.scalar_binder.proofs.declarations.push_members.Given as goal
 

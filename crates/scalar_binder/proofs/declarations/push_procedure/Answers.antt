@@ -2,7 +2,7 @@ use Rattle.std.proofs.Common.{◌++◌, [], ◌∷◌, map, ap, sym, ◌∙◌}
 use Rattle.std.proofs.lemmas.List.{map-append}
 use Rattle.vb_tree.specs.BoundView.{procedure_decl_of}
 use Rattle.vb_tree.specs.View.{nodes_of, member_of}
-use Rattle.vb6_run.specs.Program.{procedures_in}
+use Rattle.scalar_vb6_run.specs.Program.{procedures_in}
 use Rattle.scalar_binder.specs.Declarations.{procedure_decl}
 use Rattle.scalar_binder.proofs.declarations.push_procedure.Goals as goal
 

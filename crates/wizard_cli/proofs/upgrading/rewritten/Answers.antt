@@ -1,5 +1,5 @@
 use Rattle.std.proofs.Common.{◌++◌, map, ap, subst, ◌∙◌}
-use Rattle.net_rewrite.specs.Projects.{written_project}
+use Rattle.scalar_rewrite.specs.Projects.{written_project}
 use Rattle.wizard_cli.specs.Breaks.{AreIssues, dropped_issue, untranslated_issue, rules_broken_in}
 use Rattle.wizard_cli.proofs.upgrading.rewritten.Goals as goal
 
