@@ -1,5 +1,5 @@
 -- How declarations, procedures and members are written, and which can be.
-use Rattle.std.specs.Prelude.{ℕ, suc, Bool, true, false, not, ◌&&◌, ◌||◌, ◌++◌, List, map, codes, Option, Some, None, is_some, []}
+use Rattle.std.specs.Prelude.{ℕ, suc, Bool, true, false, not, ◌&&◌, ◌||◌, ◌++◌, List, ◌∷◌, map, codes, Option, Some, None, is_some, []}
 use Rattle.std.specs.List.{flat_map, list_all}
 use Rattle.net_tree.specs.declared.declaration.NetClose.{NetClose}
 use Rattle.net_tree.specs.declared.declaration.NetClose.TheVariants as close
@@ -72,10 +72,14 @@ procedure_text depth p =
     at_depth depth (head_text p.head) ++ flat_map (λ d. at_depth (suc depth) (dim_text d)) p.prologue ++ lines_text (suc depth) p.lines
     ++ at_depth depth (close_text p.close)
 
--- a part of a property, where it has it
-abbrev pub part_text : Option Procedure → List ℕ
-part_text None = []
-part_text (Some p) = procedure_text 2 p
+-- comments at a nesting depth, each a line
+abbrev pub comments_text : ℕ → List (List ℕ) → List ℕ
+comments_text depth comments = flat_map (λ units. at_depth depth (comment_text units)) comments
+
+-- a part of a property, where it has it, with the comments right before it
+abbrev pub part_text : List (List ℕ) → Option Procedure → List ℕ
+part_text comments None = []
+part_text comments (Some p) = comments_text 2 comments ++ procedure_text 2 p
 
 -- the word of a property that lacks a part: the one that sets, or the one that gets
 abbrev pub access_text : (get set : Bool) → List ℕ
@@ -89,7 +93,8 @@ property_head_text p =
     ++ codes " As " ++ type_text p.ty
 
 abbrev pub property_text : Property → List ℕ
-property_text p = at_depth 1 (property_head_text p) ++ part_text p.get ++ part_text p.set ++ at_depth 1 (codes "End Property")
+property_text p =
+    at_depth 1 (property_head_text p) ++ part_text p.get_comments p.get ++ part_text p.set_comments p.set ++ at_depth 1 (codes "End Property")
 
 abbrev pub field_text : Field → List ℕ
 field_text (field_comment units) = comment_text units
@@ -151,16 +156,21 @@ abbrev pub is_set : Head → Bool
 is_set (set_part name t) = true
 is_set _ = false
 
--- whether a part of a property, where it has it, can be written and is of its kind
-abbrev pub is_writable_part : (Head → Bool) → Option Procedure → Bool
-is_writable_part is_kind None = true
-is_writable_part is_kind (Some p) = is_kind p.head && is_writable_procedure p
+abbrev pub has_no_comment : List (List ℕ) → Bool
+has_no_comment [] = true
+has_no_comment (units ∷ comments) = false
+
+-- whether a part of a property, where it has it, can be written with the comments right before it, and is of its kind; comments
+-- stand before no part that it lacks
+abbrev pub is_writable_part : (Head → Bool) → List (List ℕ) → Option Procedure → Bool
+is_writable_part is_kind comments None = has_no_comment comments
+is_writable_part is_kind comments (Some p) = list_all is_comment comments && is_kind p.head && is_writable_procedure p
 
 -- it has a part
 abbrev pub is_writable_property : Property → Bool
 is_writable_property p =
     is_identifier p.name && list_all is_writable_param p.params && is_writable_type p.ty && (is_some p.get || is_some p.set)
-    && is_writable_part is_get p.get && is_writable_part is_set p.set
+    && is_writable_part is_get p.get_comments p.get && is_writable_part is_set p.set_comments p.set
 
 abbrev pub is_writable_field : Field → Bool
 is_writable_field (field_comment units) = is_comment units

@@ -129,7 +129,9 @@ pub record Property : Type 0 where
   pub name : List ℕ
   pub params : List Param
   pub ty : TypeName
+  pub get_comments : List (List ℕ)
   pub get : Option Procedure
+  pub set_comments : List (List ℕ)
   pub set : Option Procedure
 
 -- what stands in a structure

@@ -151,7 +151,9 @@ property_of p = record {
   name = p.name;
   params = map param_of p.params.items;
   ty = type_name_of p.ty;
+  get_comments = p.get_comments.items;
   get = option_map (λ g. procedure_of g.value) p.get;
+  set_comments = p.set_comments.items;
   set = option_map (λ g. procedure_of g.value) p.set;
 }
 

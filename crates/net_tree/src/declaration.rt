@@ -94,14 +94,18 @@ pub struct NetProc {
 }
 
 /// A property: `Public Property n(params) As t`, with `ReadOnly` where it has no part that sets, and `WriteOnly` where it
-/// has none that gets.
+/// has none that gets. Comments stand before a part alone that it has.
 #[derive(Drop)]
 pub struct NetProperty {
     pub visibility: NetVisibility,
     pub name: Name,
     pub params: Vec<NetParam>,
     pub ty: NetType,
+    /// The comments right before `Get`, as UTF-16 units.
+    pub get_comments: Vec<Wide>,
     pub get: Option<Box<NetProc>>,
+    /// The comments right before `Set`, as UTF-16 units.
+    pub set_comments: Vec<Wide>,
     pub set: Option<Box<NetProc>>,
 }
 

@@ -1,12 +1,12 @@
 -- Which lines open, part and close blocks, and which are code lines.
-use Rattle.std.specs.Prelude.{Bool, true, false, Option, Some, None}
+use Rattle.std.specs.Prelude.{Bool, true, false}
 use Rattle.vb_tree.specs.declared.block.BlockKind.{BlockKind}
 use Rattle.vb_tree.specs.declared.block.BlockKind.TheVariants as kind
 use Rattle.vb_tree.specs.declared.block.Role.{Role}
 use Rattle.vb_tree.specs.declared.block.Role.TheVariants.{Plain, Opens, Parts, Closes}
 use Rattle.vb_tree.specs.declared.declared.ProcKind.{ProcKind}
 use Rattle.vb_tree.specs.declared.declared.ProcKind.TheVariants as proc
-use Rattle.vb_tree.specs.Tree.{Form, attribute, variables, constants, type_head, end_type, enum_head, end_enum, sub_head, function_head, get_head, let_head, set_head, end_sub, end_function, end_property, if_head, else_if, else_line, end_if, line_if, select, case_line, case_else, end_select, for_head, for_each, next, do_head, do_while, do_until, loop, loop_while, loop_until, while_head, wend, with_head, end_with, opaque}
+use Rattle.vb_tree.specs.Tree.{Form, attribute, variables, constants, type_head, end_type, enum_head, end_enum, sub_head, function_head, get_head, let_head, set_head, end_sub, end_function, end_property, if_head, else_if, else_line, end_if, line_if, select, case_line, case_else, end_select, for_head, for_each, next, do_head, do_while, do_until, loop, loop_while, loop_until, while_head, wend, with_head, end_with, static_head}
 
 -- what the head of a procedure opens; all three parts of a property are closed by the same line
 abbrev pub procedure_block : ProcKind → BlockKind
@@ -15,11 +15,6 @@ procedure_block proc.Function = kind.Function
 procedure_block proc.Get = kind.Property
 procedure_block proc.Let = kind.Property
 procedure_block proc.Set = kind.Property
-
--- a line that is kept as its tokens opens a procedure or nothing
-abbrev pub opaque_role : Option ProcKind → Role
-opaque_role None = Plain
-opaque_role (Some kind) = Opens (procedure_block kind)
 
 -- what the head or the closing line of a procedure or of a group is to it
 abbrev pub declaration_role : Form → Role
@@ -35,7 +30,7 @@ declaration_role (set_head s) = Opens kind.Property
 declaration_role end_sub = Closes kind.Sub
 declaration_role end_function = Closes kind.Function
 declaration_role end_property = Closes kind.Property
-declaration_role (opaque opens tokens) = opaque_role opens
+declaration_role (static_head kind s result) = Opens (procedure_block kind)
 declaration_role _ = Plain
 
 -- what a statement is to the blocks round it

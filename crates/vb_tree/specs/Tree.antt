@@ -160,7 +160,9 @@ pub data Form : Type 0 where
   exit : ExitKind → Form
   redim : (preserve : Bool) → List ReDimItem → Form
   erase : Exp → Form
-  opaque : (opens : Option ProcKind) → List Token → Form
+  static_head : ProcKind → Signature → Option ResultType → Form
+  event_variables : VarWord → List Declarator → Form
+  opaque : List Token → Form
 
 -- a line at its place, with its own text in UTF-16 units
 pub record Line : Type 0 where

@@ -25,7 +25,7 @@ use Rattle.vb_tree.specs.declared.module.Member6.{Member6}
 use Rattle.vb_tree.specs.declared.module.Member6.TheVariants as m
 use Rattle.vb_tree.specs.declared.module.Module6.{Module6}
 use Rattle.vb_tree.specs.declared.project.Project6.{Project6}
-use Rattle.vb_tree.specs.Tree.{Args, Bounds, CaseItem, Constant, Declarator, Exp, Form, Given, Line, Member, Middles, Module, Node, Nodes, Param, Project, ReDimItem, ResultType, Signature, TypeName, address_of, alone, assign, attribute, bang, binary, block, bracketed, call, case_else, case_is, case_line, case_range, case_value, constants, debug_print, def_type, do_head, do_until, do_while, else_if, else_line, end_enum, end_function, end_if, end_property, end_select, end_sub, end_type, end_with, enum_head, enum_member, erase, exit, field, fixed_string, for_each, for_head, function_head, get_head, given, goto, group, if_head, index, invoke, label, let_head, line, line_if, lit, loop, loop_until, loop_while, me, member, named, new_object, next, next_arg, next_middle, next_node, no_args, no_middles, no_nodes, omitted, on_error_goto, on_error_goto_zero, on_error_resume_next, opaque, option_base, option_compare, option_explicit, option_private_module, paren, proc, redim, resume, resume_at, resume_next, select, set, set_head, sub_head, type_head, type_of, unary, variables, wend, while_head, with_bang, with_head, with_member, word}
+use Rattle.vb_tree.specs.Tree.{Args, Bounds, CaseItem, Constant, Declarator, Exp, Form, Given, Line, Member, Middles, Module, Node, Nodes, Param, Project, ReDimItem, ResultType, Signature, TypeName, address_of, alone, assign, attribute, bang, binary, block, bracketed, call, case_else, case_is, case_line, case_range, case_value, constants, debug_print, def_type, do_head, do_until, do_while, else_if, else_line, end_enum, end_function, end_if, end_property, end_select, end_sub, end_type, end_with, enum_head, enum_member, erase, event_variables, exit, field, fixed_string, for_each, for_head, function_head, get_head, given, goto, group, if_head, index, invoke, label, let_head, line, line_if, lit, loop, loop_until, loop_while, me, member, named, new_object, next, next_arg, next_middle, next_node, no_args, no_middles, no_nodes, omitted, on_error_goto, on_error_goto_zero, on_error_resume_next, opaque, option_base, option_compare, option_explicit, option_private_module, paren, proc, redim, resume, resume_at, resume_next, select, set, set_head, static_head, sub_head, type_head, type_of, unary, variables, wend, while_head, with_bang, with_head, with_member, word}
 
 abbrev mutual
   pub exp_of : Expr6 → Exp
@@ -167,7 +167,9 @@ form_of (f.ResumeAt l) = resume_at l
 form_of (f.Exit kind) = exit kind
 form_of (f.ReDim preserve items) = redim preserve (map redim_item_of items)
 form_of (f.Erase array) = erase (exp_of array)
-form_of (f.Opaque opens tokens) = opaque opens tokens
+form_of (f.StaticHead kind s result) = static_head kind (signature_of s) (option_map (λ r. result_of r.value) result)
+form_of (f.EventVariables w declarators) = event_variables w (map declarator_of declarators)
+form_of (f.Opaque tokens) = opaque tokens
 
 abbrev pub line_of : CodeLine → Line
 line_of l = record { place = l.place; text = l.text; form = form_of l.form.value }

@@ -1,6 +1,6 @@
 //! Code lines.
 ghost use Rattle.std.specs.Prelude.{◌≡◌};
-ghost use Rattle.vb_tree.specs.Blocks.{is_code, role_of, declaration_role, statement_role, opaque_role};
+ghost use Rattle.vb_tree.specs.Blocks.{is_code, role_of, declaration_role, statement_role};
 ghost use Rattle.vb_tree.specs.View.{form_of};
 
 use crate::{
@@ -134,8 +134,12 @@ pub enum Form6 {
     ReDim(bool, Sequence<ReDimItem6>),
     /// `Erase` of one array.
     Erase(Expr6),
-    /// A line that is kept as its tokens alone, and the kind of the procedure that it opens where it is a head with Static.
-    Opaque(Option<ProcKind>, Tokens),
+    /// The head of a procedure with the word Static, which has a result where its kind has one.
+    StaticHead(ProcKind, Signature6, Option<Box<Result6>>),
+    /// `Dim`, `Public`, `Private` or `Global`, and declarations of variables, WithEvents before one of them at least.
+    EventVariables(VarWord, Sequence<Declarator6>),
+    /// A line that is kept as its tokens alone.
+    Opaque(Tokens),
 }
 
 impl Form6 {
@@ -168,7 +172,7 @@ impl Form6 {
             Form6::EndSub => Role::Closes(BlockKind::Sub),
             Form6::EndFunction => Role::Closes(BlockKind::Function),
             Form6::EndProperty => Role::Closes(BlockKind::Property),
-            Form6::Opaque(opens, _) => opaque_role(*opens),
+            Form6::StaticHead(kind, _, _) => Role::Opens(kind.block()),
             _ => Role::Plain,
         }
     }
@@ -212,16 +216,6 @@ impl Form6 {
             self,
             Form6::Attribute(_) | Form6::Variables(_, _) | Form6::Constants(_, _)
         )
-    }
-}
-
-// What a line that is kept as its tokens is to the blocks round it.
-fn opaque_role(opens: Option<ProcKind>) -> Role
-    ensures { result ≡ opaque_role opens }
-{
-    match opens {
-        None => Role::Plain,
-        Some(kind) => Role::Opens(kind.block()),
     }
 }
 
