@@ -9,7 +9,7 @@ use Rattle.net_tree.specs.declared.expression.NetBin.TheVariants as op
 use Rattle.net_tree.specs.declared.line.NetExit.TheVariants as leaving
 use Rattle.net_tree.specs.declared.line.NetLabel.TheVariants.{Word, Number}
 use Rattle.net_tree.specs.Types as ty
-use Rattle.net_tree.specs.Tree.{Exp, Procedure, assign, case_else, case_is, case_line, case_range, case_value, comment, do_head, do_until, do_while, else_if, else_line, end_if, end_select, end_while, end_with, exit, field, field_comment, for_head, get_part, goto, if_head, integer, label, lit, loop, loop_until, loop_while, new_array, next, next_exp, no_exps, on_error_goto, on_error_goto_zero, on_error_resume_next, path, property, redim, resume, resume_at, resume_next, select, structure, while_head, with_head}
+use Rattle.net_tree.specs.Tree.{Exp, Procedure, assign, case_else, case_is, case_line, case_range, case_value, comment, do_head, do_until, do_while, else_if, else_line, end_if, end_select, end_while, end_with, exit, field, field_comment, for_head, get_part, set_part, goto, if_head, integer, label, lit, loop, loop_until, loop_while, new_array, next, next_exp, no_exps, on_error_goto, on_error_goto_zero, on_error_resume_next, path, property, redim, resume, resume_at, resume_next, select, structure, while_head, with_head}
 use Rattle.net_tree.specs.Spelling.{is_bracketed}
 use Rattle.net_tree.specs.Lines.{lines_text}
 use Rattle.net_tree.specs.Declarations.{member_text}
@@ -54,11 +54,20 @@ resized = refl
 abbrev empty_get : Procedure
 empty_get = record { head = get_part; prologue = []; lines = []; close = close.EndGet }
 
+abbrev empty_set : Procedure
+empty_set = record { head = set_part (codes "x") ty.integer; prologue = []; lines = []; close = close.EndSet }
+
 -- a property without a part that sets
-read_only : member_text (property (record { visibility = Public; name = codes "Value"; params = []; ty = ty.integer; get = Some empty_get; set = None }))
+read_only : member_text (property (record { visibility = Public; name = codes "Value"; params = []; ty = ty.integer; get_comments = []; get = Some empty_get; set_comments = []; set = None }))
     ≡ text_of (codes "    Public ReadOnly Property Value() As Integer" ∷ codes "        Get" ∷ codes "        End Get" ∷ codes "    End Property" ∷ [])
 unfolding is_bracketed
 read_only = refl
+
+-- a property with a comment before its second part
+with_comment : member_text (property (record { visibility = Public; name = codes "Value"; params = []; ty = ty.integer; get_comments = []; get = Some empty_get; set_comments = codes "a" ∷ []; set = Some empty_set }))
+    ≡ text_of (codes "    Public Property Value() As Integer" ∷ codes "        Get" ∷ codes "        End Get" ∷ codes "        'a" ∷ codes "        Set(ByVal x As Integer)" ∷ codes "        End Set" ∷ codes "    End Property" ∷ [])
+unfolding is_bracketed encode_utf8
+with_comment = refl
 
 -- a structure with an array of two dimensions
 structured : member_text (structure (record { name = codes "Line"; fields = field_comment (codes "a") ∷ field (codes "Items") (ty.array_of ty.str 2) ∷ [] }))
