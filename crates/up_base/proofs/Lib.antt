@@ -4,3 +4,6 @@ pub mod Decoding
 pub mod Files
 pub mod PathText
 pub mod Halves
+pub mod Tests
+pub mod Lists
+pub mod Units

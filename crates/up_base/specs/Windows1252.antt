@@ -1,5 +1,5 @@
 -- Windows-1252: the UTF-16 unit that each byte stands for.
-use Rattle.std.specs.Prelude.{◌≡◌, ℕ, Bool, cond, ◌&&◌, nat_le, nat_eq, List, [], ◌∷◌, map, position, Option, Some, is_none}
+use Rattle.std.specs.Prelude.{◌≡◌, ℕ, Bool, false, cond, ◌&&◌, ◌||◌, nat_le, nat_lt, nat_eq, List, [], ◌∷◌, map, position, Option, Some, None, is_none}
 use Rattle.std.specs.Map.{lookup}
 use Rattle.up_base.specs.declared.windows_1252.DecodeFail.{DecodeFail}
 use Rattle.up_base.specs.declared.windows_1252.DecodeFail.TheVariants.{Undefined, Mem}
@@ -15,6 +15,15 @@ assigned =
 -- the unit of a byte: below 80 and above 9F hex the byte's own number
 abbrev pub unit_of : ℕ → Option ℕ
 unit_of byte = cond (nat_le 0x80 byte && nat_le byte 0x9F) (lookup (nat_eq byte) assigned) (Some byte)
+
+-- whether a unit is one of those whose byte has its own number
+abbrev pub is_own_number : ℕ → Bool
+is_own_number unit = nat_lt unit 0x80 || (nat_le 0xA0 unit && nat_le unit 0xFF)
+
+-- whether what is found is a unit, and this one
+abbrev pub is_unit : ℕ → Option ℕ → Bool
+is_unit unit None = false
+is_unit unit (Some found) = nat_eq found unit
 
 -- whether a byte has no character
 abbrev pub is_undefined : ℕ → Bool

@@ -5,8 +5,10 @@
 mod allocation;
 mod call_counts;
 mod console;
+mod decimal;
 mod dir_folder;
 mod dir_outlet;
+pub mod faults;
 mod file_path;
 mod file_store;
 mod folder;
@@ -23,10 +25,12 @@ mod speech_buffer;
 mod sure_console;
 mod sure_folder;
 mod sure_outlet;
+mod trace;
 mod windows_1252;
 
 pub use allocation::Mem;
 pub use console::Console;
+pub use decimal::write_decimal;
 pub use dir_folder::DirFolder;
 pub use dir_outlet::DirOutlet;
 pub use folder::{Folder, FolderFail, Found};
@@ -42,7 +46,8 @@ pub use sequence::Sequence;
 pub use sure_console::SureConsole;
 pub use sure_folder::SureFolder;
 pub use sure_outlet::SureOutlet;
-pub use windows_1252::{DecodeFail, decode_1252};
+pub use trace::{Outcome, Output, Trace};
+pub use windows_1252::{DecodeFail, decode_1252, encode_1252};
 
 /// A list of bytes.
 pub type Bytes = Sequence<u8>;

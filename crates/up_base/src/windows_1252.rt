@@ -1,6 +1,6 @@
 //! Windows-1252, the character set of a source.
-ghost use Rattle.std.specs.Prelude.{◌≡◌, ◌<◌, ◌^◌, length, IfOk, IfErr};
-ghost use Rattle.up_base.specs.Windows1252.{AreUnits, IsUndecoded, unit_of};
+ghost use Rattle.std.specs.Prelude.{◌≡◌, ◌<◌, ◌^◌, ℕ, Some, length, position, IfOk, IfErr, IfSome};
+ghost use Rattle.up_base.specs.Windows1252.{AreUnits, IsUndecoded, is_own_number, is_unit, unit_of};
 
 use crate::Wide;
 use std::alloc::Global;
@@ -36,6 +36,39 @@ pub fn decode_1252(alloc: Global, bytes: &[u8]) -> Result<Wide, DecodeFail>
         };
     }
     Ok(Wide::from_vec(units))
+}
+
+/// The byte that stands for a UTF-16 unit in Windows-1252, and none where no byte does.
+pub fn encode_1252(unit: u16) -> Option<u8>
+    ensures stands { IfSome result (λ byte. unit_of byte ≡ Some unit) }
+    ensures alone { (byte : ℕ) → byte < 2 ^ 8 → unit_of byte ≡ Some unit → result ≡ Some byte }
+{
+    if is_own_number(unit) {
+        return Some(unit as u8);
+    }
+    let place = place_of(unit, &UNITS)?;
+    Some(0x80 + place as u8)
+}
+
+// Whether a byte of the same number stands for the unit.
+fn is_own_number(unit: u16) -> bool
+    ensures { result ≡ is_own_number unit }
+{
+    matches!(unit, 0..=0x7F | 0xA0..=0xFF)
+}
+
+// The first place of a unit in a table.
+fn place_of(unit: u16, units: &[Option<u16>]) -> Option<usize>
+    ensures { result ≡ position (λ u. is_unit unit u) units.now }
+{
+    units.iter().position(|u| is_unit(unit, *u))
+}
+
+// Whether this is the unit.
+fn is_unit(unit: u16, found: Option<u16>) -> bool
+    ensures { result ≡ is_unit unit found }
+{
+    found == Some(unit)
 }
 
 // The unit of a byte, and none where it has no character.
