@@ -1,0 +1,4 @@
+Rem note
+Sub Main()
+Rem in
+End Sub

@@ -1,0 +1,3 @@
+Sub Main()
+Debug.Print "LF, then CR"End Sub
+

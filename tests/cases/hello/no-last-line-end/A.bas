@@ -1,0 +1,3 @@
+Sub Show()
+Debug.Print "no line end"
+End Sub

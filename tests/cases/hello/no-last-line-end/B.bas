@@ -1,0 +1,3 @@
+Sub Show()
+Debug.Print "half a line end"
+End Sub

@@ -1,0 +1,3 @@
+Sub Main()
+Dim b As Long
+End Sub

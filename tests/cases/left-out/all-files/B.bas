@@ -1,0 +1,7 @@
+Sub Go()
+Debug.Print "go"
+End Sub
+
+Sub Ring()
+Beep
+End Sub

@@ -1,0 +1,7 @@
+Sub Main()
+    Other
+    Call Other
+End Sub
+
+Sub Other()
+End Sub

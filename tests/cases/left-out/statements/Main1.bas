@@ -1,0 +1,4 @@
+Sub Main()
+    Beep
+    Exit Sub
+End Sub

@@ -1,0 +1,4 @@
+Sub Main()
+    x = 1
+    Debug.Print x
+End Sub

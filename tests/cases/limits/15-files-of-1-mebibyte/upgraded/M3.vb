@@ -1,0 +1,5 @@
+﻿Option Explicit On
+Option Strict Off
+Option Compare Binary
+Public Module M3
+End Module

@@ -1,0 +1,11 @@
+Sub ToString()
+End Sub
+
+Sub [New]()
+End Sub
+
+Sub Main1()
+End Sub
+
+Sub System()
+End Sub

@@ -1,0 +1,1 @@
+#If Win32 Then

@@ -1,0 +1,3 @@
+Sub Go()
+End Sub
+End Sub

@@ -1,0 +1,2 @@
+Sub Main()
+If a Then

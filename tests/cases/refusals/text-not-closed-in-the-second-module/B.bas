@@ -1,0 +1,8 @@
+Sub Go()
+Dim s As String
+
+' text
+
+
+s = "abc
+End Sub

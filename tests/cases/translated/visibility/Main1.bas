@@ -1,0 +1,11 @@
+Sub Main()
+End Sub
+
+Public Sub Shown()
+End Sub
+
+Private Sub Hidden()
+End Sub
+
+Friend Sub Near()
+End Sub
