@@ -5,8 +5,8 @@ use std::process::Abort;
 use std::test::Fail;
 use wizard_cli::Status;
 
-/// The files of the project.
-pub(crate) const HELLO: [(&str, &str); 2] = [
+// The files of the project.
+const HELLO: [(&str, &str); 2] = [
     (
         "Hello.vbp",
         "Type=Exe\r\nModule=Main1; Main1.bas\r\nStartup=\"Sub Main\"\r\nName=\"Hello\"\r\n",
@@ -17,8 +17,8 @@ pub(crate) const HELLO: [(&str, &str); 2] = [
     ),
 ];
 
-/// The files that are written for it, in order.
-pub(crate) const WRITTEN: [(&str, &str); 4] = [
+// The files that are written for it, in order.
+const WRITTEN: [(&str, &str); 4] = [
     (
         "upgraded/Main1.vb",
         "\u{feff}Option Explicit On\r\nOption Strict Off\r\nOption Compare Binary\r\nPublic Module Main1\r\n    Public Sub Main()\r\n        UpgradeSupport.PrintLine(\"hi\")\r\n    End Sub\r\nEnd Module\r\n",
@@ -76,13 +76,8 @@ const RUNS: [(Failing, Status, &str, usize); 8] = [
     (Failing::Say(1), Status::ConsoleFault, "", 4),
 ];
 
-/// Asserts that the first so many of the written files are held whole, and the others not at all.
-pub(crate) fn assert_written(
-    rt: &impl Abort,
-    alloc: Global,
-    left: &Left,
-    count: usize,
-) -> Result<(), Fail> {
+// Asserts that the first so many of the written files are held whole, and the others not at all.
+fn assert_written(rt: &impl Abort, alloc: Global, left: &Left, count: usize) -> Result<(), Fail> {
     for (i, (name, text)) in WRITTEN.iter().enumerate() {
         let whole = (i < count).then_some(text.as_bytes());
         assert_eq!(rt; left.held(alloc, name)?, whole, "{name}, of {count}");

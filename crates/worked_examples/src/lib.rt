@@ -1,27 +1,14 @@
-//! Worked examples: whole runs over a folder, an outlet and a console in memory.
+//! Whole runs over a folder, an outlet and a console in memory: those that files can't show, since a call or an allocation
+//! fails, or since no file system holds such files. The other whole runs are the cases in `tests/cases`.
 #![tactic(auto)]
 
 #[cfg(test)]
 mod assertions;
 #[cfg(test)]
-mod hello;
+mod failing_reads;
 #[cfg(test)]
-mod left_out;
+mod hello;
 #[cfg(test)]
 mod limits;
 #[cfg(test)]
 mod memory_run;
-#[cfg(test)]
-mod one_module;
-#[cfg(test)]
-mod refusals;
-#[cfg(test)]
-mod sum_overflow;
-#[cfg(test)]
-mod tables;
-#[cfg(test)]
-mod truncated;
-#[cfg(test)]
-mod upgrades;
-#[cfg(test)]
-mod values;

@@ -13,11 +13,11 @@ pub(crate) enum Failing {
     Say(u32),
 }
 
-// The names under which a run of a small project puts its files.
+// The names under which a run of a project of three modules puts its files.
 const PUT: [&str; 6] = [
-    "upgraded/Main1.vb",
     "upgraded/A.vb",
     "upgraded/B.vb",
+    "upgraded/C.vb",
     "upgraded/UpgradeSupport.vb",
     "upgraded/Upgrade.txt",
     "upgraded/upgrade.rsp",
@@ -37,7 +37,7 @@ impl Left {
         Ok(self.outlet.held(&Name::make(alloc, name.as_bytes())?))
     }
 
-    /// Whether none of the files of a project of modules `Main1`, or `A` and `B`, is held.
+    /// Whether none of the files of a project of the modules `A`, `B` and `C` is held.
     pub(crate) fn holds_nothing(&self, alloc: Global) -> Result<bool, Fail> {
         for name in PUT {
             if self.held(alloc, name)?.is_some() {
