@@ -1,0 +1,3 @@
+Sub Main()
+    Dim a(1 To)
+End Sub

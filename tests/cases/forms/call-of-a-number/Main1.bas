@@ -1,0 +1,3 @@
+Sub Main()
+    Call 1
+End Sub

@@ -1,0 +1,3 @@
+Sub Main()
+    Case 1 To
+End Sub

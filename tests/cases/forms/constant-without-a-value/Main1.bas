@@ -1,0 +1,3 @@
+Sub Main()
+    Const a
+End Sub

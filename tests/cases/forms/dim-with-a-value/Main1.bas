@@ -1,0 +1,3 @@
+Sub Main()
+    Dim a = 1
+End Sub

@@ -1,0 +1,3 @@
+Sub Main()
+    If a Then b Else c Else d
+End Sub

@@ -1,0 +1,3 @@
+Sub Main()
+    b Else c
+End Sub

@@ -1,0 +1,1 @@
+Enum e As Long

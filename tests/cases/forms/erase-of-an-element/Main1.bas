@@ -1,0 +1,3 @@
+Sub Main()
+    Erase a(1)
+End Sub

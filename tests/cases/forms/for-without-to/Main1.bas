@@ -1,0 +1,3 @@
+Sub Main()
+    For i = 1
+End Sub

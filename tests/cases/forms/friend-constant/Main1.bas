@@ -1,0 +1,1 @@
+Friend Const a = 1

@@ -1,0 +1,1 @@
+Global Sub a()

@@ -1,0 +1,3 @@
+Sub Main()
+    GoTo &H10
+End Sub

@@ -1,0 +1,3 @@
+Sub Main()
+    If a b Then c
+End Sub

@@ -1,0 +1,3 @@
+Sub Main()
+    If Then b
+End Sub

@@ -1,0 +1,3 @@
+Sub Main()
+    GoTo x$
+End Sub

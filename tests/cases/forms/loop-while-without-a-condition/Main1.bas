@@ -1,0 +1,3 @@
+Sub Main()
+    Loop While
+End Sub

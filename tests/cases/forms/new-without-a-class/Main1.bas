@@ -1,0 +1,3 @@
+Sub Main()
+    Dim a As New
+End Sub

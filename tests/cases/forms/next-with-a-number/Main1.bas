@@ -1,0 +1,3 @@
+Sub Main()
+    Next i, 5
+End Sub

@@ -1,0 +1,3 @@
+Sub Main()
+    If a Then 10: b
+End Sub

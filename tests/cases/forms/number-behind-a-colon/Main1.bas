@@ -1,0 +1,3 @@
+Sub Main()
+    a: 10
+End Sub

@@ -1,0 +1,3 @@
+Sub Main()
+    On Error Resume
+End Sub

@@ -1,0 +1,1 @@
+Option Base 2

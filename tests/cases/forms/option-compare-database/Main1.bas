@@ -1,0 +1,1 @@
+Option Compare Database

@@ -1,0 +1,1 @@
+Sub a(ByVal Optional b)

@@ -1,0 +1,1 @@
+Property Let n(v) As Long

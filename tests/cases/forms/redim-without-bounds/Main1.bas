@@ -1,0 +1,3 @@
+Sub Main()
+    ReDim a
+End Sub

@@ -1,0 +1,3 @@
+Sub Main()
+    Select Case
+End Sub

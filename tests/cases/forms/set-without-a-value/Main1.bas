@@ -1,0 +1,3 @@
+Sub Main()
+    Set a
+End Sub

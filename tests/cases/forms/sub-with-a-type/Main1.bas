@@ -1,0 +1,1 @@
+Sub a() As Long

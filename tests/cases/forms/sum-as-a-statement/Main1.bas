@@ -1,0 +1,3 @@
+Sub Main()
+    Foo(1).x + 1
+End Sub

@@ -1,0 +1,4 @@
+Sub Main()
+    If a Then
+    Case 1
+End Sub

@@ -1,0 +1,4 @@
+Sub Main()
+    Do
+    Loop
+    a

@@ -1,0 +1,3 @@
+Enum e
+    Dim a
+End Enum

@@ -1,0 +1,4 @@
+Sub Main()
+    Do
+    Else
+End Sub

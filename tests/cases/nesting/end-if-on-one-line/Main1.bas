@@ -1,0 +1,3 @@
+Sub Main()
+    If a Then End If
+End Sub

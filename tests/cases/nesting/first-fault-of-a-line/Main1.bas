@@ -1,0 +1,3 @@
+Sub Main()
+    b: Next: Else
+End Sub

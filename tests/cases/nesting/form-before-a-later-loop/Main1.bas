@@ -1,0 +1,3 @@
+Sub Main()
+    b: a b c = Next: Loop
+End Sub

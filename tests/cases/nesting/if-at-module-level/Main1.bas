@@ -1,0 +1,1 @@
+If a Then b

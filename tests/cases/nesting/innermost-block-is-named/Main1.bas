@@ -1,0 +1,5 @@
+Sub Main()
+    Do
+        If a Then
+        Else
+            b

@@ -1,0 +1,3 @@
+Type t
+    x: a As Long
+End Type

@@ -1,0 +1,4 @@
+Sub Main()
+    Loop
+    b = = c
+End Sub

@@ -1,0 +1,3 @@
+Sub Main()
+    Loop: a
+End Sub

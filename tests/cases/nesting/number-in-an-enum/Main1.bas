@@ -1,0 +1,3 @@
+Enum e
+    10: b
+End Enum

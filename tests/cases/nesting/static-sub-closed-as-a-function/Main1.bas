@@ -1,0 +1,2 @@
+Static Sub Main()
+End Function

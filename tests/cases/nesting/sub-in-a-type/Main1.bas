@@ -1,0 +1,3 @@
+Type t
+    a As Long
+Sub Main()

@@ -1,0 +1,3 @@
+Dim a
+Type t
+    b As Long

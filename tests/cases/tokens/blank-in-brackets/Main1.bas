@@ -1,0 +1,3 @@
+Sub Main()
+    [a b] = 1
+End Sub

@@ -1,0 +1,4 @@
+Sub Main()
+End Sub
+' a _
+b _

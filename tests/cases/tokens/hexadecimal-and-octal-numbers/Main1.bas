@@ -1,0 +1,16 @@
+Sub Main()
+    Debug.Print &HFF
+    Debug.Print &hff
+    Debug.Print &O17
+    Debug.Print &o7
+    Debug.Print &H7FFF
+    Debug.Print &H8000
+    Debug.Print &HFFFF%
+    Debug.Print &HFFFF&
+    Debug.Print &H10000
+    Debug.Print &HFFFFFFFF
+    Debug.Print &H80000000&
+    Debug.Print &H0000000001
+    Debug.Print &O177777
+    Debug.Print &O200000
+End Sub

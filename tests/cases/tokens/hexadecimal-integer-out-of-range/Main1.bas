@@ -1,0 +1,3 @@
+Sub Main()
+    a = &H10000%
+End Sub

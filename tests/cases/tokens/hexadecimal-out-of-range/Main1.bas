@@ -1,0 +1,3 @@
+Sub Main()
+    a = &H100000000
+End Sub

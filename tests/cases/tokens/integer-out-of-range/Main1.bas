@@ -1,0 +1,3 @@
+Sub Main()
+    a = 32768%
+End Sub

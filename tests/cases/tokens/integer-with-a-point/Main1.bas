@@ -1,0 +1,3 @@
+Sub Main()
+    a = 1.5%
+End Sub

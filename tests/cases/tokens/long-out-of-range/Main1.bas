@@ -1,0 +1,3 @@
+Sub Main()
+    a = 2147483648&
+End Sub

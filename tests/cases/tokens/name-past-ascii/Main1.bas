@@ -1,0 +1,3 @@
+Sub Main()
+    café = 1
+End Sub

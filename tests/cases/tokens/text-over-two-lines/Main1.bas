@@ -1,0 +1,4 @@
+Sub Main()
+    a = "one _
+two"
+End Sub

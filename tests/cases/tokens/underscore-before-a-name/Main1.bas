@@ -1,0 +1,3 @@
+Sub Main()
+    _a = 1
+End Sub

@@ -1,0 +1,10 @@
+Sub Main()
+    Debug.Print 0
+    Debug.Print 32767
+    Debug.Print 32768
+    Debug.Print 2147483647
+    Debug.Print 00000000000001
+    Debug.Print 32767%
+    Debug.Print 7&
+    Debug.Print 2147483647&
+End Sub
