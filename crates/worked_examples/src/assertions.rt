@@ -49,10 +49,7 @@ pub(crate) fn assert_upgraded(
     assert_ended(rt, alloc, left, Status::Done, "issues: 0")?;
     let name = format!(in alloc; "upgraded/{module}.vb")?;
     let written = written_empty(alloc, module)?;
-    assert_eq!(rt;
-        left.held(alloc, name.as_str())?,
-        Some(written.as_bytes()),
-        "{module}"
-    );
+    let held = left.held(alloc, name.as_str())?;
+    assert_eq!(rt; held, Some(written.as_bytes()), "{module}");
     Ok(())
 }
