@@ -18,6 +18,7 @@ use Rattle.bound_tree.specs.declared.body.Mention.{Mention}
 use Rattle.bound_tree.specs.declared.declared.EnumDecl.{EnumDecl}
 use Rattle.bound_tree.specs.declared.declared.NamedEntry.{NamedEntry}
 use Rattle.bound_tree.specs.declared.declared.TypeDecl.{TypeDecl}
+use Rattle.bound_tree.specs.declared.expression.Root.{Root}
 use Rattle.bound_tree.specs.declared.rule_set.RuleSet.{RuleSet}
 
 pub record Variable : Type 0 where
@@ -79,7 +80,7 @@ mutual
     convert : Ty → Expr → Term
     new_object : ClassId → Term
     me : Term
-    with_object : Term
+    with_object : Root → Term
     err_number : Term
     err_raise : Expr → Term
     err_clear : Term

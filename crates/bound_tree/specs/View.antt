@@ -76,7 +76,7 @@ abbrev mutual
   term_of (n.Convert' to p ty e) = convert (type_of to) (typed (type_of ty) (term_of e))
   term_of (n.New c) = new_object c
   term_of n.Me = me
-  term_of n.WithObject = with_object
+  term_of (n.WithObject root) = with_object root
   term_of n.ErrNumber = err_number
   term_of (n.ErrRaise' p ty e) = err_raise (typed (type_of ty) (term_of e))
   term_of n.ErrClear = err_clear

@@ -3,6 +3,17 @@
 use crate::RuleSet;
 use vb_tree::{BinOp, ClassId, Expr6, LibCall, ProcId, Type6, UnOp, Value6, VarId};
 
+/// What an address is a part of.
+#[derive(Clone, Copy, Debug, PartialEq, Eq)]
+pub enum Root {
+    /// A variable or a parameter, itself or a part of it: a field of a user type or an element of an array, at any depth.
+    Variable(VarId),
+    /// An object, by a field of it.
+    Object,
+    /// What no variable holds: a user type that a procedure gave.
+    Temporary,
+}
+
 /// A bound expression with its type.
 #[derive(Drop)]
 #[cycle(bound_expression)]
@@ -35,8 +46,9 @@ pub enum BoundNode {
     /// A new object of a class.
     New(ClassId),
     Me,
-    /// What the innermost With round the line keeps: its object, or its user type at the kept address.
-    WithObject,
+    /// What the innermost With round the line keeps: its object, or its user type at the kept address; and what that is a
+    /// part of.
+    WithObject(Root),
     /// `Err.Number`, of type Long.
     ErrNumber,
     /// `Err.Raise` of a number that is converted to Long. It has type Nothing.
