@@ -88,7 +88,7 @@ byte_bits f m n clear g h =
     ap (fits kinds.Byte) positive.1 ∙ back_byte positive.0 (omega arith)
 
 -- And, Or and Xor of two Bytes leave the sign clear
-bits_fit : (k : NumberKind) (f : Bool → Bool → Bool) (p q : ℤ) → (is_byte k ≡ true → f false false ≡ false) → whole k ≡ k → fits k p ≡ true → fits k q ≡ true → fits k (bitwise f p q) ≡ true
+pub bits_fit : (k : NumberKind) (f : Bool → Bool → Bool) (p q : ℤ) → (is_byte k ≡ true → f false false ≡ false) → whole k ≡ k → fits k p ≡ true → fits k q ≡ true → fits k (bitwise f p q) ≡ true
 bits_fit kinds.Byte f (pos m) (pos n) clear e g h = byte_bits f m n (clear refl) (byte_within m g) (byte_within n h)
 bits_fit kinds.Byte f (pos m) (negsuc n) clear e g h = absurd (not_true h)
 bits_fit kinds.Byte f (negsuc m) q clear e g h = absurd (not_true g)

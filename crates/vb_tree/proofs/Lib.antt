@@ -1,3 +1,3 @@
-mod Views
+pub mod Views
 mod FlatBodies
 mod Examples
