@@ -1,9 +1,11 @@
 -- The test of projects decides which can be written.
-use Rattle.std.proofs.Common.{◌≡◌, Bool, true, false, ◌&&◌, List, [], ◌∷◌, refl}
+use Rattle.std.proofs.Common.{◌≡◌, ℕ, suc, arith, Bool, true, false, ◌&&◌, ◌==◌, List, [], ◌∷◌, length, refl}
 use Rattle.std.specs.Cmp.Derive.{both_true}
+use Rattle.std.proofs.lemmas.Bool.Decides.{nat_tests}
 use Rattle.std.specs.Prelude.{is_none}
 use Rattle.std.specs.List.{list_all}
 use Rattle.net_tree.specs.Tree.{Module, Project}
+use Rattle.net_tree.specs.Declarations.{has_no_comment}
 use Rattle.net_tree.specs.Text.{IsWritable, is_main, is_note, is_support, is_writable_module, written_modules}
 use Rattle.net_writable.specs.Projects.{has_file_name, has_target, is_file, is_writable_project}
 
@@ -63,3 +65,10 @@ pub passes : (N : Project) → IsWritable N → is_writable_project N ≡ true
 passes N w =
     both_true (both_true (both_true (both_true w.note w.main) (target_of N.library (is_none N.main) w.target)) w.support)
     (files_of (written_modules N) w.file_names w.modules)
+
+more_than_none : (n : ℕ) → (suc n == 0) ≡ false
+more_than_none n = grind (arith, nat_tests)
+
+pub none_stands : (comments : List (List ℕ)) → (length comments == 0) ≡ has_no_comment comments
+none_stands [] = refl
+none_stands (units ∷ comments) = more_than_none (length comments)

@@ -1,7 +1,8 @@
 //! Which declarations, procedures and members can be written.
 ghost use Rattle.std.specs.Prelude.{◌≡◌, ◌&&◌, ◌||◌, is_some, map, option_map, IfOk};
 ghost use Rattle.std.specs.List.{list_all};
-ghost use Rattle.net_tree.specs.Declarations.{closes, is_get, is_set, is_writable_constant, is_writable_dim, is_writable_field, is_writable_head, is_writable_member, is_writable_param, is_writable_part, is_writable_procedure, is_writable_property, is_writable_structure, is_writable_variable};
+ghost use Rattle.net_tree.specs.Declarations.{closes, has_no_comment, is_get, is_set, is_writable_constant, is_writable_dim, is_writable_field, is_writable_head, is_writable_member, is_writable_param, is_writable_part, is_writable_procedure, is_writable_property, is_writable_structure, is_writable_variable};
+ghost use Rattle.net_tree.specs.Comments.{is_comment};
 ghost use Rattle.net_tree.specs.Lines.{is_writable_line, is_writable_option};
 ghost use Rattle.net_tree.specs.Tree.{proc};
 ghost use Rattle.net_tree.specs.Spelling.{is_identifier};
@@ -18,7 +19,7 @@ use net_tree::{
     NetProc, NetProperty, NetStructure, NetType, NetVariable,
 };
 use std::alloc::Global;
-use up_base::{Mem, Name};
+use up_base::{Mem, Name, Wide};
 
 /// Whether a name can be declared as of a type.
 pub fn can_be_declared(name: &Name, ty: &NetType) -> bool
@@ -167,25 +168,48 @@ pub fn is_set(head: &NetHead) -> bool
     matches!(head, NetHead::Set(_, _))
 }
 
-fn is_writable_get(alloc: Global, part: &Option<Box<NetProc>>) -> Result<bool, Mem>
-    ensures { IfOk result (λ answer. answer ≡ is_writable_part is_get (option_map (λ p. procedure_of p.value) part.now)) }
+#[tactic(auto, using(crate::proofs::Decided::none_stands))]
+fn has_no_comment(comments: &[Wide]) -> bool
+    ensures { result ≡ has_no_comment comments.now }
+{
+    comments.is_empty()
+}
+
+fn are_comments(comments: &[Wide]) -> bool
+    ensures { result ≡ list_all is_comment comments.now }
+{
+    comments
+        .iter()
+        .all(|comment| is_comment(comment.as_slice()))
+}
+
+fn is_writable_get(
+    alloc: Global,
+    comments: &[Wide],
+    part: &Option<Box<NetProc>>,
+) -> Result<bool, Mem>
+    ensures { IfOk result (λ answer. answer ≡ is_writable_part is_get comments.now (option_map (λ p. procedure_of p.value) part.now)) }
 {
     let Some(procedure) = part else {
-        return Ok(true);
+        return Ok(has_no_comment(comments));
     };
-    if !is_get(&procedure.head) {
+    if !are_comments(comments) || !is_get(&procedure.head) {
         return Ok(false);
     }
     Ok(is_writable_procedure(alloc, procedure)?)
 }
 
-fn is_writable_set(alloc: Global, part: &Option<Box<NetProc>>) -> Result<bool, Mem>
-    ensures { IfOk result (λ answer. answer ≡ is_writable_part is_set (option_map (λ p. procedure_of p.value) part.now)) }
+fn is_writable_set(
+    alloc: Global,
+    comments: &[Wide],
+    part: &Option<Box<NetProc>>,
+) -> Result<bool, Mem>
+    ensures { IfOk result (λ answer. answer ≡ is_writable_part is_set comments.now (option_map (λ p. procedure_of p.value) part.now)) }
 {
     let Some(procedure) = part else {
-        return Ok(true);
+        return Ok(has_no_comment(comments));
     };
-    if !is_set(&procedure.head) {
+    if !are_comments(comments) || !is_set(&procedure.head) {
         return Ok(false);
     }
     Ok(is_writable_procedure(alloc, procedure)?)
@@ -206,10 +230,10 @@ fn is_writable_property(alloc: Global, property: &NetProperty) -> Result<bool, M
     if !has_writable_head(property) {
         return Ok(false);
     }
-    if !is_writable_get(alloc, &property.get)? {
+    if !is_writable_get(alloc, &property.get_comments, &property.get)? {
         return Ok(false);
     }
-    Ok(is_writable_set(alloc, &property.set)?)
+    Ok(is_writable_set(alloc, &property.set_comments, &property.set)?)
 }
 
 /// Whether what stands in a structure can be written.
