@@ -15,10 +15,11 @@ module_limit=1048576
 work="$(mktemp -d)"
 trap 'rm -rf "$work"' EXIT
 
-# Builds the program where need be. Without command words it does nothing, and 100 is the status of a failed build.
+# Builds the program where need be, and says so where it is not proved. Of a project that isn't there nothing is written,
+# and 100 is the status of a failed build.
 build() {
     local status=0
-    "$root/vbup" >/dev/null </dev/null || status=$?
+    (cd "$work" && "$program" upgrade Absent.vbp) >/dev/null </dev/null || status=$?
     [ "$status" -ne 100 ]
 }
 
