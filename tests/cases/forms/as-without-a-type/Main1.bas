@@ -1,0 +1,3 @@
+Sub Main()
+    Dim a As
+End Sub

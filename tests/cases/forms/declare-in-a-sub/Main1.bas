@@ -1,0 +1,3 @@
+Sub Main()
+    Declare Sub Sleep Lib "kernel32" ()
+End Sub

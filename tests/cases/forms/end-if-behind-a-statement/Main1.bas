@@ -1,0 +1,3 @@
+Sub Main()
+    If a Then b End If
+End Sub

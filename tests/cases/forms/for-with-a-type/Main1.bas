@@ -1,0 +1,4 @@
+Sub Main()
+    For i As Long = 1 To 3
+    Next
+End Sub

@@ -1,0 +1,1 @@
+Friend a As Long

@@ -1,0 +1,4 @@
+Sub Main()
+    If a
+    End If
+End Sub

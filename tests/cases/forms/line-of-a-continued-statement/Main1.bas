@@ -1,0 +1,5 @@
+Sub Main()
+    a = _
+        = _
+        1
+End Sub

@@ -1,0 +1,5 @@
+Sub Main()
+    Mid = a
+    b = Mid(a, 1)
+    Mid a, 1
+End Sub

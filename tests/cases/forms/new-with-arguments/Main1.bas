@@ -1,0 +1,3 @@
+Sub Main()
+    Dim a As New C(1)
+End Sub

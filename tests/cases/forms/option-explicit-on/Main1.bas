@@ -1,0 +1,1 @@
+Option Explicit On

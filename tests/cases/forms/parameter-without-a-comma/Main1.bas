@@ -1,0 +1,2 @@
+Sub A(b As Long c As Long)
+End Sub

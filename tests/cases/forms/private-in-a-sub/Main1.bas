@@ -1,0 +1,3 @@
+Sub Main()
+    Private a As Long
+End Sub

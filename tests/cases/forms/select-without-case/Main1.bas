@@ -1,0 +1,4 @@
+Sub Main()
+    Select a
+    End Select
+End Sub

@@ -1,0 +1,5 @@
+Sub Main()
+    If a Then
+    ElseIf b Then c
+    End If
+End Sub

@@ -1,0 +1,2 @@
+Static Sub A() As Long
+End Sub

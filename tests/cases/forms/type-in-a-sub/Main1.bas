@@ -1,0 +1,4 @@
+Sub Main()
+    Type t
+    End Type
+End Sub

@@ -1,0 +1,4 @@
+Sub Main()
+    With
+    End With
+End Sub

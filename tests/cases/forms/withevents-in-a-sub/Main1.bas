@@ -1,0 +1,3 @@
+Sub Main()
+    Dim WithEvents a As C
+End Sub

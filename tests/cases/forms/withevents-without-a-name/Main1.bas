@@ -1,0 +1,1 @@
+Private WithEvents As C

@@ -1,0 +1,1 @@
+Const Currency = 1

@@ -1,0 +1,4 @@
+Type Job
+    End As Long
+    End Sub
+End Type

@@ -1,0 +1,4 @@
+Enum Days
+    Today
+    Date
+End Enum

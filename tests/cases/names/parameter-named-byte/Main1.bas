@@ -1,0 +1,2 @@
+Sub Send(Byte As Long)
+End Sub

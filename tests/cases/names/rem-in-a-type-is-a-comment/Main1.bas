@@ -1,0 +1,4 @@
+Type Job
+    Rem As Long
+    Name As String
+End Type

@@ -1,0 +1,3 @@
+Sub Main()
+    Loop% = 1
+End Sub

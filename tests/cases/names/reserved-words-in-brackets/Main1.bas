@@ -1,0 +1,4 @@
+Sub Main()
+    Dim [Loop] As Long
+    [Loop] = [Loop] + 1
+End Sub

@@ -1,0 +1,2 @@
+Static Sub String()
+End Sub

@@ -1,0 +1,2 @@
+Sub String()
+End Sub

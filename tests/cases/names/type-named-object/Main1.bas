@@ -1,0 +1,3 @@
+Type Object
+    a As Long
+End Type

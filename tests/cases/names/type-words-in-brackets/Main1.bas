@@ -1,0 +1,4 @@
+Sub Main()
+    Dim [Date] As Long, [String]&
+    [Date] = [string]
+End Sub

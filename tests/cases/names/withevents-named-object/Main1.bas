@@ -1,0 +1,1 @@
+Private WithEvents Object As C

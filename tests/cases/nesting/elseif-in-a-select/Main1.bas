@@ -1,0 +1,5 @@
+Sub Main()
+    Select Case a
+    ElseIf b Then
+    End Select
+End Sub

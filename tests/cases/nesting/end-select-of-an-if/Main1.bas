@@ -1,0 +1,4 @@
+Sub Main()
+    If a Then
+    End Select
+End Sub

@@ -1,0 +1,5 @@
+Sub Main()
+    While a
+        b
+    End While
+End Sub

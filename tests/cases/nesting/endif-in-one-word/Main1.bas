@@ -1,0 +1,5 @@
+Sub Main()
+    If a Then
+        b
+    EndIf
+End Sub

@@ -1,0 +1,5 @@
+Sub Main()
+    Select Case a
+        Case 1
+            With b
+                .c

@@ -1,0 +1,3 @@
+Sub Main()
+    a = #1/2/2000
+End Sub

@@ -1,0 +1,3 @@
+Sub Main()
+    a = 1: #If b Then
+End Sub

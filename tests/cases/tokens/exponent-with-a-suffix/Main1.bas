@@ -1,0 +1,3 @@
+Sub Main()
+    a = 1E5%
+End Sub

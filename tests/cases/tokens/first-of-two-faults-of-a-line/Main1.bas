@@ -1,0 +1,3 @@
+Sub Main()
+    a = 5$: b = "x
+End Sub

@@ -1,0 +1,3 @@
+Sub Main()
+    a = &H1@
+End Sub

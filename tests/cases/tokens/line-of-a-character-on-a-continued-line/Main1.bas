@@ -1,0 +1,4 @@
+Sub Main()
+    a = 1 + _
+        2 + ?
+End Sub

@@ -1,0 +1,5 @@
+Sub Main()
+    a = "x" & _
+        "y" & _
+        "z
+End Sub

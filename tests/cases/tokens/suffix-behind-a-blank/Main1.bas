@@ -1,0 +1,3 @@
+Sub Main()
+    a $ = "x"
+End Sub

@@ -1,0 +1,3 @@
+Sub Main()
+    Do
+        a = "x
