@@ -1,0 +1,4 @@
+Sub Main()
+    If a Then If b Then
+        c
+End Sub

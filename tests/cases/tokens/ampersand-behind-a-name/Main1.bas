@@ -1,0 +1,3 @@
+Sub Main()
+    a = b&c
+End Sub

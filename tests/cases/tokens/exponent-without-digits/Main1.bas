@@ -1,0 +1,3 @@
+Sub Main()
+    a = 1E
+End Sub
