@@ -29,6 +29,7 @@ pub record Variable : Type 0 where
   pub ty : Ty
   pub named : Ty
   pub qualified : Bool
+  pub lettered : Option ℕ
   pub bounds : List (ℤ × ℤ)
   pub auto : Bool
   pub preset : Option Value6

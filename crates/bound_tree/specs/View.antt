@@ -30,6 +30,7 @@ variable_of v = record {
   ty = type_of v.ty;
   named = type_of v.named;
   qualified = v.qualified;
+  lettered = v.lettered;
   bounds = v.bounds;
   auto = v.auto;
   preset = v.preset;

@@ -26,6 +26,8 @@ pub struct VarDecl {
     pub named: Type6,
     /// Whether the declaration names the module of its type, `As M.T`.
     pub qualified: bool,
+    /// The number of the statement in its module that gives it its type by its first letter, where a Def line does.
+    pub lettered: Option<u32>,
     /// The lower and the upper bound of each dimension of a fixed array.
     pub bounds: Sequence<(i32, i32)>,
     /// Whether it is declared As New.
