@@ -19,7 +19,7 @@ abbrev mutual
   nodes_in (convert to e) = nodes e
   nodes_in (new_object c) = []
   nodes_in me = []
-  nodes_in with_object = []
+  nodes_in (with_object root) = []
   nodes_in err_number = []
   nodes_in (err_raise e) = nodes e
   nodes_in err_clear = []

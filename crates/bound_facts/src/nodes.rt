@@ -46,7 +46,7 @@ pub fn push_parts<'a>(node: &'a BoundNode, to: &mut Vec<&'a BoundExpr>) -> Resul
         BoundNode::Convert(_, of) => Ok(push_nodes(of, to)?),
         BoundNode::New(_) => Ok(()),
         BoundNode::Me => Ok(()),
-        BoundNode::WithObject => Ok(()),
+        BoundNode::WithObject(_) => Ok(()),
         BoundNode::ErrNumber => Ok(()),
         BoundNode::ErrRaise(of) => Ok(push_nodes(of, to)?),
         BoundNode::ErrClear => Ok(()),
