@@ -1,5 +1,5 @@
 -- From the answers to the parts of a line to that of the line.
-use Rattle.std.proofs.Common.{◌≡◌, ℕ, ◌<◌, ◌≤◌, max, List, [], ◌∷◌, refl, sym, ap, ◌∙◌, subst, arith, Bool, true, false, Option, Some, None, is_none, Result, Ok, Err, map}
+use Rattle.std.proofs.Common.{◌≡◌, ℕ, ◌<◌, ◌≤◌, max, List, [], ◌∷◌, refl, sym, ap, ◌∙◌, arith, Bool, true, false, Option, Some, None, is_none}
 use Rattle.vb_tree.specs.declared.declared.ProcKind.{ProcKind}
 use Rattle.vb_tree.specs.declared.declared.ProcKind.TheVariants as proc
 use Rattle.vb_tree.specs.declared.form_parts.DefWord.{DefWord}
@@ -7,14 +7,10 @@ use Rattle.vb_tree.specs.declared.form_parts.LetterRange.{LetterRange}
 use Rattle.vb_tree.specs.declared.form_parts.VarWord.{VarWord}
 use Rattle.vb_tree.specs.declared.form_parts.Visibility.{Visibility}
 use Rattle.vb_tree.specs.declared.token.Token.{Token}
-use Rattle.vb_tree.specs.Tree.{Declarator, Constant, Signature, ResultType, Form, variables, constants, def_type, opaque}
+use Rattle.vb_tree.specs.Tree.{Declarator, Constant, Signature, ResultType, Form, variables, constants, def_type, static_head, event_variables}
 use Rattle.form_parts.specs.declared.answer.PartFail.{PartFail}
 use Rattle.form_parts.specs.declared.cuts.Separator.TheVariants.{Comma}
-use Rattle.form_parts.specs.declared.answer.PartFail.TheVariants as fail
-use Rattle.form_parts.specs.Answer.{FailsFor, Answers}
-use Rattle.vb_tree.specs.declared.form.Form6.{Form6}
-use Rattle.vb_tree.specs.View.{form_of}
-use Rattle.declaration_forms.specs.Heading.{IsKept, IsKeptFor}
+use Rattle.form_parts.specs.Answer.{FailsFor}
 use Rattle.form_parts.specs.Cuts.{pieces, Each}
 use Rattle.form_parts.specs.Items.{deepest}
 use Rattle.form_parts.proofs.Answering.{fails_along}
@@ -34,6 +30,12 @@ pub variables_fail : (w : VarWord) (rest : List Token) (f : PartFail) → FailsF
 variables_fail w rest =
     fails_along (Each IsDeclarator (pieces Comma rest)) (deepest declarator_depth) (VariablesLine IsDeclarator rest (variables w)) form_depth
     (λ xs h. (variables w xs, record { declarators = xs; each = h; form = refl }, omega arith))
+    (λ f h. (h.declarators, h.each))
+
+pub events_fail : (w : VarWord) (rest : List Token) (f : PartFail) → FailsFor (Each IsEventDeclarator (pieces Comma rest)) (deepest declarator_depth) f → FailsFor (VariablesLine IsEventDeclarator rest (event_variables w)) form_depth f
+events_fail w rest =
+    fails_along (Each IsEventDeclarator (pieces Comma rest)) (deepest declarator_depth) (VariablesLine IsEventDeclarator rest (event_variables w)) form_depth
+    (λ xs h. (event_variables w xs, record { declarators = xs; each = h; form = refl }, omega arith))
     (λ f h. (h.declarators, h.each))
 
 deepest-flat : (rs : List LetterRange) → deepest flat rs ≤ 0
@@ -79,27 +81,8 @@ module _ (k : ProcKind) (v : Option Visibility) (o : Outline) where
       (λ p h. (head_form k p.0 p.1, record { signature = p.0; result = p.1; head = h; form = refl }, let e = same_depth k o.ty p.0 p.1 h.may h.gives in omega (arith, e)))
       (λ f h. ((h.signature, h.result), h.head))
 
-kept_gives : (f : Form) (Q : Form → Type 0) (r : Result Form6 PartFail) → Q f → form_depth f ≤ 64 → IsKept f r → Answers form_of Q form_depth r
-kept_gives f Q (Ok form) q d h = (subst Q (sym h) q, subst (λ z. form_depth z ≤ 64) (sym h) d)
-kept_gives f Q (Err fail.NotFound) q d h = absurd h
-kept_gives f Q (Err fail.TooDeep) q d h = absurd h
-kept_gives f Q (Err fail.Mem) q d h = tt
-
--- the answer to a line that is kept where its part stands there
-pub kept_answers : {A X : Type 0} (v : A → X) (P : X → Type 0) (d : X → ℕ) (f : Form) (Q : Form → Type 0) → form_depth f ≤ 64 → ((x : X) → P x → Q f) → ((g : Form) → Q g → (x : X) × P x) → (part : Result A PartFail) (r : Result Form6 PartFail) → Answers v P d part → IsKeptFor f part r → Answers form_of Q form_depth r
-kept_answers v P d f Q flat to back (Ok x) r h k = kept_gives f Q r (to (v x) h.0) flat k
-kept_answers v P d f Q flat to back (Err fail.TooDeep) r h k = kept_gives f Q r (to h.0 h.1) flat k
-kept_answers v P d f Q flat to back (Err fail.NotFound) r h k = subst (λ z. Answers form_of Q form_depth z) (sym k) (λ g q. let p = back g q in h p.0 p.1)
-kept_answers v P d f Q flat to back (Err fail.Mem) r h k = subst (λ z. Answers form_of Q form_depth z) (sym k) tt
-
-pub events_answer : {A : Type 0} (v : A → Declarator) (line rest : List Token) (part : Result (List A) PartFail) (r : Result Form6 PartFail) → Answers (map v) (Each IsEventDeclarator (pieces Comma rest)) (deepest declarator_depth) part → IsKeptFor (opaque None line) part r → Answers form_of (VariablesLine IsEventDeclarator rest (λ ds. opaque None line)) form_depth r
-events_answer v line rest =
-    kept_answers (map v) (Each IsEventDeclarator (pieces Comma rest)) (deepest declarator_depth) (opaque None line) (VariablesLine IsEventDeclarator rest (λ ds. opaque None line)) (omega arith)
-    (λ xs h. record { declarators = xs; each = h; form = refl })
-    (λ g h. (h.declarators, h.each))
-
-pub static_answer : {A : Type 0} (v : A → Signature × Option ResultType) (kind : ProcKind) (seen : Option Visibility) (line : List Token) (o : Outline) (part : Result A PartFail) (r : Result Form6 PartFail) → Answers v (HeadOf kind seen o) pair_depth part → IsKeptFor (opaque (Some kind) line) part r → Answers form_of (HeadLine kind seen (λ s r. opaque (Some kind) line) o) form_depth r
-static_answer v kind seen line o =
-    kept_answers v (HeadOf kind seen o) pair_depth (opaque (Some kind) line) (HeadLine kind seen (λ s r. opaque (Some kind) line) o) (omega arith)
-    (λ p h. record { signature = p.0; result = p.1; head = h; form = refl })
-    (λ g h. ((h.signature, h.result), h.head))
+  pub static_head_fails : (f : PartFail) → FailsFor (HeadOf k v o) pair_depth f → FailsFor (HeadLine k v (static_head k) o) form_depth f
+  static_head_fails =
+      fails_along (HeadOf k v o) pair_depth (HeadLine k v (static_head k) o) form_depth
+      (λ p h. (static_head k p.0 p.1, record { signature = p.0; result = p.1; head = h; form = refl }, omega arith))
+      (λ f h. ((h.signature, h.result), h.head))

@@ -20,7 +20,7 @@ use Rattle.declaration_forms.specs.declared.starts.Start.TheVariants as start
 use Rattle.declaration_forms.specs.declared.heads.Words.{Words}
 use Rattle.declaration_forms.specs.DeclarationForms.{IsDeclaration, Fits, FitsStart, IsRange, DefLine, VariablesLine, ConstantsLine, IsEventDeclarator, NameLine, HeadOf, HeadLine, head_form}
 use Rattle.declaration_forms.specs.Heads.{ParamOf, IsParam, AreParams, SignatureOf, IsResult, IsResultWith, IsResultCut, result_cut, begins_fixed, words_of, past_words}
-use Rattle.declaration_forms.specs.Outlines.{Outline, outline_of}
+use Rattle.declaration_forms.specs.Outlines.{Outline, outline_of, field_outline}
 use Rattle.declaration_forms.specs.Starts.{Begun, start_of}
 use Rattle.declaration_forms.specs.Variables.{DeclaratorOf, IsDeclarator, ConstantOf, IsConstant, IsEqualTo, FieldOf, MemberOf, Outlines, before_equal, behind_equal}
 use Rattle.declaration_forms.specs.Wholes.{IsOptional, IsGiven, AreItems}
@@ -226,7 +226,7 @@ one_fit start.Attribute line rest a b h k = h ∙ sym k
 one_fit start.Option line rest a b h k = some_one _ a b h k
 one_fit (start.Def w) line rest a b h k = one_def rest _ a b h k
 one_fit (start.Variables w) line rest a b h k = one_variables IsDeclarator one_declarator rest _ a b h k
-one_fit start.Events line rest a b h k = one_variables IsEventDeclarator event_at rest _ a b h k
+one_fit (start.Events w) line rest a b h k = one_variables IsEventDeclarator event_at rest _ a b h k
 one_fit (start.Constants v) line rest a b h k = one_constants v rest a b h k
 one_fit (start.Type v) line rest a b h k = one_outlined _ (name_at _) (outline_of rest) a b h k
 one_fit (start.Enum v) line rest a b h k = one_outlined _ (name_at _) (outline_of rest) a b h k
@@ -234,7 +234,7 @@ one_fit (start.Head kind v) line rest a b h k = one_outlined _ (head_at kind v _
 one_fit (start.StaticHead kind v) line rest a b h k = one_outlined _ (head_at kind v _) (outline_of rest) a b h k
 one_fit (start.End kind) line rest a b h k = some_one _ a b h k
 one_fit start.Opaque line rest a b h k = h ∙ sym k
-one_fit start.Field line rest a b h k = one_outlined FieldOf field_at (outline_of rest) a b h k
+one_fit start.Field line rest a b h k = one_outlined FieldOf field_at (field_outline rest) a b h k
 one_fit start.Member line rest a b h k =
     let cut = parted Equal rest in
     one_outlined (MemberOf (behind_equal cut)) (member_at (behind_equal cut)) (outline_of (before_equal rest cut)) a b h k

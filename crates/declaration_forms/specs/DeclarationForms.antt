@@ -8,7 +8,7 @@ use Rattle.vb_tree.specs.declared.form_parts.LetterRange.{LetterRange}
 use Rattle.vb_tree.specs.declared.form_parts.Visibility.{Visibility}
 use Rattle.vb_tree.specs.declared.token.Token.{Token}
 use Rattle.vb_tree.specs.Expressions.{depth_of}
-use Rattle.vb_tree.specs.Tree.{Bounds, Constant, Declarator, Form, Param, ResultType, Signature, attribute, def_type, variables, constants, type_head, field, end_type, enum_head, enum_member, end_enum, sub_head, function_head, get_head, let_head, set_head, end_sub, end_function, end_property, opaque}
+use Rattle.vb_tree.specs.Tree.{Bounds, Constant, Declarator, Form, Param, ResultType, Signature, attribute, def_type, variables, constants, type_head, field, end_type, enum_head, enum_member, end_enum, sub_head, function_head, get_head, let_head, set_head, static_head, end_sub, end_function, end_property, event_variables, opaque}
 use Rattle.form_parts.specs.Cuts.{pieces, Each}
 use Rattle.form_parts.specs.Items.{deepest}
 use Rattle.form_parts.specs.Parts.{type_depth}
@@ -100,14 +100,14 @@ Fits start.Attribute line rest f = f ≡ attribute rest
 Fits start.Option line rest f = option_line rest ≡ Some f
 Fits (start.Def w) line rest f = DefLine rest (def_type w) f
 Fits (start.Variables w) line rest f = VariablesLine IsDeclarator rest (variables w) f
-Fits start.Events line rest f = VariablesLine IsEventDeclarator rest (λ ds. opaque None line) f
+Fits (start.Events w) line rest f = VariablesLine IsEventDeclarator rest (event_variables w) f
 Fits (start.Constants v) line rest f = ConstantsLine v rest f
 Fits (start.Type v) line rest f = Outlines (NameLine (λ o. type_head v o.name o.suffix)) (outline_of rest) f
 Fits (start.Enum v) line rest f = Outlines (NameLine (λ o. enum_head v o.name o.suffix)) (outline_of rest) f
 Fits (start.Head k v) line rest f = Outlines (HeadLine k v (head_form k)) (outline_of rest) f
-Fits (start.StaticHead k v) line rest f = Outlines (HeadLine k v (λ s r. opaque (Some k) line)) (outline_of rest) f
+Fits (start.StaticHead k v) line rest f = Outlines (HeadLine k v (static_head k)) (outline_of rest) f
 Fits (start.End k) line rest f = end_form k ≡ Some f
-Fits start.Opaque line rest f = f ≡ opaque None line
+Fits start.Opaque line rest f = f ≡ opaque line
 Fits start.Field line rest f = IsField rest f
 Fits start.Member line rest f = IsMember rest f
 
@@ -122,6 +122,7 @@ IsDeclaration spot line f = FitsStart (start_of spot line) line f
 -- the depth of the deepest expression in a form
 abbrev pub form_depth : Form → ℕ
 form_depth (variables w ds) = deepest declarator_depth ds
+form_depth (event_variables w ds) = deepest declarator_depth ds
 form_depth (constants v items) = deepest constant_depth items
 form_depth (field n s bounds ty) = max (dimensions_depth bounds) (type_depth ty)
 form_depth (enum_member n s value) = optional_depth depth_of value
@@ -130,6 +131,7 @@ form_depth (function_head s r) = head_depth s r
 form_depth (get_head s r) = head_depth s r
 form_depth (let_head s) = head_depth s None
 form_depth (set_head s) = head_depth s None
+form_depth (static_head k s r) = head_depth s r
 form_depth _ = 0
 
 abbrev pub pair_depth : Signature × Option ResultType → ℕ

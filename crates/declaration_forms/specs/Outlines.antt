@@ -82,3 +82,18 @@ cut_outline tokens (Some cut) = named_outline (Some cut.1) cut.0
 -- the outline of `n [( .. )] [As ..]`
 abbrev pub outline_of : List Token → Option Outline
 outline_of tokens = cut_outline tokens (typed tokens)
+
+-- the name of a field: any word, with its suffix
+abbrev pub field_name : TokenKind → Option (List ℕ × Suffix)
+field_name (kind.Word n s) = Some (n, s)
+field_name (kind.Bracketed n s) = Some (n, s)
+field_name _ = None
+
+abbrev pub field_cut : Option (List ℕ × Suffix) → Option (List Token × List Token) → Option Outline
+field_cut n None = None
+field_cut n (Some cut) = outlined (Some cut.1) n (in_parentheses cut.0)
+
+-- the outline of a field, `n [( .. )] As ..`, where n may be As too
+abbrev pub field_outline : List Token → Option Outline
+field_outline [] = None
+field_outline (t ∷ rest) = field_cut (field_name t.kind) (typed rest)

@@ -85,13 +85,13 @@ head_of k v rest (Some before) = (start.StaticHead k v, before)
 abbrev pub head_start : Option Visibility → ProcKind × List Token → Begun
 head_start v p = if is_procedural v then Some (head_of p.0 v p.1 (before_static p.1)) else None
 
-abbrev pub static_head : Option Visibility → ProcKind × List Token → Option (List Token) → Begun
-static_head v p None = if is_procedural v then Some (start.StaticHead p.0 v, p.1) else None
-static_head v p (Some before) = None
+abbrev pub static_before : Option Visibility → ProcKind × List Token → Option (List Token) → Begun
+static_before v p None = if is_procedural v then Some (start.StaticHead p.0 v, p.1) else None
+static_before v p (Some before) = None
 
 -- and one with Static before its kind, where none stands at its end (MS-VBAL, Procedure Declarations)
 abbrev pub static_start : Option Visibility → ProcKind × List Token → Begun
-static_start v p = static_head v p (before_static p.1)
+static_start v p = static_before v p (before_static p.1)
 
 -- whether a declaration begins with WithEvents
 abbrev pub has_events : List (List Token) → Bool
@@ -99,7 +99,7 @@ has_events [] = false
 has_events (p ∷ ps) = if begins_with (codes "withevents") p then true else has_events ps
 
 abbrev pub variables_start : VarWord → List Token → Start × List Token
-variables_start w rest = if has_events (pieces Comma rest) then (start.Events, rest) else (start.Variables w, rest)
+variables_start w rest = if has_events (pieces Comma rest) then (start.Events w, rest) else (start.Variables w, rest)
 
 -- variables behind a word of visibility, or none
 abbrev pub seen_variables : Option Visibility → List Token → Begun
@@ -211,8 +211,13 @@ abbrev pub procedure_start : List Token → Begun
 procedure_start [] = None
 procedure_start (t ∷ rest) = local_start (lead_of t) rest
 
+abbrev pub or_member : Start → List Token → Begun → Begun
+or_member s line None = Some (s, line)
+or_member s line (Some closing) = Some closing
+
+-- a closing line, or else a field or a member: a field may have the name End
 abbrev pub member_start : Start → Option Lead → List Token → List Token → Begun
-member_start s (Some lead.End) line rest = end_start rest
+member_start s (Some lead.End) line rest = or_member s line (end_start rest)
 member_start s _ line rest = Some (s, line)
 
 -- a line in a Type or an Enum

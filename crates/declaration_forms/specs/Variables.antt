@@ -9,7 +9,7 @@ use Rattle.form_parts.specs.declared.cuts.Separator.TheVariants.{Equal}
 use Rattle.form_parts.specs.Items.{deepest}
 use Rattle.form_parts.specs.Parts.{IsTypeName, type_depth, IsBounds, bounds_depth}
 use Rattle.declaration_forms.specs.Words.{begins_with, past_word}
-use Rattle.declaration_forms.specs.Outlines.{Outline, outline_of}
+use Rattle.declaration_forms.specs.Outlines.{Outline, outline_of, field_outline}
 use Rattle.declaration_forms.specs.Wholes.{IsOptional, IsGiven, AreItems, optional_depth}
 
 -- what an outline says, if there is one
@@ -51,7 +51,7 @@ IsEqualTo (Some cut) c = Outlines (ConstantOf cut.1) (outline_of cut.0) c
 abbrev pub IsConstant : List Token → Constant → Type 0
 IsConstant tokens c = IsEqualTo (parted Equal tokens) c
 
--- a field of a Type: `n [([b])] As t`
+-- a field of a Type: `n [([b])] As t`, where n is any word
 pub record FieldOf (o : Outline) (f : Form) : Type 0 where
   pub bounds : Option (List Bounds)
   pub ty : TypeName
@@ -60,7 +60,7 @@ pub record FieldOf (o : Outline) (f : Form) : Type 0 where
   pub form : f ≡ field o.name o.suffix bounds ty
 
 abbrev pub IsField : List Token → Form → Type 0
-IsField tokens f = Outlines FieldOf (outline_of tokens) f
+IsField tokens f = Outlines FieldOf (field_outline tokens) f
 
 -- a member of an Enum: `n [= e]`
 pub record MemberOf (behind : Option (List Token)) (o : Outline) (f : Form) : Type 0 where

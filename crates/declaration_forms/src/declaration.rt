@@ -2,12 +2,12 @@
 ghost use Rattle.std.specs.Prelude.{◌≡◌, List, option_map, IfOk};
 ghost use Rattle.vb_tree.specs.declared.token.Token.{Token};
 ghost use Rattle.declaration_forms.specs.declared.starts.Spot.{Spot};
-ghost use Rattle.vb_tree.specs.Tree.{Form, variables, constants, type_head, enum_head, opaque};
+ghost use Rattle.vb_tree.specs.Tree.{Form, variables, constants, type_head, enum_head, static_head, event_variables, opaque};
 ghost use Rattle.vb_tree.specs.View.{form_of, signature_of, result_of};
 ghost use Rattle.form_parts.specs.Answer.{Answers};
 ghost use Rattle.declaration_forms.specs.DeclarationForms.{IsDeclaration, form_depth, Fits, VariablesLine, IsEventDeclarator, ConstantsLine, NameLine, HeadOf, HeadLine, may_result, head_form, pair_depth, end_form};
 ghost use Rattle.declaration_forms.specs.Now.{tokens_now, outlined_now};
-ghost use Rattle.declaration_forms.specs.Heading.{head_plain, IsKeptFor};
+ghost use Rattle.declaration_forms.specs.Heading.{head_plain};
 ghost use Rattle.declaration_forms.specs.Options.{option_line};
 ghost use Rattle.declaration_forms.specs.Outlines.{Outline, outline_of};
 ghost use Rattle.declaration_forms.specs.Variables.{IsDeclarator, Outlines};
@@ -28,10 +28,10 @@ use vb_tree::{
 };
 
 // A line that is kept as its tokens.
-fn opaque(alloc: Global, opens: Option<ProcKind>, line: &[Token]) -> Result<Form6, Mem>
-    ensures { IfOk result (λ f. form_of f ≡ opaque opens line.now) }
+fn opaque(alloc: Global, line: &[Token]) -> Result<Form6, Mem>
+    ensures { IfOk result (λ f. form_of f ≡ opaque line.now) }
 {
-    Ok(Form6::Opaque(opens, copied(alloc, line)?))
+    Ok(Form6::Opaque(copied(alloc, line)?))
 }
 
 fn variables_line(alloc: Global, word: VarWord, rest: &[Token]) -> Result<Form6, PartFail>
@@ -43,13 +43,12 @@ fn variables_line(alloc: Global, word: VarWord, rest: &[Token]) -> Result<Form6,
     }
 }
 
-/// A variable, with or without WithEvents before it.
-#[derive(Drop)]
-pub struct EventDeclarator {
-    pub declarator: Declarator6,
-}
+/// Reads a variable, with or without WithEvents before it.
+pub struct EventDeclarator;
 
 impl Item for EventDeclarator {
+    type Part = Declarator6;
+
     ghost use Rattle.vb_tree.specs.Tree.{Declarator};
     ghost use Rattle.vb_tree.specs.View.{declarator_of};
     ghost use Rattle.declaration_forms.specs.DeclarationForms.{IsEventDeclarator};
@@ -57,41 +56,24 @@ impl Item for EventDeclarator {
 
     ghost Plain = { Declarator };
 
-    ghost view = { λ e. declarator_of e.declarator };
+    ghost view = { declarator_of };
 
     ghost Is = { IsEventDeclarator };
 
     ghost depth = { declarator_depth };
 
-    fn read(alloc: Global, tokens: &[Token]) -> Result<EventDeclarator, PartFail> {
-        match Declarator6::read(alloc, past_word(tokens, b"withevents")) {
-            Ok(declarator) => Ok(EventDeclarator { declarator }),
-            Err(e) => Err(e),
-        }
+    fn read(alloc: Global, tokens: &[Token]) -> Result<Declarator6, PartFail> {
+        Declarator6::read(alloc, past_word(tokens, b"withevents"))
     }
 }
 
-// The line as its tokens, where the part that it is told by stands there, however deep.
-fn kept<T: Drop>(
-    alloc: Global,
-    opens: Option<ProcKind>,
-    line: &[Token],
-    part: Result<T, PartFail>,
-) -> Result<Form6, PartFail>
-    ensures { IsKeptFor (opaque opens line.now) part result }
+fn events_line(alloc: Global, word: VarWord, rest: &[Token]) -> Result<Form6, PartFail>
+    ensures { Answers form_of (VariablesLine IsEventDeclarator rest.now (event_variables word)) form_depth result }
 {
-    match part {
-        Ok(_) => Ok(opaque(alloc, opens, line)?),
-        Err(PartFail::TooDeep) => Ok(opaque(alloc, opens, line)?),
-        Err(PartFail::NotFound) => Err(PartFail::NotFound),
-        Err(PartFail::Mem) => Err(PartFail::Mem),
+    match list::<EventDeclarator>(alloc, rest) {
+        Ok(declarators) => Ok(Form6::EventVariables(word, declarators)),
+        Err(e) => Err(e),
     }
-}
-
-fn events_line(alloc: Global, line: &[Token], rest: &[Token]) -> Result<Form6, PartFail>
-    ensures { Answers form_of (VariablesLine IsEventDeclarator rest.now (λ ds. opaque None line.now)) form_depth result }
-{
-    kept(alloc, None, line, list::<EventDeclarator>(alloc, rest))
 }
 
 fn constants_line(
@@ -235,25 +217,26 @@ fn outlined_static(
     kind: ProcKind,
     seen: Option<Visibility>,
     outline: Outlined,
-    line: &[Token],
 ) -> Result<Form6, PartFail>
-    ensures { Answers form_of (HeadLine kind seen (λ s r. opaque (Some kind) line.now) (outlined_now outline.entry)) form_depth result }
+    ensures { Answers form_of (HeadLine kind seen (static_head kind) (outlined_now outline.entry)) form_depth result }
 {
-    kept(alloc, Some(kind), line, head_in(alloc, kind, seen, outline))
+    match head_in(alloc, kind, seen, outline) {
+        Ok(Head { signature, ty }) => Ok(Form6::StaticHead(kind, signature, ty)),
+        Err(e) => Err(e),
+    }
 }
 
 fn static_line(
     alloc: Global,
     kind: ProcKind,
     seen: Option<Visibility>,
-    line: &[Token],
     rest: &[Token],
 ) -> Result<Form6, PartFail>
-    ensures { Answers form_of (Outlines (HeadLine kind seen (λ s r. opaque (Some kind) line.now)) (outline_of rest.now)) form_depth result }
+    ensures { Answers form_of (Outlines (HeadLine kind seen (static_head kind)) (outline_of rest.now)) form_depth result }
 {
     match outline_of(rest) {
         None => Err(PartFail::NotFound),
-        Some(outline) => outlined_static(alloc, kind, seen, outline, line),
+        Some(outline) => outlined_static(alloc, kind, seen, outline),
     }
 }
 
@@ -288,14 +271,14 @@ fn started(alloc: Global, start: Start, line: &[Token], rest: &[Token]) -> Resul
         Start::Option => options(rest),
         Start::Def(word) => def_line(alloc, word, rest),
         Start::Variables(word) => variables_line(alloc, word, rest),
-        Start::Events => events_line(alloc, line, rest),
+        Start::Events(word) => events_line(alloc, word, rest),
         Start::Constants(seen) => constants_line(alloc, seen, rest),
         Start::Type(seen) => type_line(alloc, seen, rest),
         Start::Enum(seen) => enum_line(alloc, seen, rest),
         Start::Head(kind, seen) => head_line(alloc, kind, seen, rest),
-        Start::StaticHead(kind, seen) => static_line(alloc, kind, seen, line, rest),
+        Start::StaticHead(kind, seen) => static_line(alloc, kind, seen, rest),
         Start::End(kind) => end_form(kind),
-        Start::Opaque => Ok(opaque(alloc, None, line)?),
+        Start::Opaque => Ok(opaque(alloc, line)?),
         Start::Field => field(alloc, rest),
         Start::Member => member(alloc, rest),
     }

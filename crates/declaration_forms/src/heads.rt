@@ -117,6 +117,8 @@ fn param_of(alloc: Global, front: &[Token], value: Option<&[Token]>) -> Result<P
 }
 
 impl Item for Param6 {
+    type Part = Param6;
+
     ghost use Rattle.vb_tree.specs.Tree.{Param};
     ghost use Rattle.vb_tree.specs.View.{param_of};
     ghost use Rattle.declaration_forms.specs.Heads.{IsParam, param_depth};
@@ -142,7 +144,7 @@ fn params_in(alloc: Global, inside: &[Token]) -> Result<Sequence<Param6>, PartFa
 {
     match inside {
         [] => Ok(Sequence::new(alloc)),
-        _ => list(alloc, inside),
+        _ => list::<Param6>(alloc, inside),
     }
 }
 

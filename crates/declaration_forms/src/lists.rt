@@ -10,18 +10,21 @@ use std::alloc::Global;
 use up_base::Sequence;
 use vb_tree::Token;
 
-/// A part of a list that a whole slice of tokens can be.
-pub trait Item: Drop {
+/// How a part of a list is read from its tokens.
+pub trait Item {
+    /// What is read.
+    type Part: Drop;
+
     ghost Plain: { Type 0 };
 
-    ghost view: { Self → Plain };
+    ghost view: { Self.Part → Plain };
 
     ghost Is: { List Token → Plain → Type 0 };
 
     ghost depth: { Plain → ℕ };
 
     /// Reads the part that all of the tokens are.
-    fn read(alloc: Global, tokens: &[Token]) -> Result<Self, PartFail>
+    fn read(alloc: Global, tokens: &[Token]) -> Result<Self::Part, PartFail>
         ensures { Answers view (Is tokens.now) depth result };
 }
 
@@ -42,7 +45,7 @@ fn one_more<T: Drop>(
 }
 
 /// The parts that stand between commas outside of parentheses; all of the tokens are one part where there is none.
-pub fn list<T: Item>(alloc: Global, tokens: &[Token]) -> Result<Sequence<T>, PartFail>
+pub fn list<T: Item>(alloc: Global, tokens: &[Token]) -> Result<Sequence<T::Part>, PartFail>
     ensures { Answers (map T.view) (Each T.Is (pieces Separator.Comma tokens.now)) (deepest T.depth) result }
 {
     let mut so_far = Ok(Sequence::with_capacity(alloc, 1)?);

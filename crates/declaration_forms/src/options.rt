@@ -150,6 +150,8 @@ fn letter_range(piece: &[Token]) -> Option<LetterRange>
 }
 
 impl Item for LetterRange {
+    type Part = LetterRange;
+
     ghost use Rattle.vb_tree.specs.declared.form_parts.LetterRange.{LetterRange};
     ghost use Rattle.declaration_forms.specs.DeclarationForms.{IsRange, flat};
 
@@ -173,7 +175,7 @@ impl Item for LetterRange {
 pub fn def_line(alloc: Global, word: DefWord, rest: &[Token]) -> Result<Form6, PartFail>
     ensures { Answers form_of (DefLine rest.now (def_type word)) form_depth result }
 {
-    match list(alloc, rest) {
+    match list::<LetterRange>(alloc, rest) {
         Ok(ranges) => Ok(Form6::DefType(word, ranges)),
         Err(e) => Err(e),
     }

@@ -5,7 +5,7 @@ ghost use Rattle.std.specs.Cmp.Lexicographic.{pointwise};
 ghost use Rattle.form_parts.specs.Cuts.{open_after};
 ghost use Rattle.form_parts.specs.Now.{both_now, name_now};
 ghost use Rattle.declaration_forms.specs.Now.{tokens_now, twice_now, outline_now};
-ghost use Rattle.declaration_forms.specs.Outlines.{type_words, is_type_word, can_be_declared, declared_name, is_as, typed, is_opening, is_closing, before_closing, in_parentheses, named_outline, outline_of};
+ghost use Rattle.declaration_forms.specs.Outlines.{type_words, is_type_word, can_be_declared, declared_name, is_as, typed, is_opening, is_closing, before_closing, in_parentheses, named_outline, outline_of, field_name, field_outline};
 
 use form_parts::{is_key, name_of};
 use up_base::Name;
@@ -179,5 +179,36 @@ pub fn outline_of(tokens: &[Token]) -> Option<Outlined<'_>>
     match typed(tokens) {
         None => named_outline(None, tokens),
         Some((before, behind)) => named_outline(Some(behind), before),
+    }
+}
+
+// The name of a field: any word, with its suffix.
+fn field_name(token: &Token) -> Option<(&Name, Suffix)>
+    ensures { name_now result ≡ field_name token.now.kind }
+{
+    match &token.kind {
+        TokenKind::Word(name, suffix) => Some((name, *suffix)),
+        TokenKind::Bracketed(name, suffix) => Some((name, *suffix)),
+        _ => None,
+    }
+}
+
+/// The outline of a field of a Type, whose name may be a reserved word or a type word, As among them.
+pub fn field_outline(tokens: &[Token]) -> Option<Outlined<'_>>
+    ensures { outline_now result ≡ field_outline tokens.now }
+{
+    match tokens {
+        [] => None,
+        [first, rest @ ..] => {
+            let (before, behind) = typed(rest)?;
+            let (name, suffix) = field_name(first)?;
+            let inside = in_parentheses(before)?;
+            Some(Outlined {
+                name,
+                suffix,
+                inside,
+                ty: Some(behind),
+            })
+        }
     }
 }

@@ -2,7 +2,7 @@
 ghost use Rattle.std.specs.Prelude.{◌≡◌, ◌∷◌, [], option_map, is_some, ℕ, List};
 ghost use Rattle.declaration_forms.specs.Now.{begun_now, part_now, tokens_now};
 ghost use Rattle.declaration_forms.specs.Words.{lead_of};
-ghost use Rattle.declaration_forms.specs.Starts.{start_of, is_general, is_procedural, general, first_lead, property_kind, property_part, part_of, procedure_part, before_static, head_start, static_start, variables_start, seen_variables, static_variables, property_start, static_line, closed_block, closed_procedure, ends, end_start, procedure_end, plain_start, other_start, declared_start, behind_visibility, seen_start, module_start, seen_constants, seen_in_procedure, local_start, procedure_start, member_start, group_start};
+ghost use Rattle.declaration_forms.specs.Starts.{start_of, is_general, is_procedural, general, first_lead, property_kind, property_part, part_of, procedure_part, before_static, head_start, static_start, variables_start, seen_variables, static_variables, property_start, static_line, closed_block, closed_procedure, ends, end_start, procedure_end, plain_start, other_start, declared_start, behind_visibility, seen_start, module_start, seen_constants, seen_in_procedure, local_start, procedure_start, or_member, member_start, group_start};
 
 use crate::events::has_events;
 use crate::words::{Lead, lead_at};
@@ -31,7 +31,7 @@ pub enum Start {
     Def(DefWord),
     Variables(VarWord),
     /// Variables, some of them with WithEvents.
-    Events,
+    Events(VarWord),
     Constants(Option<Visibility>),
     Type(Option<Visibility>),
     Enum(Option<Visibility>),
@@ -170,7 +170,7 @@ fn variables_start(word: VarWord, rest: &[Token]) -> (Start, &[Token])
     ensures one { result.1.now ≡ (variables_start word rest.now).1 }
 {
     if has_events(rest) {
-        return (Start::Events, rest);
+        return (Start::Events(word), rest);
     }
     (Start::Variables(word), rest)
 }
@@ -380,6 +380,16 @@ fn procedure_start(line: &[Token]) -> Begun<'_>
     }
 }
 
+fn or_member<'a>(start: Start, line: &'a [Token], closing: Begun<'a>) -> Begun<'a>
+    ensures { begun_now result ≡ or_member start line.now (begun_now closing.entry) }
+{
+    match closing {
+        None => Some((start, line)),
+        Some(closing) => Some(closing),
+    }
+}
+
+// A closing line, or else a field or a member: a field may have the name End.
 fn member_start<'a>(
     start: Start,
     lead: Option<Lead>,
@@ -389,7 +399,7 @@ fn member_start<'a>(
     ensures { begun_now result ≡ member_start start lead line.now rest.now }
 {
     match lead {
-        Some(Lead::End) => end_start(rest),
+        Some(Lead::End) => or_member(start, line, end_start(rest)),
         _ => Some((start, line)),
     }
 }

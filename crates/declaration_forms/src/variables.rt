@@ -4,12 +4,12 @@ ghost use Rattle.vb_tree.specs.View.{declarator_of, constant_of, form_of};
 ghost use Rattle.form_parts.specs.Answer.{Answers};
 ghost use Rattle.declaration_forms.specs.DeclarationForms.{form_depth};
 ghost use Rattle.declaration_forms.specs.Now.{tokens_now, outlined_now};
-ghost use Rattle.declaration_forms.specs.Outlines.{outline_of};
+ghost use Rattle.declaration_forms.specs.Outlines.{outline_of, field_outline};
 ghost use Rattle.declaration_forms.specs.Variables.{is_new, type_in, DeclaratorOf, declarator_depth, ConstantOf, constant_depth, FieldOf, IsField, MemberOf, IsMember, Outlines};
 
 use crate::events::{begins_with, past_word};
 use crate::lists::Item;
-use crate::outlines::{Outlined, outline_of};
+use crate::outlines::{Outlined, field_outline, outline_of};
 use crate::wholes::{optional_dimensions, optional_expression, optional_type};
 use form_parts::{Part, PartFail, Separator, both, expression, parted};
 use std::alloc::Global;
@@ -56,6 +56,8 @@ fn declarator(alloc: Global, outline: Outlined) -> Result<Declarator6, PartFail>
 }
 
 impl Item for Declarator6 {
+    type Part = Declarator6;
+
     ghost use Rattle.vb_tree.specs.Tree.{Declarator};
     ghost use Rattle.vb_tree.specs.View.{declarator_of};
     ghost use Rattle.declaration_forms.specs.Variables.{IsDeclarator, declarator_depth};
@@ -106,6 +108,8 @@ fn equal_to(alloc: Global, front: &[Token], value: &[Token]) -> Result<Constant6
 }
 
 impl Item for Constant6 {
+    type Part = Constant6;
+
     ghost use Rattle.vb_tree.specs.Tree.{Constant};
     ghost use Rattle.vb_tree.specs.View.{constant_of};
     ghost use Rattle.declaration_forms.specs.Variables.{IsConstant, constant_depth};
@@ -153,7 +157,7 @@ fn field_in(alloc: Global, outline: Outlined) -> Result<Form6, PartFail>
 pub fn field(alloc: Global, line: &[Token]) -> Result<Form6, PartFail>
     ensures { Answers form_of (IsField line.now) form_depth result }
 {
-    match outline_of(line) {
+    match field_outline(line) {
         None => Err(PartFail::NotFound),
         Some(outline) => field_in(alloc, outline),
     }

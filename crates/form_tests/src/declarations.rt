@@ -99,6 +99,12 @@ enum Wanted {
     Function,
     // A private Property Set.
     Property,
+    // The Friend f with Static, the parameters of Function and an array as its result.
+    Static,
+    // The variables of Global, one of them with WithEvents.
+    Events,
+    // A field with the name End and one bound.
+    End,
 }
 
 fn name(form: &Form6) -> &'static str {
@@ -130,12 +136,13 @@ fn name(form: &Form6) -> &'static str {
         Form6::EndSub => "end sub",
         Form6::EndFunction => "end function",
         Form6::EndProperty => "end property",
-        Form6::Opaque(None, _) => "kept",
-        Form6::Opaque(Some(ProcKind::Sub), _) => "kept sub",
-        Form6::Opaque(Some(ProcKind::Function), _) => "kept function",
-        Form6::Opaque(Some(ProcKind::Get), _) => "kept get",
-        Form6::Opaque(Some(ProcKind::Let), _) => "kept let",
-        Form6::Opaque(Some(ProcKind::Set), _) => "kept set",
+        Form6::StaticHead(ProcKind::Sub, _, _) => "static sub",
+        Form6::StaticHead(ProcKind::Function, _, _) => "static function",
+        Form6::StaticHead(ProcKind::Get, _, _) => "static get",
+        Form6::StaticHead(ProcKind::Let, _, _) => "static let",
+        Form6::StaticHead(ProcKind::Set, _, _) => "static set",
+        Form6::EventVariables(_, _) => "events",
+        Form6::Opaque(_) => "kept",
         _ => "statement",
     }
 }

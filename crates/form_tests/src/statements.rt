@@ -99,7 +99,7 @@ fn name(form: &Form6) -> &'static str {
         Form6::Exit(_) => "exit",
         Form6::ReDim(_, _) => "redim",
         Form6::Erase(_) => "erase",
-        Form6::Opaque(_, _) => "kept",
+        Form6::Opaque(_) => "kept",
         _ => "another",
     }
 }

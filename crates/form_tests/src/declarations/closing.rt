@@ -103,10 +103,21 @@ fn expressions_are_at_most_64_deep(rt: HostRuntime) -> Result<(), Fail> {
 }
 
 #[test]
-fn kept_lines_are_never_too_deep(rt: HostRuntime) -> Result<(), Fail> {
+fn static_heads_and_events_are_at_most_64_deep(rt: HostRuntime) -> Result<(), Fail> {
     let line = "Private WithEvents b As c , d As String *";
-    assert!(rt; depth(&rt, Spot::Module, line, 65, "")? == "kept");
-    assert!(rt; depth(&rt, Spot::Module, "Static Sub a ( Optional b =", 65, " )")? == "kept sub");
+    assert!(rt; depth(&rt, Spot::Module, line, 64, "")? == "events");
+    assert!(rt; depth(&rt, Spot::Module, line, 65, "")? == "deep");
+    assert!(rt; depth(&rt, Spot::Module, "Dim WithEvents a (", 65, " )")? == "deep");
+    let line = "Static Sub a ( Optional b =";
+    assert!(rt; depth(&rt, Spot::Module, line, 64, " )")? == "static sub");
+    assert!(rt; depth(&rt, Spot::Module, line, 65, " )")? == "deep");
+    assert!(rt; depth(&rt, Spot::Module, "Static Function a As String *", 65, "")? == "deep");
+    Ok(())
+}
+
+#[test]
+fn kept_lines_are_never_too_deep(rt: HostRuntime) -> Result<(), Fail> {
+    assert!(rt; depth(&rt, Spot::Module, "Declare Sub a ( b =", 65, " )")? == "kept");
     assert!(rt; depth(&rt, Spot::Module, "Attribute a =", 65, "")? == "attribute");
     Ok(())
 }

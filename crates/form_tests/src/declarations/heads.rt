@@ -41,18 +41,23 @@ const PARAMETERS: [(&str, &str); 15] = [
     ("Sub a ( b ) ( c )", ""),
 ];
 
-const KEPT: [(&str, &str); 20] = [
-    ("Static Sub a", "kept sub"),
-    ("Friend Static Function f ( ) As Long", "kept function"),
-    ("Static Property Get n", "kept get"),
-    ("Static Property Let n ( v )", "kept let"),
-    ("Property Set n ( v ) Static", "kept set"),
-    ("Sub a ( ) Static", "kept sub"),
+const STATIC: [(&str, &str); 13] = [
+    ("Static Sub a", "static sub"),
+    ("Friend Static Function f ( ) As Long", "static function"),
+    ("Static Property Get n", "static get"),
+    ("Static Property Let n ( v )", "static let"),
+    ("Property Set n ( v ) Static", "static set"),
+    ("Sub a ( ) Static", "static sub"),
     ("Static Sub a Static", ""),
     ("Static Sub a As Long", ""),
     ("Global Static Sub a", ""),
     ("Static Public Sub a", ""),
     ("Public Static a", ""),
+    ("Static Sub Date", ""),
+    ("Static Sub [Date]", "static sub"),
+];
+
+const KEPT: [(&str, &str); 9] = [
     ("Declare Function f Lib 1", "kept"),
     ("Private Declare Sub s", "kept"),
     ("Friend Declare Sub s", ""),
@@ -75,6 +80,11 @@ fn parameters_are_told_from_their_words(rt: HostRuntime) -> Result<(), Fail> {
 }
 
 #[test]
+fn heads_can_be_static(rt: HostRuntime) -> Result<(), Fail> {
+    check(&rt, rt.alloc(), Spot::Module, &STATIC)
+}
+
+#[test]
 fn lines_are_kept_as_their_tokens(rt: HostRuntime) -> Result<(), Fail> {
     check(&rt, rt.alloc(), Spot::Module, &KEPT)
 }
@@ -84,6 +94,9 @@ fn heads_have_their_parts(rt: HostRuntime) -> Result<(), Fail> {
     let alloc = rt.alloc();
     let line = "Friend Function f ( Optional ByRef a , ByVal b ( ) , ParamArray c ) As Long ( )";
     assert!(rt; has_parts(alloc, Spot::Module, line, Wanted::Function)?);
+    let line =
+        "Friend Static Function f ( Optional ByRef a , ByVal b ( ) , ParamArray c ) As Long ( )";
+    assert!(rt; has_parts(alloc, Spot::Module, line, Wanted::Static)?);
     let line = "Private Property Set n";
     assert!(rt; has_parts(alloc, Spot::Module, line, Wanted::Property)?);
     assert!(rt; !has_parts(alloc, Spot::Module, "Property Set n", Wanted::Property)?);

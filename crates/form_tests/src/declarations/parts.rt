@@ -1,6 +1,6 @@
 use super::{
-    Compare, DefWord, Expr6, Form6, Literal6, Passing, Suffix, TypeName6, VarWord, Visibility,
-    Wanted,
+    Compare, DefWord, Expr6, Form6, Literal6, Passing, ProcKind, Suffix, TypeName6, VarWord,
+    Visibility, Wanted,
 };
 use up_base::{Name, Sequence};
 use vb_tree::{Bounds6, Constant6, Declarator6, Field6, LetterRange, Param6, Result6, Signature6};
@@ -89,6 +89,13 @@ fn is_field(field: &Field6) -> bool {
     is_named(&field.name, "n") && is_dynamic(&field.bounds) && is_text_of_three(&field.ty)
 }
 
+fn is_end(field: &Field6) -> bool {
+    match &field.bounds {
+        Some(bounds) => is_named(&field.name, "End") && are_one_to_two(bounds),
+        None => false,
+    }
+}
+
 fn are_params(params: &[Param6]) -> bool {
     match params {
         [a, b, c] => {
@@ -122,14 +129,21 @@ pub fn has(form: &Form6, wanted: Wanted) -> bool {
         (Wanted::Global, Form6::Variables(VarWord::Global, declarators)) => {
             are_variables(declarators.as_slice())
         }
+        (Wanted::Events, Form6::EventVariables(VarWord::Global, declarators)) => {
+            are_variables(declarators.as_slice())
+        }
         (Wanted::Constant, Form6::Constants(Some(Visibility::Public), items)) => {
             is_constant(items.as_slice())
         }
         (Wanted::Field, Form6::Field(field)) => is_field(field),
+        (Wanted::End, Form6::Field(field)) => is_end(field),
         (Wanted::Member, Form6::EnumMember(name, Suffix::Absent, Some(value))) => {
             is_named(name, "m") && is_number(value, 4)
         }
         (Wanted::Function, Form6::FunctionHead(signature, Some(ty))) => is_function(signature, ty),
+        (Wanted::Static, Form6::StaticHead(ProcKind::Function, signature, Some(ty))) => {
+            is_function(signature, ty)
+        }
         (Wanted::Property, Form6::SetHead(signature)) => {
             signature.visibility == Some(Visibility::Private) && is_named(&signature.name, "n")
         }

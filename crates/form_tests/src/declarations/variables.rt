@@ -23,7 +23,7 @@ const VARIABLES: [(&str, &str); 20] = [
     ("Friend a", ""),
 ];
 
-const TYPED: [(&str, &str); 18] = [
+const TYPED: [(&str, &str); 19] = [
     ("Dim a As New b", "dim"),
     ("Dim a As New", ""),
     ("Dim New a", ""),
@@ -37,9 +37,10 @@ const TYPED: [(&str, &str); 18] = [
     ("Dim a ( 1", ""),
     ("Dim a ( 1 , )", ""),
     ("Dim a ( 1 To )", ""),
-    ("Private WithEvents a As b", "kept"),
-    ("Dim a , WithEvents b As c", "kept"),
+    ("Private WithEvents a As b", "events"),
+    ("Dim a , WithEvents b As c", "events"),
     ("Dim WithEvents", ""),
+    ("Dim WithEvents Date As b", ""),
     ("Friend WithEvents a As b", ""),
     ("Private WithEvents WithEvents a As b", ""),
 ];
@@ -83,8 +84,30 @@ const FIELDS: [(&str, &str); 13] = [
     ("End If", ""),
 ];
 
-const MEMBERS: [(&str, &str); 9] = [
+const WORDS: [(&str, &str); 16] = [
+    ("End As Long", "field"),
+    ("End ( 3 ) As Long", "field"),
+    ("End% As Long", "field"),
+    ("Type As Integer", "field"),
+    ("Type ( 1 To 2 ) As t", "field"),
+    ("Date As String * 20", "field"),
+    ("Date% As String", "field"),
+    ("Attribute As Long", "field"),
+    ("As As Long", "field"),
+    ("[End] As Long", "field"),
+    ("End", ""),
+    ("End As", ""),
+    ("End Type As Long", ""),
+    ("Type Integer", ""),
+    ("As Long", ""),
+    ("1 As Long", ""),
+];
+
+const MEMBERS: [(&str, &str); 12] = [
     ("a", "member"),
+    ("Date", ""),
+    ("[Date] = 1", "member"),
+    ("End = 1", ""),
     ("a% = 1 + 2", "member"),
     ("a =", ""),
     ("a As Long", ""),
@@ -116,6 +139,11 @@ fn fields_stand_in_a_type(rt: HostRuntime) -> Result<(), Fail> {
 }
 
 #[test]
+fn fields_have_any_word_as_their_name(rt: HostRuntime) -> Result<(), Fail> {
+    check(&rt, rt.alloc(), Spot::TypeGroup, &WORDS)
+}
+
+#[test]
 fn members_stand_in_an_enum(rt: HostRuntime) -> Result<(), Fail> {
     check(&rt, rt.alloc(), Spot::EnumGroup, &MEMBERS)
 }
@@ -125,10 +153,14 @@ fn variables_have_their_parts(rt: HostRuntime) -> Result<(), Fail> {
     let alloc = rt.alloc();
     let line = "Global a% ( 1 To 2 ) , b As New Long";
     assert!(rt; has_parts(alloc, Spot::Module, line, Wanted::Global)?);
+    let line = "Global a% ( 1 To 2 ) , WithEvents b As New Long";
+    assert!(rt; has_parts(alloc, Spot::Module, line, Wanted::Events)?);
     let line = "Public Const a As Long = 7";
     assert!(rt; has_parts(alloc, Spot::Procedure, line, Wanted::Constant)?);
     let line = "n ( ) As String * 3";
     assert!(rt; has_parts(alloc, Spot::TypeGroup, line, Wanted::Field)?);
+    let line = "End ( 1 To 2 ) As Long";
+    assert!(rt; has_parts(alloc, Spot::TypeGroup, line, Wanted::End)?);
     assert!(rt; has_parts(alloc, Spot::EnumGroup, "m = 4", Wanted::Member)?);
     assert!(rt; !has_parts(alloc, Spot::EnumGroup, "m", Wanted::Member)?);
     Ok(())

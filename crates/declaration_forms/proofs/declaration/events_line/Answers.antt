@@ -1,6 +1,5 @@
-use Rattle.vb_tree.specs.View.{declarator_of}
-use Rattle.declaration_forms.proofs.Lines.{events_answer}
+use Rattle.declaration_forms.proofs.Lines.{events_fail}
 use Rattle.declaration_forms.proofs.declaration.events_line.Goals as goal
 
-pub returns : goal.returns
-returns c = events_answer (λ e. declarator_of e.declarator) c.args.line.now c.args.rest.now c.list.result c.kept.result c.list.ensures c.kept.ensures
+pub returns-in-Err : goal.returns-in-Err
+returns-in-Err c = events_fail c.args.word c.args.rest.now c.in-Err.e c.in-Err.ensures
