@@ -8,11 +8,7 @@ use Rattle.net_tree.specs.Tree.{Module, Project}
 use Rattle.net_tree.specs.Declarations.{has_no_comment}
 use Rattle.net_tree.specs.Text.{IsWritable, is_main, is_note, is_support, is_writable_module, written_modules}
 use Rattle.net_writable.specs.Projects.{has_file_name, has_target, is_file, is_writable_project}
-
--- both of two tests pass where their conjunction does
-pub both_pass : (a b : Bool) → (a && b) ≡ true → (a ≡ true) × (b ≡ true)
-both_pass true b h = (refl, h)
-both_pass false b h = absurd (cc h)
+use Rattle.up_base.proofs.Tests.{both_true as both_pass}
 
 is_target : (library without_main : Bool) → has_target library without_main ≡ true → library ≡ without_main
 is_target true true h = refl

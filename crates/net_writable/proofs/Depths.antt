@@ -1,5 +1,5 @@
 -- Depths of expressions, within a room.
-use Rattle.std.proofs.Common.{◌≡◌, ℕ, suc, max, ◌&&◌, Bool, true, false, not, nat_eq, nat_le, refl, ap, sym, ◌∙◌, arith, Global, le-leb, leb-true}
+use Rattle.std.proofs.Common.{◌≡◌, ℕ, suc, max, ◌&&◌, true, false, not, nat_eq, nat_le, refl, ap, sym, ◌∙◌, arith, Global, le-leb, leb-true}
 use Rattle.std.proofs.lemmas.Bool.{lt-leb, leb-false}
 use Rattle.std.specs.Prelude.{Vec, Box}
 use Rattle.net_tree.specs.declared.expression.NetExpr.{NetExpr}
@@ -9,6 +9,7 @@ use Rattle.net_tree.specs.Depth.{depth_exp, depth_exps}
 use Rattle.net_tree.specs.Tree.{Exp, binary, call_of, cast, ctype, dot, lit, me, new_array, new_object, nothing, paren, path, type_of, unary, with_dot}
 use Rattle.net_tree.specs.View.{exp_of, exps_of}
 use Rattle.net_tree.proofs.Views.{exps_hidden}
+use Rattle.up_base.proofs.Tests.{by_test}
 
 no_level : (d : ℕ) → nat_le (suc d) 0 ≡ false
 no_level d = lt-leb (suc d) 0 (omega arith)
@@ -33,10 +34,6 @@ none_within (type_of e t) = no_level (depth_exp e)
 
 pub without_room : (e : Exp) (room : ℕ) → room ≡ 0 → not (nat_eq room 0) ≡ nat_le (depth_exp e) room
 without_room e room h = ap (λ r. not (nat_eq r 0)) h ∙ sym (none_within e) ∙ ap (nat_le (depth_exp e)) (sym h)
-
-by_test : (b : Bool) (P : Bool → Type 0) → (b ≡ true → P true) → (b ≡ false → P false) → P b
-by_test true P y n = y refl
-by_test false P y n = n refl
 
 -- both are within the room just where the deeper one is
 pub both_within : (a b room : ℕ) → nat_le (max a b) room ≡ (nat_le a room && nat_le b room)

@@ -1,5 +1,5 @@
 -- The names of the modules' files, and the files of all modules.
-use Rattle.std.proofs.Common.{◌≡◌, ℕ, Bool, true, false, ◌+◌, ◌&&◌, ◌++◌, List, [], ◌∷◌, length, codes, nat_le, refl, ap, ◌∙◌, arith, le-leb, leb-true}
+use Rattle.std.proofs.Common.{◌≡◌, ℕ, true, ◌+◌, ◌&&◌, ◌++◌, List, [], ◌∷◌, length, codes, nat_le, ap, ◌∙◌, arith, le-leb, leb-true}
 use Rattle.std.specs.List.{list_all}
 use Rattle.std.proofs.Math.Bool.{and-true}
 use Rattle.std.proofs.lemmas.Bool.{lt-leb, leb-false}
@@ -9,11 +9,7 @@ use Rattle.net_tree.specs.Tree.{Project}
 use Rattle.net_tree.specs.Text.{written_modules}
 use Rattle.up_base.specs.Names.{is_name, is_printable}
 use Rattle.net_writable.specs.Projects.{is_file}
-use Rattle.net_writable.proofs.Decided.{both_pass}
-
-by_test : (b : Bool) (P : Bool → Type 0) → (b ≡ true → P true) → (b ≡ false → P false) → P b
-by_test true P y n = y refl
-by_test false P y n = n refl
+use Rattle.up_base.proofs.Tests.{by_test, both_true as both_pass}
 
 has_room : (n : ℕ) → nat_le (n + 3) 512 ≡ nat_le n 509
 has_room n =

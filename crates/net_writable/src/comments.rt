@@ -51,7 +51,7 @@ fn is_one_line(units: &[u16]) -> bool
 }
 
 /// Whether a comment can hold these UTF-16 units: no line end, and no surrogate without its other.
-pub(crate) fn is_comment(units: &[u16]) -> bool
+pub fn is_comment(units: &[u16]) -> bool
     ensures { result ≡ is_comment units.now }
 {
     is_one_line(units) && is_well_formed(units)

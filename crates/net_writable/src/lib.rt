@@ -12,6 +12,7 @@ mod project;
 mod spelling;
 
 pub use blocks::{fits_in, pass};
+pub use comments::is_comment;
 pub use declarations::{
     are_writable_params, can_be_declared, closes, is_get, is_set, is_writable_dim,
     is_writable_field, is_writable_head, is_writable_member,
