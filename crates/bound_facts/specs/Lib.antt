@@ -1,3 +1,15 @@
 pub mod Nodes
 pub mod Items
 pub mod Leading
+pub mod Members
+pub mod Node
+pub mod Parts
+pub mod CanRaise
+pub mod Calls
+pub mod Effects
+pub mod SelfMade
+pub mod Folded
+pub mod Facts
+pub mod Locks
+pub mod Bounds
+pub mod Clean
