@@ -84,6 +84,9 @@ two_pieces start a b to_a to_b p q = rw (q, p) (append_assoc start a b)
 pub three_pieces : (start a b c to_a to_b to_c : List ℕ) → to_a ≡ start ++ a → to_b ≡ to_a ++ b → to_c ≡ to_b ++ c → to_c ≡ start ++ (a ++ b ++ c)
 three_pieces start a b c to_a to_b to_c p q r = rw (r, q, p) (simp append_assoc)
 
+pub four_pieces : (start a b c d to_a to_b to_c to_d : List ℕ) → to_a ≡ start ++ a → to_b ≡ to_a ++ b → to_c ≡ to_b ++ c → to_d ≡ to_c ++ d → to_d ≡ start ++ (a ++ b ++ c ++ d)
+four_pieces start a b c d to_a to_b to_c to_d p q r s = rw (s, r, q, p) (simp append_assoc)
+
 -- a line of two pieces, with its indentation and its end
 pub line_of_two : (start blanks a b end to_blanks to_a to_b to_end : List ℕ) → to_blanks ≡ start ++ blanks → to_a ≡ to_blanks ++ a → to_b ≡ to_a ++ b → to_end ≡ to_b ++ end → to_end ≡ start ++ (blanks ++ (a ++ b) ++ end)
 line_of_two start blanks a b end to_blanks to_a to_b to_end p q r s = rw (s, r, q, p) (simp append_assoc)

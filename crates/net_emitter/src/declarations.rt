@@ -8,7 +8,7 @@ ghost use Rattle.net_tree.specs.Comments.{comment_text};
 ghost use Rattle.net_tree.specs.Expressions.{exp_text, type_text};
 ghost use Rattle.net_tree.specs.Lines.{lines_text};
 ghost use Rattle.net_tree.specs.Declarations.{declared_text, value_text, variable_text, constant_text, dim_text, passing_text, param_text};
-ghost use Rattle.net_tree.specs.Declarations.{params_text, visibility_text, head_text, close_text, procedure_text, part_text};
+ghost use Rattle.net_tree.specs.Declarations.{params_text, visibility_text, head_text, close_text, procedure_text, comments_text, part_text};
 ghost use Rattle.net_tree.specs.Declarations.{access_text, property_head_text, property_text, field_text, structure_text, member_text};
 
 use crate::comments::write_comment;
@@ -20,7 +20,7 @@ use net_tree::{
     NetClose, NetConstant, NetDim, NetExpr, NetField, NetHead, NetMember, NetParam, NetPassing,
     NetProc, NetProperty, NetStructure, NetType, NetVariable, NetVisibility,
 };
-use up_base::{Bytes, Mem, Name};
+use up_base::{Bytes, Mem, Name, Wide};
 
 // Writes a type behind As.
 fn write_as(out: &mut Bytes, ty: &NetType) -> Result<(), Mem>
@@ -223,13 +223,35 @@ fn write_procedure(out: &mut Bytes, depth: usize, procedure: &NetProc) -> Result
     write_close(out, depth, procedure.close)
 }
 
-// Writes a part of a property, where it has it.
-fn write_part(out: &mut Bytes, part: &Option<Box<NetProc>>) -> Result<(), Mem>
-    ensures { OnOk result (out.new ≡ out.old ++ part_text (option_map (λ p. procedure_of p.value) part.now)) }
+/// Writes the line of a comment.
+pub fn write_comment_line(out: &mut Bytes, depth: usize, units: &[u16]) -> Result<(), Mem>
+    ensures { OnOk result (out.new ≡ out.old ++ at_depth depth (comment_text units.now)) }
+{
+    begin_line(out, depth)?;
+    write_comment(out, units)?;
+    end_line(out)
+}
+
+// Writes comments, each a line.
+fn write_comments(out: &mut Bytes, depth: usize, comments: &[Wide]) -> Result<(), Mem>
+    ensures { OnOk result (out.new ≡ out.old ++ comments_text depth comments.now) }
+{
+    for comment in comments {
+        write_comment_line(out, depth, comment.as_slice())?;
+    }
+    Ok(())
+}
+
+// Writes a part of a property, where it has it, with the comments right before it.
+fn write_part(out: &mut Bytes, comments: &[Wide], part: &Option<Box<NetProc>>) -> Result<(), Mem>
+    ensures { OnOk result (out.new ≡ out.old ++ part_text comments.now (option_map (λ p. procedure_of p.value) part.now)) }
 {
     match part {
         None => Ok(()),
-        Some(part) => write_procedure(out, 2, part),
+        Some(part) => {
+            write_comments(out, 2, comments)?;
+            write_procedure(out, 2, part)
+        }
     }
 }
 
@@ -279,14 +301,20 @@ fn write_property_head(out: &mut Bytes, property: &NetProperty) -> Result<(), Me
     )
 }
 
-fn write_property(out: &mut Bytes, property: &NetProperty) -> Result<(), Mem>
-    ensures { OnOk result (out.new ≡ out.old ++ property_text (property_of property.now)) }
+fn write_property_line(out: &mut Bytes, property: &NetProperty) -> Result<(), Mem>
+    ensures { OnOk result (out.new ≡ out.old ++ at_depth 1 (property_head_text (property_of property.now))) }
 {
     begin_line(out, 1)?;
     write_property_head(out, property)?;
-    end_line(out)?;
-    write_part(out, &property.get)?;
-    write_part(out, &property.set)?;
+    end_line(out)
+}
+
+fn write_property(out: &mut Bytes, property: &NetProperty) -> Result<(), Mem>
+    ensures { OnOk result (out.new ≡ out.old ++ property_text (property_of property.now)) }
+{
+    write_property_line(out, property)?;
+    write_part(out, &property.get_comments, &property.get)?;
+    write_part(out, &property.set_comments, &property.set)?;
     write_line(out, 1, b"End Property")
 }
 
@@ -338,15 +366,6 @@ fn write_structure(out: &mut Bytes, structure: &NetStructure) -> Result<(), Mem>
     write_line(out, 1, b"End Structure")
 }
 
-// Writes the line of a comment that is a member.
-fn write_comment_line(out: &mut Bytes, units: &[u16]) -> Result<(), Mem>
-    ensures { OnOk result (out.new ≡ out.old ++ at_depth 1 (comment_text units.now)) }
-{
-    begin_line(out, 1)?;
-    write_comment(out, units)?;
-    end_line(out)
-}
-
 // Writes the line of a variable that is a member.
 fn write_variable_line(
     out: &mut Bytes,
@@ -380,7 +399,7 @@ pub fn write_member(out: &mut Bytes, member: &NetMember) -> Result<(), Mem>
     ensures { OnOk result (out.new ≡ out.old ++ member_text (member_of member.now)) }
 {
     match member {
-        NetMember::Comment(units) => write_comment_line(out, units.as_slice()),
+        NetMember::Comment(units) => write_comment_line(out, 1, units.as_slice()),
         NetMember::Variable(visibility, variable) => {
             write_variable_line(out, *visibility, variable)
         }

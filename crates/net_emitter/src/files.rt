@@ -13,7 +13,7 @@ use crate::layout::{end_line, write_line};
 use crate::names::write_name;
 use net_tree::{NetFiles, NetMember, NetModule, NetProc, NetProject};
 use std::alloc::Global;
-use up_base::{Bytes, Mem, Name, Sequence};
+use up_base::{Bytes, Mem, Name, Sequence, Wide};
 
 /// The files that stand for a project: those of its modules, of its support module, and the compiler's response file.
 pub fn emit(alloc: Global, project: &NetProject) -> Result<NetFiles, Mem>
@@ -29,11 +29,11 @@ pub fn emit(alloc: Global, project: &NetProject) -> Result<NetFiles, Mem>
     Ok(files)
 }
 
-// About how many lines a part of a property has.
-fn part_lines(part: &Option<Box<NetProc>>) -> usize {
+// About how many lines a part of a property has, with the comments before it.
+fn part_lines(comments: &[Wide], part: &Option<Box<NetProc>>) -> usize {
     match part {
         None => 0,
-        Some(part) => procedure_lines(part),
+        Some(part) => procedure_lines(part).saturating_add(comments.len()),
     }
 }
 
@@ -50,8 +50,9 @@ fn member_lines(member: &NetMember) -> usize {
     match member {
         NetMember::Structure(structure) => structure.fields.len().saturating_add(2),
         NetMember::Property(property) => {
-            let parts = part_lines(&property.get).saturating_add(part_lines(&property.set));
-            parts.saturating_add(2)
+            let get = part_lines(&property.get_comments, &property.get);
+            let set = part_lines(&property.set_comments, &property.set);
+            get.saturating_add(set).saturating_add(2)
         }
         NetMember::Proc(procedure) => procedure_lines(procedure),
         _ => 1,

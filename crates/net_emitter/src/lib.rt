@@ -13,8 +13,8 @@ mod names;
 mod words;
 
 pub use declarations::{
-    write_close, write_dim_line, write_field_line, write_head_line, write_member, write_promise,
-    write_structure_head,
+    write_close, write_comment_line, write_dim_line, write_field_line, write_head_line,
+    write_member, write_promise, write_structure_head,
 };
 pub use files::{emit, write_ending, write_opening};
 pub use layout::{begin_line, end_line, write_line};

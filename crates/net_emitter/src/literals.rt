@@ -8,18 +8,7 @@ ghost use Rattle.net_tree.specs.Literals.{quoted_unit, quoted, boolean_text, lit
 
 use crate::characters::write_character;
 use net_tree::NetLit;
-use up_base::{Bytes, Mem};
-
-/// Writes a number in decimal digits.
-pub fn write_number(out: &mut Bytes, n: u128) -> Result<(), Mem>
-    ensures { OnOk result (out.new ≡ out.old ++ decimal n) }
-{
-    if n < 10 {
-        return out.push(48 + n as u8);
-    }
-    write_number(out, n / 10)?;
-    out.push(48 + (n % 10) as u8)
-}
+use up_base::{Bytes, Mem, write_decimal};
 
 // The character of a digit in base 16.
 fn hexadecimal_digit(digit: u8) -> u8
@@ -96,9 +85,9 @@ fn write_signed(out: &mut Bytes, z: i128) -> Result<(), Mem>
 {
     if z < 0 {
         out.push(b'-')?;
-        return write_number(out, z.unsigned_abs());
+        return write_decimal(out, z.unsigned_abs());
     }
-    write_number(out, z as u128)
+    write_decimal(out, z as u128)
 }
 
 // Writes what stands behind an Integer.
@@ -148,7 +137,7 @@ fn write_fraction(out: &mut Bytes, r: u32) -> Result<(), Mem>
 fn write_amount(out: &mut Bytes, n: u128) -> Result<(), Mem>
     ensures { OnOk result (out.new ≡ out.old ++ amount_text n) }
 {
-    write_number(out, n / 10_000)?;
+    write_decimal(out, n / 10_000)?;
     write_fraction(out, (n % 10_000) as u32)
 }
 

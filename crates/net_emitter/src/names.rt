@@ -3,10 +3,9 @@ ghost use Rattle.std.specs.Prelude.{◌≡◌, ◌++◌, map, codes, OnOk};
 ghost use Rattle.net_tree.specs.Spelling.{separated, name_text, is_library_path, path_text, label_text};
 
 use crate::layout::write_separator;
-use crate::literals::write_number;
 use crate::words::is_bracketed;
 use net_tree::NetLabel;
-use up_base::{Bytes, Mem, Name};
+use up_base::{Bytes, Mem, Name, write_decimal};
 
 /// Writes a name, in brackets where it is a word of the language.
 pub fn write_name(out: &mut Bytes, name: &Name) -> Result<(), Mem>
@@ -69,6 +68,6 @@ pub fn write_label(out: &mut Bytes, label: &NetLabel) -> Result<(), Mem>
 {
     match label {
         NetLabel::Word(name) => write_name(out, name),
-        NetLabel::Number(n) => write_number(out, u128::from(*n)),
+        NetLabel::Number(n) => write_decimal(out, u128::from(*n)),
     }
 }
