@@ -1,4 +1,3 @@
 pub mod Ascii
-pub mod Decimals
 mod Examples
 pub mod Pieces

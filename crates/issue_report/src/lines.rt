@@ -1,6 +1,5 @@
 //! The lines of a report.
 ghost use Rattle.std.specs.Prelude.{◌≡◌, ◌<◌, ◌++◌, true, length, IsSome, OnOk};
-ghost use Rattle.std.specs.Fmt.{decimal};
 ghost use Rattle.std.specs.Str.{IsAscii};
 ghost use Rattle.up_base.specs.Names.{is_name};
 ghost use Rattle.up_base.specs.LineEnd.{line_end};
@@ -8,7 +7,7 @@ ghost use Rattle.issue_report.specs.Texts.{rule_text};
 ghost use Rattle.issue_report.specs.Reports.{two_digits, name_of_file, place_text, numbered_rule, issue_line, count_text, part_text, word_text, procedure_name, verdict_line};
 
 use crate::{Part, Verdict, VerdictWord, rule_text};
-use up_base::{Bytes, Issue, Mem, Names, Place};
+use up_base::{Bytes, Issue, Mem, Names, Place, write_decimal};
 
 /// Ends a line.
 pub(crate) fn end_line(out: &mut Bytes) -> Result<(), Mem>
@@ -17,23 +16,12 @@ pub(crate) fn end_line(out: &mut Bytes) -> Result<(), Mem>
     out.extend_from_slice(b"\r\n")
 }
 
-// Writes a number in decimal digits.
-fn write_number(out: &mut Bytes, n: u64) -> Result<(), Mem>
-    ensures { OnOk result (out.new ≡ out.old ++ decimal n) }
-{
-    if n < 10 {
-        return out.push(48 + n as u8);
-    }
-    write_number(out, n / 10)?;
-    out.push(48 + (n % 10) as u8)
-}
-
 /// Writes how many there are of something, after what it is.
 pub(crate) fn write_count(out: &mut Bytes, label: &[u8], count: usize) -> Result<(), Mem>
     ensures { OnOk result (out.new ≡ out.old ++ count_text label.now count) }
 {
     out.extend_from_slice(label)?;
-    write_number(out, count as u64)
+    write_decimal(out, count as u128)
 }
 
 // Writes a number below 100 in two digits.
@@ -63,7 +51,7 @@ fn write_place(out: &mut Bytes, names: &Names, place: Place) -> Result<(), Mem>
 {
     write_file_name(out, names, place.file)?;
     out.push(b'(')?;
-    write_number(out, u64::from(place.line))?;
+    write_decimal(out, u128::from(place.line))?;
     out.push(b')')
 }
 

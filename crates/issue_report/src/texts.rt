@@ -3,27 +3,29 @@ ghost use Rattle.std.specs.Prelude.{◌≡◌, ◌≤◌, IfSome, length};
 ghost use Rattle.std.specs.Option.{option_copied};
 ghost use Rattle.issue_report.specs.Texts.{fault_text, rule_text};
 
+use up_base::faults;
+
 /// The text of a fault, and none where no fault has this number. The faults have the numbers 1 to 15.
 pub fn fault_text(kind: u8) -> Option<&'static [u8]>
     ensures text { option_copied result ≡ fault_text kind }
     ensures short { IfSome result (λ text. length text.now ≤ 34) }
 {
     let text: &'static [u8] = match kind {
-        1 => b"project file not found",
-        2 => b"module file not found",
-        3 => b"size limit passed",
-        4 => b"project line not of its form",
-        5 => b"module name used twice or reserved",
-        6 => b"byte without a character",
-        7 => b"continuation not allowed here",
-        8 => b"literal not closed",
-        9 => b"character that begins no token",
-        10 => b"no line form fits",
-        11 => b"closing line without its opener",
-        12 => b"opening line never closed",
-        13 => b"directive",
-        14 => b"nesting deeper than 64",
-        15 => b"class head not of its form",
+        faults::NO_PROJECT => b"project file not found",
+        faults::NO_MODULE => b"module file not found",
+        faults::TOO_LONG => b"size limit passed",
+        faults::MALFORMED_ENTRY => b"project line not of its form",
+        faults::NAME_USED => b"module name used twice or reserved",
+        faults::NO_CHARACTER => b"byte without a character",
+        faults::MISPLACED_CONTINUATION => b"continuation not allowed here",
+        faults::OPEN_LITERAL => b"literal not closed",
+        faults::NO_TOKEN => b"character that begins no token",
+        faults::NO_FORM => b"no line form fits",
+        faults::NOT_OPEN => b"closing line without its opener",
+        faults::NEVER_CLOSED => b"opening line never closed",
+        faults::DIRECTIVE => b"directive",
+        faults::TOO_DEEP => b"nesting deeper than 64",
+        faults::MALFORMED_HEAD => b"class head not of its form",
         _ => return None,
     };
     Some(text)
