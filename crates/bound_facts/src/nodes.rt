@@ -50,9 +50,9 @@ pub fn push_parts<'a>(node: &'a BoundNode, to: &mut Vec<&'a BoundExpr>) -> Resul
         BoundNode::ErrNumber => Ok(()),
         BoundNode::ErrRaise(of) => Ok(push_nodes(of, to)?),
         BoundNode::ErrClear => Ok(()),
-        BoundNode::Is(a, b) => {
-            push_nodes(a, to)?;
-            push_nodes(b, to)?;
+        BoundNode::Is(first, second) => {
+            push_nodes(first, to)?;
+            push_nodes(second, to)?;
             Ok(())
         }
         BoundNode::Loose(_, _) => Ok(()),
