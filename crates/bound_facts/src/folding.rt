@@ -3,7 +3,8 @@ ghost use Rattle.std.specs.Prelude.{◌≡◌, IfOk};
 ghost use Rattle.vb_tree.specs.BoundView.{type_of};
 ghost use Rattle.vb6_meaning.specs.Values.{coerce, operate};
 ghost use Rattle.bound_tree.specs.View.{expr_of};
-ghost use Rattle.bound_facts.specs.Folded.{binary_row, binary_value, converted_value, folded, given, is_held, unary_row, unary_value};
+ghost use Rattle.bound_facts.specs.Node.{is_variant};
+ghost use Rattle.bound_facts.specs.Folded.{binary_row, binary_value, converted_value, folded, given_value, unary_row, unary_value};
 
 use bound_tree::{BoundExpr, BoundNode};
 use std::alloc::Global;
@@ -51,8 +52,8 @@ fn copy(alloc: Global, value: &Value6) -> Result<Value6, Mem>
     }
 }
 
-fn is_held(ty: &Type6) -> bool
-    ensures { result ≡ is_held (type_of ty.now) }
+fn is_variant(ty: &Type6) -> bool
+    ensures { result ≡ is_variant (type_of ty.now) }
 {
     match ty {
         Type6::Variant => true,
@@ -63,7 +64,7 @@ fn is_held(ty: &Type6) -> bool
 fn unary_row(ty: &Type6, op: UnOp) -> Op6
     ensures { result ≡ unary_row (type_of ty.now) op }
 {
-    if is_held(ty) {
+    if is_variant(ty) {
         Op6::VariantUn(op)
     } else {
         Op6::TypedUn(op)
@@ -73,7 +74,7 @@ fn unary_row(ty: &Type6, op: UnOp) -> Op6
 fn binary_row(first: &Type6, second: &Type6, op: BinOp) -> Op6
     ensures { result ≡ binary_row (type_of first.now) (type_of second.now) op }
 {
-    if is_held(first) || is_held(second) {
+    if is_variant(first) || is_variant(second) {
         Op6::Variant(op)
     } else {
         Op6::Typed(op)
@@ -82,7 +83,7 @@ fn binary_row(first: &Type6, second: &Type6, op: BinOp) -> Op6
 
 // The value that an operator gives.
 fn operated(alloc: Global, op: Op6, a: &Value6, b: &Value6) -> Result<Option<Value6>, Mem>
-    ensures { IfOk result (λ value. value ≡ given (operate op a.now b.now)) }
+    ensures { IfOk result (λ value. value ≡ given_value (operate op a.now b.now)) }
 {
     match operate6(alloc, op, a, b) {
         Ok(value) => Ok(Some(value)),
@@ -94,7 +95,7 @@ fn operated(alloc: Global, op: Op6, a: &Value6, b: &Value6) -> Result<Option<Val
 
 // The value that a conversion gives.
 fn converted(alloc: Global, value: &Value6, to: &Type6) -> Result<Option<Value6>, Mem>
-    ensures { IfOk result (λ value_there. value_there ≡ given (coerce value.now (type_of to.now))) }
+    ensures { IfOk result (λ value_there. value_there ≡ given_value (coerce value.now (type_of to.now))) }
 {
     match coerce6(alloc, value, to) {
         Ok(value) => Ok(Some(value)),
