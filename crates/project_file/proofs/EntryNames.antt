@@ -3,7 +3,7 @@ use Rattle.std.proofs.Common.{◌≡◌, ℕ, suc, ◌+◌, zero, Bool, true, fa
 use Rattle.std.specs.List.{list_all, prefix_len, enumerate_from}
 use Rattle.up_base.specs.Names.{is_name}
 use Rattle.vb_tree.specs.ProjectLines.{ProjectLine, blank, head, entry, type_line, startup_line, not_carried, other, malformed, is_no_head, trimmed, parted, is_head, is_key, is_left_behind, is_module_name, named_entry, entry_line, setting_line, keyed_line, content_line, project_line, numbered_lines, entries_of, read_lines, is_named}
-use Rattle.project_file.proofs.ModuleNames.{both_true}
+use Rattle.up_base.proofs.Tests.{both_true}
 
 -- whether a line, if it is an entry, has such names
 abbrev has_names : ProjectLine → Bool

@@ -11,10 +11,7 @@ use Rattle.vb_tree.specs.declared.project.ProjectFile.{ProjectFile}
 use Rattle.project_file.proofs.EntryNames.{named_entries}
 use Rattle.project_file.proofs.Saying.{earlier_push}
 use Rattle.project_file.proofs.Steps.{read_push, read_stays, fault_here}
-
-not_either : (a b : Bool) → (a || b) ≡ false → (a ≡ false) × (b ≡ false)
-not_either true b h = cc
-not_either false b h = (refl, h)
+use Rattle.up_base.proofs.Tests.{neither}
 
 below_limit : (n : ℕ) → nat_le 200 n ≡ false → n + 1 ≤ 200
 below_limit n h = grind (arith, nat_tests)
@@ -41,7 +38,7 @@ entries_more es n blank f h = none_more es h
 entries_more es n head f h = none_more es h
 entries_more es n (entry class name file) f h =
     let e : Entry = record { line = n; class = class; name = name; file = file } in
-    let fits = below_limit (length es) (not_either (nat_le 200 (length es)) false (f 3)).0 in
+    let fits = below_limit (length es) (neither (nat_le 200 (length es)) false (f 3)).0 in
     record { few = subst (λ k. k ≤ 200) (sym (length-append es (e ∷ []))) fits; apart = apart_push es e h.apart (f 5) }
 entries_more es n (type_line value) f h = none_more es h
 entries_more es n (startup_line value) f h = none_more es h
@@ -51,7 +48,7 @@ entries_more es n malformed f h = none_more es h
 
 form_right : (a c h f : Bool) → ((a && c) || (not h && f)) ≡ false → h ≡ false → f ≡ false
 form_right a c true f g e = cc
-form_right a c false f g e = (not_either (a && c) f g).1
+form_right a c false f g e = (neither (a && c) f g).1
 
 abbrev AreRightIn : List (List ℕ) → Type 0
 AreRightIn lines = AreRight (entries_of (read_lines lines))

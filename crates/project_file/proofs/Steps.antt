@@ -12,6 +12,7 @@ use Rattle.vb_tree.specs.declared.project.ProjectFile.{ProjectFile}
 use Rattle.vb_tree.specs.ProjectLines.{lines_of, file_of, IsProjectAnswer, is_no_head, project_line, numbered_lines, read_lines, has_head, entries_of, is_control, form_fault, line_fault, fault_on, is_fault, ComesFirst, IsFirstFault, HasNoFault}
 use Rattle.project_file.specs.declared.reading.ProjectReading.{ProjectReading}
 use Rattle.project_file.specs.Reading.{OnFault, IsAtLine, HasSaid, TakesLine, HasNoFormFault, IsFirstKind, HasRead, HasReadTo, ReadsLine, IsFirstOfLine}
+use Rattle.up_base.proofs.Tests.{not_true, not_false}
 
 -- ---- numbered lines
 
@@ -47,18 +48,10 @@ while_stops {X} p (x ∷ xs) ys h = take_while-cons p x (xs ++ ys) ∙ by (p x) 
 while_all : {X : Type 0} (p : X → Bool) (xs : List X) → list_all p xs ≡ true → take_while p xs ≡ xs
 while_all p xs h = sym (ap (take_while p) (append-nil xs)) ∙ while_passes p xs [] h ∙ append-nil xs
 
-not_not : (b : Bool) → not b ≡ false → b ≡ true
-not_not true h = refl
-not_not false h = cc
-
-not_true : (b : Bool) → not b ≡ true → b ≡ false
-not_true true h = cc
-not_true false h = refl
-
 -- a line more before the first head
 pub read_push : (earlier : List (List ℕ)) (line : List ℕ) (n : ℕ) → n ≡ length earlier + 1 → has_head earlier ≡ false → read_lines (earlier ++ line ∷ []) ≡ read_lines earlier ++ take_while is_no_head ((n, project_line line) ∷ [])
 read_push earlier line n e h =
-    let all = not_not (list_all is_no_head (numbered_lines earlier)) h in
+    let all = not_false (list_all is_no_head (numbered_lines earlier)) h in
     ap (take_while is_no_head) (numbered_push earlier line n e) ∙ while_passes is_no_head (numbered_lines earlier) ((n, project_line line) ∷ []) all
     ∙ ap (λ l. l ++ take_while is_no_head ((n, project_line line) ∷ [])) (sym (while_all is_no_head (numbered_lines earlier) all))
 

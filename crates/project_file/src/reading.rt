@@ -9,17 +9,8 @@ ghost use Rattle.project_file.specs.Reading.{OnFault, HasRead, IsAtLine, AddsLin
 use crate::lines::{CARRIAGE_RETURN, LINE_FEED, bytes_of, first_line, is_text, wide};
 use crate::project_line::{LineText, line_in};
 use std::alloc::Global;
-use up_base::{Fault, Mem, Name, Place, ReadFail, Sequence, Wide};
+use up_base::{Fault, Mem, Name, Place, ReadFail, Sequence, Wide, faults};
 use vb_tree::{Entry, ProjectFile, ProjectKind};
-
-// The numbers of the faults of a project file.
-const PAST_LIMIT: u8 = 3;
-
-const MALFORMED: u8 = 4;
-
-const NAME_USED: u8 = 5;
-
-const CONTROL_UNIT: u8 = 6;
 
 // The most modules and classes of a project.
 const ENTRY_LIMIT: usize = 200;
@@ -110,7 +101,7 @@ impl ProjectReading {
         ensures fault { OnFault result (λ f. IsAtLine number f × IsFirstOfLine line.now f.kind self.old) }
     {
         if has_control(line) {
-            return Err(fault(number, CONTROL_UNIT));
+            return Err(fault(number, faults::NO_CHARACTER));
         }
         if self.has_ended {
             return Ok(());
@@ -136,7 +127,7 @@ impl ProjectReading {
             LineText::Startup(value) => self.take_startup(alloc, number, value)?,
             LineText::NotCarried => self.file.dropped.push(number)?,
             LineText::Other => {}
-            LineText::Malformed => return Err(fault(number, MALFORMED)),
+            LineText::Malformed => return Err(fault(number, faults::MALFORMED_ENTRY)),
         }
         Ok(())
     }
@@ -157,11 +148,11 @@ impl ProjectReading {
         ensures fault { OnFault result (λ f. IsAtLine number f × IsFirstKind (form_fault self.old.file.entries (entry class name.now file.now)) f.kind) }
     {
         if self.file.entries.len() >= ENTRY_LIMIT {
-            return Err(fault(number, PAST_LIMIT));
+            return Err(fault(number, faults::TOO_LONG));
         }
         let name = name_of(alloc, name)?;
         if is_taken(self.file.entries.as_slice(), &name) {
-            return Err(fault(number, NAME_USED));
+            return Err(fault(number, faults::NAME_USED));
         }
         let file = name_of(alloc, file)?;
         self.file.entries.push(Entry {
