@@ -27,7 +27,7 @@ use Rattle.std.proofs.lemmas.Bool.Decides.{nat_tests}
 use Rattle.vb_tree.specs.declared.value.Value6.TheVariants as v
 use Rattle.vb6_meaning.specs.Bits.{bit, with_lowest, of_sign, from_bits, bitwise}
 use Rattle.vb6_meaning.specs.Values.{both, either, one_alone, alike, implies, complement}
-use Rattle.meaning_laws.proofs.BitLimits.{bits_fit}
+use Rattle.vb6_meaning.proofs.BitLimits.{bits_fit}
 use Rattle.vb6_meaning.proofs.Limits.{complement_fits}
 use Rattle.vb6_meaning.proofs.TwosComplement.{from_bits_same}
 use Rattle.net_meaning.specs.Whole as checking

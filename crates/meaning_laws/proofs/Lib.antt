@@ -8,7 +8,6 @@ pub mod Arithmetic
 pub mod WholeRows
 pub mod Division
 pub mod Comparison
-pub mod BitLimits
 pub mod BitRows
 pub mod TextRows
 pub mod ConversionRows
