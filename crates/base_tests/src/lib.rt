@@ -1,11 +1,14 @@
-//! Tests of the base, of the trees' flat lines, of reports and of project files, each through its public calls.
+//! Tests of what stored runs can't show: the real folder, outlet and console with their failures, what never fails,
+//! expressions of a million tokens, and calls that no run makes yet: reports with verdicts, and what chains of pairs reach.
 #![tactic(auto)]
 
 #[cfg(test)]
-mod base;
+mod adapters;
 #[cfg(test)]
-mod project_files;
+mod bytes;
+#[cfg(test)]
+mod expressions;
+#[cfg(test)]
+mod reach;
 #[cfg(test)]
 mod reports;
-#[cfg(test)]
-mod trees;

@@ -1,8 +1,9 @@
+//! Reports with verdicts, which no run writes yet, and the texts of all rules.
 ghost use Rattle.std.specs.Prelude.{◌<◌, length, IsSome, IsTrue};
 ghost use Rattle.std.specs.List.{All};
 ghost use Rattle.issue_report.specs.Texts.{rule_text};
 
-use issue_report::{Part, Verdict, VerdictWord, fault_text, report, report2, rule_text};
+use issue_report::{Part, Verdict, VerdictWord, report2, rule_text};
 use std::alloc::Global;
 use std::process::Abort;
 use std::test::Fail;
@@ -104,7 +105,7 @@ fn verdicts_are_named(verdicts: &[Verdict], names: &Names) -> bool
 }
 
 #[test]
-fn writes_reports(rt: HostRuntime) -> Result<(), Fail> {
+fn writes_reports_with_verdicts(rt: HostRuntime) -> Result<(), Fail> {
     let alloc = rt.alloc();
     let names = names(alloc)?;
     let rows: [(&[IssueRow], &[VerdictRow], &str, &str); 3] = [
@@ -123,41 +124,11 @@ fn writes_reports(rt: HostRuntime) -> Result<(), Fail> {
         assert!(rt; are_named(issues.as_slice(), &names));
         assert!(rt; have_texts(issues.as_slice()));
         assert!(rt; verdicts_are_named(&verdicts, &names));
-        let first = report(alloc, &issues, &names)?;
-        let expected = format!(in alloc; "Upgrade report 1\r\n{issue_text}")?;
-        assert_eq!(rt; first.as_slice(), expected.as_bytes());
-        let second = report2(alloc, &issues, &names, &verdicts)?;
+        let report = report2(alloc, &issues, &names, &verdicts)?;
         let expected = format!(in alloc; "Upgrade report 2\r\n{issue_text}{verdict_text}")?;
-        assert_eq!(rt; second.as_slice(), expected.as_bytes());
+        assert_eq!(rt; report.as_slice(), expected.as_bytes());
     }
     Ok(())
-}
-
-#[test]
-fn has_a_text_for_each_fault(rt: HostRuntime) {
-    let texts: [(u8, &str); 15] = [
-        (1, "project file not found"),
-        (2, "module file not found"),
-        (3, "size limit passed"),
-        (4, "project line not of its form"),
-        (5, "module name used twice or reserved"),
-        (6, "byte without a character"),
-        (7, "continuation not allowed here"),
-        (8, "literal not closed"),
-        (9, "character that begins no token"),
-        (10, "no line form fits"),
-        (11, "closing line without its opener"),
-        (12, "opening line never closed"),
-        (13, "directive"),
-        (14, "nesting deeper than 64"),
-        (15, "class head not of its form"),
-    ];
-    for (kind, text) in texts {
-        assert!(rt; fault_text(kind) == Some(text.as_bytes()), "F{kind:02}");
-    }
-    for kind in [0, 16, 26, 98, 99, 100, 255] {
-        assert!(rt; fault_text(kind).is_none(), "F{kind:02}");
-    }
 }
 
 #[test]

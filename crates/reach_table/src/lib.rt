@@ -6,8 +6,6 @@ mod arrows;
 mod partition;
 mod reach;
 mod steps;
-#[cfg(test)]
-mod tests;
 mod worklist;
 
 pub use arrows::Arrows;

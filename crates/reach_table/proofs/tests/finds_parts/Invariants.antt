@@ -1,4 +1,0 @@
-use Rattle.reach_table.proofs.tests.finds_parts.Given as goal
-
-abbrev pub ghosts-parts_of : goal.ghosts-parts_of
-ghosts-parts_of g a = record { name = a.blank.name; parts = a.blank.parts }
