@@ -23,17 +23,10 @@ build() {
     [ "$status" -ne 100 ]
 }
 
-# Builds the counter of logical lines and tokens where need be; a count of lines says that it was built.
-lexer="$root/crates/lex_count/out/lex_count"
-build_lexer() {
-    (cd "$root/crates/lex_count" && rt run <stdin) >"$work/built" 2>&1
-    tail -n 1 "$work/built" | grep -q '^lines '
-}
-
-# Builds the program that emits a long project where need be, and emits a short one.
-emitter="$root/crates/emit_bench/out/emit_bench"
-build_emitter() {
-    (cd "$root/crates/emit_bench" && rt run -- 1 1) >"$work/built" 2>&1
+# Builds the program that measures the lexer, the emitter and the reader where need be, and emits a short project.
+parts="$root/crates/bench_parts/out/bench_parts"
+build_parts() {
+    (cd "$root/crates/bench_parts" && rt run -- emit 1 1 0) >"$work/built" 2>&1
     tail -n 1 "$work/built" | grep -q '^files '
 }
 
@@ -135,8 +128,8 @@ measure_lexer() {
     local file="$1" bytes
     bytes="$(wc -c <"$file")"
     for ((run = 1; run <= runs; run++)); do
-        measure sh -c '"$1" <"$2"' sh "$lexer" "$file"
-        print_figures "lex_count" "$bytes" "over 20 MB/s, and peak/read under 10"
+        measure sh -c '"$1" lex <"$2"' sh "$parts" "$file"
+        print_figures "lexer" "$bytes" "over 20 MB/s, and peak/read under 10"
     done
     if ctags --version 2>/dev/null | grep -q '^Universal Ctags'; then
         for ((run = 1; run <= runs; run++)); do
@@ -147,31 +140,31 @@ measure_lexer() {
 }
 
 # Measures the emitter on a project of so many lines that is emitted once, and more often. The time of the last line is the
-# difference of both, which leaves out that the project is built and let go of.
+# difference of both, which leaves out that the project is read and let go of.
 measure_emitter() {
     local lines="$1" times="$2" once all whole
     for ((run = 1; run <= runs; run++)); do
-        once="$("$emitter" "$lines" 1 | sed 's/.*bytes \([0-9]*\).*/\1/')"
-        measure "$emitter" "$lines" 1
+        once="$("$parts" emit "$lines" 1 0 | sed 's/.*bytes \([0-9]*\).*/\1/')"
+        measure "$parts" emit "$lines" 1 0
         print_figures "emit 1 time" "$once" ""
         whole="$seconds"
         all=$((once * times))
-        measure "$emitter" "$lines" "$times"
+        measure "$parts" emit "$lines" "$times" 0
         print_figures "emit $times times" "$all" ""
         seconds="$(awk -v a="$whole" -v b="$seconds" 'BEGIN { printf "%.4f", b - a }')"
         print_figures "emitter" "$((all - once))" "the difference"
     done
 }
 
-# Measures the reader on the files of a project of so many lines that are read so often. The time of the last line leaves out
-# that the project is built, emitted and let go of.
+# Measures the reader on the files of a project of so many lines that are read once, and so often more. The time of the last
+# line leaves out that they are made, read once and emitted.
 measure_reader() {
     local lines="$1" times="$2" read whole
     for ((run = 1; run <= runs; run++)); do
-        measure "$emitter" "$lines" 1
+        measure "$parts" emit "$lines" 1 0
         whole="$seconds"
-        read="$("$emitter" "$lines" 1 "$times" | sed 's/.*read //')"
-        measure "$emitter" "$lines" 1 "$times"
+        read="$("$parts" emit "$lines" 1 "$times" | sed 's/.*read //')"
+        measure "$parts" emit "$lines" 1 "$times"
         print_figures "read $times times" "$read" ""
         seconds="$(awk -v a="$whole" -v b="$seconds" 'BEGIN { printf "%.4f", b - a }')"
         print_figures "reader" "$read" "the difference"
@@ -179,8 +172,7 @@ measure_reader() {
 }
 
 build
-build_lexer
-build_emitter
+build_parts
 mkdir "$work/hello" "$work/large" "$work/sums" "$work/office"
 cp "$root"/examples/hello/{Hello.vbp,Main1.bas} "$work/hello/"
 write_project "$work/large" Large '' '    Debug.Print "line %06d of a generated module"\r\n'
