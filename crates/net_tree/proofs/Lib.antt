@@ -3,3 +3,4 @@ pub mod TypeDepths
 mod Examples
 pub mod WrittenLines
 mod LineTexts
+pub mod Characters
