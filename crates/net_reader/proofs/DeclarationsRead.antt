@@ -180,7 +180,7 @@ function_reads v name params t h k l =
     ∙ ap (option_map (λ (t : TypeName × List ℕ). function v name params t.0)) (type_reads_all t l)
 
 abbrev pub without_parts : NetVisibility → List ℕ → List Param → TypeName → Property
-without_parts v name params t = record { visibility = v; name = name; params = params; ty = t; get = Option.None; set = Option.None }
+without_parts v name params t = record { visibility = v; name = name; params = params; ty = t; get_comments = []; get = Option.None; set_comments = []; set = Option.None }
 
 pub property_reads : (v : NetVisibility) (name : List ℕ) (params : List Param) (t : TypeName) →
     is_identifier name ≡ true → list_all is_writable_param params ≡ true → is_writable_type t ≡ true →

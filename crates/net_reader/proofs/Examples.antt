@@ -304,6 +304,16 @@ missing_part : module_in Option.None (codes "M") half_property ≡ stuck 8
 unfolding line_words name_words basic_type_of is_bracketed
 missing_part = refl
 
+-- a comment before a part that gets, and one that no part follows
+abbrev late_comment : List ℕ
+late_comment =
+    byte_order_mark ++ options_text ++ at_depth 0 (codes "Public Module M") ++ at_depth 1 (codes "Public ReadOnly Property P() As Object") ++ at_depth 2 (codes "'a")
+    ++ at_depth 2 (codes "Get") ++ at_depth 2 (codes "End Get") ++ at_depth 2 (codes "'b") ++ at_depth 1 (codes "End Property") ++ at_depth 0 (codes "End Module")
+
+part_behind : module_in Option.None (codes "M") late_comment ≡ stuck 9
+unfolding line_words name_words basic_type_of is_bracketed
+part_behind = refl
+
 -- a line that isn't indented by its depth
 abbrev indented_less : List ℕ
 indented_less =

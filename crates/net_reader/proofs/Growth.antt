@@ -4,7 +4,7 @@ use Rattle.std.specs.Prelude.{IfSome, drop, option_and_then, option_map}
 use Rattle.std.specs.List.{flat_map}
 use Rattle.std.proofs.lemmas.Option.{MatchOption-at_some}
 use Rattle.net_tree.specs.declared.declaration.NetVisibility.{NetVisibility}
-use Rattle.net_tree.specs.Comments.{comment_text}
+use Rattle.net_tree.specs.Comments.{comment_text, is_comment}
 use Rattle.net_tree.specs.Lines.{lines_text}
 use Rattle.net_tree.specs.Declarations.{close_text, constant_text, dim_text, part_text, property_head_text, variable_text, visibility_text, field_text, head_text, is_get, is_set, is_writable_field, is_writable_head, is_writable_member, member_text}
 use Rattle.net_tree.specs.Spelling.{at_depth, is_identifier}
@@ -18,14 +18,14 @@ use Rattle.net_exprs.specs.Types.{type_at}
 use Rattle.net_exprs.proofs.Words.{both_true}
 use Rattle.net_reader.specs.DeclarationReader.{Signature, constant_in, field_at, function_in, property_in, set_in, signature_at, sub_in, variable_in, visibility_of}
 use Rattle.net_reader.specs.FileLines.{text_of_line, units_in}
-use Rattle.net_reader.specs.Fits.{fits_field, fits_head, fits_member}
+use Rattle.net_reader.specs.Fits.{fits_field, fits_head, fits_member, fits_text}
 use Rattle.net_reader.specs.Laws.{IsNoteKnown}
-use Rattle.net_reader.specs.ModuleReader.{Access, NotedModule, Promised, State, among_members, at_front, behind_part, behind_procedure, both_parts, ended, first_step, front_lines, front_step, get_taken, grown, head_taken, headed, in_front, in_part, in_procedure, in_property, in_structure, is_kept, is_line, member_by, member_of, member_step, member_taken, module_end_text, module_head_text, note_in, opened, promised_text, property_by, property_taken, read_only, set_taken, step, structure_by, structure_head_text, structure_taken, with_field, with_member, write_only}
+use Rattle.net_reader.specs.ModuleReader.{Access, NotedModule, Promised, State, among_members, at_front, behind_part, behind_procedure, both_parts, ended, first_step, front_lines, front_step, get_taken, grown, head_taken, headed, in_front, in_part, in_procedure, in_property, in_structure, is_kept, is_line, member_by, member_of, member_step, member_taken, module_end_text, module_head_text, note_in, opened, promise, promised_text, property_by, property_taken, read_only, set_taken, step, structure_by, structure_head_text, structure_taken, with_comment, with_field, with_member, write_only}
 use Rattle.net_reader.specs.Words as w
 use Rattle.net_reader.specs.Words.{behind_word, keyword_at}
 use Rattle.net_reader.proofs.BodiesGrow.{body_grows}
 use Rattle.net_reader.proofs.FileCuts.{ends_line}
-use Rattle.net_reader.proofs.MembersGrow.{or_true, field_holds, member_holds, part_begins, part_grows, procedure_begins, procedure_grows, property_begins, property_ends, structure_begins, structure_ends}
+use Rattle.net_reader.proofs.MembersGrow.{bare, comment_holds, or_true, field_holds, member_holds, part_begins, part_grows, procedure_begins, procedure_grows, property_begins, property_ends, structure_begins, structure_ends}
 use Rattle.net_reader.proofs.SoFar.{Grows, GrowsTo, Holds, IsAmongMembers, IsAtFront, IsInFront, IsInProperty, IsInStructure, front_text, structure_front, may_get, may_set}
 use Rattle.net_reader.proofs.TakenLines.{any_found, depth_ends, ends_behind, found_makes, if_makes, line_makes, line_too_makes, map_makes, taken_makes, then_makes}
 use Rattle.net_reader.proofs.Tests.{and_true}
@@ -36,22 +36,22 @@ member_text_ends (member_comment units) = depth_ends 1 (comment_text units)
 member_text_ends (variable visibility v) = depth_ends 1 (visibility_text visibility ++ variable_text v)
 member_text_ends (const_member visibility c) = depth_ends 1 (visibility_text visibility ++ constant_text c)
 member_text_ends (structure s) = ends_behind (structure_front s) (at_depth 1 (codes "End Structure")) refl
-member_text_ends (property p) = ends_behind (at_depth 1 (property_head_text p) ++ part_text p.get ++ part_text p.set) (at_depth 1 (codes "End Property")) refl
+member_text_ends (property p) = ends_behind (at_depth 1 (property_head_text p) ++ part_text p.get_comments p.get ++ part_text p.set_comments p.set) (at_depth 1 (codes "End Property")) refl
 member_text_ends (proc p) =
     ends_behind (at_depth 1 (head_text p.head) ++ flat_map (λ (d : Dim). at_depth 2 (dim_text d)) p.prologue ++ lines_text 2 p.lines) (at_depth 1 (close_text p.close))
     (depth_ends 1 (close_text p.close))
 
 -- a property that is begun has no part
 abbrev HasNoParts : Property → Type 0
-HasNoParts p = (p.get ≡ None) × (p.set ≡ None)
+HasNoParts p = bare p ≡ p
 
 no_parts : (visibility : NetVisibility) (text : List ℕ) → IfSome (property_in visibility text) HasNoParts
 no_parts visibility text =
     then_makes _ HasNoParts (λ s. typed s.0 s.1) (signature_at text)
   where
     typed : (s : Signature) (text : List ℕ) →
-        IfSome (option_map (λ (t : TypeName × List ℕ). record { visibility = visibility; name = s.name; params = s.params; ty = t.0; get = None; set = None }) (type_at (drop 4 text))) HasNoParts
-    typed s text = map_makes _ (λ t. Unit {0}) HasNoParts (λ t h. (refl, refl)) (type_at (drop 4 text)) (any_found (type_at (drop 4 text)))
+        IfSome (option_map (λ (t : TypeName × List ℕ). record { visibility = visibility; name = s.name; params = s.params; ty = t.0; get_comments = []; get = None; set_comments = []; set = None }) (type_at (drop 4 text))) HasNoParts
+    typed s text = map_makes _ (λ t. Unit {0}) HasNoParts (λ t h. refl) (type_at (drop 4 text)) (any_found (type_at (drop 4 text)))
 
 -- ---- the front of a file
 
@@ -109,10 +109,12 @@ module _ (known : Option (Option (List ℕ))) (name : List ℕ) (is_name : is_id
   property_gives : (bytes line : List ℕ) (m : NotedModule) (access : Access) (visibility : NetVisibility) (text : List ℕ) → IsAmongMembers known name bytes m →
       Gives bytes line (property_taken m access line (property_in visibility text))
   property_gives bytes line m access visibility text is =
-      found_makes _ _ (λ (p : Property). in_property m (record { access = access; tree = p })) HasNoParts (Grows known name bytes)
+      found_makes _ _ (λ (p : Property). in_property m (promise access p)) HasNoParts (Grows known name bytes)
       (λ p none h. record {
-        holds = property_begins known name bytes m (record { access = access; tree = p }) is none.0 none.1 h;
-        ends = depth_ends 1 (promised_text (record { access = access; tree = p }));
+        holds =
+            subst (λ (t : Property). IsInProperty known name (bytes ++ at_depth 1 (promised_text (promise access t))) m (promise access t)) none
+            (property_begins known name bytes m access p is h);
+        ends = depth_ends 1 (promised_text (promise access p));
       })
       line (property_in visibility text) (no_parts visibility text)
 
@@ -186,14 +188,22 @@ module _ (known : Option (Option (List ℕ))) (name : List ℕ) (is_name : is_id
       record { holds = part_begins known name bytes m p x is next two.1 three.1; ends = depth_ends 2 (head_text x) })
       line (set_in (drop 3 (text_of_line line)))
 
+  comment_gives : (bytes line : List ℕ) (m : NotedModule) (p : Promised) → IsInProperty known name bytes m p → Gives bytes line (property_by m p None line)
+  comment_gives bytes line m p is =
+      taken_makes _ _ (λ (units : List ℕ). in_property m (with_comment p units)) (Grows known name bytes)
+      (λ units h. let two = both_true (not (is_kept p) && is_comment units) (fits_text units) h in
+      let one = both_true (not (is_kept p)) (is_comment units) two.0 in
+      record { holds = comment_holds known name bytes m p units is one.0 one.1 two.1; ends = depth_ends 2 (comment_text units) })
+      line (units_in (drop 1 (text_of_line line)))
+
   in_property_gives : (bytes line : List ℕ) (m : NotedModule) (p : Promised) (word : Option w.Word) → IsInProperty known name bytes m p → Gives bytes line (property_by m p word line)
-  in_property_gives bytes line m p None is = tt
+  in_property_gives bytes line m p None is = comment_gives bytes line m p is
   in_property_gives bytes line m p (Some w.get_word) is = get_gives bytes line m p is
   in_property_gives bytes line m p (Some w.set_word) is = set_gives bytes line m p is
   in_property_gives bytes line m p (Some w.end_word) is =
       line_too_makes (Grows known name bytes) (is_kept p) 1 (codes "End Property") line (among_members (with_member m (property p.tree)))
       (λ kept. record { holds = property_ends known name bytes m p is kept; ends = refl })
-  in_property_gives bytes line m p (Some _) is = tt
+  in_property_gives bytes line m p (Some _) is = comment_gives bytes line m p is
 
   -- ---- the first lines of a file
 

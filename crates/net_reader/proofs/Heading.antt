@@ -72,7 +72,7 @@ function_fails_at_type v = typed_fails_at_type fits_head (as_function v) (functi
 -- ---- a property
 
 abbrev pub as_property : NetVisibility → Signature → TypeName → Property
-as_property v s t = record { visibility = v; name = s.name; params = s.params; ty = t; get = None; set = None }
+as_property v s t = record { visibility = v; name = s.name; params = s.params; ty = t; get_comments = []; get = None; set_comments = []; set = None }
 
 property_fit : (v : NetVisibility) (s : Signature) (t : TypeName) → fits_property (as_property v s t) ≡ (fits_signature s && fits_type t)
 property_fit v s t = go (fits_signature s && fits_type t)

@@ -3,15 +3,16 @@ use Rattle.std.proofs.Common.{◌≡◌, ℕ, Bool, true, false, not, ◌&&◌, 
 use Rattle.std.specs.Prelude.{is_none, is_some}
 use Rattle.std.specs.List.{list_all}
 use Rattle.std.proofs.lemmas.List.{flat_map_more}
-use Rattle.net_tree.specs.Declarations.{access_text, field_text, head_text, is_get, is_set, is_writable_field, is_writable_head, is_writable_member, is_writable_param, is_writable_part, is_writable_procedure, member_text, params_text, part_text, procedure_text, property_head_text, visibility_text}
+use Rattle.net_tree.specs.Comments.{comment_text, is_comment}
+use Rattle.net_tree.specs.Declarations.{access_text, comments_text, field_text, has_no_comment, head_text, is_get, is_set, is_writable_field, is_writable_head, is_writable_member, is_writable_param, is_writable_part, is_writable_procedure, member_text, params_text, part_text, procedure_text, property_head_text, visibility_text}
 use Rattle.net_tree.specs.Expressions.{is_writable_type, type_text}
 use Rattle.net_tree.specs.Spelling.{at_depth, is_identifier, name_text}
-use Rattle.net_tree.specs.Tree.{Field, Head, Member, Procedure, Structure, function, get_part, proc, property, set_part, structure, sub, sub_new}
+use Rattle.net_tree.specs.Tree.{Field, Head, Member, Procedure, Property, Structure, function, get_part, proc, property, set_part, structure, sub, sub_new}
 use Rattle.net_exprs.specs.Fitting.{fits_name, fits_type}
 use Rattle.net_exprs.proofs.Words.{both_true, never}
-use Rattle.net_reader.specs.Fits.{fits_field, fits_head, fits_member, fits_param, fits_part}
+use Rattle.net_reader.specs.Fits.{fits_field, fits_head, fits_member, fits_param, fits_part, fits_procedure, fits_text}
 use Rattle.net_reader.specs.Laws.{IsModuleOf}
-use Rattle.net_reader.specs.ModuleReader.{Access, Body, Grown, NotedModule, Promised, behind_part, behind_procedure, both_parts, closed, gets, going, headed, is_fine_property, is_kept, module_head_text, promised_text, read_only, sets, structure_head_text, with_field, with_get, with_member, with_part, with_set, write_only}
+use Rattle.net_reader.specs.ModuleReader.{Access, Body, Grown, NotedModule, Promised, behind_part, behind_procedure, both_parts, closed, gets, going, headed, is_fine_property, is_kept, module_head_text, promise, promised_text, read_only, sets, structure_head_text, with_comment, with_field, with_get, with_member, with_part, with_set, write_only}
 use Rattle.net_reader.proofs.BodiesGrow.{head_alone, head_is_body, one_more}
 use Rattle.net_reader.proofs.SoFar.{Closes, Goes, Grows, GrowsTo, IsAmongMembers, IsInPart, IsInProcedure, IsInProperty, IsInStructure, body_text, front_text, is_next_part, may_get, may_set, open_text, property_front, structure_front}
 use Rattle.net_reader.proofs.Tests.{and_true, if_false, if_true}
@@ -41,13 +42,29 @@ part_text_ends : (bytes line a f b part whole : List ℕ) → bytes ≡ a ++ (f 
 part_text_ends bytes line a f b part whole h k l =
     ap (λ x. x ++ line) h ∙ append_assoc a (f ++ b) line ∙ ap (λ x. a ++ x) (append_assoc f b line ∙ ap (λ x. f ++ x) (sym k) ∙ l)
 
-get_in_place : (head get set part : List ℕ) → get ≡ [] → set ≡ [] → head ++ get ++ set ++ part ≡ head ++ part ++ set
-get_in_place head get set part g s =
-    ap (λ x. x ++ part) (ap (λ x. head ++ x ++ set) g ∙ ap (λ x. head ++ [] ++ x) s ∙ append-nil (head ++ []) ∙ append-nil head)
-    ∙ sym (ap (λ x. head ++ part ++ x) s ∙ append-nil (head ++ part))
+get_in_place : (head get set comments part : List ℕ) → get ≡ [] → set ≡ [] → head ++ get ++ set ++ comments ++ part ≡ head ++ (comments ++ part) ++ set ++ []
+get_in_place head get set comments part g s =
+    ap (λ x. x ++ comments ++ part) (ap (λ x. head ++ x ++ set) g ∙ ap (λ x. head ++ [] ++ x) s ∙ append-nil (head ++ []) ∙ append-nil head)
+    ∙ append_assoc head comments part
+    ∙ sym (append-nil (head ++ (comments ++ part) ++ set) ∙ ap (λ x. head ++ (comments ++ part) ++ x) s ∙ append-nil (head ++ (comments ++ part)))
 
-set_in_place : (head set part : List ℕ) → set ≡ [] → head ++ set ++ part ≡ head ++ part
-set_in_place head set part s = ap (λ x. x ++ part) (ap (λ x. head ++ x) s ∙ append-nil head)
+set_in_place : (head set comments part : List ℕ) → set ≡ [] → head ++ set ++ comments ++ part ≡ head ++ (comments ++ part) ++ []
+set_in_place head set comments part s =
+    ap (λ x. x ++ comments ++ part) (ap (λ x. head ++ x) s ∙ append-nil head) ∙ append_assoc head comments part ∙ sym (append-nil (head ++ (comments ++ part)))
+
+-- where no comment waits, none is written
+no_comments_text : (comments : List (List ℕ)) → has_no_comment comments ≡ true → comments_text 2 comments ≡ []
+no_comments_text [] h = refl
+no_comments_text (units ∷ comments) h = never h
+
+is_first : (a b : Bool) → a || not b ≡ true → b ≡ true → a ≡ true
+is_first true b h k = refl
+is_first false true h k = never h
+is_first false false h k = never k
+
+-- a property without its parts
+abbrev pub bare : Property → Property
+bare t = record { visibility = t.visibility; name = t.name; params = t.params; ty = t.ty; get_comments = []; get = None; set_comments = []; set = None }
 
 module _ (known : Option (Option (List ℕ))) (name : List ℕ) where
   -- ---- members
@@ -147,25 +164,56 @@ module _ (known : Option (Option (List ℕ))) (name : List ℕ) where
 
   -- ---- properties
 
-  pub property_begins : (bytes : List ℕ) (m : NotedModule) (p : Promised) → IsAmongMembers known name bytes m →
-      p.tree.get ≡ None → p.tree.set ≡ None → is_fine_property p.tree ≡ true → IsInProperty known name (bytes ++ at_depth 1 (promised_text p)) m p
-  property_begins bytes m p is g s fine =
-      let head = at_depth 1 (promised_text p) in
+  -- a property up to some part
+  abbrev property_parts : Promised → List ℕ
+  property_parts p = at_depth 1 (promised_text p) ++ part_text p.tree.get_comments p.tree.get ++ part_text p.tree.set_comments p.tree.set
+
+  pub property_begins : (bytes : List ℕ) (m : NotedModule) (access : Access) (t : Property) → IsAmongMembers known name bytes m → is_fine_property t ≡ true →
+      IsInProperty known name (bytes ++ at_depth 1 (promised_text (promise access (bare t)))) m (promise access (bare t))
+  property_begins bytes m access t is fine =
+      let head = at_depth 1 (promised_text (promise access (bare t))) in
       record {
         tree = is.tree;
         promised = record {
           fine = fine;
-          get = ap (is_writable_part is_get) g;
-          get_fits = ap fits_part g;
-          get_asked = ap (λ o. not (is_some o) || gets p.access) g;
-          set = ap (is_writable_part is_set) s;
-          set_fits = ap fits_part s;
-          set_asked = ap (λ o. not (is_some o) || sets p.access) s;
-          in_order = ap (λ o. not (is_some o) || not (gets p.access) || is_some p.tree.get) s;
+          get = refl;
+          get_fits = refl;
+          get_asked = refl;
+          set = refl;
+          set_fits = refl;
+          set_asked = refl;
+          in_order = refl;
+          comments = refl;
+          comments_fit = refl;
+          awaited = refl;
         };
         are =
             ap (λ b. b ++ head) is.are
-            ∙ ap (λ x. open_text m ++ x) (sym (ap (λ x. head ++ x ++ part_text p.tree.set) (ap part_text g) ∙ ap (λ x. head ++ [] ++ x) (ap part_text s) ∙ append-nil (head ++ []) ∙ append-nil head));
+            ∙ ap (λ x. open_text m ++ x) (sym (append-nil (head ++ [] ++ []) ∙ append-nil (head ++ []) ∙ append-nil head));
+      }
+
+  pub comment_holds : (bytes : List ℕ) (m : NotedModule) (p : Promised) (units : List ℕ) → IsInProperty known name bytes m p →
+      not (is_kept p) ≡ true → is_comment units ≡ true → fits_text units ≡ true → IsInProperty known name (bytes ++ at_depth 2 (comment_text units)) m (with_comment p units)
+  comment_holds bytes m p units is awaits can fits =
+      let each = λ (units : List ℕ). at_depth 2 (comment_text units) in
+      record {
+        tree = is.tree;
+        promised = record {
+          fine = is.promised.fine;
+          get = is.promised.get;
+          get_fits = is.promised.get_fits;
+          get_asked = is.promised.get_asked;
+          set = is.promised.set;
+          set_fits = is.promised.set_fits;
+          set_asked = is.promised.set_asked;
+          in_order = is.promised.in_order;
+          comments = one_more is_comment p.comments units is.promised.comments can;
+          comments_fit = one_more fits_text p.comments units is.promised.comments_fit fits;
+          awaited = or_true (has_no_comment (p.comments ++ units ∷ [])) (not (is_kept p)) awaits;
+        };
+        are =
+            ap (λ b. b ++ each units) is.are ∙ append_assoc (open_text m) (property_front p) (each units)
+            ∙ ap (λ t. open_text m ++ t) (flat_map_more each (property_parts p) p.comments units);
       }
 
   pub part_begins : (bytes : List ℕ) (m : NotedModule) (p : Promised) (h : Head) → IsInProperty known name bytes m p → is_next_part p h ≡ true →
@@ -206,17 +254,23 @@ module _ (known : Option (Option (List ℕ))) (name : List ℕ) where
         tree = is.tree;
         promised = record {
           fine = is.promised.fine;
-          get = and_true (is_get part.head) (is_writable_procedure part) kind closes.writable;
-          get_fits = closes.fits;
+          get =
+              and_true (list_all is_comment p.comments && is_get part.head) (is_writable_procedure part)
+              (and_true (list_all is_comment p.comments) (is_get part.head) is.promised.comments kind) closes.writable;
+          get_fits = and_true (list_all fits_text p.comments) (fits_procedure part) is.promised.comments_fit closes.fits;
           get_asked = asked.0;
           set = is.promised.set;
           set_fits = is.promised.set_fits;
           set_asked = is.promised.set_asked;
           in_order = or_true (not (is_some p.tree.set) || not (gets p.access)) true refl;
+          comments = refl;
+          comments_fit = refl;
+          awaited = refl;
         };
         are =
             part_text_ends bytes line (open_text m) (property_front p) (body_text 2 b) (procedure_text 2 part) (property_front (with_get p part)) is.are closes.text
-            (get_in_place (at_depth 1 (promised_text p)) (part_text p.tree.get) (part_text p.tree.set) (procedure_text 2 part) (ap part_text g) (ap part_text s));
+            (get_in_place (at_depth 1 (promised_text p)) (part_text p.tree.get_comments p.tree.get) (part_text p.tree.set_comments p.tree.set) (comments_text 2 p.comments)
+            (procedure_text 2 part) (ap (part_text p.tree.get_comments) g) (ap (part_text p.tree.set_comments) s));
       }
 
   set_ends : (bytes line : List ℕ) (m : NotedModule) (p : Promised) (b : Body) (part : Procedure) → IsInPart known name bytes m p b → Closes 2 b line part →
@@ -232,14 +286,20 @@ module _ (known : Option (Option (List ℕ))) (name : List ℕ) where
           get = is.promised.get;
           get_fits = is.promised.get_fits;
           get_asked = is.promised.get_asked;
-          set = and_true (is_set part.head) (is_writable_procedure part) kind closes.writable;
-          set_fits = closes.fits;
+          set =
+              and_true (list_all is_comment p.comments && is_set part.head) (is_writable_procedure part)
+              (and_true (list_all is_comment p.comments) (is_set part.head) is.promised.comments kind) closes.writable;
+          set_fits = and_true (list_all fits_text p.comments) (fits_procedure part) is.promised.comments_fit closes.fits;
           set_asked = asked.0;
           in_order = both.1;
+          comments = refl;
+          comments_fit = refl;
+          awaited = refl;
         };
         are =
             part_text_ends bytes line (open_text m) (property_front p) (body_text 2 b) (procedure_text 2 part) (property_front (with_set p part)) is.are closes.text
-            (set_in_place (at_depth 1 (promised_text p) ++ part_text p.tree.get) (part_text p.tree.set) (procedure_text 2 part) (ap part_text s));
+            (set_in_place (at_depth 1 (promised_text p) ++ part_text p.tree.get_comments p.tree.get) (part_text p.tree.set_comments p.tree.set) (comments_text 2 p.comments)
+            (procedure_text 2 part) (ap (part_text p.tree.set_comments) s));
       }
 
   abbrev IsGetNext : Promised → Head → Type 0
@@ -289,17 +349,19 @@ module _ (known : Option (Option (List ℕ))) (name : List ℕ) where
       let four = both_true (is_identifier t.name && list_all is_writable_param t.params && is_writable_type t.ty && fits_name t.name) (list_all fits_param t.params) five.0 in
       let three = both_true (is_identifier t.name && list_all is_writable_param t.params && is_writable_type t.ty) (fits_name t.name) four.0 in
       let can : is_writable_member (property t) ≡ true =
-      and_true _ (is_writable_part is_set t.set)
-      (and_true _ (is_writable_part is_get t.get)
+      and_true _ (is_writable_part is_set t.set_comments t.set)
+      (and_true _ (is_writable_part is_get t.get_comments t.get)
       (and_true (is_identifier t.name && list_all is_writable_param t.params && is_writable_type t.ty) (is_some t.get || is_some t.set) three.0
       (some_part p.access (is_some t.get) (is_some t.set) g s)) is.promised.get) is.promised.set in
+      let none = no_comments_text p.comments (is_first (has_no_comment p.comments) (is_kept p) is.promised.awaited kept) in
       let fits : fits_member (property t) ≡ true =
-      and_true _ (fits_part t.set)
-      (and_true _ (fits_part t.get)
+      and_true _ (fits_part t.set_comments t.set)
+      (and_true _ (fits_part t.get_comments t.get)
       (and_true _ (fits_type t.ty) (and_true (fits_name t.name) (list_all fits_param t.params) three.1 four.1) five.1) is.promised.get_fits) is.promised.set_fits in
       record {
         tree = module_grows m (property t) is.tree can fits;
         are =
             last_line bytes (property_front p) (at_depth 1 (codes "End Property")) m (property t) is.are
-            (ap (λ x. at_depth 1 x ++ part_text t.get ++ part_text t.set ++ at_depth 1 (codes "End Property")) head);
+            (ap (λ c. property_parts p ++ c ++ at_depth 1 (codes "End Property")) none ∙ ap (λ x. x ++ at_depth 1 (codes "End Property")) (append-nil (property_parts p))
+            ∙ ap (λ x. at_depth 1 x ++ part_text t.get_comments t.get ++ part_text t.set_comments t.set ++ at_depth 1 (codes "End Property")) head);
       }

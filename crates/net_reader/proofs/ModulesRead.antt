@@ -11,7 +11,7 @@ use Rattle.net_tree.specs.Tree.{Constant, Exp, Field, Head, Member, Procedure, P
 use Rattle.net_tree.specs.Spelling.{at_depth, is_identifier, name_text}
 use Rattle.net_tree.specs.Comments.{comment_text, is_comment, utf8_of}
 use Rattle.net_tree.specs.Expressions.{exp_text, is_writable_type, rank_text, type_text}
-use Rattle.net_tree.specs.Declarations.{access_text, constant_text, declared_text, field_text, head_text, is_get, is_set, is_writable_constant, is_writable_field, is_writable_head, is_writable_member, is_writable_param, is_writable_part, is_writable_procedure, is_writable_property, is_writable_structure, is_writable_variable, member_text, params_text, part_text, procedure_text, property_head_text, value_text, variable_text, visibility_text}
+use Rattle.net_tree.specs.Declarations.{access_text, comments_text, constant_text, declared_text, field_text, head_text, is_get, is_set, is_writable_constant, is_writable_field, is_writable_head, is_writable_member, is_writable_param, is_writable_part, is_writable_procedure, is_writable_property, is_writable_structure, is_writable_variable, member_text, params_text, part_text, procedure_text, property_head_text, value_text, variable_text, visibility_text}
 use Rattle.net_tree.specs.Text.{is_note, is_writable_module, note_text, options_text}
 use Rattle.net_exprs.specs.Ends.{ends_name}
 use Rattle.net_exprs.specs.Fitting.{fits_name, fits_type}
@@ -19,10 +19,10 @@ use Rattle.net_exprs.specs.Names.{name_at}
 use Rattle.net_exprs.proofs.Words.{both_true, name_reads, never}
 use Rattle.net_reader.specs.DeclarationReader.{constant_in, field_at, function_in, property_in, set_in, sub_in, variable_in}
 use Rattle.net_reader.specs.FileLines.{file_lines, text_of_line, units_in}
-use Rattle.net_reader.specs.Fits.{fits_constant, fits_field, fits_head, fits_member, fits_module, fits_param, fits_part, fits_procedure, fits_property, fits_structure, fits_variable}
+use Rattle.net_reader.specs.Fits.{fits_constant, fits_field, fits_head, fits_member, fits_module, fits_param, fits_part, fits_procedure, fits_property, fits_structure, fits_text, fits_variable}
 use Rattle.net_reader.specs.Laws.{IsModuleOf, IsNoteKnown, file_of}
 use Rattle.net_reader.specs.ModuleReader as reader
-use Rattle.net_reader.specs.ModuleReader.{Access, NotedModule, Promised, State, among_members, at_front, behind_part, behind_procedure, both_parts, complete, ended, first_step, front_lines, front_step, gets, headed, in_front, in_part, in_procedure, in_property, in_structure, is_fine_property, is_kept, is_line, member_of, member_step, module_end_text, module_head_text, module_in, note_in, option_lines, promised_text, property_by, read_only, run, sets, start, step, structure_by, structure_head_text, taken, with_field, with_get, with_member, with_set, write_only}
+use Rattle.net_reader.specs.ModuleReader.{Access, NotedModule, Promised, State, among_members, at_front, behind_part, behind_procedure, both_parts, complete, ended, first_step, front_lines, front_step, gets, headed, in_front, in_part, in_procedure, in_property, in_structure, is_fine_property, is_kept, is_line, member_of, member_step, module_end_text, module_head_text, module_in, note_in, option_lines, promise, promised_text, property_by, read_only, run, sets, start, step, structure_by, structure_head_text, taken, with_comment, with_field, with_get, with_member, with_set, write_only}
 use Rattle.net_reader.specs.Words.{keyword_at, line_words, name_words}
 use Rattle.net_reader.proofs.Bodies.{HoldsProcedure, is_written, procedure_taken}
 use Rattle.net_reader.proofs.CutLines.{IsLine, line_says}
@@ -228,72 +228,151 @@ earlier_part true true h = refl
 earlier_part true false h = sym h
 earlier_part false there h = refl
 
--- a property, some parts of which are read
-abbrev with_parts : Property → Option Procedure → Option Procedure → Property
-with_parts p get set = record { visibility = p.visibility; name = p.name; params = p.params; ty = p.ty; get = get; set = set }
+-- a part of a property and the comments before it
+abbrev Part : Type 0
+Part = List (List ℕ) × Option Procedure
 
-abbrev promised : Access → Property → Option Procedure → Option Procedure → Promised
-promised access p get set = record { access = access; tree = with_parts p get set }
+abbrev no_part : Part
+no_part = ([], Option.None)
+
+-- a property, some parts of which are read
+abbrev with_parts : Property → (get set : Part) → Property
+with_parts p get set = record {
+  visibility = p.visibility;
+  name = p.name;
+  params = p.params;
+  ty = p.ty;
+  get_comments = get.0;
+  get = get.1;
+  set_comments = set.0;
+  set = set.1;
+}
+
+-- the same before its next part, and behind these comments
+abbrev promised : Access → Property → (get set : Part) → (comments : List (List ℕ)) → Promised
+promised access p get set comments = record { access = access; tree = with_parts p get set; comments = comments }
+
+-- ---- comments before a part
+
+abbrev is_read_comment : List ℕ → Bool
+is_read_comment units = is_comment units && fits_text units
+
+comment_step : (m : NotedModule) (p : Promised) (units line : List ℕ) →
+    property_by m p (keyword_at (comment_text units)) line ≡ reader.comment_taken m p line (units_in (drop 1 (text_of_line line)))
+unfolding line_words
+comment_step m p units line = refl
+
+waiting_taken : (m : NotedModule) (access : Access) (t : Property) → not (is_kept (promise access t)) ≡ true → (before : List (List ℕ)) (units : List ℕ) → is_read_comment units ≡ true →
+    Takes (in_property m (record { access = access; tree = t; comments = before })) (at_depth 2 (comment_text units))
+    (in_property m (record { access = access; tree = t; comments = before ++ units ∷ [] }))
+waiting_taken m access t awaits before units h =
+    let can = both_true (is_comment units) (fits_text units) h in
+    let p : Promised = record { access = access; tree = t; comments = before } in
+    let line = at_depth 2 (comment_text units) in
+    let says = line_says 2 (comment_text units) (comment_is units can.0) in
+    line_taken 2 (comment_text units) (in_property m p) (in_property m (with_comment p units)) (comment_is units can.0)
+    (ap (λ text. property_by m p (keyword_at text) line) says
+    ∙ comment_step m p units line
+    ∙ ap (option_map (λ (units : List ℕ). in_property m (with_comment p units)))
+    (own_taken (λ (units : List ℕ). not (is_kept p) && is_comment units && fits_text units) (λ (units : List ℕ). at_depth 2 (comment_text units)) units line
+    (units_in (drop 1 (text_of_line line)))
+    (ap (λ text. units_in (drop 1 text)) says ∙ units_read units can.0 can.1)
+    (and_true (not (is_kept p) && is_comment units) (fits_text units) (and_true (not (is_kept p)) (is_comment units) awaits can.0) can.1) refl))
+
+comments_taken : (m : NotedModule) (access : Access) (t : Property) (comments : List (List ℕ)) → not (is_kept (promise access t)) ≡ true →
+    list_all is_comment comments ≡ true → list_all fits_text comments ≡ true →
+    Takes (in_property m (promise access t)) (comments_text 2 comments) (in_property m (record { access = access; tree = t; comments = comments }))
+comments_taken m access t comments awaits h k =
+    all_taken (λ (units : List ℕ). at_depth 2 (comment_text units)) is_read_comment (λ (read : List (List ℕ)). in_property m (record { access = access; tree = t; comments = read }))
+    (waiting_taken m access t awaits) [] comments (all_both is_comment fits_text comments h k)
+
+get_awaited : (access : Access) (p : Property) → gets access ≡ true → not (is_kept (promise access (with_parts p no_part no_part))) ≡ true
+get_awaited access p h = rw h refl
+
+set_awaited : (access : Access) (p : Property) (get : Part) → sets access ≡ true → not (is_kept (promise access (with_parts p get no_part))) ≡ true
+set_awaited access p get h = rw h (go (is_some get.1 || not (gets access)))
+  where
+    go : (b : Bool) → not (b && false) ≡ true
+    go true = refl
+    go false = refl
+
+-- ---- parts
 
 part_procedures : (m : NotedModule) (p : Promised) → HoldsProcedure 2 (in_part m p) (behind_part m p)
 part_procedures m p = record { steps = λ b line. refl; goes = λ b. refl }
 
-get_head_step : (m : NotedModule) (p : Property) (access : Access) (head : Head) → is_get head ≡ true → gets access ≡ true →
-    step (in_property m (promised access p Option.None Option.None)) (at_depth 2 (head_text head)) ≡ Some (in_part m (promised access p Option.None Option.None) (headed head))
+get_head_step : (m : NotedModule) (p : Property) (access : Access) (comments : List (List ℕ)) (head : Head) → is_get head ≡ true → gets access ≡ true →
+    step (in_property m (promised access p no_part no_part comments)) (at_depth 2 (head_text head)) ≡ Some (in_part m (promised access p no_part no_part comments) (headed head))
 unfolding line_words
-get_head_step m p access get_part h asked = rw asked refl
-get_head_step m p access _ h asked = never h
+get_head_step m p access comments get_part h asked = rw asked refl
+get_head_step m p access comments _ h asked = never h
 
-set_head_step : (m : NotedModule) (p : Property) (access : Access) (get : Option Procedure) (head : Head) →
-    is_set head ≡ true → is_writable_head head ≡ true → fits_head head ≡ true → gets access ≡ is_some get → sets access ≡ true →
-    step (in_property m (promised access p get Option.None)) (at_depth 2 (head_text head)) ≡ Some (in_part m (promised access p get Option.None) (headed head))
+set_head_step : (m : NotedModule) (p : Property) (access : Access) (get : Part) (comments : List (List ℕ)) (head : Head) →
+    is_set head ≡ true → is_writable_head head ≡ true → fits_head head ≡ true → gets access ≡ is_some get.1 → sets access ≡ true →
+    step (in_property m (promised access p get no_part comments)) (at_depth 2 (head_text head)) ≡ Some (in_part m (promised access p get no_part comments) (headed head))
 unfolding line_words
-set_head_step m p access get (set_part name t) h k fits earlier asked =
+set_head_step m p access get comments (set_part name t) h k fits earlier asked =
     let can = both_true (is_identifier name) (is_writable_type t) k in
     let head = set_part name t in
-    let q = promised access p get Option.None in
+    let q = promised access p get no_part comments in
     let line = at_depth 2 (head_text head) in
     let says = line_says 2 (head_text head) (head_is head k) in
     ap (λ text. property_by m q (keyword_at text) line) says
     ∙ ap (option_map (λ (head : Head). in_part m q (headed head)))
-    (own_taken (λ (head : Head). sets access && true && (not (gets access) || is_some get) && is_set head && is_writable_head head && fits_head head)
+    (own_taken (λ (head : Head). sets access && true && (not (gets access) || is_some get.1) && is_set head && is_writable_head head && fits_head head)
     (λ (head : Head). at_depth 2 (head_text head)) head line (set_in (drop 3 (text_of_line line)))
     (ap (λ text. set_in (drop 3 text)) says ∙ set_reads name t can.0 can.1)
-    (and_true (sets access && true && (not (gets access) || is_some get) && true && is_writable_head head) (fits_head head)
-    (and_true (sets access && true && (not (gets access) || is_some get) && true) (is_writable_head head)
-    (and_true (sets access && true && (not (gets access) || is_some get)) true
-    (and_true (sets access && true) (not (gets access) || is_some get) (and_true (sets access) true asked refl) (earlier_part (gets access) (is_some get) earlier)) refl) k) fits)
+    (and_true (sets access && true && (not (gets access) || is_some get.1) && true && is_writable_head head) (fits_head head)
+    (and_true (sets access && true && (not (gets access) || is_some get.1) && true) (is_writable_head head)
+    (and_true (sets access && true && (not (gets access) || is_some get.1)) true
+    (and_true (sets access && true) (not (gets access) || is_some get.1) (and_true (sets access) true asked refl) (earlier_part (gets access) (is_some get.1) earlier)) refl) k) fits)
     refl)
-set_head_step m p access get _ h k fits earlier asked = never h
+set_head_step m p access get comments _ h k fits earlier asked = never h
 
 set_is_no_get : (head : Head) → is_set head ≡ true → is_get head ≡ false
 set_is_no_get get_part h = never h
 set_is_no_get _ h = refl
 
-get_taken : (m : NotedModule) (p : Property) (access : Access) (get : Option Procedure) → gets access ≡ is_some get → is_writable_part is_get get ≡ true → fits_part get ≡ true →
-    Takes (in_property m (promised access p Option.None Option.None)) (part_text get) (in_property m (promised access p get Option.None))
-get_taken m p access Option.None asked h k = none_taken (in_property m (promised access p Option.None Option.None))
-get_taken m p access (Some part) asked h k =
-    let can = both_true (is_get part.head) (is_writable_procedure part) h in
-    let written = is_written part can.1 k in
-    let before = promised access p Option.None Option.None in
-    subst (λ (q : Promised). Takes (in_property m before) (procedure_text 2 part) (in_property m q)) (if_true (is_get part.head) (with_get before part) (with_set before part) can.0)
+get_taken : (m : NotedModule) (p : Property) (access : Access) (comments : List (List ℕ)) (get : Option Procedure) → gets access ≡ is_some get →
+    is_writable_part is_get comments get ≡ true → fits_part comments get ≡ true →
+    Takes (in_property m (promised access p no_part no_part [])) (part_text comments get) (in_property m (promised access p (comments, get) no_part []))
+get_taken m p access [] Option.None asked h k = none_taken (in_property m (promised access p no_part no_part []))
+get_taken m p access (units ∷ comments) Option.None asked h k = never h
+get_taken m p access comments (Some part) asked h k =
+    let two = both_true (list_all is_comment comments && is_get part.head) (is_writable_procedure part) h in
+    let one = both_true (list_all is_comment comments) (is_get part.head) two.0 in
+    let fit = both_true (list_all fits_text comments) (fits_procedure part) k in
+    let written = is_written part two.1 fit.1 in
+    let bare = in_property m (promised access p no_part no_part []) in
+    let before = promised access p no_part no_part comments in
+    let after = promised access p (comments, Some part) no_part [] in
+    both_taken (comments_text 2 comments) (procedure_text 2 part) bare (in_property m before) (in_property m after)
+    (comments_taken m access (with_parts p no_part no_part) comments (get_awaited access p asked) one.0 fit.0)
+    (subst (λ (q : Promised). Takes (in_property m before) (procedure_text 2 part) (in_property m q)) (if_true (is_get part.head) (with_get before part) (with_set before part) one.1)
     (procedure_taken 2 (in_part m before) (behind_part m before) (part_procedures m before) part (in_property m before) written
     (line_taken 2 (head_text part.head) (in_property m before) (in_part m before (headed part.head)) (head_is part.head written.head)
-    (get_head_step m p access part.head can.0 asked)))
+    (get_head_step m p access comments part.head one.1 asked))))
 
-set_taken : (m : NotedModule) (p : Property) (access : Access) (get set : Option Procedure) → Asks access get set → is_writable_part is_set set ≡ true → fits_part set ≡ true →
-    Takes (in_property m (promised access p get Option.None)) (part_text set) (in_property m (promised access p get set))
-set_taken m p access get Option.None asks h k = none_taken (in_property m (promised access p get Option.None))
-set_taken m p access get (Some part) asks h k =
-    let can = both_true (is_set part.head) (is_writable_procedure part) h in
-    let written = is_written part can.1 k in
-    let before = promised access p get Option.None in
-    subst (λ (q : Promised). Takes (in_property m before) (procedure_text 2 part) (in_property m q))
-    (if_false (is_get part.head) (with_get before part) (with_set before part) (set_is_no_get part.head can.0))
+set_taken : (m : NotedModule) (p : Property) (access : Access) (get : Part) (comments : List (List ℕ)) (set : Option Procedure) → Asks access get.1 set →
+    is_writable_part is_set comments set ≡ true → fits_part comments set ≡ true →
+    Takes (in_property m (promised access p get no_part [])) (part_text comments set) (in_property m (promised access p get (comments, set) []))
+set_taken m p access get [] Option.None asks h k = none_taken (in_property m (promised access p get no_part []))
+set_taken m p access get (units ∷ comments) Option.None asks h k = never h
+set_taken m p access get comments (Some part) asks h k =
+    let two = both_true (list_all is_comment comments && is_set part.head) (is_writable_procedure part) h in
+    let one = both_true (list_all is_comment comments) (is_set part.head) two.0 in
+    let fit = both_true (list_all fits_text comments) (fits_procedure part) k in
+    let written = is_written part two.1 fit.1 in
+    let gotten = in_property m (promised access p get no_part []) in
+    let before = promised access p get no_part comments in
+    let after = promised access p get (comments, Some part) [] in
+    both_taken (comments_text 2 comments) (procedure_text 2 part) gotten (in_property m before) (in_property m after)
+    (comments_taken m access (with_parts p get no_part) comments (set_awaited access p get asks.setting) one.0 fit.0)
+    (subst (λ (q : Promised). Takes (in_property m before) (procedure_text 2 part) (in_property m q))
+    (if_false (is_get part.head) (with_get before part) (with_set before part) (set_is_no_get part.head one.1))
     (procedure_taken 2 (in_part m before) (behind_part m before) (part_procedures m before) part (in_property m before) written
     (line_taken 2 (head_text part.head) (in_property m before) (in_part m before (headed part.head)) (head_is part.head written.head)
-    (set_head_step m p access get part.head can.0 written.head written.fits asks.getting asks.setting)))
+    (set_head_step m p access get comments part.head one.1 written.head written.fits asks.getting asks.setting))))
 
 access_step : (m : NotedModule) (v : NetVisibility) (access : Access) (text line : List ℕ) →
     member_step m (visibility_text v ++ (access_text (gets access) (sets access) ++ (codes "Property " ++ text))) line
@@ -305,29 +384,32 @@ access_step m v write_only text line = visible_step m v (codes "WriteOnly Proper
 
 property_head_step : (m : NotedModule) (p : Property) (access : Access) → is_identifier p.name ≡ true → list_all is_writable_param p.params ≡ true → is_writable_type p.ty ≡ true →
     is_fine_property p ≡ true →
-    member_step m (promised_text (promised access p Option.None Option.None)) (at_depth 1 (promised_text (promised access p Option.None Option.None)))
-    ≡ Some (in_property m (promised access p Option.None Option.None))
+    member_step m (promised_text (promised access p no_part no_part [])) (at_depth 1 (promised_text (promised access p no_part no_part [])))
+    ≡ Some (in_property m (promised access p no_part no_part []))
 property_head_step m p access h k l fine =
-    let bare = with_parts p Option.None Option.None in
-    let line = at_depth 1 (promised_text (promised access p Option.None Option.None)) in
+    let bare = with_parts p no_part no_part in
+    let line = at_depth 1 (promised_text (promised access p no_part no_part [])) in
     let behind = name_text p.name ++ params_text p.params ++ codes " As " ++ type_text p.ty in
     ap (λ text. member_step m text line)
     (sym (property_again (visibility_text p.visibility) (access_text (gets access) (sets access)) (name_text p.name) (params_text p.params) (type_text p.ty)))
     ∙ access_step m p.visibility access behind line
-    ∙ ap (option_map (λ (p : Property). in_property m (record { access = access; tree = p })))
-    (own_taken is_fine_property (λ (p : Property). at_depth 1 (promised_text (record { access = access; tree = p }))) bare line (property_in p.visibility behind)
+    ∙ ap (option_map (λ (p : Property). in_property m (promise access p)))
+    (own_taken is_fine_property (λ (p : Property). at_depth 1 (promised_text (promise access p))) bare line (property_in p.visibility behind)
     (property_reads p.visibility p.name p.params p.ty h k l) fine refl)
 
+abbrev whole_property : Access → Property → Promised
+whole_property access p = promised access p (p.get_comments, p.get) (p.set_comments, p.set) []
+
 property_end_step : (m : NotedModule) (p : Property) (access : Access) → Asks access p.get p.set →
-    step (in_property m (promised access p p.get p.set)) (at_depth 1 (codes "End Property")) ≡ Some (among_members (with_member m (property p)))
+    step (in_property m (whole_property access p)) (at_depth 1 (codes "End Property")) ≡ Some (among_members (with_member m (property p)))
 unfolding line_words
 property_end_step m p access asks =
-    if_true (is_kept (promised access p p.get p.set) && true) (Some (among_members (with_member m (property p)))) Option.None
-    (and_true (is_kept (promised access p p.get p.set)) true
+    if_true (is_kept (whole_property access p) && true) (Some (among_members (with_member m (property p)))) Option.None
+    (and_true (is_kept (whole_property access p)) true
     (and_true (is_some p.get || not (gets access)) (is_some p.set || not (sets access))
     (kept_part (gets access) (is_some p.get) asks.getting) (kept_part (sets access) (is_some p.set) asks.setting)) refl)
 
-property_head_as : (p : Property) (access : Access) → Asks access p.get p.set → promised_text (promised access p Option.None Option.None) ≡ property_head_text p
+property_head_as : (p : Property) (access : Access) → Asks access p.get p.set → promised_text (promised access p no_part no_part []) ≡ property_head_text p
 property_head_as p access asks =
     ap (λ z. visibility_text p.visibility ++ z ++ codes "Property " ++ name_text p.name ++ params_text p.params ++ codes " As " ++ type_text p.ty)
     (ap (λ get. access_text get (sets access)) asks.getting ∙ ap (λ set. access_text (is_some p.get) set) asks.setting)
@@ -335,13 +417,13 @@ property_head_as p access asks =
 property_taken : (m : NotedModule) (p : Property) → is_writable_property p ≡ true → fits_property p ≡ true →
     Takes (among_members m) (member_text (property p)) (among_members (with_member m (property p)))
 property_taken m p h k =
-    let five = both_true (is_identifier p.name && list_all is_writable_param p.params && is_writable_type p.ty && (is_some p.get || is_some p.set) && is_writable_part is_get p.get) (is_writable_part is_set p.set) h in
-    let four = both_true (is_identifier p.name && list_all is_writable_param p.params && is_writable_type p.ty && (is_some p.get || is_some p.set)) (is_writable_part is_get p.get) five.0 in
+    let five = both_true (is_identifier p.name && list_all is_writable_param p.params && is_writable_type p.ty && (is_some p.get || is_some p.set) && is_writable_part is_get p.get_comments p.get) (is_writable_part is_set p.set_comments p.set) h in
+    let four = both_true (is_identifier p.name && list_all is_writable_param p.params && is_writable_type p.ty && (is_some p.get || is_some p.set)) (is_writable_part is_get p.get_comments p.get) five.0 in
     let three = both_true (is_identifier p.name && list_all is_writable_param p.params && is_writable_type p.ty) (is_some p.get || is_some p.set) four.0 in
     let two = both_true (is_identifier p.name && list_all is_writable_param p.params) (is_writable_type p.ty) three.0 in
     let one = both_true (is_identifier p.name) (list_all is_writable_param p.params) two.0 in
-    let fit_four = both_true (fits_name p.name && list_all fits_param p.params && fits_type p.ty && fits_part p.get) (fits_part p.set) k in
-    let fit_three = both_true (fits_name p.name && list_all fits_param p.params && fits_type p.ty) (fits_part p.get) fit_four.0 in
+    let fit_four = both_true (fits_name p.name && list_all fits_param p.params && fits_type p.ty && fits_part p.get_comments p.get) (fits_part p.set_comments p.set) k in
+    let fit_three = both_true (fits_name p.name && list_all fits_param p.params && fits_type p.ty) (fits_part p.get_comments p.get) fit_four.0 in
     let fit_two = both_true (fits_name p.name && list_all fits_param p.params) (fits_type p.ty) fit_three.0 in
     let fit_one = both_true (fits_name p.name) (list_all fits_param p.params) fit_two.0 in
     let fine : is_fine_property p ≡ true =
@@ -350,19 +432,19 @@ property_taken m p h k =
     (and_true (is_identifier p.name && list_all is_writable_param p.params && is_writable_type p.ty) (fits_name p.name) three.0 fit_one.0) fit_one.1) fit_two.1 in
     let access = access_of (is_some p.get) (is_some p.set) in
     let asks = asks_for p.get p.set three.1 in
-    let bare = in_property m (promised access p Option.None Option.None) in
-    let gotten = in_property m (promised access p p.get Option.None) in
-    let whole = in_property m (promised access p p.get p.set) in
+    let bare = in_property m (promised access p no_part no_part []) in
+    let gotten = in_property m (promised access p (p.get_comments, p.get) no_part []) in
+    let whole = in_property m (whole_property access p) in
     let after = among_members (with_member m (property p)) in
     let head = at_depth 1 (property_head_text p) in
-    both_taken (head ++ part_text p.get ++ part_text p.set) (at_depth 1 (codes "End Property")) (among_members m) whole after
-    (both_taken (head ++ part_text p.get) (part_text p.set) (among_members m) gotten whole
-    (both_taken head (part_text p.get) (among_members m) bare gotten
+    both_taken (head ++ part_text p.get_comments p.get ++ part_text p.set_comments p.set) (at_depth 1 (codes "End Property")) (among_members m) whole after
+    (both_taken (head ++ part_text p.get_comments p.get) (part_text p.set_comments p.set) (among_members m) gotten whole
+    (both_taken head (part_text p.get_comments p.get) (among_members m) bare gotten
     (subst (λ text. Takes (among_members m) (at_depth 1 text) bare) (property_head_as p access asks)
-    (among_taken m 1 (promised_text (promised access p Option.None Option.None)) bare (property_head_is p (gets access) (sets access) one.0 one.1 two.1)
+    (among_taken m 1 (promised_text (promised access p no_part no_part [])) bare (property_head_is p (gets access) (sets access) one.0 one.1 two.1)
     (property_head_step m p access one.0 one.1 two.1 fine)))
-    (get_taken m p access p.get asks.getting four.1 fit_three.1))
-    (set_taken m p access p.get p.set asks five.1 fit_four.1))
+    (get_taken m p access p.get_comments p.get asks.getting four.1 fit_three.1))
+    (set_taken m p access (p.get_comments, p.get) p.set_comments p.set asks five.1 fit_four.1))
     (line_taken 1 (codes "End Property") whole after (record { within = refl; begins = refl }) (property_end_step m p access asks))
 
 -- ---- modules

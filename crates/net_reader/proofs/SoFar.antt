@@ -3,14 +3,15 @@ use Rattle.std.proofs.Common.{◌≡◌, ℕ, suc, ◌+◌, Bool, true, not, ◌
 use Rattle.std.specs.Prelude.{is_none, is_some}
 use Rattle.std.specs.List.{flat_map, list_all}
 use Rattle.net_tree.specs.Blocks.{nests, nests_in}
+use Rattle.net_tree.specs.Comments.{is_comment}
 use Rattle.net_tree.specs.Spelling.{at_depth}
 use Rattle.net_tree.specs.Lines.{is_writable_line, lines_text}
-use Rattle.net_tree.specs.Declarations.{dim_text, field_text, head_text, is_get, is_set, is_writable_dim, is_writable_head, is_writable_part, is_writable_procedure, is_writable_structure, member_text, part_text, procedure_text}
+use Rattle.net_tree.specs.Declarations.{comments_text, dim_text, field_text, has_no_comment, head_text, is_get, is_set, is_writable_dim, is_writable_head, is_writable_part, is_writable_procedure, is_writable_structure, member_text, part_text, procedure_text}
 use Rattle.net_tree.specs.Text.{is_note, note_text, options_text}
 use Rattle.net_tree.specs.Tree.{Head, Line, Procedure, Structure}
-use Rattle.net_reader.specs.Fits.{fits_dim, fits_head, fits_line, fits_part, fits_procedure, fits_structure}
+use Rattle.net_reader.specs.Fits.{fits_dim, fits_head, fits_line, fits_part, fits_procedure, fits_structure, fits_text}
 use Rattle.net_reader.specs.Laws.{IsModuleOf, IsNoteKnown}
-use Rattle.net_reader.specs.ModuleReader.{Body, Grown, NotedModule, Promised, State, among_members, at_front, closed, ended, gets, going, in_front, in_part, in_procedure, in_property, in_structure, is_fine_property, module_end_text, module_head_text, promised_text, sets, structure_head_text}
+use Rattle.net_reader.specs.ModuleReader.{Body, Grown, NotedModule, Promised, State, among_members, at_front, closed, ended, gets, going, in_front, in_part, in_procedure, in_property, in_structure, is_fine_property, is_kept, module_end_text, module_head_text, promised_text, sets, structure_head_text}
 use Rattle.net_reader.proofs.FileCuts.{ends_line}
 
 -- ---- procedures
@@ -52,24 +53,28 @@ GrowsTo depth b line (closed p) = Closes depth b line p
 
 -- ---- properties
 
--- a property up to some part
+-- a property up to some part, and the comments before the next
 abbrev pub property_front : Promised → List ℕ
-property_front p = at_depth 1 (promised_text p) ++ part_text p.tree.get ++ part_text p.tree.set
+property_front p =
+    at_depth 1 (promised_text p) ++ part_text p.tree.get_comments p.tree.get ++ part_text p.tree.set_comments p.tree.set ++ comments_text 2 p.comments
 
 -- the part that sets stands behind the one that gets
 abbrev pub is_in_order : Promised → Bool
 is_in_order p = not (is_some p.tree.set) || not (gets p.access) || is_some p.tree.get
 
--- It has no part that its head doesn't ask for.
+-- It has no part that its head doesn't ask for, and comments stand before a part alone that is still to come.
 pub record IsPromised (p : Promised) : Type 0 where
   pub fine : is_fine_property p.tree ≡ true
-  pub get : is_writable_part is_get p.tree.get ≡ true
-  pub get_fits : fits_part p.tree.get ≡ true
+  pub get : is_writable_part is_get p.tree.get_comments p.tree.get ≡ true
+  pub get_fits : fits_part p.tree.get_comments p.tree.get ≡ true
   pub get_asked : not (is_some p.tree.get) || gets p.access ≡ true
-  pub set : is_writable_part is_set p.tree.set ≡ true
-  pub set_fits : fits_part p.tree.set ≡ true
+  pub set : is_writable_part is_set p.tree.set_comments p.tree.set ≡ true
+  pub set_fits : fits_part p.tree.set_comments p.tree.set ≡ true
   pub set_asked : not (is_some p.tree.set) || sets p.access ≡ true
   pub in_order : is_in_order p ≡ true
+  pub comments : list_all is_comment p.comments ≡ true
+  pub comments_fit : list_all fits_text p.comments ≡ true
+  pub awaited : has_no_comment p.comments || not (is_kept p) ≡ true
 
 -- whether a part that gets or sets may come next
 abbrev pub may_get : Promised → Bool

@@ -1,10 +1,11 @@
 -- How what isn't read, or can't be held, stops the reader of a module.
-use Rattle.std.proofs.Common.{◌≡◌, ℕ, Bool, true, false, ◌&&◌, ◌||◌, not, List, drop, refl, Option, Some, None}
+use Rattle.std.proofs.Common.{◌≡◌, ℕ, Bool, true, false, ◌&&◌, ◌||◌, not, List, [], drop, refl, Option, Some, None}
 use Rattle.std.specs.Prelude.{option_and_then, option_map}
 use Rattle.std.specs.List.{list_all}
 use Rattle.net_tree.specs.declared.block.NetBlock.{NetBlock}
 use Rattle.net_tree.specs.declared.declaration.NetVisibility.{NetVisibility}
 use Rattle.net_tree.specs.Blocks.{fits_in, role_of}
+use Rattle.net_tree.specs.Comments.{is_comment}
 use Rattle.net_tree.specs.Declarations.{is_get, is_set, is_writable_dim, is_writable_field, is_writable_head, is_writable_member, is_writable_param}
 use Rattle.net_tree.specs.Lines.{is_writable_line}
 use Rattle.net_tree.specs.Expressions.{is_writable_type}
@@ -22,9 +23,9 @@ use Rattle.net_reader.specs.DeclarationReader.{Signature, constant_in, dim_at, f
 use Rattle.net_reader.specs.FileLines.{units_in}
 use Rattle.net_reader.specs.Fits.{fits_constant, fits_dim, fits_field, fits_head, fits_line, fits_member, fits_param, fits_property, fits_text, fits_variable}
 use Rattle.net_reader.specs.LineReader.{line_at}
-use Rattle.net_reader.specs.ModuleReader.{Access, Body, NotedModule, Promised, has_no_lines, head_taken, is_fine_property, member_taken, property_taken, structure_taken}
+use Rattle.net_reader.specs.ModuleReader.{Access, Body, NotedModule, Promised, has_no_lines, head_taken, is_fine_property, is_kept, member_taken, property_taken, structure_taken}
 use Rattle.net_reader.specs.Steps.{StopsFor}
-use Rattle.net_reader.specs.Takings.{dim_within, field_within, line_within, may_set, set_within}
+use Rattle.net_reader.specs.Takings.{comment_within, dim_within, field_within, line_within, may_set, set_within}
 
 -- ---- tests
 
@@ -74,6 +75,10 @@ pub set_stops : (p : Promised) (line text : List ℕ) (e : PhraseFail) → Fails
 set_stops p line text e h =
     stops fits_head (set_within p line) refl (λ head k. rw (second_false (may_set p && is_set head && is_writable_head head) (fits_head head) k) refl) (set_in text) e h
 
+pub comment_stops : (p : Promised) (line text : List ℕ) (e : PhraseFail) → FailsWhole fits_text (units_in text) e → StopsFor (comment_within p line (units_in text)) e
+comment_stops p line text e h =
+    stops fits_text (comment_within p line) refl (λ units k. rw (second_false (not (is_kept p) && is_comment units) (fits_text units) k) refl) (units_in text) e h
+
 -- ---- members
 
 pub comment_fails : (text : List ℕ) (e : PhraseFail) → FailsWhole fits_text (units_in text) e → FailsWhole fits_member (option_map member_comment (units_in text)) e
@@ -118,7 +123,7 @@ fine_false true true true true h = absurd (cc h)
 
 -- a property without its parts
 abbrev bare : NetVisibility → Signature → TypeName → Property
-bare visibility s t = record { visibility = visibility; name = s.name; params = s.params; ty = t; get = None; set = None }
+bare visibility s t = record { visibility = visibility; name = s.name; params = s.params; ty = t; get_comments = []; get = None; set_comments = []; set = None }
 
 bare_false : (visibility : NetVisibility) (s : Signature) (t : TypeName) → fits_property (bare visibility s t) ≡ false → is_fine_property (bare visibility s t) ≡ false
 bare_false visibility s t h =

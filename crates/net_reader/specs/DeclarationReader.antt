@@ -100,7 +100,7 @@ set_in text = option_map (λ (d : Declared × List ℕ). set_part d.0.name d.0.t
 -- a property without its parts
 abbrev pub property_in : NetVisibility → List ℕ → Option Property
 property_in visibility text = option_and_then (λ (s : Signature × List ℕ).
-    option_map (λ (t : TypeName × List ℕ). record { visibility = visibility; name = s.0.name; params = s.0.params; ty = t.0; get = None; set = None })
+    option_map (λ (t : TypeName × List ℕ). record { visibility = visibility; name = s.0.name; params = s.0.params; ty = t.0; get_comments = []; get = None; set_comments = []; set = None })
     (type_at (drop 4 s.1))) (signature_at text)
 
 abbrev pub visibility_of : Option w.Word → Option NetVisibility

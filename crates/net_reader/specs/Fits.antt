@@ -79,12 +79,14 @@ fits_dim (constant c) = fits_constant c
 abbrev pub fits_procedure : Procedure → Bool
 fits_procedure p = fits_head p.head && list_all fits_dim p.prologue && list_all fits_line p.lines
 
-abbrev pub fits_part : Option Procedure → Bool
-fits_part None = true
-fits_part (Some p) = fits_procedure p
+-- a part of a property with the comments right before it
+abbrev pub fits_part : List (List ℕ) → Option Procedure → Bool
+fits_part comments None = list_all fits_text comments
+fits_part comments (Some p) = list_all fits_text comments && fits_procedure p
 
 abbrev pub fits_property : Property → Bool
-fits_property p = fits_name p.name && list_all fits_param p.params && fits_type p.ty && fits_part p.get && fits_part p.set
+fits_property p =
+    fits_name p.name && list_all fits_param p.params && fits_type p.ty && fits_part p.get_comments p.get && fits_part p.set_comments p.set
 
 abbrev pub fits_member : Member → Bool
 fits_member (member_comment units) = fits_text units

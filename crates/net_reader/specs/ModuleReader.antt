@@ -6,6 +6,7 @@ use Rattle.net_tree.specs.declared.declaration.NetClose.{NetClose}
 use Rattle.net_tree.specs.declared.declaration.NetClose.TheVariants as close
 use Rattle.net_tree.specs.declared.declaration.NetVisibility.{NetVisibility}
 use Rattle.net_tree.specs.Blocks.{depth_at, fits_in, open_behind, role_of}
+use Rattle.net_tree.specs.Comments.{comment_text, is_comment}
 use Rattle.net_tree.specs.Declarations.{access_text, close_text, closes, dim_text, field_text, head_text, is_get, is_set, is_writable_dim, is_writable_field, is_writable_head, is_writable_member, is_writable_param, member_text, params_text, visibility_text}
 use Rattle.net_tree.specs.Expressions.{is_writable_type, type_text}
 use Rattle.net_tree.specs.Lines.{is_writable_line, line_text}
@@ -18,7 +19,7 @@ use Rattle.net_exprs.specs.Names.{name_at}
 use Rattle.net_exprs.specs.Readers.{after}
 use Rattle.net_reader.specs.DeclarationReader.{close_at, constant_in, dim_at, field_at, function_in, property_in, set_in, sub_in, variable_in, visibility_of}
 use Rattle.net_reader.specs.FileLines.{file_lines, text_of_line, units_in}
-use Rattle.net_reader.specs.Fits.{fits_dim, fits_field, fits_head, fits_line, fits_member, fits_param}
+use Rattle.net_reader.specs.Fits.{fits_dim, fits_field, fits_head, fits_line, fits_member, fits_param, fits_text}
 use Rattle.net_reader.specs.LineReader.{line_at}
 use Rattle.net_reader.specs.Words as w
 use Rattle.net_reader.specs.Words.{behind_word, keyword_at}
@@ -49,10 +50,11 @@ sets both_parts = true
 sets read_only = false
 sets write_only = true
 
--- a property up to some line, with the parts that its head asks for
+-- a property up to some line, with the parts that its head asks for, and the comments that stand before the part to come
 pub record Promised : Type 0 where
   pub access : Access
   pub tree : Property
+  pub comments : List (List ℕ)
 
 -- where in a file the next line stands, with what is read so far
 pub data State : Type 0 where
@@ -89,16 +91,44 @@ with_line b l = record {
 abbrev pub closed_by : Body → NetClose → Procedure
 closed_by b c = record { head = b.tree.head; prologue = b.tree.prologue; lines = b.tree.lines; close = c }
 
+-- a property behind its head
+abbrev pub promise : Access → Property → Promised
+promise access p = record { access = access; tree = p; comments = [] }
+
+abbrev pub with_comment : Promised → List ℕ → Promised
+with_comment p units = record { access = p.access; tree = p.tree; comments = p.comments ++ units ∷ [] }
+
+-- a part has the comments that stand right before it
 abbrev pub with_get : Promised → Procedure → Promised
 with_get p part = record {
   access = p.access;
-  tree = record { visibility = p.tree.visibility; name = p.tree.name; params = p.tree.params; ty = p.tree.ty; get = Some part; set = p.tree.set };
+  tree = record {
+    visibility = p.tree.visibility;
+    name = p.tree.name;
+    params = p.tree.params;
+    ty = p.tree.ty;
+    get_comments = p.comments;
+    get = Some part;
+    set_comments = p.tree.set_comments;
+    set = p.tree.set;
+  };
+  comments = [];
 }
 
 abbrev pub with_set : Promised → Procedure → Promised
 with_set p part = record {
   access = p.access;
-  tree = record { visibility = p.tree.visibility; name = p.tree.name; params = p.tree.params; ty = p.tree.ty; get = p.tree.get; set = Some part };
+  tree = record {
+    visibility = p.tree.visibility;
+    name = p.tree.name;
+    params = p.tree.params;
+    ty = p.tree.ty;
+    get_comments = p.tree.get_comments;
+    get = p.tree.get;
+    set_comments = p.comments;
+    set = Some part;
+  };
+  comments = [];
 }
 
 abbrev pub with_part : Promised → Procedure → Promised
@@ -192,12 +222,18 @@ set_taken m p line =
 abbrev pub is_kept : Promised → Bool
 is_kept p = (is_some p.tree.get || not (gets p.access)) && (is_some p.tree.set || not (sets p.access))
 
+-- a comment stands before a part alone that is still to come
+abbrev pub comment_taken : NotedModule → Promised → List ℕ → Option (List ℕ) → Option State
+comment_taken m p line found =
+    option_map (λ (units : List ℕ). in_property m (with_comment p units))
+    (taken (λ (units : List ℕ). not (is_kept p) && is_comment units && fits_text units) (λ (units : List ℕ). at_depth 2 (comment_text units)) line found)
+
 -- a line of a property, by the word that begins it
 abbrev pub property_by : NotedModule → Promised → Option w.Word → List ℕ → Option State
 property_by m p (Some w.get_word) line = get_taken m p line
 property_by m p (Some w.set_word) line = set_taken m p line
 property_by m p (Some w.end_word) line = cond (is_kept p && is_line 1 (codes "End Property") line) (Some (among_members (with_member m (property p.tree)))) None
-property_by m p _ line = None
+property_by m p _ line = comment_taken m p line (units_in (drop 1 (text_of_line line)))
 
 -- the head of a property, by the parts that it asks for
 abbrev pub promised_text : Promised → List ℕ
@@ -212,8 +248,8 @@ is_fine_property p =
 
 abbrev pub property_taken : NotedModule → Access → List ℕ → Option Property → Option State
 property_taken m access line found =
-    option_map (λ (p : Property). in_property m (record { access = access; tree = p }))
-    (taken is_fine_property (λ (p : Property). at_depth 1 (promised_text (record { access = access; tree = p }))) line found)
+    option_map (λ (p : Property). in_property m (promise access p))
+    (taken is_fine_property (λ (p : Property). at_depth 1 (promised_text (promise access p))) line found)
 
 -- ---- members
 

@@ -1,5 +1,5 @@
 -- Parts of declarations: the part without memory that a part of the code stands for, and which of them the code can hold.
-use Rattle.std.specs.Prelude.{ℕ, Bool, ◌&&◌, cond, List, drop, map, Option, Some, None, option_map, option_and_then}
+use Rattle.std.specs.Prelude.{ℕ, Bool, ◌&&◌, cond, List, [], drop, map, Option, Some, None, option_map, option_and_then}
 use Rattle.std.specs.Global.{Box}
 use Rattle.std.specs.List.{list_all}
 use Rattle.net_tree.specs.declared.declaration.NetParam.{NetParam}
@@ -63,4 +63,4 @@ fits_signature s = fits_name s.name && fits_params s.params
 
 -- a property without its parts
 abbrev pub property_head_of : PropertyHead → Property
-property_head_of p = record { visibility = p.visibility; name = p.name; params = params_of p.params.items; ty = type_name_of p.ty; get = None; set = None }
+property_head_of p = record { visibility = p.visibility; name = p.name; params = params_of p.params.items; ty = type_name_of p.ty; get_comments = []; get = None; set_comments = []; set = None }

@@ -29,7 +29,7 @@ access_of access.ReadOnly = reader.read_only
 access_of access.WriteOnly = reader.write_only
 
 abbrev pub promised_of : Promised → reader.Promised
-promised_of p = record { access = access_of p.access; tree = property_of p.tree }
+promised_of p = record { access = access_of p.access; tree = property_of p.tree; comments = p.comments.items }
 
 abbrev pub state_of : State → reader.State
 state_of (state.AtFront name) = reader.at_front name

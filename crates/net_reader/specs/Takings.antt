@@ -2,14 +2,15 @@
 use Rattle.std.specs.Prelude.{ℕ, suc, ◌+◌, Bool, true, false, not, ◌&&◌, ◌||◌, List, length, Option, Some, is_none, is_some}
 use Rattle.net_tree.specs.declared.block.NetBlock.{NetBlock}
 use Rattle.net_tree.specs.Blocks.{depth_at, fits_in, role_of}
+use Rattle.net_tree.specs.Comments.{comment_text, is_comment}
 use Rattle.net_tree.specs.Declarations.{dim_text, field_text, head_text, is_get, is_set, is_writable_dim, is_writable_field, is_writable_head, is_writable_member, member_text}
 use Rattle.net_tree.specs.Lines.{is_writable_line, line_text}
 use Rattle.net_tree.specs.Spelling.{at_depth, is_identifier}
 use Rattle.net_tree.specs.Tree.{Dim, Field, Head, Line, Member, Property}
 use Rattle.net_exprs.specs.Fitting.{fits_name}
-use Rattle.net_reader.specs.Fits.{fits_dim, fits_field, fits_head, fits_line, fits_member}
+use Rattle.net_reader.specs.Fits.{fits_dim, fits_field, fits_head, fits_line, fits_member, fits_text}
 use Rattle.net_reader.specs.Words as w
-use Rattle.net_reader.specs.ModuleReader.{Access, Body, Promised, gets, has_no_lines, is_fine_property, promised_text, sets, structure_head_text, taken}
+use Rattle.net_reader.specs.ModuleReader.{Access, Body, Promised, gets, has_no_lines, is_fine_property, is_kept, promise, promised_text, sets, structure_head_text, taken}
 
 -- a line of a procedure whose head stands at a depth
 abbrev pub line_within : (depth : ℕ) → (blocks : List NetBlock) → (line : List ℕ) → Option Line → Option Line
@@ -36,9 +37,14 @@ set_within p line found =
     taken (λ (h : Head). sets p.access && is_none p.tree.set && (not (gets p.access) || is_some p.tree.get) && is_set h && is_writable_head h && fits_head h)
     (λ (h : Head). at_depth 2 (head_text h)) line found
 
+-- a comment before a part of a property that is still to come
+abbrev pub comment_within : Promised → (line : List ℕ) → Option (List ℕ) → Option (List ℕ)
+comment_within p line found =
+    taken (λ (units : List ℕ). not (is_kept p) && is_comment units && fits_text units) (λ (units : List ℕ). at_depth 2 (comment_text units)) line found
+
 -- the head of a property
 abbrev pub property_within : Access → (line : List ℕ) → Option Property → Option Property
-property_within access line found = taken is_fine_property (λ (p : Property). at_depth 1 (promised_text (record { access = access; tree = p }))) line found
+property_within access line found = taken is_fine_property (λ (p : Property). at_depth 1 (promised_text (promise access p))) line found
 
 -- a member of one line
 abbrev pub member_within : (line : List ℕ) → Option Member → Option Member

@@ -97,7 +97,8 @@ fn property_taken(
             noted,
             Promised {
                 access,
-                tree: property(head),
+                tree: property(alloc, head),
+                comments: Vec::new(alloc),
             },
         )),
         Err(e) => Err(e),

@@ -13,7 +13,7 @@ use net_tree::{
 };
 use net_writable::{is_get, pass};
 use std::alloc::Global;
-use up_base::{Bytes, Mem, Name, Sequence};
+use up_base::{Bytes, Mem, Name, Sequence, Wide};
 
 /// A module behind its head.
 pub(crate) fn opened(alloc: Global, note: Option<Bytes>, name: Name, class: bool) -> NotedModule
@@ -103,7 +103,7 @@ pub(crate) fn closed_by(body: Body, close: NetClose) -> NetProc
 }
 
 /// A property behind its head.
-pub(crate) fn property(head: PropertyHead) -> NetProperty
+pub(crate) fn property(alloc: Global, head: PropertyHead) -> NetProperty
     ensures { property_of result ≡ property_head_of head }
 {
     NetProperty {
@@ -111,20 +111,41 @@ pub(crate) fn property(head: PropertyHead) -> NetProperty
         name: head.name,
         params: head.params,
         ty: head.ty,
+        get_comments: Vec::new(alloc),
         get: None,
+        set_comments: Vec::new(alloc),
         set: None,
     }
 }
 
-/// A property with its part.
+/// A property with one comment more before the part to come.
+pub(crate) fn with_comment(promised: Promised, units: Wide) -> Result<Promised, Mem>
+    ensures { IfOk result (λ longer. promised_of longer ≡ model.with_comment (promised_of promised) units) }
+{
+    let mut promised = promised;
+    promised.comments.push(units)?;
+    Ok(promised)
+}
+
+/// A property with its part, which has the comments before it.
 pub(crate) fn with_part(alloc: Global, promised: Promised, part: NetProc) -> Result<Promised, Mem>
     ensures { IfOk result (λ longer. promised_of longer ≡ model.with_part (promised_of promised) (procedure_of part)) }
 {
-    let mut promised = promised;
+    let Promised {
+        access,
+        mut tree,
+        comments,
+    } = promised;
     if is_get(&part.head) {
-        promised.tree.get = Some(Box::new(alloc, part)?);
-        return Ok(promised);
+        tree.get_comments = comments;
+        tree.get = Some(Box::new(alloc, part)?);
+    } else {
+        tree.set_comments = comments;
+        tree.set = Some(Box::new(alloc, part)?);
     }
-    promised.tree.set = Some(Box::new(alloc, part)?);
-    Ok(promised)
+    Ok(Promised {
+        access,
+        tree,
+        comments: Vec::new(alloc),
+    })
 }

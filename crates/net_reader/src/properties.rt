@@ -1,14 +1,15 @@
 //! Reads the lines of properties between their parts.
-ghost use Rattle.std.specs.Prelude.{◌≡◌, ◌&&◌, ◌||◌, not, is_none, option_map, Some};
+ghost use Rattle.std.specs.Prelude.{◌≡◌, ◌&&◌, is_none, drop, option_map, Some};
+ghost use Rattle.net_reader.specs.FileLines.{text_of_line, units_in};
 ghost use Rattle.net_reader.specs.ModuleReader as model;
 ghost use Rattle.net_reader.specs.StateView.{noted_of, promised_of, state_of};
 ghost use Rattle.net_reader.specs.Steps.{Steps};
 ghost use Rattle.net_reader.specs.WordView.{word_of};
 ghost use Rattle.net_reader.specs.Words as w;
 
-use crate::pieces::{headed, with_member};
+use crate::pieces::{headed, with_comment, with_member};
 use crate::states::{NotedModule, Promised, State};
-use crate::taken::{gets, is_line, sets, take_set};
+use crate::taken::{gets, is_kept, is_line, take_comment, take_set};
 use crate::words::Word;
 use net_exprs::PhraseFail;
 use net_tree::{NetHead, NetMember};
@@ -53,12 +54,19 @@ fn set_taken(
     }
 }
 
-// Whether a property has the parts that its head asks for.
-fn is_kept(promised: &Promised) -> bool
-    ensures { result ≡ model.is_kept (promised_of promised.now) }
+#[tactic(auto, using(crate::proofs::Stopping::map_stops))]
+fn comment_taken(
+    alloc: Global,
+    noted: NotedModule,
+    promised: Promised,
+    line: &[u8],
+) -> Result<State, PhraseFail>
+    ensures { Steps state_of (model.comment_taken (noted_of noted) (promised_of promised) line.now (units_in (drop 1 (text_of_line line.now)))) result }
 {
-    (promised.tree.get.is_some() || !gets(promised.access))
-        && (promised.tree.set.is_some() || !sets(promised.access))
+    match take_comment(alloc, &promised, line) {
+        Ok(units) => Ok(State::InProperty(noted, with_comment(promised, units)?)),
+        Err(e) => Err(e),
+    }
 }
 
 // Where the line behind the last one of a property stands.
@@ -94,6 +102,6 @@ pub(crate) fn property_by(
         Some(Word::Get) => get_taken(alloc, noted, promised, line),
         Some(Word::Set) => set_taken(alloc, noted, promised, line),
         Some(Word::End) => property_end(alloc, noted, promised, line),
-        _ => Err(PhraseFail::NotNet),
+        _ => comment_taken(alloc, noted, promised, line),
     }
 }

@@ -2,7 +2,7 @@
 
 use net_tree::{NetBlock, NetModule, NetProc, NetProperty, NetStructure};
 use std::collections::VecDeque;
-use up_base::{Bytes, Name};
+use up_base::{Bytes, Name, Wide};
 
 /// A module up to some line, and the comment at the head of its file.
 #[derive(Drop)]
@@ -32,6 +32,8 @@ pub enum Access {
 pub struct Promised {
     pub access: Access,
     pub tree: NetProperty,
+    /// The comments that stand before the part to come, as UTF-16 units.
+    pub comments: Vec<Wide>,
 }
 
 /// What a line makes of a procedure.

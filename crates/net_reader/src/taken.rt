@@ -1,21 +1,22 @@
 //! Takes what a line says where the line is exactly what is written for it.
 ghost use Rattle.std.specs.Prelude.{◌≡◌, ◌<◌, ◌≤◌, ◌+◌, ◌^◌, ◌&&◌, ◌||◌, ◌++◌, not, true, drop, reverse, IfOk, OnOk, Some};
 ghost use Rattle.net_tree.specs.Blocks.{depth_at, fits_in, role_of};
+ghost use Rattle.net_tree.specs.Comments.{comment_text, is_comment};
 ghost use Rattle.net_tree.specs.Declarations.{close_text, closes, dim_text, field_text, head_text, is_get, is_set, is_writable_dim, is_writable_head, member_text};
 ghost use Rattle.net_tree.specs.Lines.{is_writable_line, line_text};
 ghost use Rattle.net_tree.specs.Spelling.{at_depth, is_same_text};
 ghost use Rattle.net_tree.specs.View.{dim_of, field_of, head_of, line_of, member_of};
 ghost use Rattle.net_exprs.specs.Fitting.{fits_name};
 ghost use Rattle.net_reader.specs.DeclarationReader.{dim_at, field_at, set_in};
-ghost use Rattle.net_reader.specs.FileLines.{text_of_line};
-ghost use Rattle.net_reader.specs.Fits.{fits_dim, fits_field, fits_head, fits_line, fits_member, fits_property};
+ghost use Rattle.net_reader.specs.FileLines.{text_of_line, units_in};
+ghost use Rattle.net_reader.specs.Fits.{fits_dim, fits_field, fits_head, fits_line, fits_member, fits_property, fits_text};
 ghost use Rattle.net_reader.specs.LineReader.{line_at};
 ghost use Rattle.net_reader.specs.ModuleReader as model;
 ghost use Rattle.net_reader.specs.ModuleReader.{has_no_blocks, has_no_lines};
 ghost use Rattle.net_reader.specs.Parts.{property_head_of};
 ghost use Rattle.net_reader.specs.StateView.{access_of, body_of, promised_of};
 ghost use Rattle.net_reader.specs.Steps.{Steps};
-ghost use Rattle.net_reader.specs.Takings.{dim_within, field_within, head_within, line_within, may_set, member_within, property_within, set_within, structure_within};
+ghost use Rattle.net_reader.specs.Takings.{comment_within, dim_within, field_within, head_within, line_within, may_set, member_within, property_within, set_within, structure_within};
 
 use crate::characters::{behind, is};
 use crate::declarations::{read_dim, read_field};
@@ -23,18 +24,19 @@ use crate::heads::{PropertyHead, read_set};
 use crate::lines::read_line;
 use crate::margins::text_of_line;
 use crate::states::{Access, Body, Promised};
+use crate::texts::units;
 use net_emitter::{
-    begin_line, end_line, write_close, write_dim_line, write_field_line, write_head_line,
+    begin_line, end_line, write_close, write_comment_line, write_dim_line, write_field_line, write_head_line,
     write_line, write_line_of, write_member, write_promise, write_structure_head,
 };
 use net_exprs::PhraseFail;
 use net_tree::{NetBlock, NetClose, NetDim, NetField, NetHead, NetLine, NetMember};
 use net_writable::{
-    are_writable_params, can_be_declared, closes, fits_in, is_get, is_identifier, is_set,
+    are_writable_params, can_be_declared, closes, fits_in, is_comment, is_get, is_identifier, is_set,
     is_writable_dim, is_writable_field, is_writable_head, is_writable_line, is_writable_member,
 };
 use std::alloc::Global;
-use up_base::{Bytes, Mem, Name};
+use up_base::{Bytes, Mem, Name, Wide};
 
 /// Whether a line is this text at a depth.
 pub(crate) fn is_line(alloc: Global, depth: usize, text: &[u8], line: &[u8]) -> Result<bool, Mem>
@@ -298,6 +300,59 @@ pub(crate) fn take_set(
     }
 }
 
+/// Whether a property has the parts that its head asks for.
+pub(crate) fn is_kept(promised: &Promised) -> bool
+    ensures { result ≡ model.is_kept (promised_of promised.now) }
+{
+    (promised.tree.get.is_some() || !gets(promised.access))
+        && (promised.tree.set.is_some() || !sets(promised.access))
+}
+
+fn is_line_of_comment(alloc: Global, units: &Wide, line: &[u8]) -> Result<bool, Mem>
+    ensures { IfOk result (λ same. same ≡ is_same_text (at_depth 2 (comment_text units.now)) line.now) }
+{
+    let mut written = Bytes::new(alloc);
+    write_comment_line(&mut written, 2, units.as_slice())?;
+    Ok(is(written.as_slice(), line))
+}
+
+fn checked_comment(
+    alloc: Global,
+    promised: &Promised,
+    line: &[u8],
+    units: Wide,
+) -> Result<Wide, PhraseFail>
+    requires { fits_text units ≡ true }
+    ensures { Steps (λ units. units) (comment_within (promised_of promised.now) line.now (Some units)) result }
+{
+    if is_kept(promised) {
+        return Err(PhraseFail::NotNet);
+    }
+    if !is_comment(units.as_slice()) {
+        return Err(PhraseFail::NotNet);
+    }
+    if !is_line_of_comment(alloc, &units, line)? {
+        return Err(PhraseFail::NotNet);
+    }
+    Ok(units)
+}
+
+/// A comment before a part of a property that is still to come. It fails with `NotNet` where the line is none that is written
+/// so there.
+#[tactic(auto, using(crate::proofs::Stopping::comment_stops))]
+pub(crate) fn take_comment(
+    alloc: Global,
+    promised: &Promised,
+    line: &[u8],
+) -> Result<Wide, PhraseFail>
+    ensures { Steps (λ units. units) (comment_within (promised_of promised.now) line.now (units_in (drop 1 (text_of_line line.now)))) result }
+{
+    match units(alloc, behind(1, text_of_line(line))) {
+        Ok(units) => checked_comment(alloc, promised, line, units),
+        Err(e) => Err(e),
+    }
+}
+
 // Whether a head is one that a member can have.
 fn is_fine_head(head: &NetHead) -> bool
     ensures { result ≡ (not (is_get (head_of head.now) || is_set (head_of head.now)) && is_writable_head (head_of head.now)) }
@@ -346,7 +401,7 @@ pub(crate) fn checked_member(
 }
 
 fn write_promised(out: &mut Bytes, access: Access, head: &PropertyHead) -> Result<(), Mem>
-    ensures { OnOk result (out.new ≡ out.old ++ model.promised_text (record { access = access_of access; tree = property_head_of head.now })) }
+    ensures { OnOk result (out.new ≡ out.old ++ model.promised_text (model.promise (access_of access) (property_head_of head.now))) }
 {
     write_promise(
         out,
@@ -365,7 +420,7 @@ fn is_line_of_property(
     head: &PropertyHead,
     line: &[u8],
 ) -> Result<bool, Mem>
-    ensures { IfOk result (λ same. same ≡ is_same_text (at_depth 1 (model.promised_text (record { access = access_of access; tree = property_head_of head.now }))) line.now) }
+    ensures { IfOk result (λ same. same ≡ is_same_text (at_depth 1 (model.promised_text (model.promise (access_of access) (property_head_of head.now)))) line.now) }
 {
     let mut written = Bytes::new(alloc);
     begin_line(&mut written, 1)?;
