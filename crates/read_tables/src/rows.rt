@@ -137,6 +137,8 @@ Friend Function F() As String|    Exit Function|End Function => friend function 
 Public Sub New()|    f()|End Sub => new|call{path f}|end sub|
 Public Sub Newer()|End Sub => public sub Newer()|end sub|
 Public Property P() As Integer|    Get|    End Get|    Set(ByVal v As Integer)|    End Set|End Property => public property P()Integer|get|end get|set v as Integer|end set|end property|
+Public Property P() As Integer|    'a|    Get|    End Get|    'b|    '|    Set(ByVal v As Integer)|    End Set|End Property => public property P()Integer|comment 97|get|end get|comment 98|comment|set v as Integer|end set|end property|
+Private WriteOnly Property P() As C|    ''|    Set(ByVal v As C)|        'a|    End Set|End Property => private property P()named C|comment 39|set v as named C|comment 97|end set|end property|
 Private ReadOnly Property P() As C|    Get|        P = a|    End Get|End Property => private property P()named C|get|assign{path P}{path a}|end get|end property|
 Friend WriteOnly Property [Get](ByVal i As Long) As Byte()|    Set(ByVal v() As Byte)|        Exit Property|    End Set|End Property => friend property Get( byval i as Long)Byte of 1|set v as Byte of 1|exit property|end set|end property|
 'a|Public a As Byte|'b|Public Sub F()|End Sub => comment 97|public variable a as Byte|comment 98|public sub F()|end sub|
@@ -205,6 +207,6 @@ fn members_are_told(rt: HostRuntime) -> Result<(), Fail> {
     for row in MEMBERS.trim().lines() {
         assert_member_row(&rt, rt.alloc(), row)?;
     }
-    assert_eq!(rt; MEMBERS.trim().lines().count(), 36);
+    assert_eq!(rt; MEMBERS.trim().lines().count(), 38);
     Ok(())
 }

@@ -6,7 +6,7 @@ use net_tree::{
     NetPassing, NetProc, NetProject, NetProperty, NetStructure, NetType, NetVariable,
     NetVisibility,
 };
-use up_base::{Bytes, Name};
+use up_base::{Bytes, Name, Wide};
 
 fn visibility_word(visibility: NetVisibility) -> &'static str {
     match visibility {
@@ -126,7 +126,17 @@ fn show_procedure(out: &mut Shown, procedure: &NetProc) {
     out.push(close_word(procedure.close).as_bytes());
 }
 
-fn show_part(out: &mut Shown, part: &Option<Box<NetProc>>) {
+// Tells comments, each with a bar behind it.
+fn show_comments(out: &mut Shown, comments: &[Wide]) {
+    for units in comments {
+        out.push(b"comment");
+        show_units(out, units.as_slice());
+        out.push(b"|");
+    }
+}
+
+fn show_part(out: &mut Shown, comments: &[Wide], part: &Option<Box<NetProc>>) {
+    show_comments(out, comments);
     if let Some(part) = part {
         show_procedure(out, part);
         out.push(b"|");
@@ -140,8 +150,8 @@ fn show_property(out: &mut Shown, property: &NetProperty) {
     show_params(out, &property.params);
     show_type(out, &property.ty);
     out.push(b"|");
-    show_part(out, &property.get);
-    show_part(out, &property.set);
+    show_part(out, &property.get_comments, &property.get);
+    show_part(out, &property.set_comments, &property.set);
     out.push(b"end property");
 }
 
