@@ -12,7 +12,7 @@ use Rattle.vb_tree.specs.declared.form_parts.VarWord.{VarWord}
 use Rattle.vb_tree.specs.declared.form_parts.VarWord.TheVariants as word
 use Rattle.vb_tree.specs.declared.token.Suffix.{Suffix}
 use Rattle.vb_tree.specs.declared.token.Suffix.TheVariants as suffix
-use Rattle.vb_tree.specs.Tree.{TypeName, named, fixed_string, Bounds, Declarator, Form, variables, sub_head, function_head, get_head, let_head, set_head, opaque, Line, Nodes, Module, Project}
+use Rattle.vb_tree.specs.Tree.{TypeName, named, fixed_string, Bounds, Declarator, Form, variables, sub_head, function_head, get_head, let_head, set_head, static_head, Line, Nodes, Module, Project}
 use Rattle.vb_tree.specs.BoundTree.{Ty, boolean, byte, integer, long, currency, str, variant, nothing, unknown, Variable, ProcedureDecl, Declarations}
 use Rattle.vb_tree.specs.FlatLines.{flat_lines}
 use Rattle.scalar_vb6_run.specs.Program.{Written, procedures_in, procedures_of}
@@ -84,8 +84,7 @@ variables_from p (body ∷ more) = variables_of p body ++ variables_from (suc p)
 
 -- ---- procedures
 
--- A head that is kept as its tokens alone declares no name that can be told; a blank stands for it, which no source has as
--- a name.
+-- A head with Static declares no name so far; a blank stands for it, which no source has as a name.
 abbrev pub head_name : Form → List ℕ
 head_name (sub_head s) = s.name
 head_name (function_head s result) = s.name
@@ -94,16 +93,12 @@ head_name (let_head s) = s.name
 head_name (set_head s) = s.name
 head_name _ = 32 ∷ []
 
-abbrev pub kept_kind : Option ProcKind → ProcKind
-kept_kind None = kind.Sub
-kept_kind (Some k) = k
-
 abbrev pub head_kind : Form → ProcKind
 head_kind (function_head s result) = kind.Function
 head_kind (get_head s result) = kind.Get
 head_kind (let_head s) = kind.Let
 head_kind (set_head s) = kind.Set
-head_kind (opaque opens tokens) = kept_kind opens
+head_kind (static_head k s result) = k
 head_kind _ = kind.Sub
 
 -- a procedure of the module with this file number; its parameters and its result are left out so far

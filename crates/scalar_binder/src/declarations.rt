@@ -5,7 +5,7 @@ ghost use Rattle.vb_tree.specs.Tree as tree;
 ghost use Rattle.vb_tree.specs.View.{type_name_of, declarator_of, form_of, line_of, nodes_of, member_of, module_of};
 ghost use Rattle.vb_tree.specs.BoundView.{type_of, variable_of, procedure_decl_of};
 ghost use Rattle.scalar_vb6_run.specs.Program.{Written, procedures_in};
-ghost use Rattle.scalar_binder.specs.Declarations.{named_type, written_type, suffixed_type, declared_type, owner_in, variable_in, declared_in, variables_of, head_name, head_kind, kept_kind, procedure_decl, module_procedures};
+ghost use Rattle.scalar_binder.specs.Declarations.{named_type, written_type, suffixed_type, declared_type, owner_in, variable_in, declared_in, variables_of, head_name, head_kind, procedure_decl, module_procedures};
 
 use crate::names::is_word;
 use std::alloc::Global;
@@ -189,15 +189,6 @@ fn head_name(alloc: Global, form: &Form6) -> Result<Name, Mem>
     }
 }
 
-fn kept_kind(opens: Option<ProcKind>) -> ProcKind
-    ensures { result ≡ kept_kind opens }
-{
-    match opens {
-        None => ProcKind::Sub,
-        Some(kind) => kind,
-    }
-}
-
 fn head_kind(form: &Form6) -> ProcKind
     ensures { result ≡ head_kind (form_of form.now) }
 {
@@ -206,7 +197,7 @@ fn head_kind(form: &Form6) -> ProcKind
         Form6::GetHead(_, _) => ProcKind::Get,
         Form6::LetHead(_) => ProcKind::Let,
         Form6::SetHead(_) => ProcKind::Set,
-        Form6::Opaque(opens, _) => kept_kind(*opens),
+        Form6::StaticHead(kind, _, _) => *kind,
         _ => ProcKind::Sub,
     }
 }

@@ -183,7 +183,7 @@ currency_range_runs_written = refl
 -- ---- a Sub that is left out before one that isn't: `Open "f" For Output As #1` in Main, `Debug.Print "two"` in Two
 
 abbrev untranslated_open : Project
-untranslated_open = module_of (sub (codes "Main") (opaque None [] ∷ []) ∷ sub (codes "Two") (print (lit (literal.Str (codes "two")) ∷ []) ∷ []) ∷ [])
+untranslated_open = module_of (sub (codes "Main") (opaque [] ∷ []) ∷ sub (codes "Two") (print (lit (literal.Str (codes "two")) ∷ []) ∷ []) ∷ [])
 
 untranslated_open_kept : kept untranslated_open ≡ false ∷ true ∷ []
 untranslated_open_kept = refl

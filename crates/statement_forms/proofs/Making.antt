@@ -29,12 +29,12 @@ args_viewed [] = refl
 args_viewed (a ∷ xs) = ap (next_arg a.name a.marked (given_of a.value)) (args_viewed xs)
 
 -- a line that is kept where a part was read
-pub kept_answers : {A X : Type 0} (v : A → X) (Is : X → Type 0) (d : X → ℕ) (ts : List Token) (read : Result A PartFail) (r : Result Form6 PartFail) → Answers v Is d read → KeptIf read ts r → Reads (Made Is (λ x. opaque None ts) d) r
+pub kept_answers : {A X : Type 0} (v : A → X) (Is : X → Type 0) (d : X → ℕ) (ts : List Token) (read : Result A PartFail) (r : Result Form6 PartFail) → Answers v Is d read → KeptIf read ts r → Reads (Made Is (λ x. opaque ts) d) r
 kept_answers v Is d ts (Ok a) (Ok f) h k = (d (v a), (v a, h.0, k, refl), h.1)
 kept_answers v Is d ts (Ok a) (Err fail.NotFound) h k = absurd k
 kept_answers v Is d ts (Ok a) (Err fail.TooDeep) h k = absurd k
 kept_answers v Is d ts (Ok a) (Err fail.Mem) h k = tt
-kept_answers v Is d ts (Err e) r h k = subst (λ z. Reads (Made Is (λ x. opaque None ts) d) z) (sym k) (made_fails Is (λ x. opaque None ts) d e h)
+kept_answers v Is d ts (Err e) r h k = subst (λ z. Reads (Made Is (λ x. opaque ts) d) z) (sym k) (made_fails Is (λ x. opaque ts) d e h)
 
 -- a form that is made of a part that was read
 pub made_answers : {A X : Type 0} (v : A → X) (Is : X → Type 0) (form : X → Form) (d : X → ℕ) (a : A) (f : Form6) → Is (v a) × (d (v a) ≤ 64) → form_of f ≡ form (v a) → Reads (Made Is form d) (Ok f)

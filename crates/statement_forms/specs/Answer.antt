@@ -77,7 +77,7 @@ first_found (Err fail.Mem) r = Err fail.Mem
 
 -- the line as its tokens, unless memory was wanted
 abbrev pub IsKept : List Token → Result Form6 PartFail → Type 0
-IsKept ts (Ok f) = form_of f ≡ opaque None ts
+IsKept ts (Ok f) = form_of f ≡ opaque ts
 IsKept ts (Err fail.NotFound) = ⊥
 IsKept ts (Err fail.TooDeep) = ⊥
 IsKept ts (Err fail.Mem) = Unit {0}

@@ -172,7 +172,7 @@ Found found f n = (found ≡ Some f) × (n ≡ 0)
 
 -- a line that is kept as its tokens where a test holds
 abbrev pub Kept : Bool → List Token → Form → ℕ → Type 0
-Kept test ts f n = (test ≡ true) × (f ≡ tree.opaque None ts) × (n ≡ 0)
+Kept test ts f n = (test ≡ true) × (f ≡ tree.opaque ts) × (n ≡ 0)
 
 -- what may be meant by a line
 pub data FormKind : Type 0 where
@@ -212,7 +212,7 @@ Fits print_items ts f n = Made (IsPrinting ts) (λ x. tree.debug_print x.0 x.1) 
 -- any other line that begins with `Debug.Print`
 Fits print_kept ts f n = Kept (is_found (behind_debug (codes "print") ts)) ts f n
 -- `Mid` or `Mid$` with an argument list and `=`
-Fits replacement ts f n = Made (IsReplacement ts) (λ x. tree.opaque None ts) (deepest argument_depth) f n
+Fits replacement ts f n = Made (IsReplacement ts) (λ x. tree.opaque ts) (deepest argument_depth) f n
 -- `[Let] l = e`
 Fits assignment ts f n = Made (AreSides (past_word (codes "let") ts)) (λ x. tree.assign x.0 x.1) pair_depth f n
 -- `Set l = e`
@@ -260,11 +260,11 @@ Fits erasing ts f n = Made (IsErasing ts) tree.erase depth_of f n
 -- a line that is kept for its first word, and `Debug.Assert`
 Fits kept_words ts f n = Kept (keeps ts) ts f n
 -- `On e GoTo` or `GoSub`
-Fits computed_jump ts f n = Made (IsComputed ts) (λ x. tree.opaque None ts) depth_of f n
+Fits computed_jump ts f n = Made (IsComputed ts) (λ x. tree.opaque ts) depth_of f n
 -- a callee and arguments
 Fits invocation ts f n = Made (IsInvocation ts) (λ x. tree.invoke x.0 (args_from x.1)) invocation_depth f n
 -- a line that begins with a target that ends in `.Circle`, `.Line`, `.Print`, `.PSet` or `.Scale`
-Fits drawing ts f n = Made (IsDrawing ts) (λ x. tree.opaque None ts) (λ x. 0) f n
+Fits drawing ts f n = Made (IsDrawing ts) (λ x. tree.opaque ts) (λ x. 0) f n
 
 -- the first kind of a list that fits
 abbrev pub FirstIn : List FormKind → List Token → Form → ℕ → Type 0

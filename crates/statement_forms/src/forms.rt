@@ -30,9 +30,9 @@ pub fn print_items(alloc: Global, tokens: &[Token]) -> Result<Form6, PartFail>
 
 // The line as its tokens.
 fn kept(alloc: Global, tokens: &[Token]) -> Result<Form6, Mem>
-    ensures { IfOk result (λ f. form_of f ≡ opaque None tokens.now) }
+    ensures { IfOk result (λ f. form_of f ≡ opaque tokens.now) }
 {
-    Ok(Form6::Opaque(None, copied(alloc, tokens)?))
+    Ok(Form6::Opaque(copied(alloc, tokens)?))
 }
 
 // The line as its tokens where a part was read.

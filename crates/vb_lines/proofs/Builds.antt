@@ -171,8 +171,7 @@ no_procedure (t.else_if condition) k e p = no_if k e p
 no_procedure t.else_line k e p = no_if k e p
 no_procedure (t.case_line items) k e p = no_select k e p
 no_procedure t.case_else k e p = no_select k e p
-no_procedure (t.opaque None tokens) k e p = cc
-no_procedure (t.opaque (Some kind) tokens) k e p = cc
+no_procedure (t.static_head kind s result) k e p = cc
 no_procedure _ k e p = cc
 
 pub group_opened : (l : CodeLine) (k : BlockKind) (ms : List Member6) (g : OpenGroup) (lines : List Line) → g.kind ≡ k → g.head ≡ l → g.lines ≡ [] → role_of (line_of l).form ≡ Opens k → is_group k ≡ true → AreBuilt lines ms None [] → AreBuilt (lines ++ line_of l ∷ []) ms (Some g) []
