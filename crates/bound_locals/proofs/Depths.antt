@@ -14,7 +14,8 @@ use Rattle.vb_tree.specs.BoundTree.{Ty, Variable, Expr, typed, convert}
 use Rattle.vb_tree.specs.Blocks.{is_code}
 use Rattle.vb_tree.specs.Expressions.{depth_of}
 use Rattle.vb_tree.specs.FlatLines.{flat_lines, node_lines, middle_lines, member_lines}
-use Rattle.scalar_vb6_run.specs.Depth.{is_shallow_source, has_shallow_form, has_shallow_line, is_shallow_module, depth_expr, is_shallow_expr, are_shallow_exprs, is_shallow_body, is_shallow_bound}
+use Rattle.module_names.specs.Limits.{is_shallow_source, has_shallow_form, has_shallow_line, is_shallow_module}
+use Rattle.scalar_vb6_run.specs.Depth.{depth_expr, is_shallow_expr, are_shallow_exprs, is_shallow_body, is_shallow_bound}
 use Rattle.scalar_vb6_run.specs.Program.{type_of, Written, procedures_in, procedures_of}
 use Rattle.scalar_binder.specs.CodeLines.{code_in, node_code, middle_code}
 use Rattle.scalar_binder.specs.Declarations.{is_word, variables_of, bodies_of}
@@ -23,7 +24,7 @@ use Rattle.scalar_binder.specs.Operators.{Row, binary_row, by_row, unary_type, b
 use Rattle.scalar_binder.specs.Scalars.{on_operand, on_operands, scalar, or_loose, amount_or, amount_for, assigned_value, line_exprs, code_of, body_in, bodies_from, bound}
 use Rattle.scalar_binder.specs.Types.{scalar_type, is_same, converted, converted_to}
 use Rattle.scalar_binder.proofs.FlatCode.{code_is}
-use Rattle.scalar_rewrite.proofs.Lists.{both_true, and_true, all_more, all_first, all_rest, all_append, all_left, all_right, all_through, all_flat}
+use Rattle.up_base.proofs.Lists.{both_true, and_true, all_more, all_first, all_rest, all_append, all_left, all_right, all_through, all_flat}
 
 -- ---- what is found is nested no deeper than so much
 

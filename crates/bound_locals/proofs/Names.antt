@@ -9,7 +9,8 @@ use Rattle.vb_tree.specs.Tree.{Declarator, Form, variables, Line, Nodes, Member,
 use Rattle.scalar_vb6_run.specs.Program.{Written, procedures_in, procedures_of}
 use Rattle.net_tree.specs.Spelling.{is_identifier}
 use Rattle.scalar_binder.specs.Declarations.{owner_in, variable_in, declared_in, variables_of, variables_from, bodies_of, declarations}
-use Rattle.scalar_rewrite.specs.Writable.{are_comments, has_comment_text, is_named_head, names_variables, is_named_module, is_named_variable}
+use Rattle.scalar_rewrite.specs.Writable.{is_named_variable}
+use Rattle.module_names.specs.Named.{are_comments, has_comment_text, heads_in, is_named_head, names_variables, is_named_module}
 
 both_true : (a b : Bool) → a && b ≡ true → (a ≡ true) × (b ≡ true)
 both_true true b e = (refl, e)
@@ -86,7 +87,7 @@ modules_named [] h = refl
 modules_named (m ∷ ms) h =
     let both = both_true (is_named_module m) (list_all is_named_module ms) h in
     all_append is_named_source (flat_map procedures_in m.members) (flat_map (λ (m : Module). flat_map procedures_in m.members) ms)
-    (members_named m.members (both_true (is_identifier m.name && are_comments m.comments && list_all has_comment_text (module_lines m) && list_all is_named_head (flat_map procedures_in m.members)) (list_all names_variables (module_lines m)) both.0).1)
+    (members_named m.members (both_true (is_identifier m.name && are_comments m.comments && list_all has_comment_text (module_lines m) && list_all is_named_head (flat_map heads_in m.members)) (list_all names_variables (module_lines m)) both.0).1)
     (modules_named ms both.1)
 
 pub variables_named : (P : Project) → list_all is_named_module P.modules ≡ true → list_all is_named_variable (declarations P).vars ≡ true

@@ -2,11 +2,13 @@
 ghost use Rattle.std.specs.Prelude.{◌≡◌, true};
 ghost use Rattle.std.specs.List.{list_all};
 ghost use Rattle.vb_tree.specs.Tree.{Project};
-ghost use Rattle.scalar_vb6_run.specs.Depth.{is_shallow_bound, is_shallow_module};
+ghost use Rattle.scalar_vb6_run.specs.Depth.{is_shallow_bound};
 ghost use Rattle.scalar_binder.specs.Declarations.{declarations};
 ghost use Rattle.scalar_binder.specs.Scalars.{bound};
 ghost use Rattle.scalar_rewrite.specs.Modules.{LocalsAreDeclared};
-ghost use Rattle.scalar_rewrite.specs.Writable.{is_named_module, is_named_variable};
+ghost use Rattle.scalar_rewrite.specs.Writable.{is_named_variable};
+ghost use Rattle.module_names.specs.Limits.{is_shallow_module};
+ghost use Rattle.module_names.specs.Named.{is_named_module};
 
 /// A law: where the names of a project are bound, the locals of each procedure are those that its lines declare.
 #[tactic(auto, using(crate::proofs::Locals::locals_declared))]

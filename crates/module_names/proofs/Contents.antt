@@ -7,7 +7,7 @@ use Rattle.vb_tree.specs.declared.token.TokenKind.{TokenKind}
 use Rattle.vb_tree.specs.Tokens.{is_blank, is_line_end, begins, token_at}
 use Rattle.vb_tree.specs.LogicalLines.{onto, cut, physical_lines, continued, is_continuation, join, joined, joint, joints, shown, begins_statement, Part, gap, note, lexeme, stuck, is_rem, token_part, part_at, Content, with_token, content_from, Reading, reading, readings_from, readings, lines_before_fault}
 use Rattle.module_names.specs.Texts.{is_single, are_single}
-use Rattle.scalar_rewrite.proofs.Lists.{by_test, and_true, all_more, all_first, all_rest, all_append, all_drop}
+use Rattle.up_base.proofs.Lists.{by_test, and_true, all_more, all_first, all_rest, all_append, all_drop}
 use Rattle.module_names.proofs.Tokens.{is_named_kind, is_named_token, found_named, read_named}
 use Rattle.module_names.proofs.Units.{is_simple, shown_simply}
 

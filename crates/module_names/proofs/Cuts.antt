@@ -7,7 +7,7 @@ use Rattle.vb_tree.specs.declared.token.Token.{Token}
 use Rattle.vb_tree.specs.LogicalLines.{is_colon}
 use Rattle.vb_lines.specs.Statements.{Cut, label_cut, statement_cut, head_cut, jump_cut, else_cut, stray_cut, end_cut, is_else, statement_end, line_if_head, is_in_if, ends, else_cuts, begins_jump, jumps, past_jump, Step, else_step, statement_step, first_step, statements, cut_statements, begins_label, labels, past_label, line_cuts}
 use Rattle.vb_lines.specs.Parts.{Part, parts_at, parts_of, all_parts}
-use Rattle.scalar_rewrite.proofs.Lists.{by_test, both_true, and_true, all_more, all_first, all_rest, all_append, all_take, all_drop, all_flat}
+use Rattle.up_base.proofs.Lists.{by_test, both_true, and_true, all_more, all_first, all_rest, all_append, all_take, all_drop, all_flat}
 use Rattle.module_names.proofs.Contents.{is_good_line, has_simple_comment}
 use Rattle.module_names.proofs.Tokens.{is_named_token}
 use Rattle.module_names.proofs.Units.{is_simple}

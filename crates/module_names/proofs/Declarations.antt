@@ -27,9 +27,9 @@ use Rattle.declaration_forms.specs.declared.starts.Start.{Start}
 use Rattle.declaration_forms.specs.declared.starts.Start.TheVariants as start
 use Rattle.declaration_forms.specs.declared.words.Lead.{Lead}
 use Rattle.declaration_forms.specs.declared.words.Lead.TheVariants as lead
-use Rattle.declaration_forms.specs.Outlines.{can_be_declared, declared_name, is_as, typed_in, typed, in_parentheses, Outline, outlined, named_outline, cut_outline, outline_of}
+use Rattle.declaration_forms.specs.Outlines.{can_be_declared, declared_name, is_as, typed_in, typed, in_parentheses, Outline, outlined, named_outline, cut_outline, outline_of, field_outline}
 use Rattle.declaration_forms.specs.Words.{lead_of, before_last}
-use Rattle.declaration_forms.specs.Starts.{Begun, is_general, is_procedural, general, property_kind, property_part, part_of, procedure_part, before_static, head_of, head_start, static_head, static_start, has_events, variables_start, seen_variables, static_variables, property_start, static_line, closed_block, closed_procedure, ends, end_start, procedure_end, plain_start, other_start, declared_start, behind_visibility, seen_start, module_start, seen_constants, seen_in_procedure, local_start, procedure_start, member_start, group_start, start_of}
+use Rattle.declaration_forms.specs.Starts.{Begun, is_general, is_procedural, general, property_kind, property_part, part_of, procedure_part, before_static, head_of, head_start, static_before, static_start, has_events, variables_start, seen_variables, static_variables, property_start, static_line, closed_block, closed_procedure, ends, end_start, procedure_end, plain_start, other_start, declared_start, behind_visibility, seen_start, module_start, seen_constants, seen_in_procedure, local_start, procedure_start, or_member, member_start, group_start, start_of}
 use Rattle.declaration_forms.specs.Options.{whole_number, lower_bound, option_of_two, option_line}
 use Rattle.declaration_forms.specs.DeclarationForms.{head_form, HeadLine, end_form, Fits, FitsStart, IsDeclaration}
 use Rattle.declaration_forms.specs.Variables.{Outlines, DeclaratorOf, IsDeclarator, FieldOf, MemberOf, IsMemberCut}
@@ -38,7 +38,7 @@ use Rattle.form_parts.specs.declared.cuts.Separator.TheVariants.{Comma, Equal}
 use Rattle.std.specs.Prelude.{ℤ, pos}
 use Rattle.std.specs.Ordering.{int_eq}
 use Rattle.module_names.proofs.Statements.{is_good_form, option_names, found_names, either_names}
-use Rattle.scalar_rewrite.proofs.Lists.{by_test, and_true, all_more, all_first, all_rest}
+use Rattle.up_base.proofs.Lists.{by_test, and_true, all_more, all_first, all_rest}
 use Rattle.module_names.proofs.Cuts.{are_named}
 use Rattle.module_names.proofs.Tokens.{is_named_kind, is_named_token}
 use Rattle.net_tree.specs.Spelling.{is_identifier}
@@ -198,13 +198,13 @@ head_begun v p h = if_begun (is_procedural v) (Some (head_of p.0 v p.1 (before_s
 static_begun : (v : Option Visibility) (p : ProcKind × List Token) → are_named p.1 ≡ true → is_begun (static_start v p) ≡ true
 static_begun v p h = of_static (before_static p.1)
   where
-    of_static : (o : Option (List Token)) → is_begun (static_head v p o) ≡ true
+    of_static : (o : Option (List Token)) → is_begun (static_before v p o) ≡ true
     of_static None = if_begun (is_procedural v) (Some (start.StaticHead p.0 v, p.1)) None h refl
     of_static (Some before) = refl
 
 variables_begun : (w : VarWord) (rest : List Token) → are_named rest ≡ true → is_begun (Some (variables_start w rest)) ≡ true
 variables_begun w rest h =
-    by_test (has_events (pieces Comma rest)) (λ b. is_begun (Some (if b then (start.Events, rest) else (start.Variables w, rest))) ≡ true) (λ e. h) (λ e. h)
+    by_test (has_events (pieces Comma rest)) (λ b. is_begun (Some (if b then (start.Events w, rest) else (start.Variables w, rest))) ≡ true) (λ e. h) (λ e. h)
 
 seen_begun : (v : Option Visibility) (line : List Token) → are_named line ≡ true → is_begun (seen_variables v line) ≡ true
 seen_begun None line h = refl
@@ -310,8 +310,12 @@ group_begun : (s : Start) (line : List Token) → are_named line ≡ true → is
 group_begun s [] h = refl
 group_begun s (t ∷ rest) h = of_lead (lead_of t)
   where
+    of_end : (b : Begun) → is_begun b ≡ true → is_begun (or_member s (t ∷ rest) b) ≡ true
+    of_end None k = h
+    of_end (Some closing) k = k
+
     of_lead : (o : Option Lead) → is_begun (member_start s o (t ∷ rest) rest) ≡ true
-    of_lead (Some lead.End) = end_begun rest
+    of_lead (Some lead.End) = of_end (end_start rest) (end_begun rest)
     of_lead _ = h
 
 start_begun : (place : Spot) (line : List Token) → are_named line ≡ true → is_begun (start_of place line) ≡ true
@@ -357,6 +361,10 @@ head_names proc.Get v o f h l = ap is_good_form l.form
 head_names proc.Let v o f h l = ap is_good_form l.form
 head_names proc.Set v o f h l = ap is_good_form l.form
 
+field_names : (o : Option Outline) (f : Form) → Outlines FieldOf o f → is_good_form f ≡ true
+field_names None f e = absurd e
+field_names (Some o) f e = ap is_good_form e.form
+
 member_names : (behind : Option (List Token)) (o : Option Outline) (f : Form) → Outlines (MemberOf behind) o f → is_good_form f ≡ true
 member_names behind None f e = absurd e
 member_names behind (Some o) f e = ap is_good_form e.form
@@ -367,7 +375,7 @@ fits_names start.Option line rest f h e = found_names (option_line rest) f (opti
 fits_names (start.Def w) line rest f h e = ap is_good_form e.form
 fits_names (start.Variables w) line rest f h e =
     ap is_good_form e.form ∙ declarators_named (pieces Comma rest) e.declarators (pieces_named Comma 0 rest h) e.each
-fits_names start.Events line rest f h e = ap is_good_form e.form
+fits_names (start.Events w) line rest f h e = ap is_good_form e.form
 fits_names (start.Constants v) line rest f h e = ap is_good_form e.form
 fits_names (start.Type v) line rest f h e = outlines_names _ (outline_of rest) f (outline_names rest h) (λ o n l. ap is_good_form l.form) e
 fits_names (start.Enum v) line rest f h e = outlines_names _ (outline_of rest) f (outline_names rest h) (λ o n l. ap is_good_form l.form) e
@@ -375,7 +383,7 @@ fits_names (start.Head k v) line rest f h e = outlines_names _ (outline_of rest)
 fits_names (start.StaticHead k v) line rest f h e = outlines_names _ (outline_of rest) f (outline_names rest h) (λ o n l. ap is_good_form l.form) e
 fits_names (start.End k) line rest f h e = found_names (end_form k) f (end_form_names k) e
 fits_names start.Opaque line rest f h e = ap is_good_form e
-fits_names start.Field line rest f h e = outlines_names FieldOf (outline_of rest) f (outline_names rest h) (λ o n l. ap is_good_form l.form) e
+fits_names start.Field line rest f h e = field_names (field_outline rest) f e
 fits_names start.Member line rest f h e = of_cut (parted Equal rest) e
   where
     of_cut : (cut : Option (List Token × List Token)) → IsMemberCut rest cut f → is_good_form f ≡ true

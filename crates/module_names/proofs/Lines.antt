@@ -18,7 +18,7 @@ use Rattle.vb_lines.specs.Parts.{Part, last_end, text_of, piece_text, Outcome, g
 use Rattle.vb_lines.specs.Statements.{Cut, label_cut, statement_cut, head_cut, jump_cut, else_cut, stray_cut, end_cut}
 use Rattle.module_names.proofs.Cuts.{are_named, is_named_cut, is_good_part}
 use Rattle.module_names.proofs.Declarations.{declaration_names}
-use Rattle.scalar_rewrite.proofs.Lists.{by_test, both_true, and_true, all_more, all_first, all_rest, all_append, all_take, all_drop}
+use Rattle.up_base.proofs.Lists.{by_test, both_true, and_true, all_more, all_first, all_rest, all_append, all_take, all_drop}
 use Rattle.module_names.proofs.Statements.{is_good_form, meant_names, item_means_names}
 use Rattle.module_names.proofs.Tokens.{is_named_token}
 use Rattle.module_names.proofs.Units.{is_simple}

@@ -13,15 +13,13 @@ use Rattle.vb_lines.specs.Parts.{all_parts}
 use Rattle.project_loader.specs.Modules.{TextIsModule}
 use Rattle.net_tree.specs.Comments.{is_comment}
 use Rattle.net_tree.specs.Spelling.{is_word_part, is_identifier}
-use Rattle.scalar_vb6_run.specs.Depth.{has_shallow_form, has_shallow_line, is_shallow_module}
-use Rattle.scalar_vb6_run.specs.Program.{procedures_in}
-use Rattle.scalar_rewrite.specs.Modules.{Comment}
-use Rattle.scalar_rewrite.specs.Writable.{are_comments, has_comment_text, names_sub, names_variables, is_named_head, is_named_module}
+use Rattle.module_names.specs.Limits.{has_shallow_form, has_shallow_line, is_shallow_module}
+use Rattle.module_names.specs.Named.{Comment, are_comments, has_comment_text, names_sub, heads_in, is_named_head, names_variables, is_named_module}
 use Rattle.module_names.specs.Texts.{are_single}
 use Rattle.module_names.proofs.Contents.{is_good_line, has_simple_comment, lines_good}
 use Rattle.module_names.proofs.Cuts.{are_named, all_parts_good}
 use Rattle.module_names.proofs.Lines.{is_good_code, read_good}
-use Rattle.scalar_rewrite.proofs.Lists.{both_true, and_true, all_more, all_first, all_rest, all_append, all_left, all_right, all_leads, all_flat}
+use Rattle.up_base.proofs.Lists.{both_true, and_true, all_more, all_first, all_rest, all_append, all_left, all_right, all_leads, all_flat}
 use Rattle.module_names.proofs.Statements.{is_good_form}
 use Rattle.module_names.proofs.Units.{is_simple, simple_is_comment}
 
@@ -110,18 +108,18 @@ code_is_shallow : (l : tree.Line) → is_good_code l ≡ true → has_shallow_li
 code_is_shallow l h =
     (both_true (has_shallow_form l.form) (names_sub l.form && names_variables l) (both_true (list_all is_simple l.text) (is_good_form l.form) h).1).0
 
-member_heads : (m : Member) → list_all is_good_code (member_lines m) ≡ true → list_all is_named_head (procedures_in m) ≡ true
+member_heads : (m : Member) → list_all is_good_code (member_lines m) ≡ true → list_all is_named_head (heads_in m) ≡ true
 member_heads (alone l) h = refl
 member_heads (group head lines close) h = refl
 member_heads (proc head body close) h =
-    all_more is_named_head (record { head = head; body = body }) []
+    all_more is_named_head head []
     (code_names head (all_first is_good_code head (flat_lines body ++ close ∷ []) h)).0
     refl
 
-heads_good : (members : List Member) → list_all is_good_code (flat_map member_lines members) ≡ true → list_all is_named_head (flat_map procedures_in members) ≡ true
+heads_good : (members : List Member) → list_all is_good_code (flat_map member_lines members) ≡ true → list_all is_named_head (flat_map heads_in members) ≡ true
 heads_good [] h = refl
 heads_good (m ∷ ms) h =
-    all_append is_named_head (procedures_in m) (flat_map procedures_in ms)
+    all_append is_named_head (heads_in m) (flat_map heads_in ms)
     (member_heads m (all_left is_good_code (member_lines m) (flat_map member_lines ms) h))
     (heads_good ms (all_right is_good_code (member_lines m) (flat_map member_lines ms) h))
 
@@ -139,8 +137,8 @@ of_body entry number body m h k is =
     (ap is_identifier is.name ∙ module_name_is_identifier entry.name h)
     (ap are_comments is.comments ∙ comments_good body k))
     (all_leads is_good_code has_comment_text code_has_comment (module_lines m) lines) in
-    let heads = and_true (is_identifier m.name && are_comments m.comments && list_all has_comment_text (module_lines m)) (list_all is_named_head (flat_map procedures_in m.members)) texts (heads_good m.members lines) in
-    and_true (is_identifier m.name && are_comments m.comments && list_all has_comment_text (module_lines m) && list_all is_named_head (flat_map procedures_in m.members)) (list_all names_variables (module_lines m))
+    let heads = and_true (is_identifier m.name && are_comments m.comments && list_all has_comment_text (module_lines m)) (list_all is_named_head (flat_map heads_in m.members)) texts (heads_good m.members lines) in
+    and_true (is_identifier m.name && are_comments m.comments && list_all has_comment_text (module_lines m) && list_all is_named_head (flat_map heads_in m.members)) (list_all names_variables (module_lines m))
     heads (all_leads is_good_code names_variables (λ l e. (code_names l e).1) (module_lines m) lines)
 
 of_head : (entry : Entry) (number : ℕ) (head : Head) (m : Module) → is_module_name entry.name ≡ true → GoodHead head → IsModule entry number head m → is_named_module m ≡ true

@@ -11,9 +11,9 @@ use Rattle.project_file.proofs.EntryNames.{named_entries}
 use Rattle.project_loader.specs.Held.{TextIsFile, HeldEntries, HeldProject, AreModules, IsOfGrammar}
 use Rattle.project_loader.specs.Modules.{TextIsModule}
 use Rattle.project_loader.specs.Texts.{size_of, decoded}
-use Rattle.scalar_vb6_run.specs.Depth.{is_shallow_module}
-use Rattle.scalar_rewrite.specs.Writable.{is_named_module}
-use Rattle.scalar_rewrite.proofs.Lists.{both_true, all_more, all_first, all_rest}
+use Rattle.module_names.specs.Limits.{is_shallow_module}
+use Rattle.module_names.specs.Named.{is_named_module}
+use Rattle.up_base.proofs.Lists.{both_true, all_more, all_first, all_rest}
 use Rattle.module_names.proofs.Modules.{named_module, shallow_module}
 use Rattle.module_names.proofs.Units.{decoded_singly}
 

@@ -14,9 +14,9 @@ use Rattle.statement_forms.specs.Fronts.{behind_key, end_form, exit_form, one_wo
 use Rattle.statement_forms.specs.LineForms.{Made, FormKind, print_items, print_kept, replacement, assignment, setting, calling, block_if, else_if, words_alone, select_head, case_items, counting, for_each_item, next_end, do_while_head, do_until_head, loop_while_end, loop_until_end, while_line, with_line, jump, error_jump, resumption, redimming, erasing, kept_words, computed_jump, invocation, drawing, Fits, FirstIn, order, IsMeant}
 use Rattle.statement_forms.specs.Pieces.{ItemMeans, named_item}
 use Rattle.net_tree.specs.Spelling.{is_identifier}
-use Rattle.scalar_vb6_run.specs.Depth.{is_shallow_source, has_shallow_form}
-use Rattle.scalar_rewrite.proofs.Lists.{and_true, all_more}
-use Rattle.scalar_rewrite.specs.Writable.{names_sub, variables_of}
+use Rattle.module_names.specs.Limits.{is_shallow_source, has_shallow_form}
+use Rattle.up_base.proofs.Lists.{and_true, all_more}
+use Rattle.module_names.specs.Named.{names_sub, variables_of}
 
 -- a line is within the limits of the grammar, and the Sub and the variables that it declares, if it does, are named by
 -- identifiers

@@ -12,7 +12,7 @@ use Rattle.vb_tree.specs.declared.token.TokenKind.TheVariants as kind
 use Rattle.vb_tree.specs.Tokens.{is_letter, is_digit, is_name_unit, run, begins, named, name_suffix, suffix_units, word_at, bracketed_at, literal_of, decimal_at, radix_behind, radix_at, radix_digits, text_from, text_at, is_date, single_sign, double_sign, sign_or, sign_at, token_at}
 use Rattle.net_tree.specs.Spelling.{is_word_part, is_identifier}
 use Rattle.vb_lexer.proofs.Runs.{run_all}
-use Rattle.scalar_rewrite.proofs.Lists.{both_true, and_true, all_more, all_leads}
+use Rattle.up_base.proofs.Lists.{both_true, and_true, all_more, all_leads}
 
 -- ---- names
 

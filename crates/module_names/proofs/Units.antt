@@ -10,8 +10,9 @@ use Rattle.vb_tree.specs.LogicalLines.{shown_unit, shown}
 use Rattle.net_tree.specs.Comments.{is_surrogate, is_well_formed, is_within_line, is_comment}
 use Rattle.project_loader.specs.Texts.{is_byte, unit_or_delete, decoded}
 use Rattle.module_names.specs.Texts.{is_single, are_single}
-use Rattle.scalar_rewrite.proofs.Characters.{not_of, formed_behind}
-use Rattle.scalar_rewrite.proofs.Lists.{by_test, both_true, and_true, all_first, all_rest, all_map, all_through, all_leads}
+use Rattle.up_base.proofs.Tests.{not_true}
+use Rattle.net_tree.proofs.Characters.{formed_behind}
+use Rattle.up_base.proofs.Lists.{by_test, both_true, and_true, all_first, all_rest, all_map, all_through, all_leads}
 
 byte_is_single : (b : ℕ) → nat_lt b 256 ≡ true → is_single b ≡ true
 byte_is_single b h =
@@ -56,7 +57,7 @@ shown_simply units h = all_through is_single is_simple shown_unit shown_is_simpl
 formed : (units : List ℕ) → list_all is_simple units ≡ true → is_well_formed units ≡ true
 formed [] h = refl
 formed (u ∷ units) h =
-    formed_behind u units (not_of (is_surrogate u) (both_true (is_within_line u) (is_single u) (all_first is_simple u units h)).1)
+    formed_behind u units (not_true (is_surrogate u) (both_true (is_within_line u) (is_single u) (all_first is_simple u units h)).1)
     (formed units (all_rest is_simple u units h))
 
 pub simple_is_comment : (units : List ℕ) → list_all is_simple units ≡ true → is_comment units ≡ true

@@ -9,8 +9,8 @@ ghost use Rattle.vb_tree.specs.Tree.{Module, Project};
 ghost use Rattle.project_loader.specs.Held.{HeldProject, IsOfGrammar};
 ghost use Rattle.project_loader.specs.Modules.{TextIsModule};
 ghost use Rattle.project_loader.specs.Texts.{decoded};
-ghost use Rattle.scalar_vb6_run.specs.Depth.{is_shallow_module};
-ghost use Rattle.scalar_rewrite.specs.Writable.{is_named_module};
+ghost use Rattle.module_names.specs.Limits.{is_shallow_module};
+ghost use Rattle.module_names.specs.Named.{is_named_module};
 ghost use Rattle.module_names.specs.Texts.{are_single};
 
 /// A law: bytes stand for units that are characters by themselves.

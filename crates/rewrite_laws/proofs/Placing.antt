@@ -16,7 +16,7 @@ use Rattle.scalar_rewrite.specs.Modules.{Comment, up_to, past, comment_lines, wi
 use Rattle.scalar_rewrite.specs.Translated.{has_straight_body, is_scalar_local, are_translated, is_translated_procedure}
 use Rattle.scalar_rewrite.specs.Written.{line_of, assign_line, written_line}
 use Rattle.scalar_rewrite.proofs.Kept as kept
-use Rattle.scalar_rewrite.proofs.Lists.{both_true}
+use Rattle.up_base.proofs.Lists.{both_true}
 use Rattle.rewrite_laws.proofs.Runs.{same_run, same_lines}
 use Rattle.scalar_rewrite.proofs.Scalars.{chosen}
 

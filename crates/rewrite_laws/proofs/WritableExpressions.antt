@@ -26,7 +26,7 @@ use Rattle.net_meaning.specs.WrittenRows as row
 use Rattle.scalar_rewrite.specs.Marks.{has_fit_constants}
 use Rattle.scalar_rewrite.specs.Written.{piece_exp, joined_exp, exp_or_nothing, call_path, Operand, plain, cast_exp, decimal_for, row_exp, operator_exp, literal_as, literal_exp, operand_of, converted_exp, local_name, local_exp, exp_of, term_exp, item_exp, printed_item, joined_items, items_exp, print_path, assign_line, line_of, written_line}
 use Rattle.scalar_rewrite.specs.Translated.{is_scalar, is_plain_call, is_over_a, is_over_b, is_over_both, is_safe, is_operand_a, is_to_decimal, is_not, goes_to_decimal, has_not, is_first, unary_fits, binary_fits, conversion_fits, compares_objects, is_translated, is_translated_term, is_target, is_target_of, is_assignment, is_item, is_translated_form, is_translated_line}
-use Rattle.scalar_rewrite.proofs.Lists.{both_true, and_true, all_first}
+use Rattle.up_base.proofs.Lists.{both_true, and_true, all_first}
 use Rattle.rewrite_laws.proofs.LocalNames.{local_is}
 use Rattle.rewrite_laws.proofs.WrittenDepths.{expr_is_shallow, print_is_shallow}
 

@@ -24,12 +24,15 @@ use Rattle.net_tree.specs.Tree as net
 use Rattle.scalar_rewrite.specs.Marks.{taken_names, declared_by, is_translated_declaration, is_translated_code, placed_lines, first_exprs, later_exprs, marked, is_lost, marked_users, exprs_at, Place6, marked_lines, is_kept, behind, behind_all, first_place}
 use Rattle.scalar_rewrite.specs.Modules.{Comment, up_to, past, comment_lines, with_comments, lines_at, written_head, written_procedure, upgrade_text, upgrade_comment, member_comments, left_out, all_left_out, written_member, written_members, written_module, written_modules}
 use Rattle.scalar_rewrite.specs.Translated.{is_plain_sub, are_translated, is_translated_line}
-use Rattle.scalar_rewrite.specs.Writable.{are_comments, has_comment_text, names_sub, is_named_head, names_variables, is_named_module, is_named_variable, is_named}
+use Rattle.scalar_rewrite.specs.Writable.{is_named_variable}
+use Rattle.module_names.specs.Named.{are_comments, has_comment_text, names_sub, heads_in, is_named_head, names_variables, is_named_module}
+use Rattle.rewrite_laws.specs.Named.{is_named}
 use Rattle.scalar_rewrite.specs.Written.{net_type, assign_line, line_of, written_line, written_local}
 use Rattle.scalar_rewrite.proofs.LostNames.{users_all}
-use Rattle.scalar_rewrite.proofs.Characters.{not_of, formed_behind}
+use Rattle.up_base.proofs.Tests.{not_true}
+use Rattle.net_tree.proofs.Characters.{formed_behind}
 use Rattle.scalar_rewrite.proofs.Kept.{placed_line, placed_are, has_fit_line, kept_is_plain, kept_lines, kept_constants}
-use Rattle.scalar_rewrite.proofs.Lists.{both_true, and_true, all_first, all_rest, all_append, all_left, all_right}
+use Rattle.up_base.proofs.Lists.{both_true, and_true, all_first, all_rest, all_append, all_left, all_right}
 use Rattle.rewrite_laws.proofs.Placing.{in_front, at_back, procedures_in_module, number_of_members}
 use Rattle.rewrite_laws.proofs.WritableExpressions.{are_named, line_can}
 
@@ -66,7 +69,7 @@ simple_front (x ∷ xs) units e h =
     let more = both_true (list_all is_within_line (xs ++ units)) (is_well_formed (xs ++ units)) (simple_front xs units all.1 h) in
     and_true (is_within_line x && list_all is_within_line (xs ++ units)) (is_well_formed (x ∷ (xs ++ units)))
     (and_true (is_within_line x) (list_all is_within_line (xs ++ units)) one.0 more.0)
-    (formed_behind x (xs ++ units) (not_of (is_surrogate x) one.1) more.1)
+    (formed_behind x (xs ++ units) (not_true (is_surrogate x) one.1) more.1)
 
 upgrade_can : (text : List ℕ) → is_comment text ≡ true → is_comment (upgrade_text text) ≡ true
 upgrade_can text h = simple_front (codes "UPGRADE U99: ") text refl h
@@ -271,7 +274,7 @@ located_behind P p w ws h j v e =
     let there : (1 + p) + j ≡ p + suc j = omega arith in
     ap (slice_get (procedures_of P.declarations.project)) there ∙ h (suc j) v e
 
-members_can : (P : Bound) (at : Place6) (ms : List Member) (cs : List Comment) → list_all is_named_variable P.declarations.vars ≡ true → is_shallow_bound P ≡ true → Located P at.procedure (flat_map procedures_in ms) → list_all is_named_head (flat_map procedures_in ms) ≡ true
+members_can : (P : Bound) (at : Place6) (ms : List Member) (cs : List Comment) → list_all is_named_variable P.declarations.vars ≡ true → is_shallow_bound P ≡ true → Located P at.procedure (flat_map procedures_in ms) → list_all is_named_head (flat_map heads_in ms) ≡ true
     → list_all has_comment_text (flat_map flat.member_lines ms) ≡ true → are_comments cs ≡ true → list_all is_writable_member (written_members P at cs ms) ≡ true
 members_can P at [] cs n shallow found heads texts h = member_comments_can cs h
 members_can P at (alone l ∷ ms) cs n shallow found heads texts h =
@@ -288,7 +291,7 @@ members_can P at (group head lines close ∷ ms) cs n shallow found heads texts 
 members_can P at (proc head body close ∷ ms) cs n shallow found heads texts h =
     let own = flat.member_lines (proc head body close) in
     let rest = flat_map flat.member_lines ms in
-    let named = both_true (names_sub head.form) (list_all is_named_head (flat_map procedures_in ms)) heads in
+    let named = both_true (names_sub head.form) (list_all is_named_head (flat_map heads_in ms)) heads in
     let here : at.procedure + 0 ≡ at.procedure = omega arith in
     let stands = sym (ap (slice_get (procedures_of P.declarations.project)) here) ∙ found zero (record { head = head; body = body }) refl in
     all_append is_writable_member (written_member P at cs (proc head body close)) (written_members P (behind at (proc head body close)) (past close.place.line cs) ms)
@@ -311,8 +314,8 @@ modules_can P (m ∷ ms) p n shallow found named =
     let at = first_place P.declarations.project.modules p m in
     let next = (behind_all at m.members).procedure in
     let both = both_true (is_named_module m) (list_all is_named_module ms) named in
-    let fourth = both_true (is_identifier m.name && are_comments m.comments && list_all has_comment_text (flat.module_lines m) && list_all is_named_head (procedures_in_module m)) (list_all names_variables (flat.module_lines m)) both.0 in
-    let third = both_true (is_identifier m.name && are_comments m.comments && list_all has_comment_text (flat.module_lines m)) (list_all is_named_head (procedures_in_module m)) fourth.0 in
+    let fourth = both_true (is_identifier m.name && are_comments m.comments && list_all has_comment_text (flat.module_lines m) && list_all is_named_head (flat_map heads_in m.members)) (list_all names_variables (flat.module_lines m)) both.0 in
+    let third = both_true (is_identifier m.name && are_comments m.comments && list_all has_comment_text (flat.module_lines m)) (list_all is_named_head (flat_map heads_in m.members)) fourth.0 in
     let second = both_true (is_identifier m.name && are_comments m.comments) (list_all has_comment_text (flat.module_lines m)) third.0 in
     let first = both_true (is_identifier m.name) (are_comments m.comments) second.0 in
     and_true (is_writable_module (written_module P at m)) (list_all is_writable_module (written_modules P next ms))

@@ -10,7 +10,6 @@ use Rattle.vb_tree.specs.declared.project.ProjectKind.TheVariants as kind
 use Rattle.vb_tree.specs.FlatLines.{module_lines}
 use Rattle.vb_tree.specs.Tree.{Module}
 use Rattle.scalar_vb6_run.specs.Depth.{is_shallow_bound}
-use Rattle.scalar_vb6_run.specs.Program.{procedures_in}
 use Rattle.net_tree.specs.Spelling.{is_identifier}
 use Rattle.net_tree.specs.Text.{is_writable_module, is_main, file_name, IsWritable}
 use Rattle.net_tree.specs.Tree as net
@@ -18,9 +17,11 @@ use Rattle.support_text.specs.Needs.{support_module}
 use Rattle.support_text.proofs.Writable.{support_can}
 use Rattle.scalar_rewrite.specs.Marks.{first_place, behind_all}
 use Rattle.scalar_rewrite.specs.Modules.{written_modules}
-use Rattle.scalar_rewrite.specs.Projects.{declares_main, only, started, written_project, has_file_name, can_be_named}
-use Rattle.scalar_rewrite.specs.Writable.{are_comments, has_comment_text, is_named_head, names_variables, is_named_module, is_named_variable, is_named}
-use Rattle.scalar_rewrite.proofs.Lists.{both_true, and_true, all_append}
+use Rattle.scalar_rewrite.specs.Projects.{declares_main, only, started, written_project}
+use Rattle.scalar_rewrite.specs.Writable.{is_named_variable}
+use Rattle.module_names.specs.Named.{are_comments, has_comment_text, heads_in, is_named_head, names_variables, is_named_module}
+use Rattle.rewrite_laws.specs.Named.{is_named, has_file_name, can_be_named}
+use Rattle.up_base.proofs.Lists.{both_true, and_true, all_append}
 use Rattle.rewrite_laws.proofs.WritableModules.{written_can}
 
 by_test : (b : Bool) (P : Bool → Type 0) → (b ≡ true → P true) → (b ≡ false → P false) → P b
@@ -36,8 +37,8 @@ all_filter f g (x ∷ xs) h =
 
 module_named : (m : Module) → is_named_module m ≡ true → is_identifier m.name ≡ true
 module_named m h =
-    let a = both_true (is_identifier m.name && are_comments m.comments && list_all has_comment_text (module_lines m) && list_all is_named_head (flat_map procedures_in m.members)) (list_all names_variables (module_lines m)) h in
-    let b = both_true (is_identifier m.name && are_comments m.comments && list_all has_comment_text (module_lines m)) (list_all is_named_head (flat_map procedures_in m.members)) a.0 in
+    let a = both_true (is_identifier m.name && are_comments m.comments && list_all has_comment_text (module_lines m) && list_all is_named_head (flat_map heads_in m.members)) (list_all names_variables (module_lines m)) h in
+    let b = both_true (is_identifier m.name && are_comments m.comments && list_all has_comment_text (module_lines m)) (list_all is_named_head (flat_map heads_in m.members)) a.0 in
     let c = both_true (is_identifier m.name && are_comments m.comments) (list_all has_comment_text (module_lines m)) b.0 in
     (both_true (is_identifier m.name) (are_comments m.comments) c.0).0
 

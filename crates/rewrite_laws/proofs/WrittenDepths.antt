@@ -31,7 +31,7 @@ use Rattle.net_meaning.specs.WrittenRows.{Row, operand_a, operand_b, no_text, ca
 use Rattle.net_meaning.specs.WrittenRows as row
 use Rattle.scalar_rewrite.specs.Marks.{is_plain_unit, is_short, has_fit_constants, are_fit_constants, goes_to}
 use Rattle.scalar_rewrite.specs.Written.{piece_exp, joined_exp, exp_or_nothing, Operand, plain, cast_exp, decimal_for, row_exp, operator_exp, is_whole, takes_literals, spelt, value_in, literal_in, literal_as, literal_exp, operand_of, converted_exp, local_exp, exp_of, term_exp, item_exp, printed_item, joined_items, items_exp}
-use Rattle.scalar_rewrite.proofs.Lists.{by_test, both_true}
+use Rattle.up_base.proofs.Lists.{by_test, both_true}
 
 -- ---- constants
 

@@ -8,8 +8,8 @@ ghost use Rattle.net_tree.specs.Tree.{Project};
 ghost use Rattle.scalar_rewrite.specs.Translated.{is_translated_procedure};
 ghost use Rattle.rewrite_laws.specs.Match.{IsWrittenAs, SameLines, SameRun};
 ghost use Rattle.scalar_rewrite.specs.Modules.{AreWritten, IsKept, LocalsAreDeclared, written_modules};
-ghost use Rattle.scalar_rewrite.specs.Projects.{written_project, can_be_named};
-ghost use Rattle.scalar_rewrite.specs.Writable.{is_named};
+ghost use Rattle.scalar_rewrite.specs.Projects.{written_project};
+ghost use Rattle.rewrite_laws.specs.Named.{is_named, can_be_named};
 
 /// A law: a procedure that is translated does the same as one that is written for it. From stores that match, within any
 /// number of steps, both put out the same, raise the same number or end or are stopped alike, and leave stores that match.

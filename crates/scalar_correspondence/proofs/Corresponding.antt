@@ -22,7 +22,7 @@ use Rattle.scalar_rewrite.specs.Projects.{written_project}
 use Rattle.scalar_rewrite.specs.Translated.{is_nil, is_plain_sub, is_translated_form, is_translated_line, are_translated}
 use Rattle.scalar_rewrite.specs.Written.{items_exp, line_of, written_line, written_local}
 use Rattle.scalar_rewrite.proofs.Kept.{placed_line, placed_are, are_distinct, local_name_of, lines_at_number, kept_is_plain, kept_is_straight, kept_lines, kept_distinct}
-use Rattle.scalar_rewrite.proofs.Lists.{by_test, both_true, all_append}
+use Rattle.up_base.proofs.Lists.{by_test, both_true, all_append}
 use Rattle.rewrite_laws.proofs.Placing.{in_front, at_back, number_of_members, procedures_in_module, lines_found, code_written}
 use Rattle.scalar_rewrite.proofs.Straight.{numbered, straight_body}
 use Rattle.rewrite_laws.proofs.WritableModules.{Located, located_behind}

@@ -10,9 +10,9 @@ use Rattle.vb_tree.specs.BoundTree.{Variable}
 use Rattle.scalar_vb6_run.specs.Program.{is_local_of, locals_from}
 use Rattle.scalar_rewrite.specs.Translated.{is_first}
 use Rattle.scalar_rewrite.specs.Written.{local_name}
-use Rattle.scalar_rewrite.proofs.Characters.{not_of}
+use Rattle.up_base.proofs.Tests.{not_true}
 use Rattle.scalar_rewrite.proofs.Kept.{differs, are_distinct, local_name_of, same_as_itself}
-use Rattle.scalar_rewrite.proofs.Lists.{by_test, both_true}
+use Rattle.up_base.proofs.Lists.{by_test, both_true}
 use Rattle.scalar_correspondence.specs.Corresponds.{IsIn}
 use Rattle.scalar_correspondence.proofs.Naming.{IsNamed}
 
@@ -46,7 +46,7 @@ least_number k (y ∷ xs) x h (suc n, e) =
 differs_in : (name : List ℕ) (xs : List (ℕ × Variable)) (x : ℕ × Variable) → list_all (differs name) (map local_name_of xs) ≡ true → IsIn x xs → is_same_name name x.1.name ≡ false
 differs_in name [] x h (n, e) = absurd (cc e)
 differs_in name (y ∷ xs) x h (zero, e) =
-    subst (λ (z : ℕ × Variable). is_same_name name z.1.name ≡ false) (some_is e) (not_of (is_same_name name y.1.name) (both_true (differs name y.1.name) (list_all (differs name) (map local_name_of xs)) h).0)
+    subst (λ (z : ℕ × Variable). is_same_name name z.1.name ≡ false) (some_is e) (not_true (is_same_name name y.1.name) (both_true (differs name y.1.name) (list_all (differs name) (map local_name_of xs)) h).0)
 differs_in name (y ∷ xs) x h (suc n, e) = differs_in name xs x (both_true (differs name y.1.name) (list_all (differs name) (map local_name_of xs)) h).1 (n, e)
 
 -- names are compared in either order
@@ -81,7 +81,7 @@ later_local : (y : ℕ × Variable) (xs : List (ℕ × Variable)) (x : ℕ × Va
     → (IsIn x xs → nat_eq x.0 id ≡ is_same_name (local_name xs id) x.1.name) → IsIn x (y ∷ xs) → nat_eq x.0 id ≡ is_same_name (local_name xs id) x.1.name
 later_local y xs x id e apart more (zero, f) =
     subst (λ (z : ℕ × Variable). nat_eq z.0 id ≡ is_same_name (local_name xs id) z.1.name) (some_is f)
-    (e ∙ sym (turned y.1.name (local_name xs id) (not_of (is_same_name y.1.name (local_name xs id)) apart)))
+    (e ∙ sym (turned y.1.name (local_name xs id) (not_true (is_same_name y.1.name (local_name xs id)) apart)))
 later_local y xs x id e apart more (suc n, f) = more (n, f)
 
 pub first_is_named : (k : ℕ) (xs : List (ℕ × Variable)) (x : ℕ × Variable) → Rising k xs → are_distinct (map local_name_of xs) ≡ true → IsIn x xs → IsNamed xs x

@@ -18,7 +18,7 @@ use Rattle.net_meaning.specs.WrittenRows.{Row, operand_a, operand_b, no_text, ca
 use Rattle.net_meaning.specs.WrittenRows as row
 use Rattle.scalar_rewrite.specs.Translated.{is_scalar, is_plain_call, is_over_a, is_over_b, is_operand_a, goes_to_decimal, has_not, is_to_decimal, is_not, is_safe, is_over_both, is_first, unary_fits, binary_fits, compares_objects, row_fits, conversion_fits, is_translated, is_translated_term, is_target, is_target_of, is_assignment, is_item}
 use Rattle.scalar_rewrite.specs.Written.{piece_exp, joined_exp, constant_exp, exp_or_nothing, call_path, Operand, plain, decimal_or, cast_exp, decimal_for, row_exp, operator_exp, conversion_exp, literal_as, converted_exp, literal_exp, operand_of, local_name, local_exp, exp_of, term_exp, item_exp, printed_item, joined_items, items_exp}
-use Rattle.scalar_rewrite.proofs.Lists.{both_true}
+use Rattle.up_base.proofs.Lists.{both_true}
 use Rattle.rewrite_laws.proofs.LocalNames.{local_is}
 use Rattle.scalar_correspondence.specs.Uses.{uses, term_uses, path_names, names, total}
 

@@ -15,8 +15,8 @@ use Rattle.scalar_vb6_run.specs.Program.{Written, BoundLine, procedures_of, with
 use Rattle.scalar_rewrite.specs.Marks.{is_among, taken_names, declared_by, is_scalar_name, declares_scalars, is_translated_declaration, has_fit_constants, is_translated_code, placed_lines, placed_in, placed_middles, first_exprs, later_exprs, marked, is_lost, marked_users, exprs_at, Place6, is_translated_head, is_kept}
 use Rattle.scalar_rewrite.specs.Modules.{lines_at, dim_names, LocalsAreDeclared}
 use Rattle.scalar_rewrite.specs.Translated.{is_scalar, is_translated_form, is_translated_line, is_scalar_local, is_straight_form, is_straight, is_plain_sub, has_straight_body, are_translated, is_translated_procedure}
-use Rattle.scalar_rewrite.proofs.Characters.{not_of}
-use Rattle.scalar_rewrite.proofs.Lists.{both_true, and_true, all_first, all_rest, all_append, all_left, all_leads}
+use Rattle.up_base.proofs.Tests.{not_true}
+use Rattle.up_base.proofs.Lists.{both_true, and_true, all_first, all_rest, all_append, all_left, all_leads}
 use Rattle.scalar_rewrite.proofs.LostNames.{users_done}
 use Rattle.scalar_rewrite.proofs.Straight.{numbered, straight_body}
 
@@ -298,7 +298,7 @@ scalars_alone (x ∷ locals) d e =
         let apart = both_true (differs x.1.name n) (list_all (differs x.1.name) ns) d in
         let scalars = both_true (is_scalar_name (x ∷ locals) n) (list_all (is_scalar_name (x ∷ locals)) ns) e in
         and_true (is_scalar_name locals n) (list_all (is_scalar_name locals) ns)
-        (sym (ap (λ b. cond b (is_scalar x.1.ty) (is_scalar_name locals n)) (not_of (is_same_name x.1.name n) apart.0)) ∙ scalars.0)
+        (sym (ap (λ b. cond b (is_scalar x.1.ty) (is_scalar_name locals n)) (not_true (is_same_name x.1.name n) apart.0)) ∙ scalars.0)
         (without ns apart.1 scalars.1)
 
 -- ---- procedures
@@ -318,7 +318,7 @@ kept_parts P at head body close e =
     let both = both_true (not (at.class || not (is_translated_head at.taken head.form))) (list_all is_done (with_users ++ (false, close) ∷ [])) e in
     let heads = both_false at.class (not (is_translated_head at.taken head.form)) both.0 in
     let named = both_true (is_plain_sub head.form) (not (is_among at.taken (name_of head.form))) (not_not (is_translated_head at.taken head.form) heads.1) in
-    record { class = not_of at.class heads.0; plain = named.0; lines = users_done (is_lost inside) locals inside ess (all_left is_done with_users ((false, close) ∷ []) both.1) }
+    record { class = not_true at.class heads.0; plain = named.0; lines = users_done (is_lost inside) locals inside ess (all_left is_done with_users ((false, close) ∷ []) both.1) }
 
 pub kept_is_plain : (P : Bound) (at : Place6) (head : Line) (body : Nodes) (close : Line) → is_kept P at (proc head body close) ≡ true → is_plain_sub head.form ≡ true
 kept_is_plain P at head body close e = (kept_parts P at head body close e).plain

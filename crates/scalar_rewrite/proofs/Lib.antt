@@ -1,6 +1,4 @@
-pub mod Lists
 pub mod LocalLists
-pub mod Characters
 pub mod Scalars
 pub mod Straight
 pub mod Kept

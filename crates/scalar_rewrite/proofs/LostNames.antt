@@ -6,7 +6,7 @@ use Rattle.vb_tree.specs.Blocks.{is_code}
 use Rattle.vb_tree.specs.BoundTree.{Variable, Expr, typed, Term, variable, unary, binary, convert}
 use Rattle.vb_tree.specs.Tree.{Line}
 use Rattle.scalar_rewrite.specs.Marks.{is_among, declared_by, first_exprs, later_exprs, is_lost, is_lost_local, names_lost, term_names_lost, marked_users}
-use Rattle.scalar_rewrite.proofs.Lists.{both_true, and_true}
+use Rattle.up_base.proofs.Lists.{both_true, and_true}
 use Rattle.scalar_rewrite.proofs.Marking.{behind_mark}
 
 abbrev is_done : Bool × Line → Bool

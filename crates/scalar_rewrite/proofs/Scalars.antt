@@ -13,7 +13,7 @@ use Rattle.scalar_vb6_run.specs.Store.{scalar_number, is_same_scalar}
 use Rattle.scalar_net_run.specs.Store.{is_of_type}
 use Rattle.scalar_rewrite.specs.Translated.{is_scalar}
 use Rattle.scalar_rewrite.specs.Written.{net_type}
-pub use Rattle.scalar_rewrite.proofs.Lists.{by_test, both_true}
+pub use Rattle.up_base.proofs.Lists.{by_test, both_true}
 
 -- what a test holds of
 pub chosen : {A : Type 0} (b : Bool) (x y : A) → b ≡ true → cond b x y ≡ x

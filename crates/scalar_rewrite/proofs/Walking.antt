@@ -17,7 +17,7 @@ use Rattle.scalar_rewrite.specs.Taken.{AreSame}
 use Rattle.scalar_rewrite.specs.Translated.{is_plain_sub, is_straight}
 use Rattle.scalar_rewrite.specs.Walks.{member_by, member_with, is_kept_procedure, member_left_out, kept_member, is_plain, own_exprs, later_bodies, place_in, numbers_behind, IsNumbered, AreNumbered, AreNumberedIn}
 use Rattle.scalar_rewrite.proofs.Kept.{kept_is_plain, kept_is_straight}
-use Rattle.scalar_rewrite.proofs.Lists.{and_true}
+use Rattle.up_base.proofs.Lists.{and_true}
 use Rattle.scalar_rewrite.proofs.Marking.{same_before, same_behind, member_same}
 use Rattle.scalar_rewrite.proofs.WrittenProcedures.{own_procedure}
 

@@ -16,7 +16,7 @@ use Rattle.scalar_rewrite.specs.Modules.{Comment, up_to, past, comment_lines, wi
 use Rattle.scalar_rewrite.specs.Procedures.{commented, procedure_on, procedure_with, sub_in}
 use Rattle.scalar_rewrite.specs.Translated.{is_plain_sub, is_straight, is_straight_node}
 use Rattle.scalar_rewrite.specs.Written.{line_of, written_local}
-use Rattle.scalar_rewrite.proofs.Lists.{both_true}
+use Rattle.up_base.proofs.Lists.{both_true}
 use Rattle.scalar_rewrite.proofs.Straight.{numbered, straight_body}
 
 abbrev lines_in : List Flat → List Line

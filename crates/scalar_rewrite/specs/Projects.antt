@@ -1,7 +1,7 @@
 -- What is written for a project.
 use Rattle.std.specs.Prelude.{ℕ, Bool, false, not, ◌&&◌, cond, codes, List, [], ◌∷◌, ◌++◌, map, filter, Option, Some, None, is_none}
-use Rattle.std.specs.List.{list_all, list_any, flat_map}
-use Rattle.up_base.specs.Names.{is_name, is_same_name}
+use Rattle.std.specs.List.{list_any, flat_map}
+use Rattle.up_base.specs.Names.{is_same_name}
 use Rattle.up_base.specs.declared.place.Place.{Place}
 use Rattle.vb_tree.specs.declared.project.ProjectKind.{ProjectKind}
 use Rattle.vb_tree.specs.declared.project.ProjectKind.TheVariants as kind
@@ -12,7 +12,6 @@ use Rattle.net_tree.specs.Tree as net
 use Rattle.support_text.specs.Needs.{support_module}
 use Rattle.scalar_rewrite.specs.Marks.{Place6, marked_lines, behind, behind_all, first_place}
 use Rattle.scalar_rewrite.specs.Modules.{written_modules}
-use Rattle.scalar_rewrite.specs.Writable.{is_named}
 
 -- whether it is the head of a Sub Main; letters are compared without case
 abbrev pub is_main_head : Form → Bool
@@ -69,13 +68,3 @@ untranslated_modules P p (m ∷ ms) =
 -- the places of the lines that aren't translated so far, in project order; a place stands for each code line of its line
 abbrev pub untranslated : Bound → List Place
 untranslated P = untranslated_modules P 0 P.declarations.project.modules
-
--- ---- names
-
--- whether the file that is written for a module has a name
-abbrev pub has_file_name : Module → Bool
-has_file_name m = is_name (m.name ++ codes ".vb")
-
--- a project of such names and texts, for whose modules files can be named
-abbrev pub can_be_named : Bound → Bool
-can_be_named P = is_named P && list_all has_file_name P.declarations.project.modules

@@ -59,7 +59,7 @@ pub(crate) fn is_kept_procedure(member: &Member6, lines: &[MarkedLine]) -> bool
 
 /// Puts what is written for a procedure all of whose lines are translated behind other members, with the locals and the bound
 /// lines of its own. Each line of its body is let go of once it is written.
-#[tactic(auto, using(crate::proofs::Lists::both_true))]
+#[tactic(auto, using(up_base::proofs::Tests::both_true))]
 pub(crate) fn push_procedure(
     alloc: Global,
     members: &mut Vec<NetMember>,

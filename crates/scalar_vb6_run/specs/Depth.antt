@@ -1,30 +1,9 @@
--- How deep bound expressions are nested, and which lines stay within the limits of the grammar: expressions of a depth of at
--- most 64, and at most 64 items that are printed.
-use Rattle.std.specs.Prelude.{ℕ, suc, max, nat_le, Bool, true, ◌&&◌, List, length}
+-- How deep bound expressions are nested, and which lines stay within the limits of the grammar, where an expression that is
+-- read is at most 64 deep and a line prints at most 64 items.
+use Rattle.std.specs.Prelude.{ℕ, suc, max, nat_le, Bool, ◌&&◌, List, length}
 use Rattle.std.specs.List.{list_all}
 use Rattle.vb_tree.specs.BoundTree.{Body, Bound, Expr, Exprs, Object, Passed, Term, binary, by_reference, by_value, call, constant, convert, element, err_clear, err_number, err_raise, field, is_same, library, loose, me, new_object, next_expr, no_exprs, no_object, no_passed, of_object, typed, unary, variable, with_object}
 use Rattle.vb_tree.specs.Expressions.{depth_of}
-use Rattle.vb_tree.specs.FlatLines.{module_lines}
-use Rattle.vb_tree.specs.Tree.{Exp, Form, Line, Module, assign, debug_print}
-
--- ---- lines as they are read
-
-abbrev pub is_shallow_source : Exp → Bool
-is_shallow_source e = nat_le (depth_of e) 64
-
--- whether the expressions of a line whose names are bound, those of an assignment or a print, are within the limits
-abbrev pub has_shallow_form : Form → Bool
-has_shallow_form (assign target value) = is_shallow_source target && is_shallow_source value
-has_shallow_form (debug_print items ended) = nat_le (length items) 64 && list_all is_shallow_source items
-has_shallow_form _ = true
-
-abbrev pub has_shallow_line : Line → Bool
-has_shallow_line l = has_shallow_form l.form
-
-abbrev pub is_shallow_module : Module → Bool
-is_shallow_module m = list_all has_shallow_line (module_lines m)
-
--- ---- bound lines
 
 abbrev mutual
   -- a constant or a variable has the depth 0

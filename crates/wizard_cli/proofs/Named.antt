@@ -21,8 +21,10 @@ use Rattle.project_loader.specs.Held.{IsOfGrammar}
 use Rattle.scalar_binder.specs.Declarations.{declarations}
 use Rattle.scalar_binder.specs.Scalars.{bound}
 use Rattle.scalar_rewrite.specs.Marks.{Place6, marked_lines, behind, behind_all, first_place}
-use Rattle.scalar_rewrite.specs.Projects.{untranslated_in, untranslated_members, untranslated_modules, untranslated, written_project, has_file_name, can_be_named}
-use Rattle.scalar_rewrite.specs.Writable.{is_named_module, is_named_variable}
+use Rattle.scalar_rewrite.specs.Projects.{untranslated_in, untranslated_members, untranslated_modules, untranslated, written_project}
+use Rattle.scalar_rewrite.specs.Writable.{is_named_variable}
+use Rattle.module_names.specs.Named.{is_named_module}
+use Rattle.rewrite_laws.specs.Named.{has_file_name, can_be_named}
 use Rattle.rewrite_laws.proofs.WritableProjects.{project_can}
 use Rattle.bound_locals.proofs.Depths.{bound_shallow}
 use Rattle.bound_locals.proofs.Names.{variables_named}
