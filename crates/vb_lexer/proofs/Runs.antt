@@ -5,10 +5,7 @@ use Rattle.std.specs.Prelude.{nat_le}
 use Rattle.std.proofs.lemmas.Bool.Decides.{nat_tests}
 use Rattle.up_base.specs.Names.{is_name, is_printable}
 use Rattle.vb_tree.specs.Tokens.{run, begins, is_digit, is_letter, is_name_unit, fraction_units}
-
-pub both_true : (a b : Bool) → (a && b) ≡ true → (a ≡ true) × (b ≡ true)
-both_true true b h = (refl, h)
-both_true false b h = absurd cc
+pub use Rattle.up_base.proofs.Tests.{both_true}
 
 -- each unit of a run passes
 pub run_all : (p : ℕ → Bool) (units : List ℕ) → list_all p (take (run p units) units) ≡ true

@@ -6,7 +6,7 @@ ghost use Rattle.vb_tree.specs.LogicalLines.{is_control, is_hash, is_any_word, d
 
 use crate::content::joint;
 use crate::units::is_line_end;
-use up_base::{Fault, Place};
+use up_base::{Fault, Place, faults};
 use vb_tree::{Sign, Token, TokenKind};
 
 // Whether a unit is a control unit other than a tab.
@@ -72,16 +72,20 @@ fn fault_at(
     ensures { result ≡ fault_at directive stop joints at c }
 {
     if is_control(c) {
-        return Some(6);
+        return Some(faults::NO_CHARACTER);
     }
     if c == 13 || (c == 10 && joints == 24) {
-        return Some(7);
+        return Some(faults::MISPLACED_CONTINUATION);
     }
     if is_place(directive, at) {
-        return Some(13);
+        return Some(faults::DIRECTIVE);
     }
     if is_place(stop, at) {
-        return Some(if c == 34 { 8 } else { 9 });
+        return Some(if c == 34 {
+            faults::OPEN_LITERAL
+        } else {
+            faults::NO_TOKEN
+        });
     }
     None
 }
