@@ -9,7 +9,8 @@ use Rattle.vb_tree.specs.TokenClasses.{decimal, radix, Exponent, no_exponent, ex
 use Rattle.vb_lexer.proofs.Runs.{both_true}
 use Rattle.vb_lexer.proofs.ReadingContents.{drop_more}
 use Rattle.token_laws.proofs.Lengths.{Reaches, length_at, suffix_read, exponent_read, fraction_read, decimal_read, radix_read}
-use Rattle.token_laws.proofs.LongestTokens.{run_then, run_covers, drop_front, either, suffix_no_digit, suffix_is_unit, unit_at}
+use Rattle.token_laws.proofs.LongestTokens.{run_then, run_covers, drop_front, suffix_no_digit, suffix_is_unit, unit_at}
+use Rattle.up_base.proofs.Tests.{either}
 
 kept : (b : Bool) (s : Suffix) → b ≡ false → (if b then suffix.Absent else s) ≡ s
 kept b s e = rw e refl

@@ -9,8 +9,9 @@ use Rattle.vb_tree.specs.Tokens.{is_digit, is_line_end, run, begins, longer, tex
 use Rattle.vb_tree.specs.TokenClasses.{Shape, word, bracketed, decimal, radix, text, date, sign_of_one, sign_of_two, doubled, spelling, IsShape, Stands}
 use Rattle.vb_lexer.proofs.Runs.{both_true}
 use Rattle.token_laws.proofs.Lengths.{Reaches, length_at, decimal_read, radix_read}
-use Rattle.token_laws.proofs.LongestTokens.{run_covers, drop_front, either, word_reaches, bracketed_reaches}
+use Rattle.token_laws.proofs.LongestTokens.{run_covers, drop_front, word_reaches, bracketed_reaches}
 use Rattle.token_laws.proofs.LongestNumbers.{decimal_reaches, radix_reaches}
+use Rattle.up_base.proofs.Tests.{either, not_true}
 
 -- Texts
 
@@ -24,16 +25,12 @@ plain_unit c cs h e = rw (h, e, text_from) refl
 plain_doubled : (c : ℕ) (cs : List ℕ) → (c == 34) ≡ false → doubled (c ∷ cs) ≡ c ∷ doubled cs
 plain_doubled c cs h = rw (h, doubled) refl
 
-not_false : (b : Bool) → not b ≡ true → b ≡ false
-not_false true h = absurd cc
-not_false false h = refl
-
 text_exact : (units after : List ℕ) → list_all (λ c. not (is_line_end c)) units ≡ true → begins (λ c. c == 34) after ≡ false
     → text_from (doubled units ++ (34 ∷ after)) ≡ Some (units, length (doubled units) + 1)
 text_exact [] after h e = closes after e
 text_exact (c ∷ cs) after h e =
     let parts = both_true (not (is_line_end c)) (list_all (λ d. not (is_line_end d)) cs) h in
-    go (text_exact cs after parts.1 e) (not_false (is_line_end c) parts.0) (c == 34) refl
+    go (text_exact cs after parts.1 e) (not_true (is_line_end c) parts.0) (c == 34) refl
   where
     go : text_from (doubled cs ++ (34 ∷ after)) ≡ Some (cs, length (doubled cs) + 1) → is_line_end c ≡ false → (b : Bool) → (c == 34) ≡ b
         → text_from (doubled (c ∷ cs) ++ (34 ∷ after)) ≡ Some (c ∷ cs, length (doubled (c ∷ cs)) + 1)

@@ -1,11 +1,12 @@
 -- Runs of units, suffixes and words: no word at a place is longer than the one that is read there.
-use Rattle.std.proofs.Common.{◌≡◌, ℕ, suc, ◌+◌, ◌≤◌, ◌==◌, ◌&&◌, ◌||◌, Bool, true, false, Option, Some, None, ◌⊎◌, inl, inr, List, [], ◌∷◌, ◌++◌, length, drop, arith, refl, ap, subst, sym, ◌∙◌, append_assoc, length-append}
+use Rattle.std.proofs.Common.{◌≡◌, ℕ, suc, ◌+◌, ◌≤◌, ◌==◌, ◌&&◌, ◌||◌, Bool, true, false, Option, Some, None, inl, inr, List, [], ◌∷◌, ◌++◌, length, drop, arith, refl, ap, subst, sym, ◌∙◌, append_assoc, length-append}
 use Rattle.std.specs.List.{list_all}
 use Rattle.std.proofs.lemmas.Bool.Decides.{nat_tests}
 use Rattle.vb_tree.specs.Tokens.{is_letter, is_digit, is_name_unit, run, begins, suffix_of, suffix_units, name_suffix}
 use Rattle.vb_tree.specs.TokenClasses.{word, bracketed, unit_spelling, spelling, is_suffix, IsNameSuffix, IsShape}
 use Rattle.vb_lexer.proofs.Runs.{both_true}
 use Rattle.token_laws.proofs.Lengths.{Reaches, length_at, word_read, is_bracketed, bracketed_read}
+use Rattle.up_base.proofs.Tests.{either}
 
 -- a run goes over all units that pass
 pub run_covers : (p : ℕ → Bool) (units more : List ℕ) → list_all p units ≡ true → run p (units ++ more) ≡ length units + run p more
@@ -45,10 +46,6 @@ suffix_no_name c h = grind (arith, nat_tests)
 
 pub suffix_no_digit : (c : ℕ) → is_suffix c ≡ true → is_digit c ≡ false
 suffix_no_digit c h = grind (arith, nat_tests)
-
-pub either : (a b : Bool) → (a || b) ≡ true → (a ≡ true) ⊎ (b ≡ true)
-either true b h = inl refl
-either false b h = inr h
 
 pub unit_at : (c k : ℕ) → (c == k) ≡ true → suffix_units (suffix_of k) ≡ 1 → suffix_units (suffix_of c) ≡ 1
 unit_at c k e h = let same : c ≡ k = grind (arith, nat_tests) in rw same h
