@@ -52,9 +52,9 @@ same_at : (n : ℕ) (o p : Outcome) → o ≡ p → OutcomeAt n p → OutcomeAt 
 same_at n o p e h = subst (λ (q : Outcome). OutcomeAt n q) (sym e) h
 
 statement_at : (at : Spot) (place : Place) (text : List ℕ) (tokens : List Token) (o : Outcome) → StatementGives at place text tokens o → OutcomeAt place.line o
-statement_at at place text tokens o s = same_at place.line o (statement_outcome place text tokens s.0) s.2 (of_answer s.0)
+statement_at at place text tokens o s = same_at place.line o (statement_outcome at place text tokens s.0) s.2 (of_answer s.0)
   where
-    of_answer : (a : FormAnswer) → OutcomeAt place.line (statement_outcome place text tokens a)
+    of_answer : (a : FormAnswer) → OutcomeAt place.line (statement_outcome at place text tokens a)
     of_answer (has_form pieces) = pieces_at place text tokens pieces
     of_answer no_form = tt
     of_answer too_deep = tt

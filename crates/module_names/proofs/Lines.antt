@@ -100,10 +100,10 @@ pieces_good place text tokens (p ∷ ps) h k =
     (and_true (list_all is_simple (piece_text text tokens p.start p.end)) (is_good_form p.form) (piece_simple text tokens p.start p.end h) (all_first is_named_piece p ps k))
     (pieces_good place text tokens ps h (all_rest is_named_piece p ps k))
 
-answer_good : (place : Place) (text : List ℕ) (tokens : List Token) (a : FormAnswer) → list_all is_simple text ≡ true → NamedAnswer a → GoodOutcome (statement_outcome place text tokens a)
-answer_good place text tokens (has_form pieces) h k = pieces_good place text tokens pieces h k
-answer_good place text tokens no_form h k = tt
-answer_good place text tokens too_deep h k = tt
+answer_good : (at : Spot) (place : Place) (text : List ℕ) (tokens : List Token) (a : FormAnswer) → list_all is_simple text ≡ true → NamedAnswer a → GoodOutcome (statement_outcome at place text tokens a)
+answer_good at place text tokens (has_form pieces) h k = pieces_good place text tokens pieces h k
+answer_good at place text tokens no_form h k = tt
+answer_good at place text tokens too_deep h k = tt
 
 one_good : (place : Place) (text : List ℕ) (f : Form) → list_all is_simple text ≡ true → is_good_form f ≡ true → list_all is_good_code (record { place = place; text = text; form = f } ∷ []) ≡ true
 one_good place text f h k =
@@ -114,7 +114,7 @@ same_good o p e h = subst GoodOutcome (sym e) h
 
 statement_good : (at : Spot) (place : Place) (text : List ℕ) (tokens : List Token) (o : Outcome) → list_all is_simple text ≡ true → are_named tokens ≡ true → StatementGives at place text tokens o → GoodOutcome o
 statement_good at place text tokens o h k s =
-    same_good o (statement_outcome place text tokens s.0) s.2 (answer_good place text tokens s.0 h (there_names at tokens s.0 k s.1.is))
+    same_good o (statement_outcome at place text tokens s.0) s.2 (answer_good at place text tokens s.0 h (there_names at tokens s.0 k s.1.is))
 
 one_named : (t : Token) → is_named_token t ≡ true → are_named (t ∷ []) ≡ true
 one_named t h = all_more is_named_token t [] h refl

@@ -21,7 +21,7 @@ use Rattle.vb_lines.proofs.FormFacts.{forms_once, head_once}
 use Rattle.vb_lines.proofs.OneTree.{members_once}
 
 statement_once : (s : Spot) (place : Place) (text : List ℕ) (tokens : List Token) (o o' : Outcome) → StatementGives s place text tokens o → StatementGives s place text tokens o' → o ≡ o'
-statement_once s place text tokens o o' g h = g.2 ∙ ap (statement_outcome place text tokens) (forms_once s tokens g.0 h.0 g.1 h.1) ∙ sym h.2
+statement_once s place text tokens o o' g h = g.2 ∙ ap (statement_outcome s place text tokens) (forms_once s tokens g.0 h.0 g.1 h.1) ∙ sym h.2
 
 head_given_once : (s : Spot) (place : Place) (text : List ℕ) (tokens : List Token) (o o' : Outcome) → HeadGives s place text tokens o → HeadGives s place text tokens o' → o ≡ o'
 head_given_once s place text tokens o o' g h = g.2 ∙ ap (head_outcome place text tokens) (head_once s tokens g.0 h.0 g.1 h.1) ∙ sym h.2

@@ -16,7 +16,7 @@ use Rattle.vb_lines.specs.Building.{IsBuilt, OnFault, opens_of}
 use Rattle.vb_lines.specs.Forms.{PlainPiece, FormAnswer, has_form, no_form, too_deep, FormsOf, piece_of, HeadAnswer, has_head, no_head, deep_head, HeadOf}
 use Rattle.vb_lines.specs.Modules.{spot_of}
 use Rattle.vb_lines.specs.Nesting.{open_after, fault_of}
-use Rattle.vb_lines.specs.Parts.{Outcome, gives, formless, deep, StatementGives, HeadGives, LabelGives, label_of, token_line, text_of, piece_line, first_role, first_of}
+use Rattle.vb_lines.specs.Parts.{Outcome, gives, formless, deep, StatementGives, HeadGives, LabelGives, label_of, token_line, text_of, piece_line, role_at, first_of}
 use Rattle.vb_lines.specs.Reading.{AddsLines, FaultOfLines, AddsGiven, FaultOfGiven}
 use Rattle.vb_lines.proofs.Readings.{lines_then_lines, lines_then_fault, fault_before_lines, given_lines, given_lines_fault}
 
@@ -60,9 +60,9 @@ statement_fault place text tokens pieces old s f e forms fault = given_lines_fau
 pub statement_formless : (place : Place) (text : List ℕ) (tokens : List Token) (old : ModuleBuild) (s : Spot) → s ≡ spot_of (opens_of old) → FormsOf s tokens no_form → FaultOfGiven (λ s o. StatementGives s place text tokens o) place old (record { place = place; kind = 10 })
 statement_formless place text tokens old s e forms = record { fault = λ lines h. (formless, (no_form, here tokens no_form old s e forms lines h, refl), refl); at = refl }
 
-pub statement_deep : (place : Place) (text : List ℕ) (tokens : List Token) (old : ModuleBuild) (s : Spot) (k : ℕ) → s ≡ spot_of (opens_of old) → FormsOf s tokens too_deep → first_of (fault_of (opens_of old) (first_role tokens)) (Some 14) ≡ Some k → FaultOfGiven (λ s o. StatementGives s place text tokens o) place old (record { place = place; kind = k })
+pub statement_deep : (place : Place) (text : List ℕ) (tokens : List Token) (old : ModuleBuild) (s : Spot) (k : ℕ) → s ≡ spot_of (opens_of old) → FormsOf s tokens too_deep → first_of (fault_of (opens_of old) (role_at s tokens)) (Some 14) ≡ Some k → FaultOfGiven (λ s o. StatementGives s place text tokens o) place old (record { place = place; kind = k })
 statement_deep place text tokens old s k e forms kind = record {
-  fault = λ lines h. (deep (first_role tokens), (too_deep, here tokens too_deep old s e forms lines h, refl), ap (λ os. first_of (fault_of os (first_role tokens)) (Some 14)) (sym h.opened) ∙ kind);
+  fault = λ lines h. (deep (role_at s tokens), (too_deep, here tokens too_deep old s e forms lines h, refl), ap (λ os. first_of (fault_of os (role_at s tokens)) (Some 14)) (sym h.opened) ∙ kind);
   at = refl;
 }
 

@@ -77,13 +77,18 @@ abbrev pub first_role : List Token → Role
 first_role [] = Plain
 first_role (t ∷ ts) = role_by_word t.kind
 
+-- what a statement that is too deep is to the blocks round it; in a Type or an Enum each first word is a name
+abbrev pub role_at : Spot → List Token → Role
+role_at spot.Procedure tokens = first_role tokens
+role_at _ tokens = Plain
+
 abbrev pub piece_line : Place → (text : List ℕ) → List Token → PlainPiece → tree.Line
 piece_line place text tokens p = record { place = place; text = piece_text text tokens p.start p.end; form = p.form }
 
-abbrev pub statement_outcome : Place → (text : List ℕ) → List Token → FormAnswer → Outcome
-statement_outcome place text tokens (has_form pieces) = gives (map (piece_line place text tokens) pieces)
-statement_outcome place text tokens no_form = formless
-statement_outcome place text tokens too_deep = deep (first_role tokens)
+abbrev pub statement_outcome : Spot → Place → (text : List ℕ) → List Token → FormAnswer → Outcome
+statement_outcome spot place text tokens (has_form pieces) = gives (map (piece_line place text tokens) pieces)
+statement_outcome spot place text tokens no_form = formless
+statement_outcome spot place text tokens too_deep = deep (role_at spot tokens)
 
 abbrev pub head_outcome : Place → (text : List ℕ) → List Token → HeadAnswer → Outcome
 head_outcome place text tokens (has_head form) = gives (record { place = place; text = text_of text tokens; form = form } ∷ [])
@@ -103,7 +108,7 @@ abbrev pub token_line : Place → (text : List ℕ) → Token → Form → Outco
 token_line place text t form = gives (record { place = place; text = text_of text (t ∷ []); form = form } ∷ [])
 
 abbrev pub StatementGives : Spot → Place → (text : List ℕ) → List Token → Outcome → Type 0
-StatementGives spot place text tokens o = (a : FormAnswer) × FormsOf spot tokens a × (o ≡ statement_outcome place text tokens a)
+StatementGives spot place text tokens o = (a : FormAnswer) × FormsOf spot tokens a × (o ≡ statement_outcome spot place text tokens a)
 
 -- a label stands in procedures alone; elsewhere its token is a statement
 abbrev pub LabelGives : Spot → Place → (text : List ℕ) → Token → Outcome → Type 0

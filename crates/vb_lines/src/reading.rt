@@ -7,7 +7,7 @@ ghost use Rattle.vb_lines.specs.Building.{OnFault, opens_of};
 ghost use Rattle.vb_lines.specs.Cuts.{cut_of, cuts_of};
 ghost use Rattle.vb_lines.specs.Forms.{piece_of};
 ghost use Rattle.vb_lines.specs.Modules.{spot_of, spot_in};
-ghost use Rattle.vb_lines.specs.Parts.{role_by_word, first_role, label_of, HeadGives, LabelGives, piece_line, text_of, token_line, StatementGives, CutGives, first_of, all_parts, parts_at, parts_of};
+ghost use Rattle.vb_lines.specs.Parts.{role_by_word, first_role, role_at, label_of, HeadGives, LabelGives, piece_line, text_of, token_line, StatementGives, CutGives, first_of, all_parts, parts_at, parts_of};
 ghost use Rattle.vb_lines.specs.Nesting.{fault_of};
 ghost use Rattle.vb_lines.specs.Reading.{AddsLines, FaultOfLines, AddsGiven, FaultOfGiven, AddsParts, FaultOfParts};
 
@@ -76,6 +76,18 @@ fn first_role(tokens: &[Token]) -> Role
     match tokens {
         [first, ..] => role_by_word(&first.kind),
         [] => Role::Plain,
+    }
+}
+
+// What a statement that is too deep is to the blocks round it.
+fn role_at(spot: Spot, tokens: &[Token]) -> Role
+    ensures { result ≡ role_at spot tokens.now }
+{
+    match spot {
+        Spot::Procedure => first_role(tokens),
+        Spot::Module => Role::Plain,
+        Spot::TypeGroup => Role::Plain,
+        Spot::EnumGroup => Role::Plain,
     }
 }
 
@@ -162,11 +174,12 @@ fn take_statement(
     ensures ok { OnOk result (AddsGiven (λ spot o. StatementGives spot place text.now tokens.now o) build.old build.new) }
     ensures fault { OnFault result (λ f. FaultOfGiven (λ spot o. StatementGives spot place text.now tokens.now o) place build.old f) }
 {
-    match read_line_form(alloc, tokens, spot(build)) {
+    let spot = spot(build);
+    match read_line_form(alloc, tokens, spot) {
         Ok(pieces) => add_pieces(build, alloc, place, text, tokens, pieces)?,
         Err(FormFail::NoForm) => return Err(fault(place, NO_FORM)),
         Err(FormFail::TooDeep) => {
-            return Err(fault(place, deep_fault(build, first_role(tokens))));
+            return Err(fault(place, deep_fault(build, role_at(spot, tokens))));
         }
         Err(FormFail::Mem) => return Err(ReadFail::Mem),
     }

@@ -24,4 +24,4 @@ returns-in-Err-TooDeep-clause-fault c =
     let forms = rw c.in-Err-TooDeep.field-0-is at c.in-Err-TooDeep.ensures in
     rw c.fault-in-Err-TooDeep.ensures
     (statement_deep c.args.place c.args.text.now c.args.tokens.now c.args.build.now c.spot.result c.deep_fault.result c.spot.ensures forms
-    (ap (λ r. first_of (fault_of (opens_of c.args.build.now) r) (Some 14)) (sym c.first_role.ensures) ∙ c.deep_fault.ensures))
+    (ap (λ r. first_of (fault_of (opens_of c.args.build.now) r) (Some 14)) (sym c.role_at.ensures) ∙ c.deep_fault.ensures))
