@@ -8,8 +8,8 @@ use Rattle.vb_tree.specs.declared.declared.Owner.TheVariants as owner
 use Rattle.vb_tree.specs.declared.form_parts.Compare.TheVariants as compare
 use Rattle.vb_tree.specs.declared.form_parts.DefWord.{DefWord}
 use Rattle.vb_tree.specs.declared.form_parts.DefWord.TheVariants as word
-use Rattle.vb_tree.specs.FlatLines.{flat_lines}
-use Rattle.vb_tree.specs.Tree.{Form, option_explicit, option_base, option_compare, option_private_module, def_type, Member, alone, group, proc, Module}
+use Rattle.vb_tree.specs.FlatLines.{module_lines}
+use Rattle.vb_tree.specs.Tree.{Form, option_explicit, option_base, option_compare, option_private_module, def_type, Module}
 use Rattle.vb_tree.specs.Tree as vb
 use Rattle.bound_tree.specs.declared.body.Mention.{Mention}
 use Rattle.bound_tree.specs.declared.body.Mention.TheVariants as mention
@@ -34,16 +34,7 @@ pub data Point : Type 0 where
   -- an Option or a Def line, by its file and the number of its statement
   option_line : (file statement : ℕ) → Point
 
--- ---- the statements of modules
-
--- the lines of a module in order, by which its statements are numbered from 0
-abbrev pub member_lines : Member → List vb.Line
-member_lines (alone l) = l ∷ []
-member_lines (group head lines close) = head ∷ lines ++ close ∷ []
-member_lines (proc head body close) = head ∷ flat_lines body ++ close ∷ []
-
-abbrev pub module_lines : Module → List vb.Line
-module_lines m = flat_map member_lines m.members
+-- ---- the statements of modules: the lines of a module in order, numbered from 0
 
 -- a line that says something of all declarations of its module
 abbrev pub is_option : Form → Bool
