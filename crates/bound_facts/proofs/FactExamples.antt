@@ -20,7 +20,7 @@ use Rattle.bound_tree.specs.RuleSets.{none}
 use Rattle.bound_tree.specs.Tree.{Variable, Procedure, Declarations, Expr, typed, constant, variable, call, new_object, no_object, by_reference, by_value, no_passed, next_passed, Line, Program}
 use Rattle.bound_facts.specs.Calls.{calls, Reaches}
 use Rattle.bound_facts.specs.Effects.{outward, touched}
-use Rattle.bound_facts.specs.Facts.{Known, is_quiet, stirs}
+use Rattle.bound_facts.specs.Facts.{Known, is_quiet, is_resumable, stirs}
 use Rattle.bound_facts.specs.Leading.{is_in}
 use Rattle.bound_facts.specs.Members.{initializer}
 use Rattle.bound_facts.specs.SelfMade.{unplain}
@@ -145,3 +145,10 @@ calm = refl
 
 self_made : stirs D F (typed (class 0) (new_object (c 0))) ≡ false
 self_made = refl
+
+-- Main goes on at no line of an error; a procedure with On Error Resume Next or a Resume does, one with On Error GoTo alone doesn't
+stops : is_resumable (at (vb.invoke me no_args) [] ∷ at vb.on_error_goto_zero [] ∷ []) ≡ false
+stops = refl
+
+goes : is_resumable (at vb.on_error_resume_next [] ∷ at (vb.invoke me no_args) [] ∷ []) ≡ true
+goes = refl

@@ -1,6 +1,7 @@
 -- Where control goes from the lines of a few procedures, worked out by hand.
-use Rattle.std.proofs.Common.{◌≡◌, ℕ, true, false, List, [], ◌∷◌, map, Option, Some, None, refl}
+use Rattle.std.proofs.Common.{◌≡◌, ℕ, true, false, List, [], ◌∷◌, map, Option, Some, None, refl, pos, codes, slice_get}
 use Rattle.vb_tree.specs.declared.block.BlockKind.TheVariants.{If, Select, For, Do, With}
+use Rattle.bound_tree.specs.Labels.{Label, word, number, label_at}
 use Rattle.bound_tree.specs.Targets.{plain, opens, parts, closes, Aims, aims_of}
 
 -- where a line goes on, where it goes if it doesn't hold, where it goes back to, where an Exit For, an Exit Do and another
@@ -34,3 +35,36 @@ cases_in_a_loop : map row (aims_of (opens Do false ∷ opens Select false ∷ pa
     ∷ (10 ∷ 0 ∷ 1 ∷ 0 ∷ 10 ∷ 10 ∷ 1 ∷ [])  -- 9 Loop: back to the Do
     ∷ []
 cases_in_a_loop = refl
+
+-- the heads of the blocks round the With and its closing line, which stands in it, and round the line behind Case Else
+abbrev numbers : Option Aims → List ℕ
+numbers None = []
+numbers (Some a) = map (λ h. h.1) a.around
+
+abbrev heads : List Aims → ℕ → List ℕ
+heads lines n = numbers (slice_get lines n)
+
+abbrev in_a_loop : List Aims
+in_a_loop = aims_of (opens Do false ∷ opens Select false ∷ parts Select true ∷ opens With false ∷ closes With ∷ parts Select false ∷ plain ∷ closes Select ∷ closes Do ∷ [])
+
+round_the_with : heads in_a_loop 3 ≡ 2 ∷ 1 ∷ []
+round_the_with = refl
+
+round_its_end : heads in_a_loop 4 ≡ 4 ∷ 2 ∷ 1 ∷ []
+round_its_end = refl
+
+round_the_else : heads in_a_loop 6 ≡ 2 ∷ 1 ∷ []
+round_the_else = refl
+
+-- of two labels that differ in case alone the first is meant; a number is no word
+abbrev three_labels : List (Option Label)
+three_labels = None ∷ Some (word (codes "Here")) ∷ None ∷ Some (word (codes "HERE")) ∷ Some (number (pos 10)) ∷ []
+
+found_first : label_at three_labels (word (codes "here")) ≡ Some 2
+found_first = refl
+
+found_number : label_at three_labels (number (pos 10)) ≡ Some 5
+found_number = refl
+
+found_nowhere : label_at three_labels (word (codes "There")) ≡ None
+found_nowhere = refl
