@@ -26,14 +26,15 @@ use crate::margins::text_of_line;
 use crate::states::{Access, Body, Promised};
 use crate::texts::units;
 use net_emitter::{
-    begin_line, end_line, write_close, write_comment_line, write_dim_line, write_field_line, write_head_line,
-    write_line, write_line_of, write_member, write_promise, write_structure_head,
+    begin_line, end_line, write_close, write_comment_line, write_dim_line, write_field_line,
+    write_head_line, write_line, write_line_of, write_member, write_promise, write_structure_head,
 };
 use net_exprs::PhraseFail;
 use net_tree::{NetBlock, NetClose, NetDim, NetField, NetHead, NetLine, NetMember};
 use net_writable::{
-    are_writable_params, can_be_declared, closes, fits_in, is_comment, is_get, is_identifier, is_set,
-    is_writable_dim, is_writable_field, is_writable_head, is_writable_line, is_writable_member,
+    are_writable_params, can_be_declared, closes, fits_in, is_comment, is_get, is_identifier,
+    is_set, is_writable_dim, is_writable_field, is_writable_head, is_writable_line,
+    is_writable_member,
 };
 use std::alloc::Global;
 use up_base::{Bytes, Mem, Name, Wide};
