@@ -18,11 +18,12 @@ use Rattle.vb_tree.specs.Tree.{Form, Module, Project, me, no_args}
 use Rattle.vb_tree.specs.Tree as vb
 use Rattle.bound_tree.specs.RuleSets.{none}
 use Rattle.bound_tree.specs.Tree.{Variable, Procedure, Declarations, Expr, typed, constant, variable, call, new_object, no_object, by_reference, by_value, no_passed, next_passed, Line, Program}
-use Rattle.bound_facts.specs.Calls.{calls, Reaches}
+use Rattle.bound_facts.specs.Calls.{calls, line_calls, Reaches}
 use Rattle.bound_facts.specs.Effects.{outward, touched}
 use Rattle.bound_facts.specs.Facts.{Known, is_quiet, is_resumable, stirs}
 use Rattle.bound_facts.specs.Leading.{is_in}
 use Rattle.bound_facts.specs.Members.{initializer}
+use Rattle.bound_facts.specs.Parts.{line_uses}
 use Rattle.bound_facts.specs.SelfMade.{unplain}
 
 abbrev file : ℕ → Place
@@ -152,3 +153,10 @@ stops = refl
 
 goes : is_resumable (at vb.on_error_resume_next [] ∷ at (vb.invoke me no_args) [] ∷ []) ≡ true
 goes = refl
+
+-- the part of a property that a Set goes to is called; a variable that it goes to isn't used
+set_calls : line_calls D 0 (at (vb.set me me) (given 1 0 nothing ∷ one ∷ [])) ≡ (0, 1) ∷ []
+set_calls = refl
+
+set_uses : line_uses (at (vb.set me me) (read 0 ∷ one ∷ [])) ≡ one ∷ []
+set_uses = refl

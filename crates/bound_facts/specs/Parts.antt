@@ -3,6 +3,7 @@ use Rattle.std.specs.Prelude.{ℕ, ◌+◌, Bool, true, false, cond, Option, Som
 use Rattle.std.specs.List.{flat_map}
 use Rattle.vb_tree.specs.Tree.{Form, assign, set, for_head, for_each, redim, erase, Bounds, ReDimItem}
 use Rattle.bound_tree.specs.Tree.{Expr, typed, Line}
+use Rattle.bound_facts.specs.Node.{called_by}
 use Rattle.bound_facts.specs.Nodes.{nodes, nodes_in}
 
 -- the bounds of one dimension of a ReDim
@@ -55,13 +56,14 @@ stores _ es = []
 abbrev pub line_stores : Line → List Expr
 line_stores l = stores l.source.form l.bindings.exprs
 
-abbrev pub parts_of : Expr → List Expr
-parts_of (typed ty t) = nodes_in t
+-- The nodes of the target of a Set that are used: a variable or a field is written to, while the part of a property is called.
+abbrev pub target_nodes : Expr → List Expr
+target_nodes (typed ty t) = cond (is_some (called_by t)) (nodes (typed ty t)) (nodes_in t)
 
--- the nodes of a line's expressions; the target of a Set is written to and not used
+-- the nodes of a line's expressions that are used
 abbrev pub used_nodes : Form → List Expr → List Expr
 used_nodes (set target value) [] = []
-used_nodes (set target value) (e ∷ es) = parts_of e ++ flat_map nodes es
+used_nodes (set target value) (e ∷ es) = target_nodes e ++ flat_map nodes es
 used_nodes _ es = flat_map nodes es
 
 abbrev pub line_uses : Line → List Expr
