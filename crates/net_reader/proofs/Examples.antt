@@ -200,7 +200,9 @@ both_parts = record {
   name = codes "P";
   params = [];
   ty = ty.object;
+  get_comments = [];
   get = Some (record { head = get_part; prologue = []; lines = []; close = close.EndGet });
+  set_comments = codes "c" ∷ [];
   set = Some (record { head = set_part (codes "v") ty.object; prologue = []; lines = exit leaving.Property ∷ []; close = close.EndSet });
 }
 
@@ -230,7 +232,7 @@ unfolding line_words name_words exp_at basic_type_of front_of keyword_of operato
 procedure_read = refl
 
 property_read : only (property both_parts ∷ [])
-unfolding line_words basic_type_of is_bracketed
+unfolding line_words name_words basic_type_of is_bracketed encode_utf8 chars is_utf8
 property_read = refl
 
 heads_read : only (proc (record { head = sub_new; prologue = []; lines = []; close = close.EndSub })
@@ -311,7 +313,7 @@ late_comment =
     ++ at_depth 2 (codes "Get") ++ at_depth 2 (codes "End Get") ++ at_depth 2 (codes "'b") ++ at_depth 1 (codes "End Property") ++ at_depth 0 (codes "End Module")
 
 part_behind : module_in Option.None (codes "M") late_comment ≡ stuck 9
-unfolding line_words name_words basic_type_of is_bracketed
+unfolding line_words name_words basic_type_of is_bracketed is_utf8 chars encode_utf8
 part_behind = refl
 
 -- a line that isn't indented by its depth

@@ -1,5 +1,5 @@
 -- What the heads of procedures and properties are read as, by their parts, and where one of them isn't read.
-use Rattle.std.proofs.Common.{◌≡◌, ℕ, Bool, true, false, ◌&&◌, List, drop, refl, ap, ◌∙◌, Option, Some, None, option_map, option_and_then}
+use Rattle.std.proofs.Common.{◌≡◌, ℕ, Bool, true, false, ◌&&◌, List, [], drop, refl, ap, ◌∙◌, Option, Some, None, option_map, option_and_then}
 use Rattle.net_tree.specs.declared.declaration.NetVisibility.{NetVisibility}
 use Rattle.net_tree.specs.Types.{TypeName}
 use Rattle.net_tree.specs.Tree.{Head, Property, function, set_part, sub}

@@ -62,7 +62,13 @@ statement_formless place text tokens old s e forms = record { fault = λ lines h
 
 pub statement_deep : (place : Place) (text : List ℕ) (tokens : List Token) (old : ModuleBuild) (s : Spot) (k : ℕ) → s ≡ spot_of (opens_of old) → FormsOf s tokens too_deep → first_of (fault_of (opens_of old) (role_at s tokens)) (Some 14) ≡ Some k → FaultOfGiven (λ s o. StatementGives s place text tokens o) place old (record { place = place; kind = k })
 statement_deep place text tokens old s k e forms kind = record {
-  fault = λ lines h. (deep (role_at s tokens), (too_deep, here tokens too_deep old s e forms lines h, refl), ap (λ os. first_of (fault_of os (role_at s tokens)) (Some 14)) (sym h.opened) ∙ kind);
+  fault = λ lines h. (
+    deep (role_at (spot_of (open_after [] lines)) tokens),
+    (too_deep, here tokens too_deep old s e forms lines h, refl),
+    ap (λ os. first_of (fault_of os (role_at (spot_of os) tokens)) (Some 14)) (sym h.opened)
+        ∙ ap (λ x. first_of (fault_of (opens_of old) (role_at x tokens)) (Some 14)) (sym e)
+        ∙ kind,
+  );
   at = refl;
 }
 

@@ -50,7 +50,7 @@ pub record StopsWriting (told : Told) (file said : List ℕ) : Type 0 where
   pub left : IfTold told.outlet_before told.outlet_after (PutUpTo (put_order upgrade.net_project (report_of upgrade)) place)
   pub calls : IfTold told.puts_before told.puts_after (λ b a. a ≡ b + (place + 1))
 
--- How a run came to an answer. The last argument says that the outlet is as it was.
+-- How a run came to an answer. The third argument says that the outlet is as it was.
 abbrev pub IsAnswer : List (List ℕ) → Told → Type 0 → Answer → Type 0
 IsAnswer words told untouched (Done count) =
     (file : List ℕ) × AsksUpgrade words file × ReadsWhole told file

@@ -16,12 +16,12 @@ returns-in_err-add_pieces-in-Ok-clause-fault c =
     (λ f. FaultOfLines (map (piece_line c.args.place text tokens) pieces) c.args.place c.args.build.now f)
     (λ f. FaultOfGiven (λ s o. StatementGives s c.args.place text tokens o) c.args.place c.args.build.now f)
     c.add_pieces.result c.from_residual.result c.in_err-add_pieces-in-Ok.field-0.0 c.in_err-add_pieces-in-Ok.was c.from_residual.ensures.1
-    (λ f p. statement_fault c.args.place text tokens pieces c.args.build.now c.spot.result f c.spot.ensures c.in-Ok.ensures p)
+    (λ f p. statement_fault c.args.place text tokens pieces c.args.build.now c.spot-spot.result f c.spot-spot.ensures c.in-Ok.ensures p)
     c.add_pieces.ensures.fault
 
 pub returns-in-Err-TooDeep-clause-fault : goal.returns-in-Err-TooDeep-clause-fault
 returns-in-Err-TooDeep-clause-fault c =
     let forms = rw c.in-Err-TooDeep.field-0-is at c.in-Err-TooDeep.ensures in
     rw c.fault-in-Err-TooDeep.ensures
-    (statement_deep c.args.place c.args.text.now c.args.tokens.now c.args.build.now c.spot.result c.deep_fault.result c.spot.ensures forms
+    (statement_deep c.args.place c.args.text.now c.args.tokens.now c.args.build.now c.spot-spot.result c.deep_fault.result c.spot-spot.ensures forms
     (ap (λ r. first_of (fault_of (opens_of c.args.build.now) r) (Some 14)) (sym c.role_at.ensures) ∙ c.deep_fault.ensures))
