@@ -145,23 +145,23 @@ pieces_in : (n : ℕ) (place : Place) (text : List ℕ) (tokens : List Token) (p
 pieces_in n place text tokens [] e = tt
 pieces_in n place text tokens (p ∷ pieces) e = (e, pieces_in n place text tokens pieces e)
 
-statement_outcome_in : (n : ℕ) (place : Place) (text : List ℕ) (tokens : List Token) (a : FormAnswer) → place.file ≡ n → OutcomeIn n (statement_outcome place text tokens a)
-statement_outcome_in n place text tokens (has_form pieces) e = pieces_in n place text tokens pieces e
-statement_outcome_in n place text tokens no_form e = tt
-statement_outcome_in n place text tokens too_deep e = tt
+statement_outcome_in : (s : _) (n : ℕ) (place : Place) (text : List ℕ) (tokens : List Token) (a : FormAnswer) → place.file ≡ n → OutcomeIn n (statement_outcome s place text tokens a)
+statement_outcome_in s n place text tokens (has_form pieces) e = pieces_in n place text tokens pieces e
+statement_outcome_in s n place text tokens no_form e = tt
+statement_outcome_in s n place text tokens too_deep e = tt
 
 head_outcome_in : (n : ℕ) (place : Place) (text : List ℕ) (tokens : List Token) (a : HeadAnswer) → place.file ≡ n → OutcomeIn n (head_outcome place text tokens a)
 head_outcome_in n place text tokens (has_head form) e = (e, tt)
 head_outcome_in n place text tokens no_head e = tt
 head_outcome_in n place text tokens deep_head e = tt
 
-statement_in : (n : ℕ) (place : Place) (text : List ℕ) (tokens : List Token) (a : FormAnswer) (o : Outcome) → place.file ≡ n → o ≡ statement_outcome place text tokens a → OutcomeIn n o
-statement_in n place text tokens a o e g = subst (OutcomeIn n) (sym g) (statement_outcome_in n place text tokens a e)
+statement_in : (s : _) (n : ℕ) (place : Place) (text : List ℕ) (tokens : List Token) (a : FormAnswer) (o : Outcome) → place.file ≡ n → o ≡ statement_outcome s place text tokens a → OutcomeIn n o
+statement_in s n place text tokens a o e g = subst (OutcomeIn n) (sym g) (statement_outcome_in s n place text tokens a e)
 
 -- by the block that the line stands in
 inner_label_in : (n : ℕ) (k : BlockKind) (place : Place) (text : List ℕ) (t : Token) (o : Outcome) → place.file ≡ n → LabelGives (spot_in k) place text t o → OutcomeIn n o
-inner_label_in n block.Type place text t o e g = statement_in n place text (t ∷ []) g.0 o e g.2
-inner_label_in n block.Enum place text t o e g = statement_in n place text (t ∷ []) g.0 o e g.2
+inner_label_in n block.Type place text t o e g = statement_in (spot_in block.Type) n place text (t ∷ []) g.0 o e g.2
+inner_label_in n block.Enum place text t o e g = statement_in (spot_in block.Enum) n place text (t ∷ []) g.0 o e g.2
 inner_label_in n block.Sub place text t o e g = subst (OutcomeIn n) (sym g) (e, tt)
 inner_label_in n block.Function place text t o e g = subst (OutcomeIn n) (sym g) (e, tt)
 inner_label_in n block.Property place text t o e g = subst (OutcomeIn n) (sym g) (e, tt)
@@ -173,12 +173,12 @@ inner_label_in n block.While place text t o e g = subst (OutcomeIn n) (sym g) (e
 inner_label_in n block.With place text t o e g = subst (OutcomeIn n) (sym g) (e, tt)
 
 label_in : (n : ℕ) (opens : List Open) (place : Place) (text : List ℕ) (t : Token) (o : Outcome) → place.file ≡ n → LabelGives (spot_of opens) place text t o → OutcomeIn n o
-label_in n [] place text t o e g = statement_in n place text (t ∷ []) g.0 o e g.2
+label_in n [] place text t o e g = statement_in (spot_of []) n place text (t ∷ []) g.0 o e g.2
 label_in n (x ∷ opens) place text t o e g = inner_label_in n x.kind place text t o e g
 
 cut_in : (n : ℕ) (opens : List Open) (place : Place) (text : List ℕ) (c : Cut) (o : Outcome) → place.file ≡ n → CutGives (spot_of opens) place text c o → OutcomeIn n o
 cut_in n opens place text (label_cut t) o e g = label_in n opens place text t o e g
-cut_in n opens place text (statement_cut tokens) o e g = statement_in n place text tokens g.0 o e g.2
+cut_in n opens place text (statement_cut tokens) o e g = statement_in (spot_of opens) n place text tokens g.0 o e g.2
 cut_in n opens place text (head_cut tokens) o e g = subst (OutcomeIn n) (sym g.2) (head_outcome_in n place text tokens g.0 e)
 cut_in n opens place text (jump_cut t) o e g = subst (OutcomeIn n) (sym g) (e, tt)
 cut_in n opens place text (else_cut t) o e g = subst (OutcomeIn n) (sym g) (e, tt)
