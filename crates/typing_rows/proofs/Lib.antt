@@ -1,0 +1,4 @@
+pub mod Tables
+mod OperatorExamples
+mod ConversionExamples
+mod LibraryExamples
