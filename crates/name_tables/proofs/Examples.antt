@@ -31,7 +31,7 @@ use Rattle.name_tables.specs.declared.uses.Spelling.TheVariants.{Plain, Suffixed
 use Rattle.name_tables.specs.declared.uses.Use6.{Use6}
 use Rattle.name_tables.specs.declared.uses.Use6.TheVariants as use6
 use Rattle.name_tables.specs.declared.uses.Wanted.TheVariants.{Value, Indexed, Callee, Qualifier}
-use Rattle.name_tables.specs.Library.{library_names}
+use Rattle.typing_rows.specs.LibraryNames.{names_a_to_c, names_d_to_i, names_j_to_p, names_q_to_y}
 use Rattle.name_tables.specs.Scopes.{found, found_member, found_in_module, found_in_enum, found_type}
 
 abbrev nowhere : Place
@@ -140,7 +140,7 @@ call = refl
 
 -- a private member of another module isn't seen, in no way
 hidden : found D half Value Plain (codes "hidden") ≡ use6.Undeclared
-unfolding library_names
+unfolding names_a_to_c names_d_to_i names_j_to_p names_q_to_y
 hidden = refl
 
 hidden_in : found_in_module D half Value 2 (codes "hidden") ≡ use6.Undeclared
@@ -176,7 +176,7 @@ tools : found D half Qualifier Plain (codes "tools") ≡ use6.Module 2
 tools = refl
 
 bare_tools : found D half Value Plain (codes "tools") ≡ use6.Undeclared
-unfolding library_names
+unfolding names_a_to_c names_d_to_i names_j_to_p names_q_to_y
 bare_tools = refl
 
 -- names of lines that declare nothing
@@ -184,7 +184,7 @@ sleep : found D half Callee Plain (codes "sleep") ≡ use6.Unusable
 sleep = refl
 
 sleep_elsewhere : found D (at 2) Callee Plain (codes "sleep") ≡ use6.Undeclared
-unfolding library_names
+unfolding names_a_to_c names_d_to_i names_j_to_p names_q_to_y
 sleep_elsewhere = refl
 
 wheel : found D half Value Plain (codes "wheel") ≡ use6.Unusable
@@ -195,15 +195,15 @@ vb_name : found D half Value Plain (codes "vbred") ≡ use6.Library
 vb_name = refl
 
 err : found D half Qualifier Plain (codes "err") ≡ use6.Library
-unfolding library_names
+unfolding names_a_to_c names_d_to_i names_j_to_p names_q_to_y
 err = refl
 
 now : found D half Value Suffixed (codes "now") ≡ use6.Library
-unfolding library_names
+unfolding names_a_to_c names_d_to_i names_j_to_p names_q_to_y
 now = refl
 
 err_suffixed : found D half Value Suffixed (codes "err") ≡ use6.Undeclared
-unfolding library_names
+unfolding names_a_to_c names_d_to_i names_j_to_p names_q_to_y
 err_suffixed = refl
 
 bracketed : found D half Value Bracketed (codes "now") ≡ use6.Undeclared
