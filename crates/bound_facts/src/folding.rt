@@ -3,9 +3,9 @@ ghost use Rattle.std.specs.Prelude.{◌≡◌, IfOk};
 ghost use Rattle.vb_tree.specs.BoundView.{type_of};
 ghost use Rattle.vb6_meaning.specs.Values.{coerce, operate};
 ghost use Rattle.bound_tree.specs.View.{expr_of};
-ghost use Rattle.bound_facts.specs.Node.{is_variant};
 ghost use Rattle.bound_facts.specs.Folded.{binary_row, binary_value, converted_value, folded, given_value, unary_row, unary_value};
 
+use crate::node::is_variant;
 use bound_tree::{BoundExpr, BoundNode};
 use std::alloc::Global;
 use up_base::{Mem, Wide};
@@ -49,15 +49,6 @@ fn copy(alloc: Global, value: &Value6) -> Result<Value6, Mem>
         Value6::Nothing => Ok(Value6::Nothing),
         Value6::Object(number) => Ok(Value6::Object(*number)),
         Value6::Empty => Ok(Value6::Empty),
-    }
-}
-
-fn is_variant(ty: &Type6) -> bool
-    ensures { result ≡ is_variant (type_of ty.now) }
-{
-    match ty {
-        Type6::Variant => true,
-        _ => false,
     }
 }
 
