@@ -1,0 +1,4 @@
+pub mod Laws
+pub mod Walking
+pub mod Meaning
+mod Examples

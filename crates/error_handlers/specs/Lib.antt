@@ -1,0 +1,5 @@
+pub mod Jumps
+pub mod Heads
+pub mod Rows
+pub mod Walks
+pub mod Marks
