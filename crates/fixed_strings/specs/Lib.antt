@@ -1,0 +1,4 @@
+pub mod Lengths
+pub mod Declaring
+pub mod Given
+pub mod Rows
