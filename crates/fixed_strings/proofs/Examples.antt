@@ -1,6 +1,7 @@
 -- Worked examples of the rule, computed.
-use Rattle.std.proofs.Common.{◌≡◌, ℕ, Bool, true, false, List, [], ◌∷◌, Option, Some, None, refl, codes}
+use Rattle.std.proofs.Common.{◌≡◌, ℕ, Bool, true, false, List, [], ◌∷◌, Option, Some, None, refl, arith, codes}
 use Rattle.std.specs.Prelude.{nat_lt}
+use Rattle.reach_table.specs.Chains.{empty, longer}
 use Rattle.vb_tree.specs.BoundTree.{Ty, str, long, variant, fixed, user, array}
 use Rattle.vb_tree.specs.declared.declared.Owner.{Owner}
 use Rattle.vb_tree.specs.declared.declared.Owner.TheVariants as owner
@@ -14,7 +15,7 @@ use Rattle.vb_tree.specs.Tree as vb
 use Rattle.bound_tree.specs.declared.declared.TypeDecl.{TypeDecl}
 use Rattle.bound_tree.specs.RuleSets.{none}
 use Rattle.bound_tree.specs.Tree.{Expr, typed, variable, convert, call, no_object, Argument, by_value, by_reference, no_passed, next_passed, Line, Variable, Declarations}
-use Rattle.fixed_strings.specs.Declaring.{breaks_declared, type_parts, fixed_types}
+use Rattle.fixed_strings.specs.Declaring.{HoldsFixed, breaks_declared, type_parts, fixed_types}
 use Rattle.fixed_strings.specs.Given.{Quiet, breaks_given}
 use Rattle.fixed_strings.specs.Lengths.{lengths_from}
 
@@ -65,6 +66,10 @@ the_parts_of_types = refl
 
 the_fixed_types : fixed_types D ≡ 0 ∷ []
 the_fixed_types = refl
+
+-- by its one field
+the_second_holds_one : HoldsFixed D 1
+the_second_holds_one = (0, refl, longer 1 1 0 (empty 1) (0, omega arith, refl))
 
 -- what chains tell of these types: the first two hold a fixed string
 abbrev holds : ℕ → Bool
