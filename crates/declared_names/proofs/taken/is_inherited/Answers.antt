@@ -1,0 +1,12 @@
+use Rattle.std.proofs.Common.{◌∙◌, ap, nat_eq, ℕ, List}
+use Rattle.std.specs.List.{list_any}
+use Rattle.std.specs.Cmp.Lexicographic.{pointwise}
+use Rattle.declared_names.specs.Rules.{inherited_names}
+use Rattle.declared_names.proofs.Words.{any_shown}
+use Rattle.declared_names.proofs.taken.is_inherited.Goals as goal
+
+pub returns : goal.returns
+returns c =
+    c.is_one_of.ensures ∙ any_shown c.lower_bytes.result.now c.inherited_names.result.now
+    ∙ ap (λ (words : List (List ℕ)). list_any (λ w. pointwise nat_eq c.lower_bytes.result.now w) words) c.inherited_names.ensures
+    ∙ ap (λ (word : List ℕ). list_any (λ w. pointwise nat_eq word w) inherited_names) c.lower_bytes.ensures

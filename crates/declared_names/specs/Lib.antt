@@ -1,0 +1,4 @@
+pub mod Declaring
+pub mod Parts
+pub mod View
+pub mod Rules
