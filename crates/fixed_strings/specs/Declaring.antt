@@ -12,7 +12,7 @@ use Rattle.vb_tree.specs.Tree.{Form, variables, Module}
 use Rattle.vb_tree.specs.Tree as vb
 use Rattle.bound_tree.specs.declared.declared.TypeDecl.{TypeDecl}
 use Rattle.bound_tree.specs.Tree.{Variable, Declarations}
-use Rattle.bound_facts.specs.Clean.{module_lines}
+use Rattle.vb_tree.specs.FlatLines.{module_lines}
 use Rattle.bound_facts.specs.Leading.{LeadsTo}
 use Rattle.fixed_strings.specs.Lengths.{is_fixed_string, is_made_of_fixed}
 

@@ -1,9 +1,8 @@
 //! The statements of modules: module variables that are declared with the word Static.
 ghost use Rattle.std.specs.Prelude.{◌≡◌, ◌++◌, IfOk, OnOk, map, option_map, slice_get};
 ghost use Rattle.std.specs.List.{flat_map};
-ghost use Rattle.vb_tree.specs.FlatLines.{flat_lines};
+ghost use Rattle.vb_tree.specs.FlatLines.{flat_lines, member_lines, module_lines};
 ghost use Rattle.vb_tree.specs.View.{form_of, line_of, member_of, module_of, nodes_of};
-ghost use Rattle.bound_facts.specs.Clean.{member_lines, module_lines};
 ghost use Rattle.fixed_strings.specs.Declaring.{is_static_form, is_static_line, is_static_statement, is_static_word};
 
 use std::alloc::Global;

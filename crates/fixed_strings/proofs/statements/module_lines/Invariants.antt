@@ -1,7 +1,7 @@
 use Rattle.std.proofs.Common.{◌≡◌, map, take}
 use Rattle.std.specs.List.{flat_map}
 use Rattle.vb_tree.specs.View.{line_of, member_of}
-use Rattle.bound_facts.specs.Clean.{member_lines}
+use Rattle.vb_tree.specs.FlatLines.{member_lines}
 use Rattle.fixed_strings.proofs.statements.module_lines.Given as goal
 
 abbrev pub invariant-loop-member : goal.invariant-loop-member
