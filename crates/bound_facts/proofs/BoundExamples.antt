@@ -14,6 +14,7 @@ use Rattle.vb_tree.specs.declared.project.ProjectKind.TheVariants.{Exe}
 use Rattle.vb_tree.specs.declared.value.Value6.TheVariants as v
 use Rattle.vb_tree.specs.Tree.{Form, Bounds, ReDimItem, Module, Project, me, no_args}
 use Rattle.vb_tree.specs.Tree as vb
+use Rattle.bound_tree.specs.declared.expression.Origin.TheVariants.{Literal}
 use Rattle.bound_tree.specs.RuleSets.{none}
 use Rattle.bound_tree.specs.Tree.{Variable, Procedure, Declarations, Expr, typed, constant, variable, call, no_object, by_reference, no_passed, next_passed, Line, Program}
 use Rattle.bound_facts.specs.Bounds.{ties, lows, ranks, AreTied, Low, option_base_of}
@@ -37,7 +38,7 @@ abbrev whole : ℕ → Expr
 whole n = typed (array long 0) (variable (x n) false)
 
 abbrev number : ℕ → Expr
-number n = typed long (constant (v.Long (pos n)) false)
+number n = typed long (constant (v.Long (pos n)) Literal)
 
 abbrev at : Form → List Expr → Line
 at form es = record { source = record { place = file 1; text = []; form = form }; bindings = record { exprs = es; rules = none; mentions = [] } }

@@ -4,6 +4,7 @@ use Rattle.vb_tree.specs.BoundTree.{integer, long, variant, array}
 use Rattle.vb_tree.specs.declared.expression.BinOp.TheVariants as op
 use Rattle.vb_tree.specs.declared.value.Value6.TheVariants as v
 use Rattle.vb_tree.specs.Tree.{else_line}
+use Rattle.bound_tree.specs.declared.expression.Origin.TheVariants.{Literal}
 use Rattle.bound_tree.specs.RuleSets.{none}
 use Rattle.bound_tree.specs.Tree.{Expr, typed, constant, variable, element, call, binary, convert, no_object, no_exprs, next_expr, by_reference, no_passed, next_passed, Line}
 use Rattle.bound_facts.specs.Folded.{folded}
@@ -45,7 +46,7 @@ items_of_two_procedures = refl
 -- ---- values
 
 abbrev int : ℤ → Expr
-int z = typed integer (constant (v.Int z) false)
+int z = typed integer (constant (v.Int z) Literal)
 
 two_and_three_times_four : folded (typed integer (binary op.Add (int (pos 2)) (typed integer (binary op.Mul (int (pos 3)) (int (pos 4)))))) ≡ Some (v.Int (pos 14))
 two_and_three_times_four = refl
@@ -57,7 +58,7 @@ past_an_integer = refl
 past_an_integer_in_a_variant : folded (typed variant (binary op.Add (typed variant (convert variant (int (pos 32767)))) (int (pos 1)))) ≡ Some (v.Long (pos 32768))
 past_an_integer_in_a_variant = refl
 
-long_to_integer : folded (typed integer (convert integer (typed long (constant (v.Long (pos 70000)) false)))) ≡ None
+long_to_integer : folded (typed integer (convert integer (typed long (constant (v.Long (pos 70000)) Literal)))) ≡ None
 long_to_integer = refl
 
 sum_with_a_variable : folded (typed long (binary op.Add (var 1) (int (pos 1)))) ≡ None

@@ -16,6 +16,7 @@ use Rattle.vb_tree.specs.declared.project.ProjectKind.TheVariants.{Exe}
 use Rattle.vb_tree.specs.declared.value.Value6.TheVariants as v
 use Rattle.vb_tree.specs.Tree.{Form, Module, Project, me, no_args}
 use Rattle.vb_tree.specs.Tree as vb
+use Rattle.bound_tree.specs.declared.expression.Origin.TheVariants.{Literal}
 use Rattle.bound_tree.specs.RuleSets.{none}
 use Rattle.bound_tree.specs.Tree.{Variable, Procedure, Declarations, Expr, typed, constant, variable, call, new_object, no_object, by_reference, by_value, no_passed, next_passed, Line, Program}
 use Rattle.bound_facts.specs.Calls.{calls, line_calls, Reaches}
@@ -58,7 +59,7 @@ abbrev read : ℕ → Expr
 read n = typed long (variable (x n) false)
 
 abbrev one : Expr
-one = typed long (constant (v.Long (pos 1)) false)
+one = typed long (constant (v.Long (pos 1)) Literal)
 
 abbrev given : ℕ → ℕ → Ty → Expr
 given q n ty = typed ty (call (p q) false no_object (next_passed (by_reference (read n)) no_passed))

@@ -20,7 +20,7 @@ abbrev pub is_me : Expr → Bool
 is_me (typed ty t) = is_me_in t
 
 abbrev pub is_constant_in : Term → Bool
-is_constant_in (constant v hexadecimal) = true
+is_constant_in (constant v origin) = true
 is_constant_in _ = false
 
 -- a literal, or a use of a constant
@@ -96,7 +96,7 @@ is_calm_sign u.Neg = false
 
 -- whether a node itself can raise; the use of an As New variable can, since it may make an object
 abbrev pub raises_by : Term → Bool
-raises_by (constant v hexadecimal) = false
+raises_by (constant v origin) = false
 raises_by (variable v qualified) = false
 raises_by (field e k) = is_object_type (type_at e) && not (is_me e)
 raises_by (element e indexes) = true
@@ -138,7 +138,7 @@ head_can_raise D e = list_any (λ x. raises D x && not (is_error_number x)) (nod
 
 -- whether a node is one of those that constant expressions are made of; Me and the object of a With are constant
 abbrev pub is_fixed_in : Term → Bool
-is_fixed_in (constant v hexadecimal) = true
+is_fixed_in (constant v origin) = true
 is_fixed_in (unary op e) = true
 is_fixed_in (binary op e f) = true
 is_fixed_in (convert to e) = true

@@ -45,7 +45,7 @@ abbrev mutual
   folded (typed ty term) = folded_term term
 
   pub folded_term : Term → Option Value6
-  folded_term (constant x hexadecimal) = Some x
+  folded_term (constant x origin) = Some x
   folded_term (unary op e) = unary_value (unary_row (type_at e) op) (folded e)
   folded_term (binary op e f) = binary_value (binary_row (type_at e) (type_at f) op) (folded e) (folded f)
   folded_term (convert to e) = converted_value to (folded e)

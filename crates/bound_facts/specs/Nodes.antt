@@ -8,7 +8,7 @@ abbrev mutual
   nodes (typed ty t) = typed ty t ∷ nodes_in t
 
   pub nodes_in : Term → List Expr
-  nodes_in (constant v hexadecimal) = []
+  nodes_in (constant v origin) = []
   nodes_in (variable v qualified) = []
   nodes_in (field e k) = nodes e
   nodes_in (element e indexes) = nodes e ++ nodes_of_all indexes

@@ -18,6 +18,7 @@ use Rattle.bound_tree.specs.declared.body.Mention.{Mention}
 use Rattle.bound_tree.specs.declared.declared.EnumDecl.{EnumDecl}
 use Rattle.bound_tree.specs.declared.declared.NamedEntry.{NamedEntry}
 use Rattle.bound_tree.specs.declared.declared.TypeDecl.{TypeDecl}
+use Rattle.bound_tree.specs.declared.expression.Origin.{Origin}
 use Rattle.bound_tree.specs.declared.expression.Root.{Root}
 use Rattle.bound_tree.specs.declared.rule_set.RuleSet.{RuleSet}
 
@@ -70,7 +71,7 @@ mutual
     typed : Ty → Term → Expr
 
   pub data Term : Type 0 where
-    constant : Value6 → (hexadecimal : Bool) → Term
+    constant : Value6 → Origin → Term
     variable : VarId → (qualified : Bool) → Term
     field : Expr → ℕ → Term
     element : Expr → Exprs → Term

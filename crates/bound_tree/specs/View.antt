@@ -66,7 +66,7 @@ declarations_of d = record {
 
 abbrev mutual
   pub term_of : BoundNode → Term
-  term_of (n.Const v hexadecimal) = constant v hexadecimal
+  term_of (n.Const v origin) = constant v origin
   term_of (n.Var v qualified) = variable v qualified
   term_of (n.Field' p ty e k) = field (typed (type_of ty) (term_of e)) k
   term_of (n.Element' p ty e shape indexes) = element (typed (type_of ty) (term_of e)) (exprs_in_row indexes)

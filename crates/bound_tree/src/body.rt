@@ -23,7 +23,8 @@ pub struct BoundLine {
     pub exprs: Sequence<BoundExpr>,
     /// The rules that the line breaks as far as names, types and constants tell.
     pub rules: RuleSet,
-    /// The declarations that it mentions.
+    /// The declarations that it mentions. Of an expression of type Unknown that breaks no rule, one is named that leaves it
+    /// without a type; what else it names isn't.
     pub mentions: Sequence<Mention>,
 }
 

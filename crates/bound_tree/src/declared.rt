@@ -122,7 +122,8 @@ pub struct NamedEntry {
 #[derive(Drop)]
 pub struct Declared {
     pub project: Project6,
-    /// All declared names in project order, fields apart: the one list in which scopes look.
+    /// All declared names in project order, fields apart: the one list in which scopes look. A result variable stands behind
+    /// the parameters of its procedure.
     pub names: Sequence<NamedEntry>,
     pub vars: Sequence<VarDecl>,
     pub consts: Sequence<ConstDecl>,

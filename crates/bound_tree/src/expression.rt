@@ -1,6 +1,6 @@
 //! Expressions whose names are replaced by what they stand for, and whose conversions are written out.
 
-use crate::RuleSet;
+use crate::{ConstId, RuleSet};
 use vb_tree::{BinOp, ClassId, Expr6, LibCall, ProcId, Type6, UnOp, Value6, VarId};
 
 /// What an address is a part of.
@@ -12,6 +12,17 @@ pub enum Root {
     Object,
     /// What no variable holds: a user type that a procedure gave.
     Temporary,
+}
+
+/// What stands for a constant in the source.
+#[derive(Clone, Copy, Debug, PartialEq, Eq)]
+pub enum Origin {
+    /// A literal, a word such as True, a constant of the library, or an argument that is left out.
+    Literal,
+    /// A literal in hexadecimal or octal.
+    Hexadecimal,
+    /// A use of a declared constant or of a member of an Enum.
+    Declared(ConstId),
 }
 
 /// A bound expression with its type.
@@ -27,8 +38,8 @@ pub struct BoundExpr {
 #[derive(Drop)]
 #[cycle(bound_expression)]
 pub enum BoundNode {
-    /// A constant, and whether the source has a literal in hexadecimal or octal there.
-    Const(Value6, bool),
+    /// A constant, and what stands for it in the source.
+    Const(Value6, Origin),
     /// A variable or a parameter, and whether the source names its module before it.
     Var(VarId, bool),
     /// A field of a user type or of an object, by its place among the fields or the module's variables.

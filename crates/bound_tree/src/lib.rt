@@ -17,7 +17,7 @@ pub use declared::{
     ConstDecl, ConstId, Declared, EnumDecl, EnumId, Named, NamedEntry, ProcDecl, Scope, TypeDecl,
     VarDecl,
 };
-pub use expression::{BoundArg, BoundExpr, BoundNode, Root};
+pub use expression::{BoundArg, BoundExpr, BoundNode, Origin, Root};
 pub use facts::{
     AllFacts, ArrayFacts, FixedFacts, HandlerFacts, InterfaceFacts, ObjectFacts, RefFacts,
 };

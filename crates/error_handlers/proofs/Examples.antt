@@ -11,6 +11,7 @@ use Rattle.vb_tree.specs.declared.project.ProjectKind.TheVariants.{Exe}
 use Rattle.vb_tree.specs.declared.value.Value6.TheVariants as v
 use Rattle.vb_tree.specs.Tree.{Form, me, goto, label, on_error_goto, on_error_resume_next, resume_at, resume_next, exit, for_head, next, do_head, loop, with_head, end_with, if_head, end_if, assign}
 use Rattle.vb_tree.specs.Tree as vb
+use Rattle.bound_tree.specs.declared.expression.Origin.TheVariants.{Literal}
 use Rattle.bound_tree.specs.RuleSets.{none, with_rule}
 use Rattle.bound_tree.specs.Tree.{Expr, typed, constant, variable, element, binary, err_number, no_exprs, next_expr, Line, Declarations}
 use Rattle.bound_facts.specs.Facts.{is_resumable}
@@ -143,7 +144,7 @@ abbrev item : Expr
 item = typed long (element (typed (array long 1) (variable (record { 0 = 0 }) false)) (next_expr i no_exprs))
 
 abbrev zero_long : Expr
-zero_long = typed long (constant (v.Long (pos 0)) false)
+zero_long = typed long (constant (v.Long (pos 0)) Literal)
 
 abbrev is_zero : Expr → Expr
 is_zero e = typed boolean (binary op.Equal e zero_long)
