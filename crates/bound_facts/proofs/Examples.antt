@@ -1,12 +1,14 @@
 -- Worked examples of the definitions, computed.
-use Rattle.std.proofs.Common.{◌≡◌, ℕ, ℤ, pos, false, List, [], ◌∷◌, length, Some, None, refl}
-use Rattle.vb_tree.specs.BoundTree.{integer, long, variant, array}
+use Rattle.std.proofs.Common.{◌≡◌, ℕ, ℤ, pos, true, false, List, [], ◌∷◌, length, Some, None, refl}
+use Rattle.vb_tree.specs.BoundTree.{byte, integer, long, str, variant, array}
+use Rattle.vb_tree.specs.declared.bound.LibCall.TheVariants.{CByte, CStr}
 use Rattle.vb_tree.specs.declared.expression.BinOp.TheVariants as op
 use Rattle.vb_tree.specs.declared.value.Value6.TheVariants as v
 use Rattle.vb_tree.specs.Tree.{else_line}
 use Rattle.bound_tree.specs.declared.expression.Origin.TheVariants.{Literal}
 use Rattle.bound_tree.specs.RuleSets.{none}
-use Rattle.bound_tree.specs.Tree.{Expr, typed, constant, variable, element, call, binary, convert, no_object, no_exprs, next_expr, by_reference, no_passed, next_passed, Line}
+use Rattle.bound_tree.specs.Tree.{Expr, typed, constant, variable, element, call, binary, convert, library, no_object, no_exprs, next_expr, by_reference, no_passed, next_passed, Line}
+use Rattle.bound_facts.specs.CanRaise.{raises_by}
 use Rattle.bound_facts.specs.Folded.{folded}
 use Rattle.bound_facts.specs.Items.{project_items}
 use Rattle.bound_facts.specs.Nodes.{nodes, line_nodes}
@@ -63,3 +65,20 @@ long_to_integer = refl
 
 sum_with_a_variable : folded (typed long (binary op.Add (var 1) (int (pos 1)))) ≡ None
 sum_with_a_variable = refl
+
+-- ---- what can raise: a Byte stays in its range; `&` on a Variant can, and on the text of one can't
+
+small : raises_by (library CByte (next_expr (typed byte (variable (record { 0 = 2 }) false)) no_exprs)) ≡ false
+small = refl
+
+abbrev any : Expr
+any = typed variant (variable (record { 0 = 3 }) false)
+
+abbrev text : Expr
+text = typed str (variable (record { 0 = 4 }) false)
+
+joined_variant : raises_by (binary op.Concat (typed str (convert str any)) text) ≡ true
+joined_variant = refl
+
+joined_text : raises_by (binary op.Concat (typed str (library CStr (next_expr any no_exprs))) text) ≡ false
+joined_text = refl

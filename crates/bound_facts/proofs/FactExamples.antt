@@ -2,7 +2,7 @@
 use Rattle.std.proofs.Common.{◌≡◌, ℕ, Bool, true, false, List, [], ◌∷◌, Option, Some, None, refl, arith, pos, codes}
 use Rattle.up_base.specs.declared.place.Place.{Place}
 use Rattle.reach_table.specs.Chains.{empty, longer}
-use Rattle.vb_tree.specs.BoundTree.{Ty, long, class, nothing, array}
+use Rattle.vb_tree.specs.BoundTree.{Ty, long, class, nothing, unknown, array}
 use Rattle.vb_tree.specs.declared.declared.ClassId.{ClassId}
 use Rattle.vb_tree.specs.declared.declared.Owner.{Owner}
 use Rattle.vb_tree.specs.declared.declared.Owner.TheVariants as owner
@@ -18,14 +18,14 @@ use Rattle.vb_tree.specs.Tree.{Form, Module, Project, me, no_args}
 use Rattle.vb_tree.specs.Tree as vb
 use Rattle.bound_tree.specs.declared.expression.Origin.TheVariants.{Literal}
 use Rattle.bound_tree.specs.RuleSets.{none}
-use Rattle.bound_tree.specs.Tree.{Variable, Procedure, Declarations, Expr, typed, constant, variable, call, new_object, no_object, by_reference, by_value, no_passed, next_passed, Line, Program}
+use Rattle.bound_tree.specs.Tree.{Variable, Procedure, Declarations, Expr, typed, constant, variable, call, new_object, loose, no_object, by_reference, by_value, no_passed, next_passed, Line, Program}
 use Rattle.bound_facts.specs.Calls.{calls, line_calls, Reaches}
 use Rattle.bound_facts.specs.Effects.{outward, touched}
 use Rattle.bound_facts.specs.Facts.{Known, is_quiet, is_resumable, stirs}
 use Rattle.bound_facts.specs.Leading.{is_in}
 use Rattle.bound_facts.specs.Members.{initializer}
 use Rattle.bound_facts.specs.Parts.{line_uses}
-use Rattle.bound_facts.specs.SelfMade.{unplain}
+use Rattle.bound_facts.specs.SelfMade.{unplain, unplain_items}
 
 abbrev file : ℕ → Place
 file n = record { file = n; line = 1 }
@@ -123,6 +123,10 @@ touching = refl
 -- f is of the object that Class_Initialize runs for
 not_plain : unplain P ≡ 0 ∷ 0 ∷ 1 ∷ 2 ∷ 4 ∷ []
 not_plain = refl
+
+-- what has no type is passed over
+passed_over : unplain_items D 3 (store (typed unknown (loose me none)) one) ≡ []
+passed_over = refl
 
 -- Main reaches Peek, by one call
 reaching : Reaches P 0 2

@@ -41,12 +41,16 @@ takes_all _ = false
 -- whether a conversion between two types can't leave the range of the second (MS-VBAL, Let-coercion)
 abbrev pub is_safe : Ty → Ty → Bool
 is_safe boolean to = true
+is_safe byte byte = true
 is_safe byte integer = true
 is_safe byte long = true
 is_safe byte currency = true
+is_safe integer integer = true
 is_safe integer long = true
 is_safe integer currency = true
+is_safe long long = true
 is_safe long currency = true
+is_safe currency currency = true
 is_safe variant currency = true
 is_safe from to = takes_all to
 
@@ -94,6 +98,14 @@ is_calm_sign u.Neg = false
 
 -- ---- nodes
 
+abbrev pub is_from_variant : Term → Bool
+is_from_variant (convert to e) = is_variant (type_at e)
+is_from_variant _ = false
+
+-- an operand that is a Variant, or was one before it was converted for the operator
+abbrev pub is_variant_operand : Expr → Bool
+is_variant_operand (typed ty t) = is_variant ty || is_from_variant t
+
 -- whether a node itself can raise; the use of an As New variable can, since it may make an object
 abbrev pub raises_by : Term → Bool
 raises_by (constant v origin) = false
@@ -102,8 +114,8 @@ raises_by (field e k) = is_object_type (type_at e) && not (is_me e)
 raises_by (element e indexes) = true
 raises_by (call p qualified of args) = true
 raises_by (library function args) = not (is_calm_lib function args)
-raises_by (unary op e) = not (is_calm_sign op) || is_variant (type_at e)
-raises_by (binary op e f) = not (is_calm_op op) || (is_variant (type_at e) || is_variant (type_at f))
+raises_by (unary op e) = not (is_calm_sign op) || is_variant_operand e
+raises_by (binary op e f) = not (is_calm_op op) || (is_variant_operand e || is_variant_operand f)
 raises_by (convert to e) = not (converts_safely to e)
 raises_by (new_object c) = true
 raises_by me = false

@@ -5,7 +5,7 @@ use Rattle.std.specs.List.{flat_map, list_any}
 use Rattle.vb_tree.specs.declared.declared.Owner.{Owner}
 use Rattle.vb_tree.specs.declared.declared.Owner.TheVariants as owner
 use Rattle.vb_tree.specs.Tree.{Form, assign}
-use Rattle.bound_tree.specs.Tree.{Expr, typed, Term, field, element, variable, Line, Variable, Procedure, Declarations, Program}
+use Rattle.bound_tree.specs.Tree.{Expr, typed, Term, field, element, variable, loose, Line, Variable, Procedure, Declarations, Program}
 use Rattle.bound_facts.specs.CanRaise.{is_me, can_raise}
 use Rattle.bound_facts.specs.Items.{project_items}
 use Rattle.bound_facts.specs.Members.{initializer}
@@ -31,7 +31,7 @@ abbrev pub is_mine_variable : Declarations → ℕ → Option Variable → Bool
 is_mine_variable D i None = false
 is_mine_variable D i (Some v) = is_mine_owner i (module_of (slice_get D.procs i)) v.owner
 
--- a part of such a variable, or of a field of Me; a field of another object is none
+-- a part of such a variable, or of a field of Me; a field of another object is none. What has no type is passed over.
 abbrev mutual
   pub is_mine : Declarations → ℕ → Expr → Bool
   is_mine D i (typed ty t) = is_mine_in D i t
@@ -40,6 +40,7 @@ abbrev mutual
   is_mine_in D i (variable v qualified) = is_mine_variable D i (slice_get D.vars v.0)
   is_mine_in D i (field e k) = cond (is_object_type (type_at e)) (is_me e) (is_mine D i e)
   is_mine_in D i (element e indexes) = is_mine D i e
+  is_mine_in D i (loose e rules) = true
   is_mine_in D i _ = false
 
 -- whether a node calls a procedure, makes an object or asks

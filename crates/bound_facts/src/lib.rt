@@ -22,7 +22,7 @@ pub use any::{NodeTest, all_of, any_of, push_those};
 pub use backward::leading;
 pub use classes::classes_of;
 pub use folding::folded;
-pub use members::field_of;
+pub use members::{field_of, file_of_class};
 pub use node::{args_at, called, created, declared_at, is_array_type, is_object_type, is_variant};
 pub use nodes::{push_line_nodes, push_nodes, push_parts};
 pub use numbers::{leading_to, marks_of};

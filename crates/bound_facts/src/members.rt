@@ -49,7 +49,8 @@ fn class_field(declared: &Declared, c: u32, k: u32) -> Option<usize>
     }
 }
 
-fn file_of_class(project: &Project6, c: u32) -> Option<u32>
+/// The file number of a class.
+pub fn file_of_class(project: &Project6, c: u32) -> Option<u32>
     ensures { result ≡ slice_get (class_files (project_of project.now)) c }
 {
     class_file(project.modules.as_slice(), c)

@@ -2,7 +2,7 @@
 ghost use Rattle.std.specs.Prelude.{◌≡◌, ◌&&◌, not, IfOk};
 ghost use Rattle.vb_tree.specs.BoundView.{type_of};
 ghost use Rattle.bound_tree.specs.View.{declarations_of, expr_of, exprs_of, term_of};
-ghost use Rattle.bound_facts.specs.CanRaise.{can_raise, converts_safely, first_converts, head_can_raise, is_calm_lib, is_calm_op, is_calm_sign, is_constant_node, is_error_number, is_me, is_safe, raises, raises_by, takes_all};
+ghost use Rattle.bound_facts.specs.CanRaise.{can_raise, converts_safely, first_converts, head_can_raise, is_calm_lib, is_calm_op, is_calm_sign, is_constant_node, is_error_number, is_from_variant, is_me, is_safe, is_variant_operand, raises, raises_by, takes_all};
 
 use crate::any::{NodeTest, any_of};
 use crate::node::{created, is_object_type, is_variant};
@@ -50,12 +50,16 @@ fn is_safe(from: &Type6, to: &Type6) -> bool
 {
     match (from, to) {
         (Type6::Boolean, _) => true,
+        (Type6::Byte, Type6::Byte) => true,
         (Type6::Byte, Type6::Integer) => true,
         (Type6::Byte, Type6::Long) => true,
         (Type6::Byte, Type6::Currency) => true,
+        (Type6::Integer, Type6::Integer) => true,
         (Type6::Integer, Type6::Long) => true,
         (Type6::Integer, Type6::Currency) => true,
+        (Type6::Long, Type6::Long) => true,
         (Type6::Long, Type6::Currency) => true,
+        (Type6::Currency, Type6::Currency) => true,
         (Type6::Variant, Type6::Currency) => true,
         _ => takes_all(to),
     }
@@ -124,6 +128,22 @@ fn is_calm_sign(op: UnOp) -> bool
     }
 }
 
+fn is_from_variant(node: &BoundNode) -> bool
+    ensures { result ≡ is_from_variant (term_of node.now) }
+{
+    match node {
+        BoundNode::Convert(_, of) => is_variant(&of.ty),
+        _ => false,
+    }
+}
+
+// Whether an operand is a Variant, or was one before it was converted for the operator.
+fn is_variant_operand(e: &BoundExpr) -> bool
+    ensures { result ≡ is_variant_operand (expr_of e.now) }
+{
+    is_variant(&e.ty) || is_from_variant(&e.node)
+}
+
 // Whether a node can raise, but as the use of an As New variable.
 fn raises_by(node: &BoundNode) -> bool
     ensures { result ≡ raises_by (term_of node.now) }
@@ -135,8 +155,10 @@ fn raises_by(node: &BoundNode) -> bool
         BoundNode::Element(_, _) => true,
         BoundNode::Call(_, _, _, _) => true,
         BoundNode::Lib(function, args) => !is_calm_lib(*function, args),
-        BoundNode::Unary(op, of) => !is_calm_sign(*op) || is_variant(&of.ty),
-        BoundNode::Binary(op, a, b) => !is_calm_op(*op) || is_variant(&a.ty) || is_variant(&b.ty),
+        BoundNode::Unary(op, of) => !is_calm_sign(*op) || is_variant_operand(of),
+        BoundNode::Binary(op, a, b) => {
+            !is_calm_op(*op) || is_variant_operand(a) || is_variant_operand(b)
+        }
         BoundNode::Convert(to, of) => !converts_safely(to, of),
         BoundNode::New(_) => true,
         BoundNode::Me => false,
