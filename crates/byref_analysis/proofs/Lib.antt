@@ -1,0 +1,4 @@
+pub mod Uses
+pub mod Later
+pub mod Meaning
+mod Examples
