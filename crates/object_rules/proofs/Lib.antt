@@ -1,0 +1,4 @@
+pub mod Noting
+pub mod Meaning
+pub mod Alike
+mod Examples
