@@ -1,0 +1,5 @@
+pub mod Ordered
+pub mod Steps
+pub mod Among
+pub mod Listed
+mod Examples
