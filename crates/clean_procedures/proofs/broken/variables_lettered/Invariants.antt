@@ -1,0 +1,8 @@
+use Rattle.std.proofs.Common.{◌≡◌, ◌++◌, map, drop}
+use Rattle.bound_tree.specs.View.{variable_of}
+use Rattle.clean_procedures.specs.Broken.{is_lettered, those_from}
+use Rattle.clean_procedures.specs.Options.{shown}
+use Rattle.clean_procedures.proofs.broken.variables_lettered.Given as goal
+
+abbrev pub invariant-loop-i : goal.invariant-loop-i
+invariant-loop-i l = l.all.items ++ those_from (is_lettered (map shown l.modules)) l.i (map variable_of (drop l.i l.vars)) ≡ those_from (is_lettered (map shown l.modules)) 0 (map variable_of l.vars)
