@@ -2,12 +2,9 @@
 use Rattle.std.proofs.Common.{◌≡◌, ℕ, true, false, List, [], ◌∷◌, refl, Option, Some, None}
 use Rattle.std.specs.Prelude.{codes}
 use Rattle.up_base.specs.declared.place.Place.{Place}
-use Rattle.vb_tree.specs.declared.declared.ClassId.{ClassId}
 use Rattle.vb_tree.specs.declared.declared.Owner.TheVariants as owner
-use Rattle.vb_tree.specs.declared.declared.ProcId.{ProcId}
 use Rattle.vb_tree.specs.declared.declared.ProcKind.{ProcKind}
 use Rattle.vb_tree.specs.declared.declared.ProcKind.TheVariants as proc
-use Rattle.vb_tree.specs.declared.declared.TypeId.{TypeId}
 use Rattle.vb_tree.specs.declared.declared.VarId.{VarId}
 use Rattle.vb_tree.specs.declared.form_parts.VarWord.TheVariants as var
 use Rattle.vb_tree.specs.declared.form_parts.Visibility.TheVariants as seen
@@ -16,10 +13,7 @@ use Rattle.vb_tree.specs.declared.token.Suffix.TheVariants.{Absent}
 use Rattle.vb_tree.specs.declared.token.Token.{Token}
 use Rattle.vb_tree.specs.declared.token.TokenKind.TheVariants as token
 use Rattle.vb_tree.specs.BoundTree.{long, nothing}
-use Rattle.vb_tree.specs.Tree.{Declarator, Form, Member, Module, Project, alone, event_variables, opaque}
-use Rattle.bound_tree.specs.declared.declared.ConstId.{ConstId}
-use Rattle.bound_tree.specs.declared.declared.EnumDecl.{EnumDecl}
-use Rattle.bound_tree.specs.declared.declared.EnumId.{EnumId}
+use Rattle.vb_tree.specs.Tree.{Declarator, Form, Member, Module, alone, event_variables, opaque}
 use Rattle.bound_tree.specs.declared.declared.Named.{Named}
 use Rattle.bound_tree.specs.declared.declared.Named.TheVariants as named
 use Rattle.bound_tree.specs.declared.declared.NamedEntry.{NamedEntry}
@@ -28,7 +22,6 @@ use Rattle.bound_tree.specs.declared.declared.Scope.TheVariants as scope
 use Rattle.bound_tree.specs.Tree.{Constant, Declarations, Procedure}
 use Rattle.name_tables.specs.declared.uses.Site.{Site}
 use Rattle.name_tables.specs.declared.uses.Spelling.TheVariants.{Plain, Suffixed, Bracketed}
-use Rattle.name_tables.specs.declared.uses.Use6.{Use6}
 use Rattle.name_tables.specs.declared.uses.Use6.TheVariants as use6
 use Rattle.name_tables.specs.declared.uses.Wanted.TheVariants.{Value, Indexed, Callee, Qualifier}
 use Rattle.typing_rows.specs.LibraryNames.{names_a_to_c, names_d_to_i, names_j_to_p, names_q_to_y}
@@ -93,6 +86,7 @@ abbrev all_names : List NamedEntry
 all_names =
     entry (codes "Total") (scope.Private 1) (v 0)
     ∷ entry (codes "Half") (scope.Public 1) (p 0)
+    ∷ entry (codes "Half") (scope.Local (record { 0 = 0 })) (v 5)
     ∷ entry (codes "TOTAL") (scope.Local (record { 0 = 0 })) (v 1)
     ∷ entry (codes "Hidden") (scope.Private 2) (v 2)
     ∷ entry (codes "Shared") (scope.Public 2) (v 3)

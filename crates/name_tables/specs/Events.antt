@@ -7,7 +7,7 @@ use Rattle.vb_tree.specs.declared.token.Token.{Token}
 use Rattle.vb_tree.specs.declared.token.TokenKind.{TokenKind}
 use Rattle.vb_tree.specs.declared.token.TokenKind.TheVariants as kind
 use Rattle.vb_tree.specs.LogicalLines.{is_word}
-use Rattle.vb_tree.specs.Tree.{Declarator, Form, Line, Member, alone, group, proc, Module, Project, opaque, event_variables}
+use Rattle.vb_tree.specs.Tree.{Declarator, Form, Member, alone, group, proc, Module, Project, opaque, event_variables}
 
 pub record Event : Type 0 where
   pub name : List ℕ

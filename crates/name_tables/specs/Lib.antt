@@ -1,3 +1,10 @@
+pub mod EventView
 pub mod Events
+pub mod Homes
 pub mod Library
+pub mod Places
+pub mod Rows
 pub mod Scopes
+pub mod Tables
+pub mod Used
+pub mod View

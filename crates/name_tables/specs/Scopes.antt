@@ -1,5 +1,5 @@
 -- What a name stands for: the first declaration of a fitting kind, scope by scope. A key is a name in small letters.
-use Rattle.std.specs.Prelude.{ℕ, ◌+◌, Bool, true, false, ◌==◌, ◌&&◌, ◌||◌, not, nat_eq, nat_lt, List, [], ◌∷◌, map, filter, Option, Some, None, option_map, is_some, find, filter_map, position, slice_get, take, drop, if◌then◌else◌}
+use Rattle.std.specs.Prelude.{ℕ, ◌+◌, Bool, true, false, ◌==◌, ◌&&◌, ◌||◌, not, nat_eq, nat_lt, List, [], ◌∷◌, filter, Option, Some, None, option_map, is_some, find, filter_map, position, slice_get, take, drop, if◌then◌else◌}
 use Rattle.std.specs.List.{list_any}
 use Rattle.std.specs.Cmp.Lexicographic.{pointwise}
 use Rattle.up_base.specs.Names.{lower_case}
@@ -250,14 +250,27 @@ has_class_constant D from key = list_any (has_constant_in D from key) D.project.
 
 -- Values.
 
--- the result variable of a procedure has its name
-abbrev pub result_named : Wanted → List ℕ → Option Procedure → Option Named
-result_named w key None = None
-result_named w key (Some p) = if is_plain w && has_key key p.name then option_map named.Var p.answer else None
+abbrev pub is_variable : VarId → Option VarId → Bool
+is_variable v None = false
+is_variable v (Some w) = v.0 == w.0
+
+-- whether a declaration is the result variable of a procedure
+abbrev pub is_answer : Option Procedure → Named → Bool
+is_answer None n = false
+is_answer (Some p) (named.Var v) = is_variable v p.answer
+is_answer (Some p) (named.Const c) = false
+is_answer (Some p) (named.Proc q) = false
+is_answer (Some p) (named.Type t) = false
+is_answer (Some p) (named.Enum e) = false
+
+-- a local; the result variable of the procedure is meant by its name without arguments alone
+abbrev pub unless_answer : Wanted → Option Procedure → Option Named → Option Named
+unless_answer w p None = None
+unless_answer w p (Some n) = if not (is_plain w) && is_answer p n then None else Some n
 
 abbrev pub local_in : Declarations → Wanted → List ℕ → Option ProcId → Option Named
 local_in D w key None = None
-local_in D w key (Some p) = first_of (if_fits D (kinds_of w) (local_named D p key)) (result_named w key (slice_get D.procs p.0))
+local_in D w key (Some p) = unless_answer w (slice_get D.procs p.0) (if_fits D (kinds_of w) (local_named D p key))
 
 abbrev pub local_use : Declarations → Site → Wanted → List ℕ → Option Use6
 local_use D s w key = option_map use6.Local (local_in D w key s.procedure)
