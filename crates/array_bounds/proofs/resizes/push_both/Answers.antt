@@ -1,0 +1,14 @@
+use Rattle.std.proofs.Common.{List, ◌++◌, map, ap, sym, ◌∙◌, arith}
+use Rattle.bound_tree.specs.View.{expr_of}
+use Rattle.bound_facts.specs.Parts.{Extent}
+use Rattle.array_bounds.specs.Views.{extent_of}
+use Rattle.array_bounds.proofs.Bounded.{extents_none, both_of_few}
+use Rattle.array_bounds.proofs.resizes.push_both.Goals as goal
+
+pub returns-in-empty : goal.returns-in-empty
+returns-in-empty c more =
+    ap (λ (xs : List Extent). map extent_of c.args.to.now.items ++ xs) (extents_none more ∙ sym (both_of_few expr_of more c.args.exprs.now (omega (arith, c.in-empty.len_below))))
+
+pub returns-in-len1 : goal.returns-in-len1
+returns-in-len1 c more =
+    ap (λ (xs : List Extent). map extent_of c.args.to.now.items ++ xs) (extents_none more ∙ sym (both_of_few expr_of more c.args.exprs.now (omega (arith, c.in-len1.len_below))))

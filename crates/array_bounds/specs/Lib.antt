@@ -1,0 +1,16 @@
+pub mod Views
+pub mod Types
+pub mod Known
+pub mod Resizing
+pub mod Elements
+pub mod Locking
+pub mod Declaring
+pub mod Givens
+pub mod Ranges
+pub mod Programs
+pub mod Facts
+pub mod Tables
+pub mod LockTables
+pub mod Rows
+pub mod FactsOf
+pub mod Found
