@@ -1,0 +1,4 @@
+pub mod ArgumentLists
+mod ResolvedExamples
+mod SpelledExamples
+pub mod SpelledLists

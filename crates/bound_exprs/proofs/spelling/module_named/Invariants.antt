@@ -1,0 +1,10 @@
+use Rattle.std.proofs.Common.{◌≡◌, drop, map, nat_eq}
+use Rattle.std.specs.Prelude.{find}
+use Rattle.vb_tree.specs.Tree.{Module}
+use Rattle.vb_tree.specs.View.{module_of}
+use Rattle.bound_exprs.proofs.spelling.module_named.Given as goal
+
+abbrev pub invariant-loop-m : goal.invariant-loop-m
+invariant-loop-m l =
+    find (λ (m : Module). nat_eq m.file l.file) (map module_of l.modules)
+    ≡ find (λ (m : Module). nat_eq m.file l.file) (map module_of (drop l.m-index l.modules))

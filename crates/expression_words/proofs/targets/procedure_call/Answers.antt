@@ -1,0 +1,10 @@
+use Rattle.std.proofs.Common.{ap}
+use Rattle.vb_tree.specs.BoundView.{type_of}
+use Rattle.bound_tree.specs.Tree.{Term, typed}
+use Rattle.bound_tree.proofs.Views.{call_shown}
+use Rattle.expression_words.specs.Converting.{id}
+use Rattle.expression_words.specs.Flaws.{known}
+use Rattle.expression_words.proofs.targets.procedure_call.Goals as goal
+
+pub returns : goal.returns
+returns c = ap (λ (t : Term). known (typed (type_of c.args.ty) t)) (call_shown (id c.args.p) c.args.qualified c.args.of c.args.args)

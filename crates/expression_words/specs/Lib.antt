@@ -1,0 +1,12 @@
+pub mod Flaws
+pub mod Members
+pub mod MemberTables
+pub mod Converting
+pub mod Passing
+pub mod Elements
+pub mod ErrStatements
+pub mod Operators
+pub mod LibraryCalls
+pub mod Meanings
+pub mod Targets
+pub mod View
