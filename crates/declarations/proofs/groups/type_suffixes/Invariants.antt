@@ -1,0 +1,8 @@
+use Rattle.std.proofs.Common.{◌≡◌, ◌++◌, drop, map}
+use Rattle.vb_tree.specs.View.{module_of}
+use Rattle.declarations.specs.Finals.{suffixes_of, type_suffix}
+use Rattle.declarations.proofs.groups.type_suffixes.Given as goal
+
+abbrev pub invariant-loop-module : goal.invariant-loop-module
+invariant-loop-module l =
+    l.all.items ++ suffixes_of type_suffix (map module_of (drop l.module-index l.modules)) ≡ suffixes_of type_suffix (map module_of l.modules)

@@ -1,0 +1,13 @@
+pub mod Bare
+pub mod Circles
+pub mod ConstantExpressions
+pub mod Constants
+pub mod Defaults
+pub mod Finals
+pub mod ModuleFacts
+pub mod NamedTypes
+pub mod Numbered
+pub mod Places
+pub mod Plans
+pub mod Typed
+pub mod View
