@@ -1,0 +1,6 @@
+mod Sample
+mod ExprExamples
+mod LineExamples
+mod ModuleExamples
+mod SupportExamples
+mod ClassExamples
