@@ -8,7 +8,8 @@ use crate::places::PlaceLists;
 use bound_tree::{Marks, RuleSet, all_rules};
 use up_base::{Issue, Mem, Place, Sequence};
 
-fn push_set(place: Place, set: RuleSet, to: &mut Vec<Issue>) -> Result<(), Mem>
+/// Appends an issue at a place for each rule of a set.
+pub fn push_set(place: Place, set: RuleSet, to: &mut Vec<Issue>) -> Result<(), Mem>
     ensures { OnOk result (to.new.items ≡ to.old.items ++ set_issues place set) }
 {
     let rules = all_rules();

@@ -41,8 +41,8 @@ fn push_found(
     Ok(push_all(&places, marks, to)?)
 }
 
-// Issues in their order, each once.
-fn as_set(found: Vec<Issue>) -> Issues
+/// Issues in their order, each once.
+pub fn as_set(found: Vec<Issue>) -> Issues
     ensures ascending { are_ascending result ≡ true }
     ensures same { (x : Issue) → Contains result x ↔ Contains found.items x }
 {

@@ -9,4 +9,5 @@ mod found;
 mod issues;
 mod places;
 
-pub use issues::issues_of;
+pub use found::push_set;
+pub use issues::{as_set, issues_of};

@@ -1,0 +1,4 @@
+pub mod Further
+pub mod Marks
+pub mod Broken
+pub mod View
