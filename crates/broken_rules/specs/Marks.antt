@@ -46,11 +46,15 @@ pub record AreOfReferences (P : Program) (F : Known) (m : Marks) : Type 0 where
 abbrev pub quiet_params : Program → Known → Quiet
 quiet_params P F = quiet_flags (is_quiet P.declarations F) P.declarations.procs
 
--- rule 12, by facts
-pub record AreOfFixed (P : Program) (F : Known) (m : Marks) : Type 0 where
-  pub lines : m.lines ≡ fixed.lines_rules P (quiet_params P F)
+-- rule 12, by the parameters that are quiet
+pub record AreFixedBy (P : Program) (quiet : Quiet) (m : Marks) : Type 0 where
+  pub lines : m.lines ≡ fixed.lines_rules P quiet
   pub vars : fixed.AreBroken P.declarations m.vars
   pub others : fixed.HasNoOthers m
+
+-- rule 12, by facts
+abbrev pub AreOfFixed : Program → Known → Marks → Type 0
+AreOfFixed P F m = AreFixedBy P (quiet_params P F) m
 
 -- ---- all passes
 

@@ -9,10 +9,7 @@ use Rattle.bound_tree.specs.View.{program_of}
 use Rattle.bound_facts.specs.Facts.{Known}
 use Rattle.array_bounds.specs.Facts.{AreCalls}
 use Rattle.bound_tree.specs.declared.facts.RefFacts.{RefFacts}
-use Rattle.bound_tree.specs.declared.marks.Marks.{Marks}
 use Rattle.byref_analysis.specs.Tests.{Tells}
-use Rattle.fixed_strings.specs.Given.{Quiet}
-use Rattle.fixed_strings.specs.Rows as fixed
 use Rattle.declarations.specs.Finals.{IsDeclared}
 use Rattle.array_bounds.specs.Rows as arrays
 use Rattle.error_handlers.specs.Rows as handlers
@@ -40,12 +37,6 @@ pub record AreRefs (P : Program) (r : RefFacts) : Type 0 where
   pub references : AreOfReferences P facts r.marks
   pub quiet : r.quiet ≡ quiet_params P facts
   pub calls : AreCalls P r.calls
-
--- rule 12 by the parameters that are quiet
-pub record AreFixedBy (P : Program) (quiet : Quiet) (m : Marks) : Type 0 where
-  pub lines : m.lines ≡ fixed.lines_rules P quiet
-  pub vars : fixed.AreBroken P.declarations m.vars
-  pub others : fixed.HasNoOthers m
 
 -- what the analyses find in a program
 pub record AreFound (P : Program) (f : Found) : Type 0 where

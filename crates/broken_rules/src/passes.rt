@@ -5,8 +5,8 @@ ghost use Rattle.bound_tree.specs.View.{program_of};
 ghost use Rattle.error_handlers.specs.Rows.{AreOfLines, line_rules};
 ghost use Rattle.issue_sets.specs.Marked.{AreIssues};
 ghost use Rattle.broken_rules.specs.Broken.{AreBroken};
-ghost use Rattle.broken_rules.specs.Marks.{AreOfObjects, all_marks};
-ghost use Rattle.broken_rules.specs.View.{AreFixedBy, AreFound, AreFoundIn, AreRefs, IsAnalysed, IsBoundTo, passes_of};
+ghost use Rattle.broken_rules.specs.Marks.{AreFixedBy, AreOfObjects, all_marks};
+ghost use Rattle.broken_rules.specs.View.{AreFound, AreFoundIn, AreRefs, IsAnalysed, IsBoundTo, passes_of};
 
 use crate::further::further_issues;
 use array_bounds::analyse_arrays;
