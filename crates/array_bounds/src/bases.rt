@@ -53,8 +53,8 @@ fn base_of(file: u32, modules: &[Module6]) -> i32
     0
 }
 
-/// That of the module of a file.
-pub(crate) fn option_base_of(declared: &Declared, file: u32) -> i32
+/// The lower bound of a dimension of which none is written, in the module of a file.
+pub fn option_base_of(declared: &Declared, file: u32) -> i32
     ensures { result ≡ option_base_of (declarations_of declared.now) file }
 {
     base_of(file, declared.project.modules.as_slice())

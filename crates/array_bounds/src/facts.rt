@@ -32,13 +32,15 @@ pub(crate) struct Facts<'a> {
     pub locks: Vec<Lock<'a>>,
 }
 
-fn array_holders(alloc: Global, declared: &Declared) -> Result<Vec<bool>, Mem>
+/// For each user type whether it holds an array, in itself or in the types of its fields.
+pub fn array_holders(alloc: Global, declared: &Declared) -> Result<Vec<bool>, Mem>
     ensures { IfOk result (λ v. (t : ℕ) → IsTrue (is_marked v.items t) ↔ Holds (declarations_of declared.now) is_array_type t) }
 {
     Ok(holders(alloc, declared, &Wanted::Array)?)
 }
 
-fn made_holders(alloc: Global, declared: &Declared) -> Result<Vec<bool>, Mem>
+/// For each user type whether it holds an array or a fixed string, in itself or in the types of its fields.
+pub fn made_holders(alloc: Global, declared: &Declared) -> Result<Vec<bool>, Mem>
     ensures { IfOk result (λ v. (t : ℕ) → IsTrue (is_marked v.items t) ↔ Holds (declarations_of declared.now) is_made t) }
 {
     Ok(holders(alloc, declared, &Wanted::Made)?)

@@ -84,7 +84,8 @@ pub(crate) fn constant(alloc: Global, e: &BoundExpr) -> Result<Option<i32>, Mem>
     Ok(whole_of(&value))
 }
 
-fn low_in(alloc: Global, base: i32, extent: &ExtentRef) -> Result<Option<i32>, Mem>
+/// The lower bound of an extent, where it is constant: `base` where none is written.
+pub fn low_in(alloc: Global, base: i32, extent: &ExtentRef) -> Result<Option<i32>, Mem>
     ensures { IfOk result (λ z. z ≡ low_in base (extent_of extent.now).0) }
 {
     match extent.lower {

@@ -28,3 +28,7 @@ mod ties;
 mod types;
 
 pub use analysis::analyse_arrays;
+pub use bases::option_base_of;
+pub use facts::{array_holders, made_holders};
+pub use givens::low_in;
+pub use resizes::{ExtentRef, ResizeRef, resizes_in};

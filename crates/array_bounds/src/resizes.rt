@@ -12,16 +12,16 @@ use std::alloc::Global;
 use up_base::Mem;
 use vb_tree::{Bounds6, Form6, ReDimItem6};
 
-/// The bounds of one dimension.
+/// The bounds of one dimension of an array that a ReDim makes.
 #[derive(Clone, Copy)]
-pub(crate) struct ExtentRef<'a> {
+pub struct ExtentRef<'a> {
     pub lower: Option<&'a BoundExpr>,
     pub upper: &'a BoundExpr,
 }
 
-/// An array with its bounds.
+/// An array that a ReDim makes, with its bounds.
 #[derive(Drop)]
-pub(crate) struct ResizeRef<'a> {
+pub struct ResizeRef<'a> {
     pub array: &'a BoundExpr,
     pub extents: Vec<ExtentRef<'a>>,
 }
@@ -164,7 +164,7 @@ fn push_resize<'a>(
 }
 
 /// The arrays of a ReDim.
-pub(crate) fn resizes_in<'a>(
+pub fn resizes_in<'a>(
     alloc: Global,
     items: &[ReDimItem6],
     exprs: &'a [BoundExpr],

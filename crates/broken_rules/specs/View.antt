@@ -11,6 +11,7 @@ use Rattle.array_bounds.specs.Facts.{AreCalls}
 use Rattle.bound_tree.specs.declared.facts.RefFacts.{RefFacts}
 use Rattle.byref_analysis.specs.Tests.{Tells}
 use Rattle.declarations.specs.Finals.{IsDeclared}
+use Rattle.array_bounds.specs.Found.{AreLows, AreRanks}
 use Rattle.array_bounds.specs.Rows as arrays
 use Rattle.error_handlers.specs.Rows as handlers
 use Rattle.issue_sets.specs.Marked.{AreIssues}
@@ -47,6 +48,8 @@ pub record AreFound (P : Program) (f : Found) : Type 0 where
   pub fixed : AreOfFixed P facts f.fixed.marks
   pub handlers : handlers.AreOfLines f.handlers.marks (handlers.line_rules P)
   pub arrays : arrays.AreMarks P f.arrays.marks
+  pub lows : AreLows P f.arrays.lows
+  pub ranks : AreRanks P f.arrays.ranks
 
 -- issues of a bound project with further ones
 pub record AreFoundIn (b : Bound) (further issues : List Issue) : Type 0 where

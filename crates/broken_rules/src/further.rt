@@ -117,7 +117,7 @@ fn push_modules(alloc: Global, modules: &[Module6], to: &mut Vec<Issue>) -> Resu
 }
 
 /// The issues of the lines of the project file, and of the lines of modules that declare nothing and are no code lines.
-pub(crate) fn further_issues(alloc: Global, project: &Project6) -> Result<Vec<Issue>, Mem>
+pub fn further_issues(alloc: Global, project: &Project6) -> Result<Vec<Issue>, Mem>
     ensures { IfOk result (λ v. v.items ≡ further_issues (project_of project.now)) }
 {
     let mut issues = Vec::new(alloc);

@@ -8,4 +8,5 @@
 mod further;
 mod passes;
 
-pub use passes::{Analysed, broken_rules};
+pub use further::further_issues;
+pub use passes::{Analysed, Found, bound_project, broken_rules, findings, issues_found};

@@ -26,7 +26,7 @@ use vb_tree::Project6;
 
 /// What the analyses find.
 #[derive(Drop)]
-pub(crate) struct Found {
+pub struct Found {
     pub objects: ObjectFacts,
     pub refs: RefFacts,
     pub fixed: FixedFacts,
@@ -109,7 +109,8 @@ fn behind_refs(
     }
 }
 
-fn findings(alloc: Global, bound: &Bound) -> Result<Found, Mem>
+/// What the analyses find in a bound project.
+pub fn findings(alloc: Global, bound: &Bound) -> Result<Found, Mem>
     ensures { IfOk result (λ f. AreFound (program_of bound.now) f) }
 {
     let objects = resolve_objects(alloc, bound)?;
@@ -122,7 +123,8 @@ fn findings(alloc: Global, bound: &Bound) -> Result<Found, Mem>
     }
 }
 
-fn issues_found(
+/// The issues of a bound project, by what all passes mark, with further ones.
+pub fn issues_found(
     alloc: Global,
     bound: &Bound,
     found: &Found,
@@ -158,7 +160,8 @@ pub struct Analysed {
     pub issues: Issues,
 }
 
-fn bound_project(alloc: Global, project: Project6) -> Result<Bound, Mem>
+/// A project with its declarations and its lines bound.
+pub fn bound_project(alloc: Global, project: Project6) -> Result<Bound, Mem>
     ensures { IfOk result (λ b. IsBoundTo (project_of project) b) }
 {
     let declared = declare(alloc, project)?;

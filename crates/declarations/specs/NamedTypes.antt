@@ -1,4 +1,4 @@
--- The types that declarations name: by a suffix, else behind As, else by the first letter.
+-- The types that declarations name: behind As, else by a suffix, else by the first letter.
 use Rattle.std.specs.Prelude.{ℕ, Bool, false, cond, ◌||◌, nat_eq, nat_lt, Option, Some, None, List, length, map, codes}
 use Rattle.std.specs.Cmp.Lexicographic.{pointwise}
 use Rattle.std.specs.List.{list_any}
@@ -126,10 +126,14 @@ by_letter (Some l) = record { ty = word_of l.word; rules = none; qualified = fal
 
 -- ---- declarations
 
--- a suffix goes before the type behind As
+-- The type behind As goes before that of a suffix. A suffix whose type isn't translated makes it unknown.
+abbrev pub ty_behind : (suffix behind : Ty) → Ty
+ty_behind unknown ty = unknown
+ty_behind _ ty = ty
+
 abbrev pub suffixed : Option Choice → Choice → Choice
 suffixed None c = c
-suffixed (Some s) c = record { ty = s.ty; rules = both c.rules s.rules; qualified = c.qualified; lettered = None }
+suffixed (Some s) c = record { ty = ty_behind s.ty c.ty; rules = both c.rules s.rules; qualified = c.qualified; lettered = None }
 
 abbrev pub or_choice : Option Choice → Choice → Choice
 or_choice None c = c

@@ -9,7 +9,7 @@ ghost use Rattle.expression_words.specs.View.{IsContext, declared_in};
 ghost use Rattle.declarations.specs.ModuleFacts as modules;
 ghost use Rattle.declarations.specs.ModuleFacts.{facts_in};
 ghost use Rattle.declarations.specs.NamedTypes as names;
-ghost use Rattle.declarations.specs.NamedTypes.{by_letter, by_name, by_suffix, by_type_name, has_stop, in_array, is_floating, looked_up, of_named, of_new_use, of_use, or_choice, single, suffixed, word_or_found, word_type};
+ghost use Rattle.declarations.specs.NamedTypes.{by_letter, by_name, by_suffix, by_type_name, has_stop, in_array, is_floating, looked_up, of_named, of_new_use, of_use, or_choice, single, suffixed, ty_behind, word_or_found, word_type};
 ghost use Rattle.declarations.specs.View.{choice_shown, letter_shown, IsKnown};
 
 use crate::module_facts::{Letter, letter_of};
@@ -237,13 +237,22 @@ pub fn choice_by_letter(letter: Option<Letter>) -> Choice
     }
 }
 
-// A suffix goes before the type behind As.
+// The type behind As goes before that of a suffix; a suffix whose type isn't translated makes it unknown.
+fn ty_behind(suffix: Type6, ty: Type6) -> Type6
+    ensures { type_of result ≡ ty_behind (type_of suffix) (type_of ty) }
+{
+    match suffix {
+        Type6::Unknown => Type6::Unknown,
+        _ => ty,
+    }
+}
+
 fn suffixed(suffix: Option<Choice>, choice: Choice) -> Choice
     ensures { choice_shown result ≡ suffixed (option_map choice_shown suffix) (choice_shown choice) }
 {
     match suffix {
         Some(by_suffix) => Choice {
-            ty: by_suffix.ty,
+            ty: ty_behind(by_suffix.ty, choice.ty),
             rules: choice.rules.union(by_suffix.rules),
             qualified: choice.qualified,
             lettered: None,

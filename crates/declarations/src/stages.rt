@@ -35,6 +35,8 @@ use std::alloc::Global;
 use up_base::{Issues, Mem, Sequence};
 use vb_tree::Project6;
 
+// Whole lists and tables are let go of by `drop`, so that no proof goes through their parts at each way out.
+
 /// The tables in which declarations are looked up, and what modules say.
 #[derive(Drop)]
 pub(crate) struct Tables<'a> {
@@ -54,16 +56,28 @@ fn tables_of<'a>(
     ensures { IfOk result (λ t. AreTablesOf t project.now names.now bare.now) }
 {
     let declared = bare.declared(project, names);
-    let tables = NameTables::make(alloc, &declared)?;
-    let member_tables = MemberTables::make(alloc, &declared)?;
-    let facts = facts_of(alloc, project)?;
     let members = members_of(alloc, names)?;
-    Ok(Tables {
-        tables,
-        member_tables,
-        facts,
-        members,
-    })
+    let facts = facts_of(alloc, project)?;
+    let member_tables = match MemberTables::make(alloc, &declared) {
+        Ok(made) => made,
+        Err(Mem) => {
+            drop(facts);
+            return Err(Mem);
+        }
+    };
+    match NameTables::make(alloc, &declared) {
+        Ok(tables) => Ok(Tables {
+            tables,
+            member_tables,
+            facts,
+            members,
+        }),
+        Err(Mem) => {
+            drop(member_tables);
+            drop(facts);
+            Err(Mem)
+        }
+    }
 }
 
 // The lists with the types that variables name, and the results of procedures.
@@ -73,8 +87,13 @@ fn typed(alloc: Global, fixed: &Fixed<'_>, bare: Filled) -> Result<Filled, Mem>
     ensures typed { IfOk result (λ f. filled_by fixed.now f ≡ typed_declarations (project_of fixed.now.project.now) (names_of fixed.now.names.now)) }
     ensures fixed { IfOk result (λ f. IsFixed fixed.now f) }
 {
-    let vars = typed_variables(alloc, known_by(fixed, &bare), fixed.names.vars.as_slice())?;
-    Ok(with_variables(alloc, vars, bare)?)
+    match typed_variables(alloc, known_by(fixed, &bare), fixed.names.vars.as_slice()) {
+        Ok(vars) => Ok(with_variables(alloc, vars, bare)?),
+        Err(Mem) => {
+            drop(bare);
+            Err(Mem)
+        }
+    }
 }
 
 // The lists with the values of constants too.
@@ -85,8 +104,13 @@ fn settled(alloc: Global, fixed: &Fixed<'_>, typed: Filled) -> Result<Filled, Me
     ensures fixed { IfOk result (λ f. IsFixed fixed.now f) }
 {
     let mut filled = typed;
-    rounds(alloc, fixed, &mut filled, fixed.names.consts.as_slice())?;
-    Ok(filled)
+    match rounds(alloc, fixed, &mut filled, fixed.names.consts.as_slice()) {
+        Ok(()) => Ok(filled),
+        Err(Mem) => {
+            drop(filled);
+            Err(Mem)
+        }
+    }
 }
 
 /// What is known of the lists before those that break rules lose their types.
@@ -105,8 +129,8 @@ fn found(alloc: Global, fixed: &Fixed<'_>, settled: &Filled) -> Result<Findings,
 {
     let known = known_by(fixed, settled);
     let circular = circles_of(alloc, fixed.names.types.len(), &settled.vars)?;
-    let plans = plans_of(alloc, known, fixed.names.vars.as_slice())?;
     let constants = constants_rules(alloc, known, fixed.members, fixed.names.consts.as_slice())?;
+    let plans = plans_of(alloc, known, fixed.names.vars.as_slice())?;
     Ok(Findings {
         circular,
         plans,
@@ -237,10 +261,30 @@ fn flagged(alloc: Global, fixed: &Fixed<'_>, settled: Filled) -> Result<Finished
     requires settled { filled_by fixed.now settled ≡ settled_declarations (is_marked fixed.now.members.now) (project_of fixed.now.project.now) (names_of fixed.now.names.now) }
     ensures { IfOk result (λ r. AreDeclared (project_of fixed.now.project.now) (names_of fixed.now.names.now) (filled_by fixed.now r.filled) r.marks) }
 {
-    let found = found(alloc, fixed, &settled)?;
-    let marks = marks_of(alloc, fixed, &settled, &found)?;
-    let filled = completed(alloc, fixed, settled, &found.plans, &marks)?;
-    Ok(Finished { filled, marks })
+    let found = match found(alloc, fixed, &settled) {
+        Ok(found) => found,
+        Err(Mem) => {
+            drop(settled);
+            return Err(Mem);
+        }
+    };
+    let marks = match marks_of(alloc, fixed, &settled, &found) {
+        Ok(marks) => marks,
+        Err(Mem) => {
+            drop(found);
+            drop(settled);
+            return Err(Mem);
+        }
+    };
+    let filled = completed(alloc, fixed, settled, &found.plans, &marks);
+    drop(found);
+    match filled {
+        Ok(filled) => Ok(Finished { filled, marks }),
+        Err(Mem) => {
+            drop(marks);
+            Err(Mem)
+        }
+    }
 }
 
 fn in_stages(alloc: Global, fixed: &Fixed<'_>, bare: Filled) -> Result<Finished, Mem>
@@ -286,8 +330,17 @@ fn filled_lists(
     ensures { IfOk result (λ r. AreDeclared (project_of project.now) (names_of names.now) (filled_in project.now names.now r.filled) r.marks) }
 {
     let bare = bare(alloc, project, names)?;
-    let tables = tables_of(alloc, project, names, &bare)?;
-    with_tables(alloc, project, names, &tables, bare)
+    match tables_of(alloc, project, names, &bare) {
+        Ok(tables) => {
+            let finished = with_tables(alloc, project, names, &tables, bare);
+            drop(tables);
+            finished
+        }
+        Err(Mem) => {
+            drop(bare);
+            Err(Mem)
+        }
+    }
 }
 
 /// All lists of a project.
@@ -304,14 +357,19 @@ fn lists_of(alloc: Global, project: &Project6) -> Result<AllLists, Mem>
     ensures { IfOk result (λ l. IsDeclared (project_of project.now) (listed_in project.now l) l.marks) }
 {
     let names = declared_names(alloc, project)?;
-    let finished = filled_lists(alloc, project, &names)?;
-    Ok(AllLists {
-        names: names.names,
-        types: names.types,
-        enums: names.enums,
-        filled: finished.filled,
-        marks: finished.marks,
-    })
+    match filled_lists(alloc, project, &names) {
+        Ok(finished) => Ok(AllLists {
+            names: names.names,
+            types: names.types,
+            enums: names.enums,
+            filled: finished.filled,
+            marks: finished.marks,
+        }),
+        Err(Mem) => {
+            drop(names);
+            Err(Mem)
+        }
+    }
 }
 
 /// What a project declares.
@@ -319,18 +377,25 @@ pub fn declare(alloc: Global, project: Project6) -> Result<Declared, Mem>
     ensures declared { IfOk result (λ d. IsDeclared (project_of project) (declarations_of d) d.marks) }
     ensures project { IfOk result (λ d. d.project ≡ project) }
 {
-    let lists = lists_of(alloc, &project)?;
-    let filled = lists.filled;
-    Ok(Declared {
-        project,
-        names: lists.names,
-        vars: Sequence::from_vec(filled.vars),
-        consts: Sequence::from_vec(filled.consts),
-        procs: Sequence::from_vec(filled.procs),
-        types: lists.types,
-        enums: lists.enums,
-        defaults: Sequence::from_vec(filled.defaults),
-        marks: lists.marks,
-        issues: Issues::new(alloc),
-    })
+    match lists_of(alloc, &project) {
+        Ok(lists) => {
+            let filled = lists.filled;
+            Ok(Declared {
+                project,
+                names: lists.names,
+                vars: Sequence::from_vec(filled.vars),
+                consts: Sequence::from_vec(filled.consts),
+                procs: Sequence::from_vec(filled.procs),
+                types: lists.types,
+                enums: lists.enums,
+                defaults: Sequence::from_vec(filled.defaults),
+                marks: lists.marks,
+                issues: Issues::new(alloc),
+            })
+        }
+        Err(Mem) => {
+            drop(project);
+            Err(Mem)
+        }
+    }
 }

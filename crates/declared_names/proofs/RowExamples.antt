@@ -12,6 +12,7 @@ use Rattle.vb_tree.specs.declared.token.Literal6.TheVariants as literal
 use Rattle.vb_tree.specs.declared.token.Sign.TheVariants as sign
 use Rattle.vb_tree.specs.declared.token.Suffix.TheVariants as suffix
 use Rattle.vb_tree.specs.declared.token.Token.{Token}
+use Rattle.vb_tree.specs.declared.declared.Owner.TheVariants as owner
 use Rattle.vb_tree.specs.declared.token.TokenKind.{TokenKind}
 use Rattle.vb_tree.specs.declared.token.TokenKind.TheVariants as token
 use Rattle.vb_tree.specs.Tree.{Form, Member, Module, Nodes, Param, Project, alone, attribute, def_type, end_enum, end_function, end_sub, end_type, enum_head, event_variables, field, function_head, get_head, group, label, let_head, named, no_nodes, opaque, option_compare, option_explicit, proc, static_head, sub_head, type_head, variables}
@@ -104,11 +105,16 @@ own_variables_marked = refl
 
 -- a head with Static
 abbrev static_project : Project
-static_project = project None (standard 1 (codes "Main1") (proc (at (static_head kind.Sub (head (codes "S") []) None)) no_nodes (at end_sub) ∷ []) ∷ [])
+static_project = project None (standard 1 (codes "Main1") (proc (at (static_head kind.Sub (head (codes "S") []) None)) (body (variables word.Dim (plain (codes "n") None ∷ []) ∷ [])) (at end_sub) ∷ []) ∷ [])
 
 static_marked : map rules_in (name_marks static_project (lists_of static_project)).heads ≡ (4 ∷ []) ∷ []
 unfolding with_declared follow nothing a_variable a_field a_constant a_procedure a_type an_enum procedure_declares type_declares members_declare has none with_rule both reserved_names inherited_names
 static_marked = refl
+
+-- its locals are those of a head without the word
+static_owners : map (λ v. v.owner) (lists_of static_project).vars ≡ owner.Local (record { 0 = 0 }) ∷ []
+unfolding with_declared follow nothing a_variable a_field a_constant a_procedure a_type an_enum procedure_declares type_declares members_declare
+static_owners = refl
 
 -- labels: a word twice, and beside it a number
 abbrev labels_project : Project

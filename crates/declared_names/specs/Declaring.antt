@@ -214,22 +214,22 @@ line_declares file n place _ = nothing
 
 -- ---- locals
 
--- a local keeps its value where the word Static begins its line or stands in the head of its procedure
-abbrev pub local_owner : ProcId → Bool → VarWord → Owner
-local_owner p true w = owner.Static p
-local_owner p false word.Static = owner.Static p
-local_owner p false _ = owner.Local p
+-- A local keeps its value where the word Static begins its line. A head with Static carries an issue, and its procedure declares what it
+-- would without the word.
+abbrev pub local_owner : ProcId → VarWord → Owner
+local_owner p word.Static = owner.Static p
+local_owner p _ = owner.Local p
 
 -- a line of a procedure
-abbrev pub local_declares : ProcId → Bool → ℕ → Place → Form → Declares
-local_declares p static n place (variables w ds) = variables_in (scope.Local p) (local_owner p static w) place n ds
-local_declares p static n place (constants v cs) = constants_in (scope.Local p) (owner.Local p) place n cs
-local_declares p static n place _ = nothing
+abbrev pub local_declares : ProcId → ℕ → Place → Form → Declares
+local_declares p n place (variables w ds) = variables_in (scope.Local p) (local_owner p w) place n ds
+local_declares p n place (constants v cs) = constants_in (scope.Local p) (owner.Local p) place n cs
+local_declares p n place _ = nothing
 
 -- the lines of a procedure, of which the first is the statement n
-abbrev pub locals_declare : ProcId → Bool → ℕ → List Line → Declares
-locals_declare p static n [] = nothing
-locals_declare p static n (l ∷ ls) = follow (local_declares p static n l.place l.form) (locals_declare p static (n + 1) ls)
+abbrev pub locals_declare : ProcId → ℕ → List Line → Declares
+locals_declare p n [] = nothing
+locals_declare p n (l ∷ ls) = follow (local_declares p n l.place l.form) (locals_declare p (n + 1) ls)
 
 -- ---- procedures
 
@@ -354,7 +354,7 @@ a_procedure file place n h k = record no_lists {
 abbrev pub inside_declares : ProcId → Place → ℕ → Head → List Line → Declares
 inside_declares p place n h body =
     follow (params_declare p (given_place h) place n 0 h.signature.params)
-    (follow (answer_declares p place n h) (locals_declare p h.static (n + 1) body))
+    (follow (answer_declares p place n h) (locals_declare p (n + 1) body))
 
 unfoldable pub procedure_declares : ℕ → Place → ℕ → Head → List Line → Numbers → Lists
 procedure_declares file place n h body k = follow (a_procedure file place n h) (inside_declares (record { 0 = k.procs }) place n h body) k

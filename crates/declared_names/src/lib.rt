@@ -6,9 +6,10 @@
 //! declaration's number is its position in the list of its kind, so the number of the next one is the list's length.
 //! `first_parts` tells which procedures are parts of one property.
 //!
-//! `name_marks` has a set of rules for each declaration, and for each code line as far as its label tells. A name that is
-//! declared twice is looked for among all declared names, from the first one on. `line_rules` has the rules of a line that
-//! declares nothing, and `startup_rules` those of the line that says where the program starts.
+//! `name_marks` has a set of rules for each declaration, and for each code line as far as its label tells. A name is declared
+//! twice where the first declaration that is in its way is another one; tables that are made once know where that one stands,
+//! so no look-up searches the declared names. `line_rules` has the rules of a line that declares nothing, and `startup_rules`
+//! those of the line that says where the program starts.
 #![tactic(auto)]
 
 mod groups;
@@ -20,6 +21,7 @@ mod marks;
 mod parts;
 mod procedures;
 mod project;
+mod rivals;
 mod rules;
 mod scopes;
 mod taken;

@@ -1,10 +1,13 @@
-//! The first part of each property. Each look-up is a scan of all procedures.
-ghost use Rattle.std.specs.Prelude.{◌≡◌, map, IfOk};
-ghost use Rattle.declared_names.specs.Parts.{are_parts, first_part, first_parts, firsts_from, is_property};
+//! The first part of each property, by a table of first parts.
+ghost use Rattle.std.specs.Prelude.{◌≡◌, cond, map, IfOk, None, Some};
+ghost use Rattle.name_places.specs.Places.{keyed};
+ghost use Rattle.declared_names.specs.Parts.{first_parts, is_property};
+ghost use Rattle.declared_names.specs.Rivals.{AreFirst, firsts_by, or_own, property_place, property_row};
 ghost use Rattle.declared_names.specs.View.{names_of, procedure_of};
 
 use crate::variables::sum;
 use crate::{DeclaredNames, NamedProc};
+use name_places::{NamePlaces, Row, places_of};
 use std::alloc::Global;
 use up_base::{Mem, Sequence};
 use vb_tree::{ProcId, ProcKind};
@@ -13,38 +16,76 @@ use vb_tree::{ProcId, ProcKind};
 pub fn first_parts(alloc: Global, d: &DeclaredNames) -> Result<Sequence<ProcId>, Mem>
     ensures { IfOk result (λ s. s ≡ first_parts (names_of d.now)) }
 {
-    Ok(firsts(alloc, d.procs.as_slice())?)
+    let procs = d.procs.as_slice();
+    let places = property_places(alloc, procs)?;
+    Ok(firsts(alloc, &places, procs)?)
 }
 
-fn firsts(alloc: Global, procs: &[NamedProc]) -> Result<Sequence<ProcId>, Mem>
-    ensures { IfOk result (λ s. s ≡ firsts_from (map procedure_of procs.now) 0 (map procedure_of procs.now)) }
+fn property_places(alloc: Global, procs: &[NamedProc]) -> Result<NamePlaces, Mem>
+    ensures { IfOk result (λ t. AreFirst t property_row (map procedure_of procs.now)) }
+{
+    let rows = property_rows(alloc, procs)?;
+    Ok(places_of(alloc, &rows)?)
+}
+
+fn property_rows<'a>(alloc: Global, procs: &[NamedProc<'a>]) -> Result<Vec<Row<'a>>, Mem>
+    ensures { IfOk result (λ v. map keyed v.items ≡ map property_row (map procedure_of procs.now)) }
+{
+    let mut all = Vec::new(alloc);
+    for procedure in procs {
+        all.push(Row {
+            home: property_home(procedure.kind, procedure.module),
+            name: procedure.name,
+        })?;
+    }
+    Ok(all)
+}
+
+// The module of a part of a property.
+fn property_home(kind: ProcKind, file: u32) -> Option<u32>
+    ensures { result ≡ cond (is_property kind) (Some file) None }
+{
+    if !is_property(kind) {
+        return None;
+    }
+    Some(file)
+}
+
+fn firsts(alloc: Global, places: &NamePlaces, procs: &[NamedProc]) -> Result<Sequence<ProcId>, Mem>
+    ensures { IfOk result (λ s. s ≡ firsts_by places.now 0 (map procedure_of procs.now)) }
 {
     let mut all = Sequence::new(alloc);
     let mut own = 0;
     for procedure in procs {
-        all.push(ProcId(first_part(own, procedure, procs)?))?;
+        all.push(ProcId(or_own(own, property_place(places, procedure))?))?;
         own = sum(own, 1)?;
     }
     Ok(all)
 }
 
-fn first_part(own: u32, procedure: &NamedProc, procs: &[NamedProc]) -> Result<u32, Mem>
-    ensures { IfOk result (λ n. n ≡ first_part own (procedure_of procedure.now) 0 (map procedure_of procs.now)) }
+// The place of the first part of a procedure's property.
+fn property_place(places: &NamePlaces, procedure: &NamedProc) -> Option<usize>
+    ensures { result ≡ property_place places.now (procedure_of procedure.now) }
 {
-    let mut next = 0;
-    for other in procs {
-        if are_parts(procedure, other) {
-            return Ok(next);
-        }
-        next = sum(next, 1)?;
+    if !is_property(procedure.kind) {
+        return None;
     }
-    Ok(own)
+    places.place(procedure.module, procedure.name.lower_bytes())
 }
 
-fn are_parts(a: &NamedProc, b: &NamedProc) -> bool
-    ensures { result ≡ are_parts (procedure_of a.now) (procedure_of b.now) }
+// A place as a number, and the procedure's own where there is none. No more than 4,294,967,296 procedures are counted.
+fn or_own(own: u32, place: Option<usize>) -> Result<u32, Mem>
+    ensures { IfOk result (λ n. n ≡ or_own own place) }
 {
-    is_property(a.kind) && is_property(b.kind) && a.module == b.module && *a.name == *b.name
+    match place {
+        Some(i) => {
+            if i > 4294967295 {
+                return Err(Mem);
+            }
+            Ok(i as u32)
+        }
+        None => Ok(own),
+    }
 }
 
 fn is_property(kind: ProcKind) -> bool

@@ -127,7 +127,7 @@ fn put_inside<'a>(
     put_params(alloc, procedure, given, place, statement, params, to)?;
     put_answer(alloc, procedure, place, statement, head, to)?;
     let next = sum(statement, 1)?;
-    put_locals(alloc, procedure, head.is_static, next, body, to)?;
+    put_locals(alloc, procedure, next, body, to)?;
     Ok(())
 }
 
@@ -252,19 +252,16 @@ fn result_type(ty: Option<&Result6>) -> Option<&TypeName6>
 fn put_locals<'a>(
     alloc: Global,
     procedure: ProcId,
-    is_static: bool,
     statement: u32,
     lines: &[&'a CodeLine],
     to: &mut DeclaredNames<'a>,
 ) -> Result<(), Mem>
-    ensures { OnOk result (names_of to.new ≡ with_declared (locals_declare procedure is_static statement (map (λ l. line_of l.now) lines.now)) (names_of to.old)) }
+    ensures { OnOk result (names_of to.new ≡ with_declared (locals_declare procedure statement (map (λ l. line_of l.now) lines.now)) (names_of to.old)) }
 {
     let mut next = statement;
     for line in lines {
         let line = *line;
-        put_local(
-            alloc, procedure, is_static, next, line.place, &line.form, to,
-        )?;
+        put_local(alloc, procedure, next, line.place, &line.form, to)?;
         next = sum(next, 1)?;
     }
     Ok(())

@@ -49,13 +49,10 @@ pub(crate) fn written_visibility(visibility: Option<Visibility>) -> Visibility
     }
 }
 
-/// What a local belongs to, where the head of its procedure has the word Static or hasn't.
-pub(crate) fn local_owner(procedure: ProcId, is_static: bool, word: VarWord) -> Owner
-    ensures { result ≡ local_owner procedure is_static word }
+/// What a local belongs to.
+pub(crate) fn local_owner(procedure: ProcId, word: VarWord) -> Owner
+    ensures { result ≡ local_owner procedure word }
 {
-    if is_static {
-        return Owner::Static(procedure);
-    }
     match word {
         VarWord::Static => Owner::Static(procedure),
         _ => Owner::Local(procedure),

@@ -224,23 +224,22 @@ pub(crate) fn put_line<'a>(
     }
 }
 
-/// Puts what a line of a procedure declares, whose head has the word Static or hasn't.
+/// Puts what a line of a procedure declares.
 #[tactic(auto, using(crate::proofs::Following::behind_nothing))]
 pub(crate) fn put_local<'a>(
     alloc: Global,
     procedure: ProcId,
-    is_static: bool,
     statement: u32,
     place: Place,
     form: &'a Form6,
     to: &mut DeclaredNames<'a>,
 ) -> Result<(), Mem>
-    ensures { OnOk result (names_of to.new ≡ with_declared (local_declares procedure is_static statement place (form_of form.now)) (names_of to.old)) }
+    ensures { OnOk result (names_of to.new ≡ with_declared (local_declares procedure statement place (form_of form.now)) (names_of to.old)) }
 {
     let scope = Scope::Local(procedure);
     match form {
         Form6::Variables(word, declarators) => {
-            let owner = local_owner(procedure, is_static, *word);
+            let owner = local_owner(procedure, *word);
             Ok(put_variables(
                 alloc,
                 scope,

@@ -46,7 +46,7 @@ project_fault_file files name f (no_project absent is) = ap (λ x. x.place.file)
 project_fault_file files name f (long_project long is) = ap (λ x. x.place.file) is
 project_fault_file files name f (project_line bytes held in_file first) = in_file
 
-first_in_project : (files : Files) (name : List ℕ) (f : Fault) → ProjectFault files name f → FirstFault files name name f
+pub first_in_project : (files : Files) (name : List ℕ) (f : Fault) → ProjectFault files name f → FirstFault files name name f
 first_in_project files name f h = record {
   read = 0;
   fault = h;
@@ -157,7 +157,7 @@ refused_said files name file said f held h = by (entry_fault_file files (size_of
         ap (λ (es : List Entry). slice_get (map (λ (e : Entry). e.file) es) (length h.earlier)) (sym h.parts) ∙ name_middle h.earlier h.entry h.later ∙ ap Some (sym is) in
         subst (λ n. IsNameOf files name n said) (sym number) (file, held, at)
 
-first_at_entry : (files : Files) (name : List ℕ) (file : ProjectFile) (said : List ℕ) (f : Fault) → HeldFile files name file → EntryRefused files name (size_of (files name)) file.entries said f → FirstFault files name said f
+pub first_at_entry : (files : Files) (name : List ℕ) (file : ProjectFile) (said : List ℕ) (f : Fault) → HeldFile files name file → EntryRefused files name (size_of (files name)) file.entries said f → FirstFault files name said f
 first_at_entry files name file said f held h = record {
   read = suc (length h.earlier);
   fault = refused_fault files name file said f held h;

@@ -18,3 +18,7 @@ NoFaultWhereHeld = (files : Files) (name said : List ℕ) (P : Project) (f : Fau
 -- a folder holds one project at most under a name
 abbrev pub OneHeldProject : Type 0
 OneHeldProject = (files : Files) (name : List ℕ) (P Q : Project) → HeldProject files name P → HeldProject files name Q → P ≡ Q
+
+-- no folder has neither a project nor a first fault under a name
+abbrev pub HeldOrFault : Type 0
+HeldOrFault = (files : Files) (name : List ℕ) → ((P : Project) → ¬ (HeldProject files name P)) → ((said : List ℕ) (f : Fault) → ¬ (FirstFault files name said f)) → ⊥

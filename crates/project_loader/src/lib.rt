@@ -6,5 +6,5 @@ mod loading;
 mod modules;
 mod texts;
 
-pub use laws::{no_fault_where_held, one_first_fault, one_held_project};
+pub use laws::{held_or_fault, no_fault_where_held, one_first_fault, one_held_project};
 pub use loading::{LoadFail, load_project};

@@ -12,4 +12,6 @@ returns-in-Ok c = record {
   fixed = record { lines = c.requires.fixed.lines ∙ ap (lines_rules (program_of c.args.bound.now)) c.requires.refs.quiet; vars = c.requires.fixed.vars; others = c.requires.fixed.others };
   handlers = c.requires.handlers;
   arrays = c.in-Ok.ensures.marks c.requires.refs.calls;
+  lows = c.in-Ok.ensures.lows;
+  ranks = c.in-Ok.ensures.ranks;
 }

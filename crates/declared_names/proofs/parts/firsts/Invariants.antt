@@ -1,9 +1,9 @@
 use Rattle.std.proofs.Common.{◌≡◌, ◌++◌, drop, map}
-use Rattle.declared_names.specs.Parts.{firsts_from}
+use Rattle.declared_names.specs.Rivals.{firsts_by}
 use Rattle.declared_names.specs.View.{procedure_of}
 use Rattle.declared_names.proofs.parts.firsts.Given as goal
 
 abbrev pub invariant-loop-procedure : goal.invariant-loop-procedure
 invariant-loop-procedure l =
-    l.all ++ firsts_from (map procedure_of l.procs) l.own (map procedure_of (drop l.procedure-index l.procs))
-    ≡ firsts_from (map procedure_of l.procs) 0 (map procedure_of l.procs)
+    l.all ++ firsts_by l.places l.own (map procedure_of (drop l.procedure-index l.procs))
+    ≡ firsts_by l.places 0 (map procedure_of l.procs)

@@ -6,5 +6,5 @@ use Rattle.declared_names.proofs.procedures.put_locals.Given as goal
 
 abbrev pub invariant-loop-line : goal.invariant-loop-line
 invariant-loop-line l =
-    with_declared (locals_declare l.procedure l.is_static l.next (map (λ x. line_of x.now) (drop l.line-index l.lines))) (names_of l.to)
-    ≡ with_declared (locals_declare l.procedure l.is_static l.statement (map (λ x. line_of x.now) l.lines)) (names_of l.initial.to)
+    with_declared (locals_declare l.procedure l.next (map (λ x. line_of x.now) (drop l.line-index l.lines))) (names_of l.to)
+    ≡ with_declared (locals_declare l.procedure l.statement (map (λ x. line_of x.now) l.lines)) (names_of l.initial.to)

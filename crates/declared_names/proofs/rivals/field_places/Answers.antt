@@ -1,0 +1,11 @@
+use Rattle.std.proofs.Common.{◌∙◌, ap, map}
+use Rattle.name_places.specs.Places.{keyed}
+use Rattle.declared_names.specs.Rivals.{field_row}
+use Rattle.declared_names.specs.View.{variable_of}
+use Rattle.declared_names.proofs.FirstRivals.{rows_placed}
+use Rattle.declared_names.proofs.rivals.field_places.Goals as goal
+
+pub returns : goal.returns
+returns c =
+    rows_placed c.in_ok-places_of.field-0 c.deref.result.now field_row (map variable_of c.args.vars.now) c.in_ok-places_of.ensures
+    (ap (map keyed) c.deref.ensures.value ∙ c.in_ok-rows.ensures)

@@ -1,0 +1,10 @@
+use Rattle.std.proofs.Common.{◌∙◌, ap, map}
+use Rattle.name_places.specs.Places.{keyed}
+use Rattle.declared_names.specs.Rivals.{local_row}
+use Rattle.declared_names.proofs.FirstRivals.{rows_placed}
+use Rattle.declared_names.proofs.rivals.local_places.Goals as goal
+
+pub returns : goal.returns
+returns c =
+    rows_placed c.in_ok-places_of.field-0 c.deref.result.now local_row c.args.names.now c.in_ok-places_of.ensures
+    (ap (map keyed) c.deref.ensures.value ∙ c.in_ok-rows.ensures)
