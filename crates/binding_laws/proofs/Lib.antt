@@ -1,0 +1,5 @@
+mod Rules
+mod Numbers
+mod Founded
+mod Arguments
+mod Words
