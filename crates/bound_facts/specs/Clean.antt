@@ -1,7 +1,8 @@
 -- Clean procedures: those from which no chain of mentions leads to a procedure or a declaration with a line that breaks a rule.
-use Rattle.std.specs.Prelude.{◌≡◌, ℕ, suc, Bool, true, false, cond, ◌||◌, ◌&&◌, nat_eq, Option, Some, None, List, [], ◌∷◌, ◌++◌, map, slice_get, option_to_list}
+use Rattle.std.specs.Prelude.{◌≡◌, ℕ, suc, Bool, true, false, cond, ◌||◌, ◌&&◌, nat_eq, Option, Some, None, List, [], ◌∷◌, ◌++◌, map, slice_get, option_to_list, not, take}
 use Rattle.std.specs.List.{flat_map, list_any, Contains}
 use Rattle.up_base.specs.declared.place.Place.{Place}
+use Rattle.up_base.specs.Names.{is_same_name}
 use Rattle.vb_tree.specs.BoundTree.{Ty, user, array}
 use Rattle.vb_tree.specs.declared.declared.Owner.{Owner}
 use Rattle.vb_tree.specs.declared.declared.Owner.TheVariants as owner
@@ -9,10 +10,16 @@ use Rattle.vb_tree.specs.declared.form_parts.Compare.TheVariants as compare
 use Rattle.vb_tree.specs.declared.form_parts.DefWord.{DefWord}
 use Rattle.vb_tree.specs.declared.form_parts.DefWord.TheVariants as word
 use Rattle.vb_tree.specs.FlatLines.{module_lines}
+use Rattle.vb_tree.specs.ProjectLines.{is_reserved}
 use Rattle.vb_tree.specs.Tree.{Form, option_explicit, option_base, option_compare, option_private_module, def_type, Module}
 use Rattle.vb_tree.specs.Tree as vb
 use Rattle.bound_tree.specs.declared.body.Mention.{Mention}
 use Rattle.bound_tree.specs.declared.body.Mention.TheVariants as mention
+use Rattle.bound_tree.specs.declared.declared.Named.{Named}
+use Rattle.bound_tree.specs.declared.declared.Named.TheVariants as named
+use Rattle.bound_tree.specs.declared.declared.NamedEntry.{NamedEntry}
+use Rattle.bound_tree.specs.declared.declared.Scope.{Scope}
+use Rattle.bound_tree.specs.declared.declared.Scope.TheVariants as scope
 use Rattle.bound_tree.specs.declared.declared.TypeDecl.{TypeDecl}
 use Rattle.bound_tree.specs.declared.marks.Marks.{Marks}
 use Rattle.bound_tree.specs.declared.rule_set.RuleSet.{RuleSet}
@@ -122,6 +129,48 @@ abbrev pub type_arrows : ℕ → List TypeDecl → List Arrow
 type_arrows k [] = []
 type_arrows k (t ∷ ts) = to_all (user_type k) (map (λ f. variable f.0) t.fields) ++ type_arrows (suc k) ts
 
+-- ---- captured names
+
+abbrev pub is_module_name : List Module → List ℕ → Bool
+is_module_name ms name = list_any (λ (m : Module). not m.class && is_same_name m.name name) ms
+
+abbrev pub is_class_name : List Module → List ℕ → Bool
+is_class_name ms name = list_any (λ (m : Module). m.class && is_same_name m.name name) ms
+
+abbrev pub is_user_type : Named → Bool
+is_user_type (named.Type t) = true
+is_user_type _ = false
+
+-- A written path begins with the name of a standard module, of the support module or of the run-time library: where a declaration has one
+-- of these names, the path would lead to it. So would the name of a class, where a structure has it.
+abbrev pub captures : List Module → List ℕ → Named → Bool
+captures ms name what = is_reserved name || (is_module_name ms name || (is_user_type what && is_class_name ms name))
+
+-- an Enum isn't written
+abbrev pub named_point : Named → List Point
+named_point (named.Var v) = variable v.0 ∷ []
+named_point (named.Const c) = constant c.0 ∷ []
+named_point (named.Proc p) = procedure p.0 ∷ []
+named_point (named.Type t) = user_type t.0 ∷ []
+named_point (named.Enum e) = []
+
+abbrev pub is_member_of : (file : ℕ) → Scope → Bool
+is_member_of file (scope.Public f) = nat_eq f file
+is_member_of file (scope.Private f) = nat_eq f file
+is_member_of file (scope.Local p) = false
+
+abbrev pub capturing_in : List Module → (file : ℕ) → NamedEntry → List Point
+capturing_in ms file x = cond (is_member_of file x.scope && captures ms x.name x.named) (named_point x.named) []
+
+-- the first member of a module whose name captures others; it breaks U20, as all of them do
+abbrev pub capturing : Declarations → (file : ℕ) → List Point
+capturing D file = take 1 (flat_map (capturing_in D.project.modules file) D.names)
+
+-- from a procedure to that of its module: whatever else the procedure writes, it would be read otherwise
+abbrev pub captured_arrows : Declarations → ℕ → List Procedure → List Arrow
+captured_arrows D k [] = []
+captured_arrows D k (p ∷ ps) = to_all (procedure k) (capturing D p.module_number) ++ captured_arrows D (suc k) ps
+
 -- from a procedure to the Option and Def lines of its module
 abbrev pub procedure_arrows : List Module → ℕ → List Procedure → List Arrow
 procedure_arrows ms k [] = []
@@ -138,6 +187,7 @@ arrows P =
     ++ constant_arrows 0 P.declarations.consts
     ++ type_arrows 0 P.declarations.types
     ++ procedure_arrows P.declarations.project.modules 0 P.declarations.procs
+    ++ captured_arrows P.declarations 0 P.declarations.procs
 
 -- a chain of arrows, perhaps an empty one, leads from one point to another
 pub data Path (pairs : List Arrow) : Point → Point → Type 0 where

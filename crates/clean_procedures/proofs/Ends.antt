@@ -1,6 +1,6 @@
 -- Which points arrows lead from and to.
-use Rattle.std.proofs.Common.{◌≡◌, ℕ, ◌+◌, suc, zero, Bool, true, false, List, [], ◌∷◌, ◌++◌, map, Option, Some, None, refl, ap, sym, subst, ◌∙◌, arith, inl, inr, ⊎_elim, cond, nat_eq}
-use Rattle.std.specs.Prelude.{option_to_list, slice_get}
+use Rattle.std.proofs.Common.{◌≡◌, ℕ, ◌+◌, suc, zero, Bool, true, false, List, [], ◌∷◌, ◌++◌, map, Option, Some, None, refl, ap, sym, subst, ◌∙◌, arith, inl, inr, ⊎_elim, cond, nat_eq, take}
+use Rattle.std.specs.Prelude.{◌&&◌, option_to_list, slice_get}
 use Rattle.std.specs.List.{flat_map}
 use Rattle.up_base.specs.declared.place.Place.{Place}
 use Rattle.vb_tree.specs.declared.declared.Owner.{Owner}
@@ -12,16 +12,18 @@ use Rattle.vb_tree.specs.Tree as vb
 use Rattle.bound_tree.specs.declared.body.Mention.{Mention}
 use Rattle.bound_tree.specs.declared.body.Mention.TheVariants as mention
 use Rattle.bound_tree.specs.declared.declared.TypeDecl.{TypeDecl}
-use Rattle.bound_tree.specs.Tree.{Expr, Line, Variable, Constant, Declarations, Program}
+use Rattle.bound_tree.specs.declared.declared.Named.{Named}
+use Rattle.bound_tree.specs.declared.declared.Named.TheVariants as named
+use Rattle.bound_tree.specs.Tree.{Expr, Line, Variable, Constant, Procedure, Declarations, Program}
 use Rattle.bound_facts.specs.Calls.{line_calls}
-use Rattle.bound_facts.specs.Clean.{Arrow, Point, procedure, variable, constant, user_type, option_line, call_arrow, class_points, constant_arrows, created_points, is_option, lettered_point, mentioned, options_from, options_of, owner_point, to_all, type_arrows}
+use Rattle.bound_facts.specs.Clean.{Arrow, Point, procedure, variable, constant, user_type, option_line, call_arrow, captured_arrows, captures, capturing, capturing_in, class_points, constant_arrows, created_points, is_member_of, is_option, lettered_point, mentioned, named_point, options_from, options_of, owner_point, to_all, type_arrows}
 use Rattle.bound_facts.specs.Items.{items_from}
 use Rattle.bound_facts.specs.Locks.{user_in}
 use Rattle.bound_facts.specs.Members.{initializer, terminator}
 use Rattle.bound_facts.specs.Node.{created}
 use Rattle.bound_facts.specs.Parts.{line_uses}
 use Rattle.clean_procedures.proofs.Among.{Among, among_append, among_left, among_right, among_map, map_among, among_flat}
-use Rattle.clean_procedures.proofs.Links.{body_links, declared_links, line_links, links, variable_link, variable_links}
+use Rattle.clean_procedures.proofs.Links.{body_links, captured_links, declared_links, line_links, links, mention_links, variable_link, variable_links}
 use Rattle.clean_procedures.proofs.Numbering.{is_numbered}
 use Rattle.clean_procedures.proofs.Split.{arrows_from, lettered_of, option_arrows, options_under}
 
@@ -125,8 +127,8 @@ types_join k (t ∷ ts) a h = ⊎_elim
     (λ p. to_all_joins (user_type k) (map (λ f. variable f.0) t.fields) a refl (fields_numbered t.fields) p) (λ r. types_join (suc k) ts a r)
     (among_append (to_all (user_type k) (map (λ f. variable f.0) t.fields)) (type_arrows (suc k) ts) a h)
 
-pub link_joins : (P : Program) (a : Arrow) → Among (links P) a → Joins a
-link_joins P a h =
+mention_joins : (P : Program) (a : Arrow) → Among (mention_links P) a → Joins a
+mention_joins P a h =
     let D = P.declarations in
     ⊎_elim
     (λ b. items_join (line_links D) 0 P.bodies a (λ k l. line_joins D k l a) b)
@@ -135,6 +137,44 @@ link_joins P a h =
     (λ t. ⊎_elim (λ c. constants_join 0 D.consts a c) (λ u. types_join 0 D.types a u) (among_append (constant_arrows 0 D.consts) (type_arrows 0 D.types) a t))
     (among_append (variable_links 0 D.vars) (constant_arrows 0 D.consts ++ type_arrows 0 D.types) a d))
     (among_append (body_links P) (declared_links D) a h)
+
+named_numbered : (what : Named) → AllNumbered (named_point what)
+named_numbered (named.Var v) q (inl e) = subst (λ (p : Point). is_numbered p ≡ true) e refl
+named_numbered (named.Var v) q (inr h) = absurd h
+named_numbered (named.Const c) q (inl e) = subst (λ (p : Point). is_numbered p ≡ true) e refl
+named_numbered (named.Const c) q (inr h) = absurd h
+named_numbered (named.Proc p) q (inl e) = subst (λ (r : Point). is_numbered r ≡ true) e refl
+named_numbered (named.Proc p) q (inr h) = absurd h
+named_numbered (named.Type t) q (inl e) = subst (λ (p : Point). is_numbered p ≡ true) e refl
+named_numbered (named.Type t) q (inr h) = absurd h
+named_numbered (named.Enum e) q h = absurd h
+
+if_numbered : (b : Bool) (qs : List Point) → AllNumbered qs → AllNumbered (cond b qs [])
+if_numbered true qs each q h = each q h
+if_numbered false qs each q h = absurd h
+
+first_numbered : (qs : List Point) → AllNumbered qs → AllNumbered (take 1 qs)
+first_numbered [] each q h = absurd h
+first_numbered (p ∷ qs) each q (inl e) = each q (inl e)
+first_numbered (p ∷ qs) each q (inr h) = absurd h
+
+capturing_numbered : (D : Declarations) (file : ℕ) → AllNumbered (capturing D file)
+capturing_numbered D file q h =
+    let ms = D.project.modules in
+    first_numbered (flat_map (capturing_in ms file) D.names)
+    (λ r m. let o = among_flat (capturing_in ms file) D.names r m in
+    if_numbered (is_member_of file o.0.scope && captures ms o.0.name o.0.named) (named_point o.0.named) (named_numbered o.0.named) r o.2) q h
+
+captured_join : (D : Declarations) (k : ℕ) (ps : List Procedure) (a : Arrow) → Among (captured_arrows D k ps) a → Joins a
+captured_join D k [] a h = absurd h
+captured_join D k (p ∷ ps) a h = ⊎_elim
+    (λ c. to_all_joins (procedure k) (capturing D p.module_number) a refl (capturing_numbered D p.module_number) c) (λ r. captured_join D (suc k) ps a r)
+    (among_append (to_all (procedure k) (capturing D p.module_number)) (captured_arrows D (suc k) ps) a h)
+
+pub link_joins : (P : Program) (a : Arrow) → Among (links P) a → Joins a
+link_joins P a h =
+    let D = P.declarations in
+    ⊎_elim (mention_joins P a) (captured_join D 0 D.procs a) (among_append (mention_links P) (captured_links D) a h)
 
 -- ---- arrows to Option and Def lines
 

@@ -1,5 +1,5 @@
--- A worked example, computed: which points lead to which, and which are broken.
-use Rattle.std.proofs.Common.{◌≡◌, ℕ, true, false, List, [], ◌∷◌, None, refl, arith, codes}
+-- Worked examples, computed: which points lead to which, and which are broken.
+use Rattle.std.proofs.Common.{◌≡◌, ℕ, Bool, true, false, List, [], ◌∷◌, None, refl, arith, codes}
 use Rattle.vb_tree.specs.BoundTree.{Ty, long, user, str}
 use Rattle.vb_tree.specs.declared.declared.Owner.{Owner}
 use Rattle.vb_tree.specs.declared.declared.Owner.TheVariants as owner
@@ -14,10 +14,12 @@ use Rattle.vb_tree.specs.Tree.{Form, Module, alone, invoke, no_args, option_comp
 use Rattle.vb_tree.specs.Tree as vb
 use Rattle.bound_tree.specs.declared.body.Mention.{Mention}
 use Rattle.bound_tree.specs.declared.body.Mention.TheVariants as mention
+use Rattle.bound_tree.specs.declared.declared.Named.TheVariants as named
+use Rattle.bound_tree.specs.declared.declared.Scope.TheVariants as scope
 use Rattle.bound_tree.specs.declared.marks.Marks.{Marks}
 use Rattle.bound_tree.specs.RuleSets.{has, none, with_rule}
 use Rattle.bound_tree.specs.Tree.{Expr, typed, call, no_object, no_passed, Line, Variable, Procedure, Program}
-use Rattle.bound_facts.specs.Clean.{procedure, variable, user_type, Path, stays, goes, arrows, point_broken}
+use Rattle.bound_facts.specs.Clean.{procedure, variable, user_type, IsClean, Path, stays, goes, arrows, point_broken}
 use Rattle.clean_procedures.specs.Broken.{broken_points}
 use Rattle.clean_procedures.specs.Pairs.{all_pairs, pair}
 
@@ -107,3 +109,43 @@ the_variable_is_broken = refl
 -- so procedure 0 isn't clean: the first arrow is its call, the second what that one mentions
 a_path_to_it : Path (arrows P) (procedure 0) (variable 1)
 a_path_to_it = goes (procedure 0) (procedure 1) (variable 1) (goes (procedure 0) (procedure 0) (procedure 1) (stays (procedure 0)) (0, omega arith, refl)) (1, omega arith, refl)
+
+-- Module 1 has a variable with the name of the support module, and a procedure with no line.
+abbrev Q : Program
+Q = record {
+  declarations = record {
+    project = record {
+      file = record { kind = Exe; startup = None; entries = []; dropped = [] };
+      modules = module_of 1 option_explicit ∷ [];
+    };
+    names = record { name = codes "UpgradeSupport"; scope = scope.Private 1; named = named.Var (v 0) } ∷ record { name = codes "P"; scope = scope.Public 1; named = named.Proc (p 0) } ∷ [];
+    vars = record (var 1 1 (owner.Module 1) long) { name = codes "UpgradeSupport" } ∷ [];
+    consts = [];
+    procs = proc 1 ∷ [];
+    types = [];
+    enums = [];
+    defaults = [];
+  };
+  bodies = [] ∷ [];
+}
+
+it_leads_to_what_captures : all_pairs Q ≡ pair (procedure 0) (variable 0) ∷ []
+it_leads_to_what_captures = refl
+
+-- a pass by which the variable breaks the rule on names that are taken
+abbrev taken : Marks
+taken = record { lines = []; heads = []; vars = with_rule none 20 ∷ []; consts = []; types = []; enums = [] }
+
+what_captures_is_broken : point_broken Q.declarations taken (variable 0) ≡ true
+unfolding none with_rule has
+what_captures_is_broken = refl
+
+-- the arrow before it leads to the Option line
+a_path_to_what_captures : Path (arrows Q) (procedure 0) (variable 0)
+a_path_to_what_captures = goes (procedure 0) (procedure 0) (variable 0) (stays (procedure 0)) (1, omega arith, refl)
+
+both : (b : Bool) → b ≡ true → b ≡ false → ⊥
+both b e h = absurd (cc (e, h))
+
+it_is_not_clean : IsClean Q taken 0 → ⊥
+it_is_not_clean clean = both (point_broken Q.declarations taken (variable 0)) what_captures_is_broken (clean (variable 0) a_path_to_what_captures)

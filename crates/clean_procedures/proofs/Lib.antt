@@ -1,6 +1,7 @@
 pub mod Tables
 pub mod Among
 pub mod Numbering
+pub mod Firsts
 pub mod Links
 pub mod Split
 pub mod Ends

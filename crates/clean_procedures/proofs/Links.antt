@@ -11,14 +11,15 @@ use Rattle.bound_tree.specs.declared.body.Mention.TheVariants as mention
 use Rattle.bound_tree.specs.declared.declared.TypeDecl.{TypeDecl}
 use Rattle.bound_tree.specs.Tree.{Expr, Line, Variable, Constant, Declarations, Program}
 use Rattle.bound_facts.specs.Calls.{initialized, line_calls, node_calls, pair_to}
-use Rattle.bound_facts.specs.Clean.{Arrow, Point, procedure, variable, constant, user_type, call_arrow, class_points, constant_arrows, created_points, mentioned, owner_point, to_all, type_arrows}
+use Rattle.bound_facts.specs.Clean.{Arrow, Point, procedure, variable, constant, user_type, call_arrow, captured_arrows, class_points, constant_arrows, created_points, mentioned, owner_point, to_all, type_arrows}
 use Rattle.bound_facts.specs.Items.{items_from, project_items}
 use Rattle.bound_facts.specs.Locks.{user_in}
 use Rattle.bound_facts.specs.Members.{initializer, terminator}
 use Rattle.bound_facts.specs.Node.{called, created}
 use Rattle.bound_facts.specs.Parts.{line_uses}
 use Rattle.clean_procedures.specs.Numbers.{number, number_arrow}
-use Rattle.clean_procedures.specs.Pairs.{Pair, all_pairs, body_pairs, call_pairs, class_pairs, constants_pairs, created_pairs, declared_pairs, field_pairs, line_pairs, made_pairs, mention_pairs, owned_by, owner_of, pair, procedure_pairs, type_pairs, types_pairs, uses_pairs, variable_pairs, variables_pairs}
+use Rattle.clean_procedures.specs.Pairs.{Pair, all_pairs, body_pairs, call_pairs, captured_pairs, class_pairs, constants_pairs, created_pairs, declared_pairs, field_pairs, line_pairs, made_pairs, mention_pairs, owned_by, owner_of, pair, procedure_pairs, type_pairs, types_pairs, uses_pairs, variable_pairs, variables_pairs}
+use Rattle.clean_procedures.proofs.Firsts.{captured_are}
 
 -- ---- links
 
@@ -39,8 +40,15 @@ body_links P = project_items (line_links P.declarations) P.bodies
 abbrev pub declared_links : Declarations → List Arrow
 declared_links D = variable_links 0 D.vars ++ (constant_arrows 0 D.consts ++ type_arrows 0 D.types)
 
+-- what lines and declarations mention
+abbrev pub mention_links : Program → List Arrow
+mention_links P = body_links P ++ declared_links P.declarations
+
+abbrev pub captured_links : Declarations → List Arrow
+captured_links D = captured_arrows D 0 D.procs
+
 abbrev pub links : Program → List Arrow
-links P = body_links P ++ declared_links P.declarations
+links P = mention_links P ++ captured_links P.declarations
 
 -- ---- the pairs are their numbers
 
@@ -191,7 +199,13 @@ declared_are D =
     ∙ ap (λ (ps : List Pair). map number_arrow (variable_links 0 D.vars) ++ ps) (sym (map-append number_arrow consts types))
     ∙ sym (map-append number_arrow (variable_links 0 D.vars) (consts ++ types))
 
-pub pairs_are : (P : Program) → all_pairs P ≡ map number_arrow (links P)
-pairs_are P =
+mentions_pair : (P : Program) → body_pairs P ++ declared_pairs P.declarations ≡ map number_arrow (mention_links P)
+mentions_pair P =
     ap (λ (ps : List Pair). body_pairs P ++ ps) (declared_are P.declarations)
     ∙ ap (λ (ps : List Pair). ps ++ map number_arrow (declared_links P.declarations)) (bodies_are P) ∙ sym (map-append number_arrow (body_links P) (declared_links P.declarations))
+
+pub pairs_are : (P : Program) → all_pairs P ≡ map number_arrow (links P)
+pairs_are P =
+    ap (λ (ps : List Pair). ps ++ captured_pairs P.declarations) (mentions_pair P)
+    ∙ ap (λ (ps : List Pair). map number_arrow (mention_links P) ++ ps) (captured_are P.declarations)
+    ∙ sym (map-append number_arrow (mention_links P) (captured_links P.declarations))

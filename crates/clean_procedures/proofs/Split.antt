@@ -11,7 +11,7 @@ use Rattle.bound_facts.specs.Items.{items_from, project_items}
 use Rattle.bound_facts.specs.Locks.{user_in}
 use Rattle.bound_facts.specs.Parts.{line_uses}
 use Rattle.clean_procedures.proofs.Among.{Among, among_append, among_left, among_right, among_flat, flat_among}
-use Rattle.clean_procedures.proofs.Links.{body_links, declared_links, items_map, line_links, links, variable_link, variable_links}
+use Rattle.clean_procedures.proofs.Links.{body_links, captured_links, declared_links, items_map, line_links, links, mention_links, variable_link, variable_links}
 
 -- ---- arrows to Option and Def lines, from those that are numbered from k
 
@@ -167,6 +167,9 @@ with_types P = with_constants P ++ type_arrows 0 P.declarations.types
 abbrev option_procedures : Program → List Arrow
 option_procedures P = procedure_arrows P.declarations.project.modules 0 P.declarations.procs
 
+abbrev with_options : Program → List Arrow
+with_options P = with_types P ++ option_procedures P
+
 -- the links from the last parts on
 abbrev type_links : Declarations → List Arrow
 type_links D = constant_arrows 0 D.consts ++ type_arrows 0 D.types
@@ -183,10 +186,10 @@ lines_have P a h =
     ⊎_elim (λ c. among_left (map call_arrow (calls P)) (project_items (line_arrows D) P.bodies) a (called_all P a c)) (λ l. among_right (map call_arrow (calls P)) (project_items (line_arrows D) P.bodies) a l)
     (items_split (line_links D) (line_called D) (line_arrows D) 0 P.bodies a (λ k l. link_of_line D k l a) h)
 
-in_types : (P : Program) (a : Arrow) → Among (type_links P.declarations) a → Among (links P) a
+in_types : (P : Program) (a : Arrow) → Among (type_links P.declarations) a → Among (mention_links P) a
 in_types P a h = among_right (body_links P) (declared_links P.declarations) a (among_right (variable_links 0 P.declarations.vars) (type_links P.declarations) a h)
 
-of_variables : (P : Program) (a : Arrow) → Among (variable_arrows 0 P.declarations.vars) a → Among (links P) a ⊎ Among (option_arrows P.declarations) a
+of_variables : (P : Program) (a : Arrow) → Among (variable_arrows 0 P.declarations.vars) a → Among (mention_links P) a ⊎ Among (option_arrows P.declarations) a
 of_variables P a h =
     let D = P.declarations in
     ⊎_elim
@@ -199,8 +202,8 @@ of_procedures P a h =
     among_right (arrows_from lettered_of variable 0 D.vars) (arrows_from (options_under D.project.modules) procedure 0 D.procs) a
     (subst (λ (xs : List Arrow). Among xs a) (procedures_are D.project.modules 0 D.procs) h)
 
-pub arrow_is : (P : Program) (a : Arrow) → Among (arrows P) a → Among (links P) a ⊎ Among (option_arrows P.declarations) a
-arrow_is P a h =
+of_mentions : (P : Program) (a : Arrow) → Among (with_options P) a → Among (mention_links P) a ⊎ Among (option_arrows P.declarations) a
+of_mentions P a h =
     let D = P.declarations in
     ⊎_elim
     (λ t. ⊎_elim
@@ -213,8 +216,18 @@ arrow_is P a h =
     (among_append (with_constants P) (type_arrows 0 D.types) a t))
     (λ o. inr (of_procedures P a o)) (among_append (with_types P) (option_procedures P) a h)
 
+pub arrow_is : (P : Program) (a : Arrow) → Among (arrows P) a → Among (links P) a ⊎ Among (option_arrows P.declarations) a
+arrow_is P a h =
+    let captured = captured_links P.declarations in
+    ⊎_elim
+    (λ m. ⊎_elim (λ l. inl (among_left (mention_links P) captured a l)) (λ o. inr o) (of_mentions P a m)) (λ c. inl (among_right (mention_links P) captured a c))
+    (among_append (with_options P) captured a h)
+
+of_with_options : (P : Program) (a : Arrow) → Among (with_options P) a → Among (arrows P) a
+of_with_options P a h = among_left (with_options P) (captured_links P.declarations) a h
+
 of_with_types : (P : Program) (a : Arrow) → Among (with_types P) a → Among (arrows P) a
-of_with_types P a h = among_left (with_types P) (option_procedures P) a h
+of_with_types P a h = of_with_options P a (among_left (with_types P) (option_procedures P) a h)
 
 of_with_constants : (P : Program) (a : Arrow) → Among (with_constants P) a → Among (arrows P) a
 of_with_constants P a h = of_with_types P a (among_left (with_constants P) (type_arrows 0 P.declarations.types) a h)
@@ -222,8 +235,8 @@ of_with_constants P a h = of_with_types P a (among_left (with_constants P) (type
 of_with_variables : (P : Program) (a : Arrow) → Among (with_variables P) a → Among (arrows P) a
 of_with_variables P a h = of_with_constants P a (among_left (with_variables P) (constant_arrows 0 P.declarations.consts) a h)
 
-pub link_is : (P : Program) (a : Arrow) → Among (links P) a → Among (arrows P) a
-link_is P a h =
+mention_is : (P : Program) (a : Arrow) → Among (mention_links P) a → Among (arrows P) a
+mention_is P a h =
     let D = P.declarations in
     ⊎_elim
     (λ b. of_with_variables P a (among_left (lines_of P) (variable_arrows 0 D.vars) a (lines_have P a b)))
@@ -236,10 +249,15 @@ link_is P a h =
     (among_append (variable_links 0 D.vars) (type_links D) a d))
     (among_append (body_links P) (declared_links D) a h)
 
+pub link_is : (P : Program) (a : Arrow) → Among (links P) a → Among (arrows P) a
+link_is P a h =
+    let captured = captured_links P.declarations in
+    ⊎_elim (mention_is P a) (λ c. among_right (with_options P) captured a c) (among_append (mention_links P) captured a h)
+
 pub option_is : (P : Program) (a : Arrow) → Among (option_arrows P.declarations) a → Among (arrows P) a
 option_is P a h =
     let D = P.declarations in
     ⊎_elim
     (λ l. of_with_variables P a (among_right (lines_of P) (variable_arrows 0 D.vars) a (variable_of_letter 0 D.vars a l)))
-    (λ o. among_right (with_types P) (option_procedures P) a (subst (λ (xs : List Arrow). Among xs a) (sym (procedures_are D.project.modules 0 D.procs)) o))
+    (λ o. of_with_options P a (among_right (with_types P) (option_procedures P) a (subst (λ (xs : List Arrow). Among xs a) (sym (procedures_are D.project.modules 0 D.procs)) o)))
     (among_append (arrows_from lettered_of variable 0 D.vars) (arrows_from (options_under D.project.modules) procedure 0 D.procs) a h)

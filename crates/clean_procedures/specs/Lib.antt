@@ -1,6 +1,7 @@
 pub mod Numbers
 pub mod Uses
 pub mod Classes
+pub mod Captured
 pub mod Pairs
 pub mod Options
 pub mod Broken

@@ -8,7 +8,7 @@ use Rattle.vb_tree.specs.declared.declared.VarId.{VarId}
 use Rattle.bound_tree.specs.declared.body.Mention.{Mention}
 use Rattle.bound_tree.specs.declared.body.Mention.TheVariants as mention
 use Rattle.bound_tree.specs.declared.declared.TypeDecl.{TypeDecl}
-use Rattle.bound_tree.specs.Tree.{Expr, Line, Variable, Constant, Declarations, Program}
+use Rattle.bound_tree.specs.Tree.{Expr, Line, Variable, Constant, Procedure, Declarations, Program}
 use Rattle.bound_facts.specs.Calls.{initializer_of}
 use Rattle.bound_facts.specs.Clean.{Point, procedure, variable, constant, user_type}
 use Rattle.bound_facts.specs.Items.{project_items}
@@ -16,6 +16,7 @@ use Rattle.bound_facts.specs.Locks.{user_in}
 use Rattle.bound_facts.specs.Members.{initializer, terminator}
 use Rattle.bound_facts.specs.Node.{called, created}
 use Rattle.bound_facts.specs.Parts.{line_uses}
+use Rattle.clean_procedures.specs.Captured.{First, first_in, firsts_of}
 use Rattle.clean_procedures.specs.Numbers.{number}
 
 abbrev pub Pair : Type 0
@@ -103,5 +104,18 @@ types_pairs k (t ∷ ts) = field_pairs k t.fields ++ types_pairs (suc k) ts
 abbrev pub declared_pairs : Declarations → List Pair
 declared_pairs D = variables_pairs 0 D.vars ++ (constants_pairs 0 D.consts ++ types_pairs 0 D.types)
 
+-- ---- from procedures that are numbered from k to the first member of their module whose name captures others
+
+abbrev pub first_pairs : ℕ → Option ℕ → List Pair
+first_pairs k None = []
+first_pairs k (Some end) = (number (procedure k), end) ∷ []
+
+abbrev pub firsts_pairs : List First → ℕ → List Procedure → List Pair
+firsts_pairs fs k [] = []
+firsts_pairs fs k (p ∷ ps) = first_pairs k (first_in p.module_number fs) ++ firsts_pairs fs (suc k) ps
+
+abbrev pub captured_pairs : Declarations → List Pair
+captured_pairs D = firsts_pairs (firsts_of D) 0 D.procs
+
 abbrev pub all_pairs : Program → List Pair
-all_pairs P = body_pairs P ++ declared_pairs P.declarations
+all_pairs P = body_pairs P ++ declared_pairs P.declarations ++ captured_pairs P.declarations

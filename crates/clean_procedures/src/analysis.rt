@@ -11,6 +11,7 @@ ghost use Rattle.clean_procedures.specs.Reaching.{LeadTo};
 ghost use Rattle.clean_procedures.specs.Verdicts.{AreClean, clean_to, shown_marks};
 
 use crate::broken::{push_marks, push_options, push_statements};
+use crate::captured::push_captured;
 use crate::classes::{Home, class_table};
 use crate::declared::{push_constants, push_types, push_variables};
 use crate::lines::push_bodies;
@@ -91,13 +92,14 @@ fn push_declared(declared: &Declared, to: &mut Vec<(u32, u32)>) -> Result<(), Me
     Ok(())
 }
 
-// The pairs of points of which the first mentions the second.
+// The pairs of points of which the first leads to the second.
 fn pairs(alloc: Global, bound: &Bound) -> Result<Vec<(u32, u32)>, Mem>
     ensures { IfOk result (λ v. v.items ≡ all_pairs (program_of bound.now)) }
 {
     let mut all = Vec::new(alloc);
     push_lines(alloc, bound, &mut all)?;
     push_declared(&bound.declared, &mut all)?;
+    push_captured(alloc, &bound.declared, &mut all)?;
     Ok(all)
 }
 
