@@ -10,4 +10,6 @@ pub mod Rows
 pub mod Walk
 pub mod Needs
 pub mod Noting
-pub mod Shapes
+pub mod FixedFunctions
+pub mod Steps
+pub mod MadeView

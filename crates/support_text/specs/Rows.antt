@@ -27,6 +27,15 @@ row_procedure PrintNum = the_print_num
 row_procedure Cur = the_cur
 row_procedure Raise = the_raise
 
+-- the place of the function among those that are the same for all projects
+abbrev pub row_place : SupportRow → ℕ
+row_place PrintLine = 0
+row_place PrintPart = 1
+row_place CurText = 4
+row_place PrintNum = 5
+row_place Cur = 7
+row_place Raise = 15
+
 -- the name of the module of support functions
 abbrev pub support_name : List ℕ
 support_name = codes "UpgradeSupport"

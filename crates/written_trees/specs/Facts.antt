@@ -1,5 +1,5 @@
 -- What the analyses tell of a program, as far as it decides what is written.
-use Rattle.std.specs.Prelude.{◌≡◌, ◌↔◌, IsTrue, ℕ, suc, nat_lt, ℤ, Bool, true, false, cond, Option, Some, None, List, [], ◌∷◌, ◌++◌, length, slice_get}
+use Rattle.std.specs.Prelude.{◌≡◌, ◌↔◌, IsTrue, ℕ, suc, nat_lt, ℤ, pos, Bool, true, false, cond, Option, Some, None, List, [], ◌∷◌, ◌++◌, length, slice_get}
 use Rattle.std.specs.List.{list_any}
 use Rattle.vb_tree.specs.BoundTree.{Ty, user, fixed}
 use Rattle.bound_tree.specs.declared.declared.TypeDecl.{TypeDecl}
@@ -47,8 +47,10 @@ is_array_variable (Some x) = is_array_type x.ty
 
 pub record AreFacts (P : Program) (F : Facts) : Type 0 where
   pub ranks : (a : ℕ) → is_array_variable (slice_get P.declarations.vars a) ≡ true → RankIs P a (F.rank a)
+  -- those of two dimensions: an array of more carries an issue, and its further lower bounds are written as 0
   pub lows :
-      (a d : ℕ) → is_array_variable (slice_get P.declarations.vars a) ≡ true → nat_lt d (F.rank a) ≡ true → LowIs P d a (F.low a d)
+      (a d : ℕ) → is_array_variable (slice_get P.declarations.vars a) ≡ true → nat_lt d 2 ≡ true → nat_lt d (F.rank a) ≡ true → LowIs P d a (F.low a d)
+  pub further_lows : (a d : ℕ) → F.low a (suc (suc d)) ≡ pos 0
   pub arrays : (t : ℕ) → IsTrue (F.holds_array t) ↔ Holds P.declarations is_array_type t
   pub made : (t : ℕ) → IsTrue (F.is_made t) ↔ Holds P.declarations is_made_type t
 

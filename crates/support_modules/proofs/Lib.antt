@@ -1,0 +1,12 @@
+pub mod ExtentLists
+pub mod Classes
+pub mod WalkedPaths
+pub mod Among
+pub mod Noted
+pub mod Rounds
+pub mod NeededFlags
+pub mod Settled
+pub mod FixedList
+pub mod FieldLines
+pub mod Whole
+pub mod Listed

@@ -1,0 +1,5 @@
+pub mod Extents
+pub mod Autos
+pub mod Paths
+pub mod Flags
+pub mod Fillings

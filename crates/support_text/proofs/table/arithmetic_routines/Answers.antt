@@ -1,0 +1,8 @@
+use Rattle.std.proofs.Common.{refl}
+use Rattle.support_text.specs.FixedFunctions.{arithmetic_functions}
+use Rattle.support_text.specs.Steps.{with_arguments, on_one, on_two, line_of_one, called, created, call_line, local_of}
+use Rattle.support_text.proofs.table.arithmetic_routines.Goals as goal
+
+pub returns : goal.returns
+unfolding arithmetic_functions with_arguments on_one on_two line_of_one called created call_line local_of
+returns c = refl

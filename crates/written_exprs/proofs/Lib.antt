@@ -1,0 +1,5 @@
+mod Indexes
+mod LooseLists
+mod Nodes
+mod Pushes
+mod Targets

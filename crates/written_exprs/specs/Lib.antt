@@ -1,0 +1,4 @@
+pub mod Indexes
+pub mod Kept
+pub mod Lists
+pub mod Targets

@@ -1,0 +1,7 @@
+pub mod Numbered
+pub mod Unions
+pub mod ByFile
+pub mod Entries
+pub mod Holders
+pub mod Arrays
+mod Examples

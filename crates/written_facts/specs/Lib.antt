@@ -1,0 +1,3 @@
+pub mod United
+pub mod Statements
+pub mod Shapes

@@ -1,0 +1,3 @@
+pub mod Lasts
+pub mod Parted
+pub mod Lists

@@ -1,0 +1,5 @@
+pub mod Amounts
+pub mod Bounds
+pub mod Dimensions
+pub mod Pieces
+pub mod Rows
