@@ -1,0 +1,559 @@
+-- The program errors-in-a-property-and-a-creation, what it puts out and how it ends.
+use Rattle.std.proofs.Common.{◌≡◌, refl, ◌++◌, List, ℤ, pos, Bool, true, false, [], ◌∷◌, codes, Some, None}
+use Rattle.vb_tree.specs.declared.declared.VarId.{VarId}
+use Rattle.bound_tree.specs.Tree as bound
+use Rattle.net_tree.specs.Tree as net
+use Rattle.net_tree.specs.Types as net_types
+use Rattle.vb_tree.specs.BoundTree as types
+use Rattle.vb_tree.specs.Tree as vb
+use Rattle.vb_tree.specs.declared.expression.BinOp.TheVariants as bin
+use Rattle.net_tree.specs.declared.expression.CastWord.TheVariants as cast
+use Rattle.net_tree.specs.declared.declaration.NetClose.TheVariants as close
+use Rattle.vb_tree.specs.declared.declared.ProcKind.TheVariants as kind
+use Rattle.vb_tree.specs.declared.token.Literal6.TheVariants as literal
+use Rattle.bound_tree.specs.declared.body.Mention.TheVariants as mention
+use Rattle.bound_tree.specs.declared.declared.Named.TheVariants as named
+use Rattle.net_tree.specs.declared.expression.NetBin.TheVariants as net_bin
+use Rattle.net_tree.specs.declared.declaration.NetPassing.TheVariants as net_passing
+use Rattle.net_tree.specs.declared.declaration.NetVisibility.TheVariants as net_visible
+use Rattle.bound_tree.specs.declared.expression.Origin.TheVariants as origin
+use Rattle.vb_tree.specs.declared.declared.Owner.TheVariants as owner
+use Rattle.vb_tree.specs.declared.form_parts.Passing.TheVariants as passing
+use Rattle.vb_tree.specs.declared.project.ProjectKind.TheVariants as project_kind
+use Rattle.bound_tree.specs.declared.declared.Scope.TheVariants as scope
+use Rattle.vb_tree.specs.declared.token.Suffix.TheVariants as suffix
+use Rattle.vb_tree.specs.declared.value.Value6.TheVariants as value
+use Rattle.vb_tree.specs.declared.form_parts.VarWord.TheVariants as var
+use Rattle.vb_tree.specs.declared.form_parts.Visibility.TheVariants as visible
+use Rattle.std.specs.Fmt.{digits}
+use Rattle.example_runs.proofs.Said.{ended, line, ran, runnable_of}
+use Rattle.vb6_run.specs.Runnables.{Runnable}
+
+abbrev pub project : vb.Project
+project = (record {
+  file = (record {
+    kind = project_kind.Exe;
+    startup = (Some (4, (codes "Sub Main")));
+    entries = ((record
+        { line = 2; class = false; name = (codes "Main1"); file = (codes "Main1.bas") }) ∷ (record {
+          line = 3;
+          class = true;
+          name
+              = (codes "Node");
+          file = (codes "Node.cls");
+        }) ∷ []);
+    dropped = ([]);
+  });
+  modules = ((record {
+    file = 1;
+    name = (codes
+        "Main1");
+    class = false;
+    members = (
+        (vb.proc (record {
+          place = (record { file = 1; line = 1 });
+          text = (codes "Sub Main()");
+          form = (vb.sub_head (record {
+            visibility = None;
+            name = (codes "Main");
+            suffix = suffix.Absent;
+            params = ([]);
+          }));
+        }) (vb.next_node
+        (vb.line (record {
+          place = (record { file = 1; line = 2 });
+          text = (codes "Dim n As Node");
+          form = (vb.variables var.Dim
+              ((record {
+                name = (codes "n");
+                suffix = suffix.Absent;
+                bounds = None;
+                auto = false;
+                ty = (Some (vb.named (codes "Node")));
+              }) ∷ []));
+        })) (vb.next_node
+        (vb.line (record {
+          place = (record { file = 1; line = 3 });
+          text = (codes "On Error Resume Next");
+          form = vb.on_error_resume_next;
+        })) (vb.next_node
+        (vb.line (record {
+          place = (record { file = 1; line = 4 });
+          text = (codes "Set n = New Node");
+          form = (vb.set (vb.word
+              (codes "n") suffix.Absent) (vb.new_object (codes "Node")));
+        })) (vb.next_node
+        (vb.line (record {
+          place = (record { file = 1; line = 5 });
+          text = (codes "Debug.Print Err.Number; n Is Nothing");
+          form
+              = (vb.debug_print ((vb.member (vb.word (codes "Err") suffix.Absent) (codes "Number")) ∷ (vb.binary bin.Is (vb.word (codes
+              "n") suffix.Absent) (vb.word (codes "Nothing") suffix.Absent)) ∷ []) false);
+        })) (vb.next_node
+        (vb.line (record {
+          place = (record { file = 1; line = 6 });
+          text = (codes "Err.Clear");
+          form = (vb.invoke (vb.member
+              (vb.word (codes "Err") suffix.Absent) (codes "Clear")) vb.no_args);
+        })) (vb.next_node
+        (vb.line (record {
+          place = (record { file = 1; line = 7 });
+          text = (codes "n.P = 5");
+          form = (vb.assign (vb.member (vb.word
+              (codes "n") suffix.Absent) (codes "P")) (vb.lit (literal.Int (pos 5) false)));
+        })) (vb.next_node
+        (vb.line (record {
+          place = (record { file = 1; line = 8 });
+          text = (codes "Debug.Print Err.Number");
+          form = (vb.debug_print
+              ((vb.member (vb.word (codes "Err") suffix.Absent) (codes "Number")) ∷ []) false);
+        })) vb.no_nodes))))))) (record {
+          place
+              = (record { file = 1; line = 9 });
+          text = (codes "End Sub");
+          form = vb.end_sub;
+        })) ∷ []);
+    comments = ([]);
+  }) ∷ (record {
+    file = 2;
+    name = (codes "Node");
+    class = true;
+    members = (
+        (vb.proc (record {
+          place = (record { file = 2; line = 4 });
+          text = (codes "Private Sub Class_Initialize()");
+          form = (vb.sub_head
+              (record {
+                visibility = (Some visible.Private);
+                name = (codes "Class_Initialize");
+                suffix = suffix.Absent;
+                params = ([]);
+              }));
+        }) (vb.next_node
+        (vb.line (record {
+          place = (record { file = 2; line = 5 });
+          text = (codes "Err.Raise 1001");
+          form = (vb.invoke (vb.member
+              (vb.word (codes "Err") suffix.Absent) (codes "Raise")) (vb.next_arg None false (vb.given (vb.lit (literal.Int (pos 1001)
+              false))) vb.no_args));
+        })) vb.no_nodes) (record {
+          place = (record { file = 2; line = 6 });
+          text = (codes "End Sub");
+          form
+              = vb.end_sub;
+        })) ∷
+        (vb.proc (record {
+          place = (record { file = 2; line = 8 });
+          text = (codes "Public Property Let P(ByVal v As Long)");
+          form
+              = (vb.let_head (record {
+                visibility = (Some visible.Public);
+                name = (codes "P");
+                suffix = suffix.Absent;
+                params = ((record {
+                  optional = false;
+                  passing = passing.Value;
+                  param_array = false;
+                  name = (codes "v");
+                  suffix = suffix.Absent;
+                  array =
+                      false;
+                  ty = (Some (vb.named (codes "Long")));
+                  preset = None;
+                }) ∷ []);
+              }));
+        }) (vb.next_node
+        (vb.line (record {
+          place = (record { file = 2; line = 9 });
+          text = (codes "Err.Raise 1002");
+          form = (vb.invoke (vb.member
+              (vb.word (codes "Err") suffix.Absent) (codes "Raise")) (vb.next_arg None false (vb.given (vb.lit (literal.Int (pos 1002)
+              false))) vb.no_args));
+        })) vb.no_nodes) (record {
+          place = (record { file = 2; line = 10 });
+          text = (codes "End Property");
+          form = vb.end_property;
+        })) ∷ []);
+    comments = ([]);
+  }) ∷ []);
+})
+
+abbrev pub declarations : bound.Declarations
+declarations = (record {
+  project = project;
+  names = (
+      (record { name = (codes "Main"); scope = (scope.Public 1); named = (named.Proc (record { 0 = 0 })) }) ∷
+      (record { name = (codes "n"); scope = (scope.Local (record { 0 = 0 })); named = (named.Var (record { 0 = 0 })) }) ∷
+      (record { name = (codes "Class_Initialize"); scope = (scope.Private 2); named = (named.Proc (record { 0 = 1 })) }) ∷
+      (record { name = (codes "P"); scope = (scope.Public 2); named = (named.Proc (record { 0 = 2 })) }) ∷
+      (record { name = (codes "v"); scope = (scope.Local (record { 0 = 2 })); named = (named.Var (record { 0 = 1 })) }) ∷ []);
+  vars = (
+      (record {
+        name = (codes "n");
+        place = (record { file = 1; line = 2 });
+        statement = 1;
+        owner = (owner.Local (record {
+          0
+              = 0;
+        }));
+        ty = (types.class 0);
+        named = (types.class 0);
+        qualified = false;
+        lettered = None;
+        bounds = ([]);
+        auto = false;
+        preset = None;
+      }) ∷
+      (record {
+        name = (codes "v");
+        place = (record { file = 2; line = 8 });
+        statement = 3;
+        owner = (owner.Value (record {
+          0
+              = 2;
+        }));
+        ty = types.long;
+        named = types.long;
+        qualified = false;
+        lettered = None;
+        bounds = ([]);
+        auto = false;
+        preset
+            = None;
+      }) ∷ []);
+  consts = ([]);
+  procs = (
+      (record {
+        name = (codes "Main");
+        place = (record { file = 1; line = 1 });
+        module_number = 1;
+        kind = kind.Sub;
+        visibility
+            = visible.Public;
+        params = ([]);
+        result = types.nothing;
+        answer = None;
+        first = (record { 0 = 0 });
+      }) ∷
+      (record {
+        name = (codes "Class_Initialize");
+        place = (record { file = 2; line = 4 });
+        module_number = 2;
+        kind = kind.Sub;
+        visibility = visible.Private;
+        params = ([]);
+        result = types.nothing;
+        answer = None;
+        first = (record { 0 = 1 });
+      }) ∷
+      (record {
+        name = (codes "P");
+        place = (record { file = 2; line = 8 });
+        module_number = 2;
+        kind = kind.Let;
+        visibility
+            = visible.Public;
+        params = ((record { 0 = 1 }) ∷ []);
+        result = types.nothing;
+        answer = None;
+        first = (record { 0 = 2 });
+      }) ∷ []);
+  types = ([]);
+  enums = ([]);
+  defaults = (None ∷ []);
+})
+
+abbrev pub body_0 : List bound.Line
+body_0 = (
+    (record {
+      source = (record {
+        place = (record { file = 1; line = 3 });
+        text = (codes "On Error Resume Next");
+        form = vb.on_error_resume_next;
+      });
+      bindings = (record { exprs = ([]); rules = (record { bits = 0 }); mentions = ([]) });
+    }) ∷
+    (record {
+      source = (record {
+        place = (record { file = 1; line = 4 });
+        text = (codes "Set n = New Node");
+        form = (vb.set
+            (vb.word (codes "n") suffix.Absent) (vb.new_object (codes "Node")));
+      });
+      bindings = (record {
+        exprs = ((bound.typed (types.class
+            0) (bound.variable (record { 0 = 0 }) false)) ∷ (bound.typed (types.class 0) (bound.new_object (record { 0 = 0 }))) ∷
+            []);
+        rules = (record { bits = 0 });
+        mentions = ((mention.Var (record { 0 = 0 })) ∷ (mention.Class (record { 0 = 0 }))
+            ∷ []);
+      });
+    }) ∷
+    (record {
+      source = (record {
+        place = (record { file = 1; line = 5 });
+        text = (codes "Debug.Print Err.Number; n Is Nothing");
+        form = (vb.debug_print ((vb.member (vb.word (codes "Err") suffix.Absent) (codes "Number")) ∷ (vb.binary bin.Is (vb.word
+            (codes "n") suffix.Absent) (vb.word (codes "Nothing") suffix.Absent)) ∷ []) false);
+      });
+      bindings = (record {
+        exprs = ((bound.typed
+            types.long bound.err_number) ∷ (bound.typed types.boolean (bound.is_same (bound.typed (types.class 0) (bound.variable
+            (record { 0 = 0 }) false)) (bound.typed types.nothing (bound.constant value.Nothing origin.Literal)))) ∷ []);
+        rules =
+            (record { bits = 0 });
+        mentions = ((mention.Var (record { 0 = 0 })) ∷ []);
+      });
+    }) ∷
+    (record {
+      source = (record {
+        place = (record { file = 1; line = 6 });
+        text = (codes "Err.Clear");
+        form = (vb.invoke (vb.member
+            (vb.word (codes "Err") suffix.Absent) (codes "Clear")) vb.no_args);
+      });
+      bindings = (record {
+        exprs = ((bound.typed types.nothing
+            bound.err_clear) ∷ []);
+        rules = (record { bits = 0 });
+        mentions = ([]);
+      });
+    }) ∷
+    (record {
+      source = (record {
+        place = (record { file = 1; line = 7 });
+        text = (codes "n.P = 5");
+        form = (vb.assign (vb.member
+            (vb.word (codes "n") suffix.Absent) (codes "P")) (vb.lit (literal.Int (pos 5) false)));
+      });
+      bindings = (record {
+        exprs
+            = ((bound.typed types.long (bound.call (record { 0 = 2 }) false (bound.of_object (bound.typed (types.class 0) (bound.variable
+            (record { 0 = 0 }) false))) bound.no_passed)) ∷ (bound.typed types.long (bound.convert types.long (bound.typed types.integer
+            (bound.constant (value.Int (pos 5)) origin.Literal)))) ∷ []);
+        rules = (record { bits = 0 });
+        mentions = ((mention.Proc
+            (record { 0 = 2 })) ∷ (mention.Var (record { 0 = 0 })) ∷ []);
+      });
+    }) ∷
+    (record {
+      source = (record {
+        place = (record { file = 1; line = 8 });
+        text = (codes "Debug.Print Err.Number");
+        form =
+            (vb.debug_print ((vb.member (vb.word (codes "Err") suffix.Absent) (codes "Number")) ∷ []) false);
+      });
+      bindings = (record
+          { exprs = ((bound.typed types.long bound.err_number) ∷ []); rules = (record { bits = 0 }); mentions = ([]) });
+    }) ∷ [])
+
+abbrev pub body_1 : List bound.Line
+body_1 = (
+    (record {
+      source = (record {
+        place = (record { file = 2; line = 5 });
+        text = (codes "Err.Raise 1001");
+        form = (vb.invoke
+            (vb.member (vb.word (codes "Err") suffix.Absent) (codes "Raise")) (vb.next_arg None false (vb.given (vb.lit (literal.Int
+            (pos 1001) false))) vb.no_args));
+      });
+      bindings = (record {
+        exprs = ((bound.typed types.nothing (bound.err_raise (bound.typed
+            types.long (bound.convert types.long (bound.typed types.integer (bound.constant (value.Int (pos 1001)) origin.Literal))))))
+            ∷ []);
+        rules = (record { bits = 0 });
+        mentions = ([]);
+      });
+    }) ∷ [])
+
+abbrev pub body_2 : List bound.Line
+body_2 = (
+    (record {
+      source = (record {
+        place = (record { file = 2; line = 9 });
+        text = (codes "Err.Raise 1002");
+        form = (vb.invoke
+            (vb.member (vb.word (codes "Err") suffix.Absent) (codes "Raise")) (vb.next_arg None false (vb.given (vb.lit (literal.Int
+            (pos 1002) false))) vb.no_args));
+      });
+      bindings = (record {
+        exprs = ((bound.typed types.nothing (bound.err_raise (bound.typed
+            types.long (bound.convert types.long (bound.typed types.integer (bound.constant (value.Int (pos 1002)) origin.Literal))))))
+            ∷ []);
+        rules = (record { bits = 0 });
+        mentions = ([]);
+      });
+    }) ∷ [])
+
+abbrev pub bodies : List (List bound.Line)
+bodies = body_0 ∷ body_1 ∷ body_2 ∷ []
+
+abbrev pub program : bound.Program
+program = record { declarations = declarations; bodies = bodies }
+
+abbrev pub quiet : List (List Bool)
+quiet = (([]) ∷ ([]) ∷ (false ∷ []) ∷ [])
+
+abbrev pub lows : List (VarId × ℤ × ℤ)
+lows = ([])
+
+abbrev pub clean : List Bool
+clean = (true ∷ true ∷ true ∷ [])
+
+abbrev pub written : net.Project
+written = (record {
+  library = false;
+  main = (Some (codes "Main1"));
+  note = None;
+  modules = ((record {
+    name = (codes "Main1");
+    class = false;
+    members = (
+        (net.proc (record {
+          head = (net.sub net_visible.Public (codes "Main") ([]));
+          prologue = (
+              (net.local (record { name = (codes "n"); ty = (net_types.named ((codes "Node") ∷ [])); value = None })) ∷ []);
+          lines =
+              (
+              net.on_error_resume_next ∷
+              (net.assign (net.path ((codes "n") ∷ [])) (net.new_object (net_types.named ((codes "Node") ∷ [])) net.no_exps)) ∷
+              (net.call (net.path ((codes "UpgradeSupport") ∷ (codes "PrintLine") ∷ [])) (net.next_exp (net.binary net_bin.Concat (net.call_of
+              (net.path ((codes "UpgradeSupport") ∷ (codes "PrintNum") ∷ [])) (net.next_exp (net.cast cast.CDec (net.call_of (net.path
+              ((codes "UpgradeSupport") ∷ (codes "ErrNumber") ∷ [])) net.no_exps)) net.no_exps)) (net.cast cast.CStr (net.binary net_bin.Is
+              (net.path ((codes "n") ∷ [])) net.nothing))) net.no_exps)) ∷
+              (net.call (net.path ((codes "UpgradeSupport") ∷ (codes "ErrClear") ∷ [])) net.no_exps) ∷
+              (net.assign (net.path ((codes "n") ∷ (codes "P") ∷ [])) (net.lit (net.integer (pos 5) false))) ∷
+              (net.call (net.path ((codes "UpgradeSupport") ∷ (codes "PrintLine") ∷ [])) (net.next_exp (net.call_of (net.path ((codes
+              "UpgradeSupport") ∷ (codes "PrintNum") ∷ [])) (net.next_exp (net.cast cast.CDec (net.call_of (net.path ((codes "UpgradeSupport")
+              ∷ (codes "ErrNumber") ∷ [])) net.no_exps)) net.no_exps)) net.no_exps)) ∷ []);
+          close = close.EndSub;
+        })) ∷ []);
+  }) ∷ (record {
+    name = (codes "Node");
+    class = true;
+    members = (
+        (net.proc (record {
+          head = net.sub_new;
+          prologue = ([]);
+          lines = (
+              (net.call (net.path ((codes "Class_Initialize") ∷ [])) net.no_exps) ∷ []);
+          close = close.EndSub;
+        })) ∷
+        (net.proc (record {
+          head = (net.sub net_visible.Private (codes "Class_Initialize") ([]));
+          prologue = ([]);
+          lines = (
+              (net.call (net.path ((codes "UpgradeSupport") ∷ (codes "Raise") ∷ [])) (net.next_exp (net.lit (net.integer (pos 1001)
+              false)) net.no_exps)) ∷ []);
+          close = close.EndSub;
+        })) ∷
+        (net.property (record {
+          visibility = net_visible.Public;
+          name = (codes "P");
+          params = ([]);
+          ty = net_types.integer;
+          get_comments
+              = ([]);
+          get = None;
+          set_comments = ([]);
+          set = (Some (record {
+            head = (net.set_part (codes "v") net_types.integer);
+            prologue
+                = ([]);
+            lines = (
+                (net.call (net.path ((codes "UpgradeSupport") ∷ (codes "Raise") ∷ [])) (net.next_exp (net.lit (net.integer (pos 1002)
+                false)) net.no_exps)) ∷ []);
+            close = close.EndSet;
+          }));
+        })) ∷ []);
+  }) ∷ []);
+  support = (record {
+    name = (codes "UpgradeSupport");
+    class = false;
+    members = (
+        (net.proc (record {
+          head = (net.sub net_visible.Public (codes "PrintLine") ((record {
+            passing = net_passing.Value;
+            name
+                = (codes "s");
+            ty = net_types.str;
+          }) ∷ []));
+          prologue = ([]);
+          lines = (
+              (net.call (net.path ((codes "System") ∷ (codes "Console") ∷ (codes "WriteLine") ∷ [])) (net.next_exp (net.path ((codes
+              "s") ∷ [])) net.no_exps)) ∷ []);
+          close = close.EndSub;
+        })) ∷
+        (net.proc (record {
+          head = (net.function net_visible.Public (codes "CurText") ((record {
+            passing = net_passing.Value;
+            name = (codes "d");
+            ty = net_types.decimal;
+          }) ∷ []) net_types.str);
+          prologue = ([]);
+          lines = (
+              (net.assign (net.path ((codes "CurText") ∷ [])) (net.call_of (net.path ((codes "d") ∷ (codes "ToString") ∷ [])) (net.next_exp
+              (net.lit (net.str (codes "0.####"))) (net.next_exp (net.path ((codes "System") ∷ (codes "Globalization") ∷ (codes "CultureInfo")
+              ∷ (codes "InvariantCulture") ∷ [])) net.no_exps)))) ∷ []);
+          close = close.EndFunction;
+        })) ∷
+        (net.proc (record {
+          head = (net.function net_visible.Public (codes "PrintNum") ((record {
+            passing = net_passing.Value;
+            name = (codes "d");
+            ty = net_types.decimal;
+          }) ∷ []) net_types.str);
+          prologue = ([]);
+          lines = (
+              (net.if_head (net.binary net_bin.Less (net.path ((codes "d") ∷ [])) (net.lit (net.decimal (pos 0))))) ∷
+              (net.assign (net.path ((codes "PrintNum") ∷ [])) (net.binary net_bin.Concat (net.call_of (net.path ((codes "CurText")
+              ∷ [])) (net.next_exp (net.path ((codes "d") ∷ [])) net.no_exps)) (net.lit (net.str (codes " "))))) ∷
+              net.else_line ∷
+              (net.assign (net.path ((codes "PrintNum") ∷ [])) (net.binary net_bin.Concat (net.binary net_bin.Concat (net.lit (net.str
+              (codes " "))) (net.call_of (net.path ((codes "CurText") ∷ [])) (net.next_exp (net.path ((codes "d") ∷ [])) net.no_exps)))
+              (net.lit (net.str (codes " "))))) ∷
+              net.end_if ∷ []);
+          close = close.EndFunction;
+        })) ∷
+        (net.proc (record {
+          head = (net.function net_visible.Public (codes "ErrNumber") ([]) net_types.integer);
+          prologue = ([]);
+          lines = (
+              (net.assign (net.path ((codes "ErrNumber") ∷ [])) (net.dot (net.call_of (net.path ((codes "Microsoft") ∷ (codes "VisualBasic")
+              ∷ (codes "Information") ∷ (codes "Err") ∷ [])) net.no_exps) (codes "Number"))) ∷ []);
+          close = close.EndFunction;
+        })) ∷
+        (net.proc (record {
+          head = (net.sub net_visible.Public (codes "Raise") ((record {
+            passing = net_passing.Value;
+            name =
+                (codes "n");
+            ty = net_types.integer;
+          }) ∷ []));
+          prologue = ([]);
+          lines = (
+              (net.call (net.dot (net.call_of (net.path ((codes "Microsoft") ∷ (codes "VisualBasic") ∷ (codes "Information") ∷ (codes
+              "Err") ∷ [])) net.no_exps) (codes "Raise")) (net.next_exp (net.path ((codes "n") ∷ [])) net.no_exps)) ∷ []);
+          close = close.EndSub;
+        })) ∷
+        (net.proc (record {
+          head = (net.sub net_visible.Public (codes "ErrClear") ([]));
+          prologue = ([]);
+          lines = (
+              (net.call (net.dot (net.call_of (net.path ((codes "Microsoft") ∷ (codes "VisualBasic") ∷ (codes "Information") ∷ (codes
+              "Err") ∷ [])) net.no_exps) (codes "Clear")) net.no_exps) ∷ []);
+          close = close.EndSub;
+        })) ∷ []);
+  });
+})
+
+abbrev pub runnable : Runnable
+runnable = runnable_of program quiet lows
+
+said : ran runnable 0 2000 ≡ (
+  line (codes " 1001 True")
+      ++ line (codes " 91 "),
+  ended,
+)
+unfolding digits
+said = refl

@@ -1,0 +1,15 @@
+pub mod Values
+pub mod Shapes
+pub mod Store
+pub mod Members
+pub mod Constants
+pub mod Names
+pub mod Structures
+pub mod Making
+pub mod Functions
+pub mod Calls
+pub mod Expressions
+pub mod Steps
+pub mod Blocks
+pub mod Lines
+pub mod Program

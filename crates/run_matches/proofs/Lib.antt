@@ -1,0 +1,5 @@
+pub mod Lasting
+pub mod Samples
+pub mod UpgradeExamples
+pub mod Examples
+pub mod StoreExamples

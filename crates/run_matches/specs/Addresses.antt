@@ -1,0 +1,198 @@
+-- When addresses, parts of expressions and arguments of both languages match.
+use Rattle.std.specs.Prelude.{◌≡◌, ◌⊎◌, ℕ, ◌<◌, suc, ℤ, pos, negsuc, ◌-ℤ◌, Bool, true, false, nat_lt, Option, Some, None, List, [], ◌∷◌, ◌^◌, length}
+use Rattle.std.specs.List.{AllPairs, Contains}
+use Rattle.vb_tree.specs.BoundTree.{Ty, class}
+use Rattle.vb_tree.specs.declared.value.Value6.{Value6}
+use Rattle.net_meaning.specs.declared.value.ValueN.TheVariants as n
+use Rattle.run_base.specs.Frames.{by_value, by_address, Kept, keeps_nothing, keeps_limit, keeps_value, keeps_address}
+use Rattle.run_base.specs.Positions.{Key, Root, Position, inner}
+use Rattle.vb6_run.specs.Expressions as source
+use Rattle.vb6_run.specs.Shapes.{Shape, simple, group, array, endless, Shapes, no_shapes, next_shape, part_shape}
+use Rattle.vb6_run.specs.Store.{Address, root, item, constant, Locked, SourceGiven, held_at}
+use Rattle.vb6_run.specs.Values.{Dimension, Value, scalar, elements, Values}
+use Rattle.net_run.specs.Names as net_part
+use Rattle.net_run.specs.Shapes as shape
+use Rattle.net_run.specs.Store as net
+use Rattle.net_run.specs.Values as net_value
+use Rattle.run_matches.specs.Upgrades.{Upgrade, class_home, variable_key, is_flagged_field, runnable_of}
+use Rattle.run_matches.specs.Maps.{World, mark, IsMade, IsMatched, moved_at, is_auto_root, is_fixed_position}
+use Rattle.run_matches.specs.Likeness.{SameShape, LikeV, ShapedAs}
+use Rattle.run_matches.specs.Match.{IsLoose, HasArray, HasRank}
+use Rattle.run_matches.specs.Pledges.{Pledge, Later, type_of_shape, NetGiven, arrays_in, taken_by}
+
+-- ---- variables
+
+abbrev mutual
+  -- A variable of a shape is compared, with all fields whose declarations carry no issue. Where a fixed array stands, each address says so.
+  pub AllMatched : Upgrade → World → Shape → Position → Type 0
+  AllMatched U w (simple ty) q = IsMatched U w q
+  AllMatched U w (group t fs) q = IsMatched U w q × FieldsMatched U w t 0 fs q
+  AllMatched U w (array e bounds) q = IsMatched U w q × (is_fixed_position U w.map q ≡ true → bounds ≡ [] → ⊥)
+  AllMatched U w endless q = ⊥
+
+  pub FieldsMatched : Upgrade → World → (user_type field : ℕ) → Shapes → Position → Type 0
+  FieldsMatched U w t k no_shapes q = Unit {0}
+  FieldsMatched U w t k (next_shape s rest) q = ((is_flagged_field U t k ≡ true) ⊎ AllMatched U w s (inner q k)) × FieldsMatched U w t (suc k) rest q
+
+abbrev mutual
+  -- the arrays in a variable have the ranks of its written shape
+  pub AllRanked : Upgrade → World → Shape → shape.Shape → Position → Type 0
+  AllRanked U w (array e bounds) (shape.array d rank) q = HasRank U w q rank
+  AllRanked U w (group t fs) (shape.structured home member gs) q = FieldsRanked U w t 0 fs gs q
+  AllRanked U w s d q = Unit {0}
+
+  pub FieldsRanked : Upgrade → World → (user_type field : ℕ) → Shapes → shape.Fields → Position → Type 0
+  FieldsRanked U w t k (next_shape s rest) (shape.next_field name d others) q =
+      ((is_flagged_field U t k ≡ true) ⊎ AllRanked U w s d (inner q k)) × FieldsRanked U w t (suc k) rest others q
+  FieldsRanked U w t k fs gs q = Unit {0}
+
+-- ---- values that are known while a procedure runs
+
+abbrev pub position_of : Address → Option Position
+position_of (root s q) = Some q
+position_of (item e q j path) = Some q
+position_of (constant x) = None
+
+-- two addresses hold values that match
+pub record HoldsSame (U : Upgrade) (w : World) (a : Address) (b : net.Address) : Type 0 where
+  pub value : Value
+  pub source : held_at a w.src.held ≡ Some value
+  pub like : LikeV U w value (net.looked_up b w.net)
+  pub shaped : ShapedAs U value (net.shape_at b)
+  pub is_made : (q : Position) → position_of a ≡ Some q → IsMade (mark w.src) q.root
+
+-- Two addresses at which nothing is written hold values that match, now and at each later world: what is bound to a quiet parameter, by
+-- reference on one side and by value on the other, in either way, or by value on both.
+pub record Mirrors (U : Upgrade) (K : Pledge) (w : World) (a : Address) (b : net.Address) : Type 0 where
+  pub holds : (w1 : World) → Later U K w w1 → HoldsSame U w1 a b
+
+-- ---- addresses
+
+-- One address is the image of the other: variables, and elements of arrays that are kept, with fields in them.
+pub data Same (U : Upgrade) (K : Pledge) (w : World) : Address → net.Address → Type 0 where
+  same_root :
+      (s : Shape) (d : shape.Shape) (q : Position) → SameShape U s d → AllMatched U w s q → AllRanked U w s d q
+      → Same U K w (root s q) (net.root d (moved_at U w.map q))
+  same_item :
+      (e s : Shape) (d : shape.Shape) (q : Position) (k j : ℕ) (path : List ℕ) → K.keeps (type_of_shape e) → IsMatched U w q → HasArray U w q e k
+      → part_shape path e ≡ Some s → SameShape U s d → Same U K w (item e q j path) (net.item d k j path)
+
+-- the same, or both stand for values, which are read alone
+pub data Bound (U : Upgrade) (K : Pledge) (w : World) : (exact : Bool) → Address → net.Address → Type 0 where
+  images : (exact : Bool) (a : Address) (b : net.Address) → Same U K w a b → Bound U K w exact a b
+  mirrored : (a : Address) (b : net.Address) → Mirrors U K w a b → Bound U K w false a b
+
+-- ---- parts of expressions
+
+-- the index of an element, counted from 0: what is none goes to -1 or stays what it is, which is none either
+abbrev pub is_index : ℤ → Bool
+is_index (pos z) = nat_lt z (2 ^ 31)
+is_index (negsuc z) = false
+
+abbrev pub SameIndex : (low index : ℤ) → net_value.Value → Type 0
+SameIndex low z (net_value.single (n.Integer i)) = (i ≡ z -ℤ low) ⊎ ((is_index (z -ℤ low) ≡ false) × (is_index i ≡ false))
+SameIndex low z y = ⊥
+
+-- what counts as an index at all
+abbrev pub IsIndex : net_value.Value → Type 0
+IsIndex (net_value.single (n.Integer i)) = Unit {0}
+IsIndex y = ⊥
+
+-- The indexes of an element by the lower bounds of its array; an array that isn't allocated has none, and takes as many as its rank is.
+pub data SameIndexes : List Dimension → List ℤ → List net_value.Value → Type 0 where
+  no_indexes : SameIndexes [] [] []
+  free_index : (z : ℤ) (y : net_value.Value) (zs : List ℤ) (ys : List net_value.Value) → IsIndex y → SameIndexes [] zs ys
+      → SameIndexes [] (z ∷ zs) (y ∷ ys)
+  next_index : (d : Dimension) (dims : List Dimension) (z : ℤ) (y : net_value.Value) (zs : List ℤ) (ys : List net_value.Value)
+      → SameIndex d.low z y → SameIndexes dims zs ys → SameIndexes (d ∷ dims) (z ∷ zs) (y ∷ ys)
+
+-- The array of an element: where a variable has it, the same stands in the cell; else both are arrays that are read alone.
+pub data SameSlot (U : Upgrade) (w : World) : Address → (element : shape.Shape) → (array : ℕ) → List Dimension → Type 0 where
+  slot_kept :
+      (e : Shape) (d : shape.Shape) (bounds : List (ℤ × ℤ)) (q : Position) (k : ℕ) → SameShape U e d → IsMatched U w q → (has : HasArray U w q e k)
+      → SameSlot U w (root (array e bounds) q) d k has.dims
+  slot_read :
+      (a : Address) (e : Shape) (d : shape.Shape) (dims : List Dimension) (xs : Values) (k : ℕ) → SameShape U e d
+      → held_at a w.src.held ≡ Some (elements e dims xs)
+      → LikeV U w (elements e dims xs) (net_value.single (n.Array k)) → SameSlot U w a d k dims
+
+-- parts of an expression; those of a target are exact
+pub data PartsMatch (U : Upgrade) (K : Pledge) (w : World) (exact : Bool) : source.Parts → net_part.Parts → Type 0 where
+  no_parts : PartsMatch U K w exact source.no_value (net_part.at_address net.nowhere)
+  address_parts : (a : Address) (b : net.Address) → Bound U K w exact a b → PartsMatch U K w exact (source.at_address a) (net_part.at_address b)
+  element_parts :
+      (a : Address) (d : shape.Shape) (k : ℕ) (dims : List Dimension) (zs : List ℤ) (ys : List net_value.Value) → SameSlot U w a d k dims
+      → SameIndexes dims zs ys
+      → length (w.net.arrays k).counts ≡ length ys
+      → PartsMatch U K w exact (source.at_element a zs) (net_part.at_element d (net_value.single (n.Array k)) ys)
+  field_parts :
+      (ty : Ty) (x : Value6) (c v : ℕ) (s : Shape) (d : shape.Shape) (y : net_value.Value) (key : Key) → LikeV U w (scalar ty x) y → SameShape U s d
+      → variable_key U v ≡ Some key
+      → PartsMatch U K w exact (source.at_field (scalar ty x) c s v) (net_part.at_field d y key)
+
+-- ---- what the heads of blocks keep
+
+-- an object is kept with its class
+abbrev pub HasHome : Upgrade → Ty → shape.Shape → Type 0
+HasHome U (class c) s = (home : ℕ) × (class_home U c ≡ Some home) × (s ≡ shape.class home)
+HasHome U ty s = Unit {0}
+
+-- What a With keeps that is no user type is a value on one side and an address of it on the other; an array has no members, so that nothing
+-- is asked of it. What is kept on a quiet parameter needn't be exact.
+pub data KeptMatch (U : Upgrade) (K : Pledge) (w : World) (exact : Bool) : Kept Value Address → Kept net_value.Value net.Address → Type 0 where
+  both_nothing : KeptMatch U K w exact keeps_nothing keeps_nothing
+  both_limits :
+      (a : Address) (b : net.Address) (ty tz : Ty) (y s : Value6) (z d : net_value.Value) → Same U K w a b → LikeV U w (scalar ty y) z
+      → LikeV U w (scalar tz s) d → KeptMatch U K w exact (keeps_limit a (scalar ty y) (scalar tz s)) (keeps_limit b z d)
+  both_choices : (ty : Ty) (x : Value6) (y : net_value.Value) → LikeV U w (scalar ty x) y
+      → KeptMatch U K w exact (keeps_value (scalar ty x)) (keeps_value y)
+  both_objects :
+      (ty : Ty) (x : Value6) (s : shape.Shape) (y : net_value.Value) → LikeV U w (scalar ty x) y → HasHome U ty s
+      → KeptMatch U K w exact (keeps_value (scalar ty x)) (keeps_address (net.constant s y))
+  both_arrays :
+      (e : Shape) (dims : List Dimension) (xs : Values) (s : shape.Shape) (y : net_value.Value)
+      → KeptMatch U K w exact (keeps_value (elements e dims xs)) (keeps_address (net.constant s y))
+  both_addresses : (a : Address) (b : net.Address) → Bound U K w exact a b → KeptMatch U K w exact (keeps_address a) (keeps_address b)
+
+-- ---- arguments
+
+-- an address that is no As New variable's
+abbrev pub IsPlain : Upgrade → World → Address → Type 0
+IsPlain U w a = (q : Position) → position_of a ≡ Some q → is_auto_root U w.map q.root ≡ false
+
+-- Arguments from a place on. An ordinary reference parameter is bound by reference on both sides, quiet or not. At a quiet one either
+-- side alone may have a value, and the target has one where it is an index parameter of a property.
+pub data ArgsMatch (U : Upgrade) (K : Pledge) (w : World) (p : ℕ) : (place : ℕ) → List SourceGiven → List NetGiven → Type 0 where
+  no_args : (i : ℕ) → ArgsMatch U K w p i [] []
+  value_args :
+      (i : ℕ) (x : Value) (y : net_value.Value) (xs : List SourceGiven) (ys : List NetGiven) → LikeV U w x y → ArgsMatch U K w p (suc i) xs ys
+      → ArgsMatch U K w p i (by_value x ∷ xs) (by_value y ∷ ys)
+  address_args :
+      (i : ℕ) (a : Address) (b : net.Address) (xs : List SourceGiven) (ys : List NetGiven) → Same U K w a b → IsPlain U w a
+      → ArgsMatch U K w p (suc i) xs ys → ArgsMatch U K w p i (by_address a ∷ xs) (by_address b ∷ ys)
+  source_bound :
+      (i : ℕ) (a : Address) (s : shape.Shape) (y : net_value.Value) (xs : List SourceGiven) (ys : List NetGiven) → (runnable_of U).quiet p i ≡ true
+      → Mirrors U K w a (net.constant s y) → ArgsMatch U K w p (suc i) xs ys → ArgsMatch U K w p i (by_address a ∷ xs) (by_value y ∷ ys)
+  target_bound :
+      (i : ℕ) (x : Value) (b : net.Address) (xs : List SourceGiven) (ys : List NetGiven) → (runnable_of U).quiet p i ≡ true
+      → Mirrors U K w (constant x) b → ArgsMatch U K w p (suc i) xs ys → ArgsMatch U K w p i (by_value x ∷ xs) (by_address b ∷ ys)
+
+-- The arguments match, and each array in a value occurs once, in no position that is compared.
+pub record ArgsOk (U : Upgrade) (K : Pledge) (w : World) (p : ℕ) (xs : List SourceGiven) (ys : List NetGiven) : Type 0 where
+  pub match : ArgsMatch U K w p 0 xs ys
+  pub loose : (k : ℕ) → Contains (taken_by xs ys) k → (k < w.net.next_array) × IsLoose U w k
+  pub once : AllPairs (λ j k. j ≡ k → ⊥) (taken_by xs ys)
+
+-- ---- locks
+
+-- the array at a position is kept
+pub record LockOk (U : Upgrade) (K : Pledge) (w : World) (q : Position) : Type 0 where
+  pub element : Shape
+  pub array : ℕ
+  pub is_matched : IsMatched U w q
+  pub stands : HasArray U w q element array
+  pub kept : K.keeps (type_of_shape element)
+
+abbrev pub AllLocked : Upgrade → Pledge → World → Locked → Type 0
+AllLocked U K w [] = Unit {0}
+AllLocked U K w (q ∷ rest) = LockOk U K w q × AllLocked U K w rest

@@ -1,0 +1,15 @@
+pub mod Upgrades
+pub mod Maps
+pub mod Likeness
+pub mod Match
+pub mod Pledges
+pub mod Sites
+pub mod CleanLines
+pub mod Addresses
+pub mod Agreeing
+pub mod Frames
+pub mod Runs
+pub mod Typed
+pub mod Owing
+pub mod Formed
+pub mod Covered

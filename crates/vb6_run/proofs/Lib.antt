@@ -1,0 +1,6 @@
+mod Samples
+mod Examples
+mod ErrorExamples
+mod ArrayExamples
+mod CallExamples
+mod ObjectExamples

@@ -1,0 +1,10 @@
+pub mod Shapes
+pub mod Values
+pub mod Store
+pub mod Runnables
+pub mod Arrays
+pub mod Objects
+pub mod Expressions
+pub mod Lines
+pub mod Forms
+pub mod Programs
