@@ -1,0 +1,9 @@
+pub mod Made
+pub mod Lasting
+pub mod Outputs
+pub mod Agreeing
+pub mod Beside
+pub mod Machines
+pub mod Frames
+pub mod Scalars
+pub mod Moves

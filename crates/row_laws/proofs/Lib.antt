@@ -1,0 +1,23 @@
+pub mod Composing
+pub mod Values
+pub mod Calls
+pub mod Support
+pub mod Rows
+pub mod Conversions
+pub mod Direct
+pub mod Operators
+pub mod Constants
+pub mod Library
+pub mod Literals
+pub mod Items
+pub mod Written
+pub mod Computing
+pub mod Stated
+pub mod ItemTexts
+pub mod LibraryValues
+pub mod Functions
+pub mod VariantValues
+pub mod VariantNumbers
+pub mod VariantSums
+pub mod VariantRows
+mod Examples

@@ -1,0 +1,6 @@
+mod Plain
+mod Steps
+pub mod Bodies
+pub mod Tests
+pub mod Aims
+mod Labels
