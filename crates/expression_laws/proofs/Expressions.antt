@@ -1,0 +1,268 @@
+-- Covered expressions do the same as what is written for them.
+use Rattle.std.proofs.Common.{◌≡◌, ◌∙◌, refl, sym, ap, subst, ℕ, Bool, true, false, cond, ◌&&◌, ◌||◌, [], Option, Some, None, IfSome}
+use Rattle.std.specs.Prelude.{is_some}
+use Rattle.vb_tree.specs.BoundTree as types
+use Rattle.vb_tree.specs.BoundTree.{Ty}
+use Rattle.vb_tree.specs.declared.bound.Op6.TheVariants as op6
+use Rattle.vb_tree.specs.declared.expression.BinOp.{BinOp}
+use Rattle.vb_tree.specs.declared.expression.BinOp.TheVariants as bin
+use Rattle.vb_tree.specs.declared.expression.UnOp.{UnOp}
+use Rattle.vb_tree.specs.declared.expression.UnOp.TheVariants as un
+use Rattle.vb_tree.specs.declared.value.Value6.{Value6}
+use Rattle.vb6_meaning.specs.Values.{operate}
+use Rattle.bound_tree.specs.Tree.{Expr, typed, constant, variable, field, element, call, library, unary, binary, convert, new_object, me, with_object, err_number, err_raise, err_clear, is_same, loose}
+use Rattle.bound_facts.specs.Folded.{binary_row, unary_row}
+use Rattle.bound_facts.specs.Locks.{is_same_type}
+use Rattle.bound_facts.specs.Node.{type_at, is_variant}
+use Rattle.net_tree.specs.Tree.{Exp}
+use Rattle.net_meaning.specs.declared.value.ValueN.{ValueN}
+use Rattle.net_meaning.specs.declared.value.ValueN.TheVariants as net_scalar
+use Rattle.net_meaning.specs.SameValues.{IsSame, IsSameOperator, IsSameUnary}
+use Rattle.net_meaning.specs.SameValues as values
+use Rattle.net_meaning.specs.WrittenRows.{Written, evaluate, write_operator, write_unary, write_conversion}
+use Rattle.meaning_laws.proofs.SameRows as same
+use Rattle.meaning_laws.proofs.ConversionRows.{minus, turn}
+use Rattle.run_base.specs.Outcomes.{Outcome, after, then, answered}
+use Rattle.vb6_run.specs.Expressions as source
+use Rattle.vb6_run.specs.Expressions.{Context, Parts, at_address}
+use Rattle.vb6_run.specs.Forms.{SourceLine}
+use Rattle.vb6_run.specs.Store.{Memory, SourceCalls, SourceFrame}
+use Rattle.net_run.specs.Expressions as target
+use Rattle.net_run.specs.Lines.{NetFrame, NetLine, scope_of}
+use Rattle.net_run.specs.Making.{Jobs}
+use Rattle.net_run.specs.Members.{Code}
+use Rattle.net_run.specs.Names as net_names
+use Rattle.net_run.specs.Store as net
+use Rattle.net_run.specs.Values as net_value
+use Rattle.written_trees.specs.Exprs.{exp_of}
+use Rattle.written_trees.specs.Names.{Scope}
+use Rattle.written_trees.specs.Operators.{binary_exp, unary_exp}
+use Rattle.run_matches.specs.Agreeing.{Agrees}
+use Rattle.run_matches.specs.Covered.{Uses, covers_type, covers_term, covers_operator, covers_expr}
+use Rattle.run_matches.specs.Frames.{frame_pledge}
+use Rattle.run_matches.specs.Likeness.{are_same}
+use Rattle.run_matches.specs.Maps.{World}
+use Rattle.run_matches.specs.Match.{MemoryMatch}
+use Rattle.run_matches.specs.Pledges.{Pledge, Later}
+use Rattle.run_matches.specs.Upgrades.{Upgrade}
+use Rattle.run_statements.specs.Frames.{ScalarMatch, PlainMatch, IsOpen, context_of, AreReadable, ExpressionsAgree}
+use Rattle.row_laws.specs.Constants.{IsHeld}
+use Rattle.row_laws.specs.Follows.{Any, RowOfOne, RowOfTwo}
+use Rattle.row_laws.specs.Rows.{IsOf, Fits, operand_of, is_direct, is_ready}
+use Rattle.row_laws.proofs.Stated as rows
+use Rattle.run_matches.specs.Formed.{is_row_of_one, is_row_of_two, is_formed}
+use Rattle.expression_laws.specs.Images.{HaveImages}
+use Rattle.expression_laws.specs.Statements.{VariablesAreReadBy, FormedExpressionsAgreeBy, FormedScalarsAgreeBy, VariablesAreRead, FormedScalarsAgree}
+use Rattle.expression_laws.proofs.Types.{both_true, same_as, covered_typed}
+use Rattle.expression_laws.proofs.Checks.{TermMatch, term_agrees, plain_agrees}
+use Rattle.expression_laws.proofs.Conversions.{IsConstant, formed_constant, constant_agrees, conversion_agrees}
+use Rattle.expression_laws.proofs.Images.{images_now, images_later}
+use Rattle.expression_laws.proofs.Variables.{variable_agrees}
+use Rattle.expression_laws.proofs.RowsAgree.{any_same, At, one_agrees, two_agree}
+
+-- ---- operators
+
+-- each operator but Is
+same_operator : (equal : ℕ → ℕ → Bool) (o : BinOp) → covers_operator o ≡ true → IsSameOperator equal o
+same_operator r bin.Pow e = same.pow r
+same_operator r bin.Mul e = same.multiply r
+same_operator r bin.Div e = same.div r
+same_operator r bin.IntDiv e = same.divide r
+same_operator r bin.Mod e = same.modulo r
+same_operator r bin.Add e = same.add r
+same_operator r bin.Sub e = same.subtract r
+same_operator r bin.Concat e = same.concatenate r
+same_operator r bin.Equal e = same.equal r
+same_operator r bin.NotEqual e = same.not_equal r
+same_operator r bin.Less e = same.less r
+same_operator r bin.Greater e = same.greater r
+same_operator r bin.LessEqual e = same.less_equal r
+same_operator r bin.GreaterEqual e = same.greater_equal r
+same_operator r bin.Is e = absurd (cc e)
+same_operator r bin.Like e = same.like r
+same_operator r bin.And e = same.both r
+same_operator r bin.Or e = same.either r
+same_operator r bin.Xor e = same.one_alone r
+same_operator r bin.Eqv e = same.alike r
+same_operator r bin.Imp e = same.implies r
+
+same_unary : (equal : ℕ → ℕ → Bool) (o : UnOp) → IsSameUnary equal o
+same_unary r un.Neg = minus r
+same_unary r un.Not = turn r
+
+no_variant : (s : Ty) → covers_type s ≡ true → is_variant s ≡ false
+no_variant types.variant h = absurd (cc h)
+no_variant _ h = refl
+
+typed_unary : (s : Ty) (o : UnOp) → covers_type s ≡ true → unary_row s o ≡ op6.TypedUn o
+typed_unary s o h = ap (λ z. cond z (op6.VariantUn o) (op6.TypedUn o)) (no_variant s h)
+
+typed_binary : (s t : Ty) (o : BinOp) → covers_type s ≡ true → covers_type t ≡ true → binary_row s t o ≡ op6.Typed o
+typed_binary s t o h i =
+    ap (λ z. cond (z || is_variant t) (op6.Variant o) (op6.Typed o)) (no_variant s h)
+    ∙ ap (λ z. cond z (op6.Variant o) (op6.Typed o)) (no_variant t i)
+
+-- where an operand is a constant, it is one of its type
+formed_held : (e : Expr) → covers_type (type_at e) ≡ true → is_formed e ≡ true → IsHeld e
+formed_held (typed ty (constant x origin)) covers h =
+    let is : IsConstant ty x = formed_constant ty x origin covers h in
+    (is.within, is.is_type)
+formed_held (typed ty (variable v qualified)) covers h = tt
+formed_held (typed ty (field e k)) covers h = tt
+formed_held (typed ty (element e indexes)) covers h = tt
+formed_held (typed ty (call p qualified of args)) covers h = tt
+formed_held (typed ty (library f args)) covers h = tt
+formed_held (typed ty (unary o e)) covers h = tt
+formed_held (typed ty (binary o d e)) covers h = tt
+formed_held (typed ty (convert to e)) covers h = tt
+formed_held (typed ty (new_object c)) covers h = tt
+formed_held (typed ty me) covers h = tt
+formed_held (typed ty (with_object root)) covers h = tt
+formed_held (typed ty err_number) covers h = tt
+formed_held (typed ty (err_raise e)) covers h = tt
+formed_held (typed ty err_clear) covers h = tt
+formed_held (typed ty (is_same d e)) covers h = tt
+formed_held (typed ty (loose e rules)) covers h = tt
+
+pub covered_type : (uses : Uses) (e : Expr) → covers_expr uses e ≡ true → covers_type (type_at e) ≡ true
+covered_type uses (typed ty t) h = (both_true (covers_type ty) (covers_term uses t) h).0
+
+module _ (U : Upgrade) (K : Pledge) (S : net_names.Scope) (oracle : Jobs) where
+  unary_agrees : (o : UnOp) (ty : Ty) (e : Expr) (a : Exp) (x : Option Written) (r : Outcome Memory Value6) (w : World) → covers_type ty ≡ true
+      → is_row_of_one ty x ≡ true
+      → IfSome x (λ q. is_direct q.row ≡ true → RowOfOne S oracle Any (unary_exp o q.ty e a) a (λ y. evaluate q.row y net_scalar.Nothing))
+      → ((v : World) (z : Value6) (y : ValueN) → At v (type_at e) z y → IsSame (are_same v) (operate (op6.TypedUn o) z z) x y net_scalar.Nothing)
+      → MemoryMatch U w → Agrees U K w (PlainMatch U (type_at e)) r (target.value_of S oracle a w.net)
+      → Agrees U K w (TermMatch U ty) (then r (λ z v. source.answer_as ty (operate (op6.TypedUn o) z z) v)) (target.value_of S oracle (unary_exp o ty e a) w.net)
+  unary_agrees o ty e a None r w covers formed h law start operand = absurd (cc formed)
+  unary_agrees o ty e a (Some q) r w covers formed h law start operand =
+      let both = both_true (is_same_type q.ty ty) (is_direct q.row) formed in
+      let is : q.ty ≡ ty = same_as q.ty ty covers both.0 in
+      one_agrees U K S oracle (type_at e) ty (λ z. operate (op6.TypedUn o) z z) (λ y. evaluate q.row y net_scalar.Nothing) (unary_exp o ty e a) a r w
+      (subst (λ t. RowOfOne S oracle Any (unary_exp o t e a) a (λ y. evaluate q.row y net_scalar.Nothing)) is (h both.1))
+      (λ v z y m. subst (λ t. values.Agrees (At v t) (operate (op6.TypedUn o) z z) (evaluate q.row y net_scalar.Nothing)) is (law v z y m)) start operand
+
+  binary_agrees : (o : BinOp) (ty : Ty) (d e : Expr) (a c : Exp) (x : Option Written) (r : Outcome Memory Value6) (r' : Memory → Outcome Memory Value6) (w : World)
+      → covers_type ty ≡ true → is_row_of_two o ty x ≡ true
+      → IfSome x (λ q. is_ready o q ≡ true → Fits S oracle (operand_of d a) → Fits S oracle (operand_of e c)
+      → RowOfTwo S oracle (IsOf any_same (type_at d)) (binary_exp o q.ty d e a c) a c (evaluate q.row))
+      → Fits S oracle (operand_of d a) → Fits S oracle (operand_of e c)
+      → ((v : World) (z z' : Value6) (y y' : ValueN) → At v (type_at d) z y → At v (type_at e) z' y'
+      → IsSame (are_same v) (operate (op6.Typed o) z z') x y y')
+      → MemoryMatch U w → Agrees U K w (PlainMatch U (type_at d)) r (target.value_of S oracle a w.net)
+      → ((v : World) → Later U K w v → Agrees U K v (PlainMatch U (type_at e)) (r' v.src) (target.value_of S oracle c v.net))
+      → Agrees U K w (TermMatch U ty) (then r (λ z v. after [] (then (r' v) (λ z' u. source.answer_as ty (operate (op6.Typed o) z z') u))))
+      (target.value_of S oracle (binary_exp o ty d e a c) w.net)
+  binary_agrees o ty d e a c None r r' w covers formed h fits_a fits_c law start operand other = absurd (cc formed)
+  binary_agrees o ty d e a c (Some q) r r' w covers formed h fits_a fits_c law start operand other =
+      let both = both_true (is_same_type q.ty ty) (is_ready o q) formed in
+      let is : q.ty ≡ ty = same_as q.ty ty covers both.0 in
+      two_agree U K S oracle (type_at d) (type_at e) ty (λ z z'. operate (op6.Typed o) z z') (evaluate q.row) (binary_exp o ty d e a c) a c r r' w
+      (subst (λ t. RowOfTwo S oracle (IsOf any_same (type_at d)) (binary_exp o t d e a c) a c (evaluate q.row)) is (h both.1 fits_a fits_c))
+      (λ v z z' y y' m m'. subst (λ t. values.Agrees (At v t) (operate (op6.Typed o) z z') (evaluate q.row y y')) is (law v z z' y y' m m')) start operand other
+
+-- ---- expressions
+
+module _ (U : Upgrade) (K : Pledge) (reads : VariablesAreReadBy U K) (p : ℕ) (f : SourceFrame) (g : NetFrame) (oracle : SourceCalls) (net_oracle : Jobs)
+    (l : SourceLine) (k : NetLine) (c : Code) (T : Scope) (uses : Uses) (same_declarations : T.declarations ≡ U.program.declarations)
+    (opened : IsOpen (scope_of U.written c g k)) (readable : AreReadable U uses) where
+  abbrev C : Context
+  C = context_of U oracle p f l
+
+  abbrev S : net_names.Scope
+  S = scope_of U.written c g k
+
+  abbrev written : Expr → World → Outcome net.Memory net_value.Value
+  written e w = target.value_of S net_oracle (exp_of T e) w.net
+
+  pub expression_agrees : (e : Expr) (w : World) → MemoryMatch U w → HaveImages U K w f g uses → covers_expr uses e ≡ true → is_formed e ≡ true
+      → Agrees U K w (ScalarMatch U (type_at e)) (source.value_of C e w.src) (written e w)
+  expression_agrees (typed ty (constant x origin)) w start have covers formed =
+      let both = both_true (covers_type ty) true covers in
+      term_agrees U K C ty ty (constant x origin) w (written (typed ty (constant x origin)) w) refl both.0 start
+      (constant_agrees U K S net_oracle opened w ty x origin (formed_constant ty x origin both.0 formed) start)
+  expression_agrees (typed ty (variable v qualified)) w start have covers formed =
+      let both = both_true (covers_type ty) (uses v) covers in
+      variable_agrees U K reads p f g oracle net_oracle l k c T uses ty v qualified w same_declarations readable have both.1 both.0 start
+  expression_agrees (typed ty (unary o e)) w start have covers formed =
+      let both = both_true (covers_type ty) (covers_expr uses e) covers in
+      let forms = both_true (is_row_of_one ty (write_unary o (type_at e))) (is_formed e) formed in
+      let type_is : covers_type (type_at e) ≡ true = covered_type uses e both.1 in
+      term_agrees U K C ty ty (unary o e) w (written (typed ty (unary o e)) w) refl both.0 start
+      (subst (λ q. Agrees U K w (TermMatch U ty) (then (source.scalar_value C e w.src) (λ z v. source.answer_as ty (operate q z z) v)) (written (typed ty (unary o e)) w))
+      (sym (typed_unary (type_at e) o type_is))
+      (unary_agrees U K S net_oracle o ty e (exp_of T e) (write_unary o (type_at e)) (source.scalar_value C e w.src) w both.0 forms.0
+      (rows.unary_is_row o S net_oracle opened.support e (exp_of T e) net_scalar.Nothing (covered_typed (type_at e) type_is))
+      (λ v z y m. same_unary (are_same v) o (type_at e) z z y net_scalar.Nothing (covered_typed (type_at e) type_is) m) start
+      (plain_agrees U K C e (type_at e) w (written e w) start (expression_agrees e w start have both.1 forms.1))))
+  expression_agrees (typed ty (binary o d e)) w start have covers formed =
+      let both = both_true (covers_type ty) (covers_operator o && (covers_expr uses d && covers_expr uses e)) covers in
+      let operator = both_true (covers_operator o) (covers_expr uses d && covers_expr uses e) both.1 in
+      let operands = both_true (covers_expr uses d) (covers_expr uses e) operator.1 in
+      let forms = both_true (is_row_of_two o ty (write_operator o (type_at d) (type_at e))) (is_formed d && is_formed e) formed in
+      let inner = both_true (is_formed d) (is_formed e) forms.1 in
+      let first_is : covers_type (type_at d) ≡ true = covered_type uses d operands.0 in
+      let second_is : covers_type (type_at e) ≡ true = covered_type uses e operands.1 in
+      term_agrees U K C ty ty (binary o d e) w (written (typed ty (binary o d e)) w) refl both.0 start
+      (subst (λ q. Agrees U K w (TermMatch U ty)
+      (then (source.scalar_value C d w.src) (λ z v. then (answered (source.left_operand q z) v) (λ z v.
+      then (source.scalar_value C e v) (λ z' u. source.answer_as ty (operate (source.then_row q) z z') u))))
+      (written (typed ty (binary o d e)) w)) (sym (typed_binary (type_at d) (type_at e) o first_is second_is))
+      (binary_agrees U K S net_oracle o ty d e (exp_of T d) (exp_of T e) (write_operator o (type_at d) (type_at e)) (source.scalar_value C d w.src)
+      (source.scalar_value C e) w both.0 forms.0
+      (rows.operator_is_row o S net_oracle opened.support any_same d e (exp_of T d) (exp_of T e) (covered_typed (type_at d) first_is)
+      (covered_typed (type_at e) second_is))
+      (rows.literal_fits d S net_oracle T (formed_held d first_is inner.0)) (rows.literal_fits e S net_oracle T (formed_held e second_is inner.1))
+      (λ v z z' y y' m m'.
+      same_operator (are_same v) o operator.0 (type_at d) (type_at e) z z' y y' (covered_typed (type_at d) first_is) (covered_typed (type_at e) second_is) m m')
+      start (plain_agrees U K C d (type_at d) w (written d w) start (expression_agrees d w start have operands.0 inner.0))
+      (λ v later.
+      plain_agrees U K C e (type_at e) v (written e v) later.match
+      (expression_agrees e v later.match (images_later U K w v f g uses later have) operands.1 inner.1))))
+  expression_agrees (typed ty (convert to (typed from t))) w start have covers formed =
+      let both = both_true (covers_type ty) (covers_type to && covers_expr uses (typed from t)) covers in
+      let operand = both_true (covers_type to) (covers_expr uses (typed from t)) both.1 in
+      let forms = both_true (is_some (write_conversion from to)) (is_formed (typed from t)) formed in
+      term_agrees U K C ty to (convert to (typed from t)) w (written (typed ty (convert to (typed from t))) w) refl both.0 start
+      (conversion_agrees U K S net_oracle opened C from to t (exp_of T (typed from t)) w (covered_type uses (typed from t) operand.1) forms.1 forms.0 start
+      (plain_agrees U K C (typed from t) from w (written (typed from t) w) start (expression_agrees (typed from t) w start have operand.1 forms.1)))
+  expression_agrees (typed ty (field e i)) w start have covers formed = absurd (cc formed)
+  expression_agrees (typed ty (element e indexes)) w start have covers formed = absurd (cc formed)
+  expression_agrees (typed ty (call q qualified of args)) w start have covers formed = absurd (cc formed)
+  expression_agrees (typed ty (library function args)) w start have covers formed = absurd (cc formed)
+  expression_agrees (typed ty (new_object class)) w start have covers formed = absurd (cc formed)
+  expression_agrees (typed ty me) w start have covers formed = absurd (cc formed)
+  expression_agrees (typed ty (with_object root)) w start have covers formed = absurd (cc formed)
+  expression_agrees (typed ty err_number) w start have covers formed = absurd (cc formed)
+  expression_agrees (typed ty (err_raise e)) w start have covers formed = absurd (cc formed)
+  expression_agrees (typed ty err_clear) w start have covers formed = absurd (cc formed)
+  expression_agrees (typed ty (is_same d e)) w start have covers formed = absurd (cc formed)
+  expression_agrees (typed ty (loose e rules)) w start have covers formed = absurd (cc formed)
+
+-- ---- the laws
+
+pub expressions_agree_by : (U : Upgrade) (K : Pledge) → VariablesAreReadBy U K → FormedExpressionsAgreeBy U K
+expressions_agree_by U K reads w p f g oracle net_oracle l k c T uses e start frames declarations opened readable own covers formed =
+    expression_agrees U K reads p f g oracle net_oracle l k c T uses declarations opened readable e w start
+    (images_now U K w p f g uses frames readable own) covers formed
+
+pub scalars_agree_by : (U : Upgrade) (K : Pledge) → VariablesAreReadBy U K → FormedScalarsAgreeBy U K
+scalars_agree_by U K reads w p f g oracle net_oracle l k c T uses e start frames declarations opened readable own covers formed =
+    plain_agrees U K (context_of U oracle p f l) e (type_at e) w (target.value_of (scope_of U.written c g k) net_oracle (exp_of T e) w.net) start
+    (expressions_agree_by U K reads w p f g oracle net_oracle l k c T uses e start frames declarations opened readable own covers formed)
+
+pub expressions_agree : (U : Upgrade) → VariablesAreRead U → ExpressionsAgree U
+expressions_agree U reads K = expressions_agree_by U K (reads K)
+
+pub scalars_agree : (U : Upgrade) → VariablesAreRead U → FormedScalarsAgree U
+scalars_agree U reads K = scalars_agree_by U K (reads K)
+
+-- under the pledge of a frame
+
+pub frame_expressions_agree : (U : Upgrade) (p : ℕ) (w : World) (f : SourceFrame) → VariablesAreReadBy U (frame_pledge U p w f)
+    → FormedExpressionsAgreeBy U (frame_pledge U p w f)
+frame_expressions_agree U p w f reads = expressions_agree_by U (frame_pledge U p w f) reads
+
+pub frame_scalars_agree : (U : Upgrade) (p : ℕ) (w : World) (f : SourceFrame) → VariablesAreReadBy U (frame_pledge U p w f)
+    → FormedScalarsAgreeBy U (frame_pledge U p w f)
+frame_scalars_agree U p w f reads = scalars_agree_by U (frame_pledge U p w f) reads

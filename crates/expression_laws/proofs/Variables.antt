@@ -1,0 +1,240 @@
+-- The values of variables.
+use Rattle.std.proofs.Common.{◌≡◌, ◌∙◌, refl, sym, ap, subst, ℕ, Bool, true, false, cond, not, ◌&&◌, List, [], ◌∷◌, Option, Some, None}
+use Rattle.std.specs.Prelude.{nat_eq, slice_get}
+use Rattle.std.specs.Map.{lookup}
+use Rattle.vb_tree.specs.BoundTree.{Ty}
+use Rattle.vb_tree.specs.declared.declared.Owner.{Owner}
+use Rattle.vb_tree.specs.declared.declared.Owner.TheVariants as owner
+use Rattle.vb_tree.specs.declared.declared.VarId.{VarId}
+use Rattle.vb_tree.specs.declared.value.Value6.{Value6}
+use Rattle.bound_tree.specs.Tree.{Variable, Declarations, typed, variable}
+use Rattle.bound_facts.specs.Locks.{is_same_type}
+use Rattle.bound_facts.specs.Node.{auto_class, class_in}
+use Rattle.net_tree.specs.Tree.{path}
+use Rattle.run_base.specs.Outcomes.{Outcome, gives, after, then, some_of, found}
+use Rattle.run_base.specs.Positions.{Position}
+use Rattle.vb6_run.specs.Expressions as source
+use Rattle.vb6_run.specs.Expressions.{Context, at_address, declared, type_shape}
+use Rattle.vb6_run.specs.Forms.{SourceLine}
+use Rattle.vb6_run.specs.Runnables.{owned_address, declared_address, variable_address}
+use Rattle.vb6_run.specs.Shapes.{Shape, simple, group, array, endless}
+use Rattle.vb6_run.specs.Store as store
+use Rattle.vb6_run.specs.Store.{Held, blank, table, parts, Address, root, Memory, Does, SourceCalls, SourceFrame, provided, value_if, single_in, array_in, fields_from, gathered, all_gathered}
+use Rattle.vb6_run.specs.Values.{Value, scalar, fields, elements, Values, Dimension, is_of_shape, is_typed}
+use Rattle.net_run.specs.Expressions as target
+use Rattle.net_run.specs.Lines.{NetFrame, NetLine, scope_of}
+use Rattle.net_run.specs.Making.{Jobs}
+use Rattle.net_run.specs.Members.{Code}
+use Rattle.net_run.specs.Names as net_names
+use Rattle.net_run.specs.Names.{var_in}
+use Rattle.net_run.specs.Store as net
+use Rattle.net_run.specs.Values as net_value
+use Rattle.written_trees.specs.Exprs.{exp_of, made_if}
+use Rattle.written_trees.specs.Names.{Scope, alone, owner_path, variable_path_of, variable_name_of}
+use Rattle.run_matches.specs.Addresses.{Same}
+use Rattle.run_matches.specs.Agreeing.{Agrees}
+use Rattle.run_matches.specs.Covered.{Uses, covers_owner, covers_type, covers_variable}
+use Rattle.run_matches.specs.Maps.{World}
+use Rattle.run_matches.specs.Match.{MemoryMatch}
+use Rattle.run_matches.specs.Pledges.{Pledge}
+use Rattle.run_matches.specs.Upgrades.{Upgrade}
+use Rattle.run_statements.specs.Frames.{IsReadable, ScalarMatch, context_of, AreReadable}
+use Rattle.agreeing_laws.proofs.Agreeing.{agrees_outside, left_alone}
+use Rattle.expression_laws.specs.Images.{HasImage, HaveImages}
+use Rattle.expression_laws.specs.Statements.{VariablesAreReadBy}
+use Rattle.expression_laws.proofs.Types.{both_true, same_as, same_of, covered_shape}
+use Rattle.expression_laws.proofs.Checks.{source_then, checked_agrees}
+use Rattle.expression_laws.proofs.Images.{owner_covered}
+
+-- ---- addresses of other shapes
+
+-- what is read there is no scalar of a covered type
+abbrev IsOther : Ty → Option Value → Type 0
+IsOther ty o = (x : Value) → o ≡ Some x → is_of_shape (simple ty) x ≡ false
+
+other_fields : (ty : Ty) (t : ℕ) (o : Option Values) → IsOther ty (fields_from t o)
+other_fields ty t None x h = absurd (cc h)
+other_fields ty t (Some xs) x h = let is : fields t xs ≡ x = cc h in subst (λ q. is_of_shape (simple ty) q ≡ false) is refl
+
+if_elements : (ty : Ty) (b : Bool) (e : Shape) (dims : List Dimension) (xs : Values) → IsOther ty (value_if b (elements e dims xs))
+if_elements ty true e dims xs x h = let is : elements e dims xs ≡ x = cc h in subst (λ q. is_of_shape (simple ty) q ≡ false) is refl
+if_elements ty false e dims xs x h = absurd (cc h)
+
+other_array : (ty : Ty) (e : Shape) (h : Held) → IsOther ty (array_in e h)
+other_array ty e blank x h = absurd (cc h)
+other_array ty e (store.single t z) x h = absurd (cc h)
+other_array ty e (table f dims xs) x h = if_elements ty _ f dims xs x h
+other_array ty e parts x h = absurd (cc h)
+
+-- a scalar of a type that isn't covered
+uncovered : (ty s t : Ty) (z : Value6) → covers_type ty ≡ true → covers_type s ≡ false → is_same_type s t ≡ true
+    → is_of_shape (simple ty) (scalar t z) ≡ false
+uncovered ty s t z covers other same = by_test (is_same_type ty t) refl
+  where
+    by_test : (b : Bool) → is_same_type ty t ≡ b → (is_same_type ty t && is_typed t z) ≡ false
+    by_test false e = ap (λ q. q && is_typed t z) e
+    by_test true e =
+        let is : t ≡ ty = same_of ty t covers e in
+        let that : s ≡ ty = same_as s ty covers (subst (λ q. is_same_type s q ≡ true) is same) in
+        let no : covers_type s ≡ true = subst (λ q. covers_type q ≡ true) (sym that) covers in
+        absurd (cc (no, other))
+
+if_uncovered : (ty s t : Ty) (z : Value6) (b : Bool) → covers_type ty ≡ true → covers_type s ≡ false → is_same_type s t ≡ b
+    → IsOther ty (value_if b (scalar t z))
+if_uncovered ty s t z true covers other same x h =
+    let is : scalar t z ≡ x = cc h in subst (λ q. is_of_shape (simple ty) q ≡ false) is (uncovered ty s t z covers other same)
+if_uncovered ty s t z false covers other same x h = absurd (cc h)
+
+other_single : (ty s : Ty) (h : Held) → covers_type ty ≡ true → covers_type s ≡ false → IsOther ty (single_in s h)
+other_single ty s blank covers other x h = absurd (cc h)
+other_single ty s (store.single t z) covers other x h = if_uncovered ty s t z (is_same_type s t) covers other refl x h
+other_single ty s (table e dims xs) covers other x h = absurd (cc h)
+other_single ty s parts covers other x h = absurd (cc h)
+
+-- ---- where a variable is found
+
+not_true : (b : Bool) → not b ≡ true → b ≡ false
+not_true true h = absurd (cc h)
+not_true false h = refl
+
+not_auto : (x : Variable) → covers_variable x ≡ true → x.auto ≡ false
+not_auto x h =
+    let rest = both_true (covers_owner x.owner) (covers_type x.ty && not x.auto) h in
+    not_true x.auto (both_true (covers_type x.ty) (not x.auto) rest.1).1
+
+local_address : (D : Declarations) (f : SourceFrame) (v : ℕ) (o : Owner) → covers_owner o ≡ true → owned_address D f v o ≡ lookup (nat_eq v) f.vars
+local_address D f v (owner.Module file) h = absurd (cc h)
+local_address D f v (owner.Local p) h = refl
+local_address D f v (owner.Static p) h = absurd (cc h)
+local_address D f v (owner.Value p) h = absurd (cc h)
+local_address D f v (owner.Reference p) h = absurd (cc h)
+local_address D f v (owner.Answer p) h = absurd (cc h)
+local_address D f v (owner.Field t) h = absurd (cc h)
+
+local_path : (T : Scope) (qualified : Bool) (name : List ℕ) (o : Owner) → covers_owner o ≡ true → owner_path T qualified name o ≡ alone name
+local_path T qualified name (owner.Module file) h = absurd (cc h)
+local_path T qualified name (owner.Local p) h = refl
+local_path T qualified name (owner.Static p) h = absurd (cc h)
+local_path T qualified name (owner.Value p) h = absurd (cc h)
+local_path T qualified name (owner.Reference p) h = absurd (cc h)
+local_path T qualified name (owner.Answer p) h = absurd (cc h)
+local_path T qualified name (owner.Field t) h = absurd (cc h)
+
+pub auto_none : (vars : List Variable) (v : ℕ) (x : Variable) → slice_get vars v ≡ Some x → covers_variable x ≡ true → auto_class (slice_get vars v) ≡ None
+auto_none vars v x is covers = ap auto_class is ∙ ap (λ b. cond b (class_in x.ty) None) (not_auto x covers)
+
+pub address_is : (D : Declarations) (f : SourceFrame) (v : ℕ) (x : Variable) → slice_get D.vars v ≡ Some x → covers_variable x ≡ true
+    → variable_address D f v ≡ lookup (nat_eq v) f.vars
+address_is D f v x is covers = ap (λ o. declared_address D f v o) is ∙ local_address D f v x.owner (owner_covered x covers)
+
+-- its name is written
+pub variable_exp : (T : Scope) (ty : Ty) (v : VarId) (qualified : Bool) (x : Variable) → slice_get T.declarations.vars v.0 ≡ Some x → covers_variable x ≡ true
+    → exp_of T (typed ty (variable v qualified)) ≡ path (x.name ∷ [])
+variable_exp T ty v qualified x is covers =
+    ap (λ o. made_if T.declarations (auto_class o) (path (variable_path_of T qualified o))) is
+    ∙ ap (λ b. made_if T.declarations (cond b (class_in x.ty) None) (path (owner_path T qualified x.name x.owner))) (not_auto x covers)
+    ∙ ap (λ names. path names) (local_path T qualified x.name x.owner (owner_covered x covers))
+
+-- a name that stands for a variable of the frame is read
+pub path_read : (S : net_names.Scope) (oracle : Jobs) (name : List ℕ) (b : net.Address) (w : net.Memory) → var_in S.vars name ≡ Some b
+    → target.value_of S oracle (path (name ∷ [])) w ≡ target.read b w
+path_read S oracle name b w h = ap (λ o. target.value_from S oracle (target.started S oracle (net_names.frame_start S name [] o) w)) h
+
+-- and leads to it
+pub path_address : (S : net_names.Scope) (oracle : Jobs) (name : List ℕ) (b : net.Address) (w : net.Memory) → var_in S.vars name ≡ Some b
+    → target.address_of S oracle (path (name ∷ [])) w ≡ gives [] b w
+path_address S oracle name b w h = ap (λ o. target.address_from S oracle (target.started S oracle (net_names.frame_start S name [] o) w)) h
+
+-- ---- reading
+
+-- a value, checked to be of a type
+abbrev Checked : Context → Ty → Value → Does Value
+Checked C ty x w = provided (is_of_shape (type_shape (declared C) ty) x) (λ v. gives [] x v) w
+
+module _ (U : Upgrade) (K : Pledge) (reads : VariablesAreReadBy U K) where
+  other_agrees : (C : Context) (ty : Ty) (o : Option Value) (w : World) (r' : Outcome net.Memory net_value.Value) → covers_type ty ≡ true → IsOther ty o
+      → Agrees U K w (ScalarMatch U ty) (then (after [] (found o w.src)) (Checked C ty)) r'
+  other_agrees C ty None w r' covers h = agrees_outside U K w (ScalarMatch U ty) r'
+  other_agrees C ty (Some x) w r' covers h =
+      let is : is_of_shape (type_shape (declared C) ty) x ≡ false = ap (λ s. is_of_shape s x) (covered_shape (declared C) ty covers) ∙ h x refl in
+      subst (λ b. Agrees U K w (ScalarMatch U ty) (after [] (provided b (λ v. gives [] x v) w.src)) r') (sym is) (agrees_outside U K w (ScalarMatch U ty) r')
+
+  read_single : (C : Context) (ty s : Ty) (q : Position) (b : net.Address) (w : World) (covered : Bool) → covers_type s ≡ covered → covers_type ty ≡ true
+      → MemoryMatch U w → Same U K w (root (simple s) q) b
+      → Agrees U K w (ScalarMatch U ty) (then (after [] (store.read (root (simple s) q) w.src)) (Checked C ty)) (target.read b w.net)
+  read_single C ty s q b w true is covers start same =
+      source_then U K w (ScalarMatch U s) (ScalarMatch U ty) (after [] (store.read (root (simple s) q) w.src)) (target.read b w.net) (Checked C ty) start
+      (left_alone U K w (ScalarMatch U s) (store.read (root (simple s) q) w.src) (target.read b w.net)
+      (reads w s (root (simple s) q) b is start same (q, refl)))
+      (λ x y v m l. behind x y v m l.match)
+    where
+      behind : (x : Value) (y : net_value.Value) (v : World) → ScalarMatch U s v x y → MemoryMatch U v
+          → Agrees U K v (ScalarMatch U ty) (Checked C ty x v.src) (gives [] y v.net)
+      behind x y v m h =
+          subst (λ z. Agrees U K v (ScalarMatch U ty) (Checked C ty z v.src) (gives [] y v.net)) (sym m.1) (checked_agrees U K C ty s m.0 y v covers h m.2)
+  read_single C ty s q b w false is covers start same =
+      other_agrees C ty (single_in s (w.src.held q)) w (target.read b w.net) covers (other_single ty s (w.src.held q) covers is)
+
+  read_agrees : (C : Context) (ty : Ty) (s : Shape) (q : Position) (b : net.Address) (w : World) → covers_type ty ≡ true → MemoryMatch U w
+      → Same U K w (root s q) b
+      → Agrees U K w (ScalarMatch U ty) (then (after [] (store.read (root s q) w.src)) (Checked C ty)) (target.read b w.net)
+  read_agrees C ty (simple s) q b w covers start same = read_single C ty s q b w (covers_type s) refl covers start same
+  read_agrees C ty (group t fs) q b w covers start same =
+      other_agrees C ty (fields_from t (all_gathered fs q 0 w.src.held)) w (target.read b w.net) covers (other_fields ty t (all_gathered fs q 0 w.src.held))
+  read_agrees C ty (array e bounds) q b w covers start same =
+      other_agrees C ty (array_in e (w.src.held q)) w (target.read b w.net) covers (other_array ty e (w.src.held q))
+  read_agrees C ty endless q b w covers start same = other_agrees C ty None w (target.read b w.net) covers (λ x h. absurd (cc h))
+
+  address_agrees : (C : Context) (ty : Ty) (a : Address) (s : Shape) (q : Position) (b : net.Address) (w : World) → a ≡ root s q → covers_type ty ≡ true
+      → MemoryMatch U w → Same U K w a b
+      → Agrees U K w (ScalarMatch U ty) (then (after [] (store.read a w.src)) (Checked C ty)) (target.read b w.net)
+  address_agrees C ty a s q b w is covers start same =
+      subst (λ z. Agrees U K w (ScalarMatch U ty) (then (after [] (store.read z w.src)) (Checked C ty)) (target.read b w.net)) (sym is)
+      (read_agrees C ty s q b w covers start (subst (λ z. Same U K w z b) is same))
+
+-- ---- a variable of the frames
+
+-- the value of a variable whose address and class are these
+module _ (U : Upgrade) (K : Pledge) (p : ℕ) (f : SourceFrame) (g : NetFrame) (oracle : SourceCalls) (net_oracle : Jobs) (l : SourceLine)
+    (k : NetLine) (c : Code) (T : Scope) (ty : Ty) (v : VarId) (qualified : Bool) (w : World) where
+  abbrev Whole : Outcome net.Memory net_value.Value
+  Whole = target.value_of (scope_of U.written c g k) net_oracle (exp_of T (typed ty (variable v qualified))) w.net
+
+  abbrev From : Option Address → Option ℕ → Type 0
+  From o class =
+      Agrees U K w (ScalarMatch U ty)
+      (then (then (some_of o (λ a u. gives [] (at_address a) u) w.src) (source.made_for (context_of U oracle p f l) class))
+      (source.value_in (context_of U oracle p f l) (typed ty (variable v qualified)))) Whole
+
+module _ (U : Upgrade) (K : Pledge) (reads : VariablesAreReadBy U K) (p : ℕ) (f : SourceFrame) (g : NetFrame) (oracle : SourceCalls) (net_oracle : Jobs)
+    (l : SourceLine) (k : NetLine) (c : Code) (T : Scope) (uses : Uses) where
+  pub variable_agrees : (ty : Ty) (v : VarId) (qualified : Bool) (w : World) → T.declarations ≡ U.program.declarations → AreReadable U uses
+      → HaveImages U K w f g uses → uses v ≡ true → covers_type ty ≡ true → MemoryMatch U w
+      → Agrees U K w (ScalarMatch U ty)
+      (source.value_of (context_of U oracle p f l) (typed ty (variable v qualified)) w.src)
+      (target.value_of (scope_of U.written c g k) net_oracle (exp_of T (typed ty (variable v qualified))) w.net)
+  variable_agrees ty v qualified w same readable have used covers start =
+      let r : IsReadable U v.0 = readable v used in
+      subst (λ o. From U K p f g oracle net_oracle l k c T ty v qualified w o (auto_class (slice_get U.program.declarations.vars v.0)))
+      (sym (address_is U.program.declarations f v.0 r.variable r.is_variable r.covers))
+      (subst (λ m. From U K p f g oracle net_oracle l k c T ty v qualified w (lookup (nat_eq v.0) f.vars) m)
+      (sym (auto_none U.program.declarations.vars v.0 r.variable r.is_variable r.covers))
+      (by_address (lookup (nat_eq v.0) f.vars) refl r))
+    where
+      written : (r : IsReadable U v.0) (b : net.Address) → var_in g.vars r.variable.name ≡ Some b
+          → Whole U K p f g oracle net_oracle l k c T ty v qualified w ≡ target.read b w.net
+      written r b is =
+          ap (λ e. target.value_of (scope_of U.written c g k) net_oracle e w.net)
+          (variable_exp T ty v qualified r.variable (ap (λ D. slice_get D.vars v.0) same ∙ r.is_variable) r.covers)
+          ∙ path_read (scope_of U.written c g k) net_oracle r.variable.name b w.net is
+
+      by_address : (o : Option Address) → lookup (nat_eq v.0) f.vars ≡ o → IsReadable U v.0 → From U K p f g oracle net_oracle l k c T ty v qualified w o None
+      by_address None is r = agrees_outside U K w (ScalarMatch U ty) (Whole U K p f g oracle net_oracle l k c T ty v qualified w)
+      by_address (Some a) is r =
+          let x : HasImage U K w g v.0 a = have v a used is in
+          let name : var_in g.vars r.variable.name ≡ Some x.address =
+          subst (λ n. var_in g.vars n ≡ Some x.address) (ap (λ o. variable_name_of o) r.is_variable) x.found in
+          subst (λ z. Agrees U K w (ScalarMatch U ty) (after [] (then (after [] (store.read a w.src)) (Checked (context_of U oracle p f l) ty))) z)
+          (sym (written r x.address name))
+          (left_alone U K w (ScalarMatch U ty) (then (after [] (store.read a w.src)) (Checked (context_of U oracle p f l) ty)) (target.read x.address w.net)
+          (address_agrees U K reads (context_of U oracle p f l) ty a x.shape x.position x.address w x.stands covers start x.same))

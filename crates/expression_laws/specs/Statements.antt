@@ -1,0 +1,64 @@
+-- The statements: expressions that are covered and well formed do the same as what is written for them.
+use Rattle.std.specs.Prelude.{◌≡◌, ℕ, true}
+use Rattle.vb_tree.specs.BoundTree.{Ty}
+use Rattle.bound_tree.specs.Tree.{Expr}
+use Rattle.bound_facts.specs.Node.{type_at}
+use Rattle.run_base.specs.Positions.{Position}
+use Rattle.vb6_run.specs.Expressions as source
+use Rattle.vb6_run.specs.Forms.{SourceLine}
+use Rattle.vb6_run.specs.Shapes.{simple}
+use Rattle.vb6_run.specs.Store as store
+use Rattle.vb6_run.specs.Store.{Address, root, SourceCalls, SourceFrame}
+use Rattle.net_run.specs.Expressions as target
+use Rattle.net_run.specs.Lines.{NetFrame, NetLine, scope_of}
+use Rattle.net_run.specs.Making.{Jobs}
+use Rattle.net_run.specs.Members.{Code}
+use Rattle.net_run.specs.Store as net
+use Rattle.written_trees.specs.Exprs.{exp_of}
+use Rattle.written_trees.specs.Names.{Scope}
+use Rattle.run_matches.specs.Addresses.{Same}
+use Rattle.run_matches.specs.Agreeing.{Agrees}
+use Rattle.run_matches.specs.Covered.{Uses, covers_type, covers_expr}
+use Rattle.run_matches.specs.Frames.{FrameMatch}
+use Rattle.run_matches.specs.Maps.{World}
+use Rattle.run_matches.specs.Match.{MemoryMatch}
+use Rattle.run_matches.specs.Pledges.{Pledge}
+use Rattle.run_matches.specs.Upgrades.{Upgrade}
+use Rattle.run_statements.specs.Frames.{ScalarMatch, PlainMatch, IsOpen, context_of, AreOwn, AreReadable}
+use Rattle.run_matches.specs.Formed.{is_formed}
+
+-- ---- under one pledge
+
+-- what is read of a scalar variable of a covered type, and of its image
+abbrev pub VariablesAreReadBy : Upgrade → Pledge → Type 0
+VariablesAreReadBy U K =
+    (w : World) (ty : Ty) (a : Address) (b : net.Address) → covers_type ty ≡ true → MemoryMatch U w → Same U K w a b
+    → ((q : Position) × (a ≡ root (simple ty) q)) → Agrees U K w (ScalarMatch U ty) (store.read a w.src) (target.read b w.net)
+
+-- the values of expressions that are covered and well formed
+abbrev pub FormedExpressionsAgreeBy : Upgrade → Pledge → Type 0
+FormedExpressionsAgreeBy U K =
+    (w : World) (p : ℕ) (f : SourceFrame) (g : NetFrame) (oracle : SourceCalls) (net_oracle : Jobs) (l : SourceLine) (k : NetLine) (c : Code)
+    (T : Scope) (uses : Uses) (e : Expr) → MemoryMatch U w → FrameMatch U K w p f g → T.declarations ≡ U.program.declarations
+    → IsOpen (scope_of U.written c g k) → AreReadable U uses → AreOwn U p uses → covers_expr uses e ≡ true → is_formed e ≡ true
+    → Agrees U K w (ScalarMatch U (type_at e))
+    (source.value_of (context_of U oracle p f l) e w.src)
+    (target.value_of (scope_of U.written c g k) net_oracle (exp_of T e) w.net)
+
+-- the same as scalars without their type
+abbrev pub FormedScalarsAgreeBy : Upgrade → Pledge → Type 0
+FormedScalarsAgreeBy U K =
+    (w : World) (p : ℕ) (f : SourceFrame) (g : NetFrame) (oracle : SourceCalls) (net_oracle : Jobs) (l : SourceLine) (k : NetLine) (c : Code)
+    (T : Scope) (uses : Uses) (e : Expr) → MemoryMatch U w → FrameMatch U K w p f g → T.declarations ≡ U.program.declarations
+    → IsOpen (scope_of U.written c g k) → AreReadable U uses → AreOwn U p uses → covers_expr uses e ≡ true → is_formed e ≡ true
+    → Agrees U K w (PlainMatch U (type_at e))
+    (source.scalar_value (context_of U oracle p f l) e w.src)
+    (target.value_of (scope_of U.written c g k) net_oracle (exp_of T e) w.net)
+
+-- ---- under any pledge
+
+abbrev pub VariablesAreRead : Upgrade → Type 1
+VariablesAreRead U = (K : Pledge) → VariablesAreReadBy U K
+
+abbrev pub FormedScalarsAgree : Upgrade → Type 1
+FormedScalarsAgree U = (K : Pledge) → FormedScalarsAgreeBy U K

@@ -1,0 +1,20 @@
+//! The laws.
+ghost use Rattle.std.specs.Prelude.{ℕ};
+ghost use Rattle.vb6_run.specs.Store.{SourceFrame};
+ghost use Rattle.run_matches.specs.Frames.{frame_pledge};
+ghost use Rattle.run_matches.specs.Maps.{World};
+ghost use Rattle.run_matches.specs.Upgrades.{Upgrade};
+ghost use Rattle.expression_laws.specs.Statements.{FormedExpressionsAgreeBy, FormedScalarsAgreeBy, VariablesAreReadBy};
+
+/// A law: under the pledge of a frame, an expression that is covered and well formed gives a value that matches what is written
+/// for it, where what is read of variables does.
+pub fn expressions_agree()
+    ensures { (U : Upgrade) (p : ℕ) (w : World) (f : SourceFrame) → VariablesAreReadBy U (frame_pledge U p w f)
+        → FormedExpressionsAgreeBy U (frame_pledge U p w f) }
+{}
+
+/// A law: so it does as a scalar.
+pub fn scalars_agree()
+    ensures { (U : Upgrade) (p : ℕ) (w : World) (f : SourceFrame) → VariablesAreReadBy U (frame_pledge U p w f)
+        → FormedScalarsAgreeBy U (frame_pledge U p w f) }
+{}

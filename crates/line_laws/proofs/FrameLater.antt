@@ -1,0 +1,110 @@
+-- Frames that match go on to match at a later world, and at another line.
+use Rattle.std.proofs.Common.{◌≡◌, ◌∙◌, refl, sym, ap, ℕ, ◌<◌, Bool, not, Option, Some, None, option_map}
+use Rattle.bound_facts.specs.Facts.{is_quiet}
+use Rattle.run_base.specs.Frames.{Handler, Frame}
+use Rattle.run_base.specs.Machines.{nth_line}
+use Rattle.run_base.specs.Positions.{Root, whole}
+use Rattle.vb6_run.specs.Shapes.{variable_shape}
+use Rattle.vb6_run.specs.Store.{Address, SourceFrame}
+use Rattle.net_run.specs.Lines.{NetFrame}
+use Rattle.net_run.specs.Members.{Code}
+use Rattle.net_run.specs.Store as net
+use Rattle.run_matches.specs.Upgrades.{Upgrade, code_of}
+use Rattle.run_matches.specs.Maps.{World, Below, Extends, mark}
+use Rattle.run_matches.specs.Match.{MemoryMatch}
+use Rattle.run_matches.specs.Pledges.{Pledge, Later}
+use Rattle.run_matches.specs.Frames.{SameVariable, SameStatic, HasNames, HasPlace, FrameMatch, is_exact_head, lines_of}
+use Rattle.agreeing_laws.proofs.Made.{more, below_then, same_at}
+use Rattle.agreeing_laws.proofs.Moves.{all_matched_later, all_ranked_later, matched_whole, locks_later}
+use Rattle.line_laws.proofs.Bounds.{bound_made, bound_later, kept_later, plain_later}
+
+-- ---- later
+
+object_stays : (w0 w1 : World) → Extends w0 w1 → (me : Option ℕ) → ((o : ℕ) → me ≡ Some o → o < w0.src.next_object)
+    → option_map w1.map.objects me ≡ option_map w0.map.objects me
+object_stays w0 w1 x None m = refl
+object_stays w0 w1 x (Some o) m = ap (λ z. Some z) (x.same_objects o (m o refl))
+
+static_later : (U : Upgrade) (K : Pledge) (w0 w1 : World) → Later U K w0 w1 → (v : ℕ) (r : Root) (g : NetFrame) → SameStatic U w0 v r g → SameStatic U w1 v r g
+static_later U K w0 w1 l v r g s = record {
+  written = s.written;
+  found =
+      s.found
+      ∙ ap (λ p. Some (net.root s.written p))
+      (sym (same_at U w0 w1 l.extends (whole r) (matched_whole U w0 (variable_shape U.program.declarations v) (whole r) s.is_matched).is_made));
+  same = s.same;
+  is_matched = all_matched_later U w0 w1 l.extends l.grows (variable_shape U.program.declarations v) (whole r) s.is_matched;
+  ranked = all_ranked_later U K w0 w1 l (variable_shape U.program.declarations v) s.written (whole r) s.is_matched s.ranked;
+}
+
+place_later : (U : Upgrade) (w0 w1 : World) (v : ℕ) (a : Address) → Extends w0 w1 → Below (mark w0.src) (mark w1.src)
+    → HasPlace U w0 v a → HasPlace U w1 v a
+place_later U w0 w1 v a x b o = record {
+  place = o.place;
+  stands = o.stands;
+  is_made = more o.place w0.src.next w1.src.next b.places o.is_made;
+  declared = x.same_declared o.place o.is_made ∙ o.declared;
+}
+
+module _ (U : Upgrade) (K : Pledge) where
+  variable_later : (w0 w1 : World) → MemoryMatch U w0 → Later U K w0 w1 → (v : ℕ) (a : Address) (g : NetFrame)
+      → SameVariable U K w0 v a g → SameVariable U K w1 v a g
+  variable_later w0 w1 h l v a g s = record {
+    address = s.address;
+    found = s.found;
+    bound = bound_later U K w0 w1 h l (not (is_quiet U.program.declarations U.known v)) a s.address s.bound;
+    plain = λ e.
+        plain_later U w0 w1 a l.extends
+        (λ q at. bound_made U K w0 (not (is_quiet U.program.declarations U.known v)) a s.address h s.bound q at) (s.plain e);
+  }
+
+  -- frames that match go on to match
+  pub frame_later : (w0 w1 : World) (p : ℕ) (f : SourceFrame) (g : NetFrame) → MemoryMatch U w0 → Later U K w0 w1 → FrameMatch U K w0 p f g
+      → FrameMatch U K w1 p f g
+  frame_later w0 w1 p f g h l F = record {
+    line = F.line;
+    handler = F.handler;
+    active = F.active;
+    resume = F.resume;
+    me = F.me ∙ sym (object_stays w0 w1 l.extends f.me F.me_made);
+    me_made = λ o e. more o w0.src.next_object w1.src.next_object l.grows.objects (F.me_made o e);
+    names = F.names;
+    vars = λ v a e s. variable_later w0 w1 h l v a g (F.vars v a e s);
+    statics = λ v r e s. static_later U K w0 w1 l v r g (F.statics v r e s);
+    own = λ v a e o. place_later U w0 w1 v a l.extends l.grows (F.own v a e o);
+    own_heads = F.own_heads;
+    kept = λ i. kept_later U K w0 w1 h l (is_exact_head U (nth_line (lines_of U p) i)) (f.kept i) (g.kept i) (F.kept i);
+    locks = locks_later U K w0 w1 f.env l F.locks;
+    low = below_then K.base (mark w0.src) (mark w1.src) F.low l.grows;
+  }
+
+-- ---- at another line
+
+-- a frame with another line and another state of its handling of errors
+abbrev pub placed : {N V A E : Type 0} → ℕ → Handler → Bool → ℕ → Frame N V A E → Frame N V A E
+placed n h active resume f = record f { line = n; handler = h; active = active; resume = resume }
+
+names_placed : (o : Option Code) (n : ℕ) (h : Handler) (t : Bool) (r : ℕ) (g : NetFrame) → HasNames o g → HasNames o (placed n h t r g)
+names_placed None n h t r g m = m
+names_placed (Some c) n h t r g m = m
+
+pub frame_placed : (U : Upgrade) (K : Pledge) (w : World) (p : ℕ) (f : SourceFrame) (g : NetFrame) (n m : ℕ) (h i : Handler) (t u : Bool) (r s : ℕ)
+    → m ≡ n → i ≡ h → u ≡ t → s ≡ r → FrameMatch U K w p f g → FrameMatch U K w p (placed n h t r f) (placed m i u s g)
+frame_placed U K w p f g n m h i t u r s a b c d F = record {
+  line = a;
+  handler = b;
+  active = c;
+  resume = d;
+  me = F.me;
+  me_made = F.me_made;
+  names = names_placed (code_of U p) m i u s g F.names;
+  vars = λ v a e s. let x = F.vars v a e s in record { address = x.address; found = x.found; bound = x.bound; plain = x.plain };
+  statics = λ v r e s.
+      let x = F.statics v r e s in
+      record { written = x.written; found = x.found; same = x.same; is_matched = x.is_matched; ranked = x.ranked };
+  own = F.own;
+  own_heads = F.own_heads;
+  kept = F.kept;
+  locks = F.locks;
+  low = F.low;
+}

@@ -1,0 +1,213 @@
+-- An assignment to a variable does the same as what is written for it.
+use Rattle.std.proofs.Common.{◌≡◌, ◌∙◌, refl, sym, ap, subst, ℕ, Bool, true, false, not, ◌&&◌, nat_eq, Option, Some, None, List, [], ◌∷◌, true≢false}
+use Rattle.std.specs.Map.{lookup}
+use Rattle.vb_tree.specs.BoundTree as types
+use Rattle.vb_tree.specs.BoundTree.{Ty}
+use Rattle.vb_tree.specs.declared.declared.VarId.{VarId}
+use Rattle.vb_tree.specs.declared.value.Value6.{Value6}
+use Rattle.bound_tree.specs.Tree.{Expr, typed, variable}
+use Rattle.bound_facts.specs.Facts.{is_quiet}
+use Rattle.bound_facts.specs.Locks.{is_same_type}
+use Rattle.bound_facts.specs.Node.{type_at}
+use Rattle.net_tree.specs.Tree as net
+use Rattle.run_base.specs.Outcomes.{Outcome, gives, outside, then, some_of}
+use Rattle.run_base.specs.Positions.{Position, whole, made}
+use Rattle.written_trees.specs.Exprs.{exp_of}
+use Rattle.written_trees.specs.Names.{Scope}
+use Rattle.written_trees.specs.Puts.{formed, target_rank, put_type, store_by, store_line}
+use Rattle.vb6_run.specs.Expressions as source
+use Rattle.vb6_run.specs.Forms.{SourceLine}
+use Rattle.vb6_run.specs.Lines.{let_to, store_at}
+use Rattle.vb6_run.specs.Shapes.{simple, variable_shape}
+use Rattle.vb6_run.specs.Store.{Address, root, Locked, Memory, SourceCalls, SourceFrame, store, write}
+use Rattle.vb6_run.specs.Values.{scalar, is_typed, if_of_shape, kept_as}
+use Rattle.net_run.specs.Expressions as target
+use Rattle.net_run.specs.Lines.{NetFrame, NetLine, scope_of, assigned, assignment}
+use Rattle.net_run.specs.Making.{Jobs}
+use Rattle.net_run.specs.Members.{Code}
+use Rattle.net_run.specs.Names as net_names
+use Rattle.net_run.specs.Names.{Reached, at_place}
+use Rattle.net_run.specs.Store as net_store
+use Rattle.net_run.specs.Values as net_value
+use Rattle.run_matches.specs.Upgrades.{Upgrade}
+use Rattle.run_matches.specs.Maps.{World}
+use Rattle.run_matches.specs.Likeness.{LikeV}
+use Rattle.run_matches.specs.Match.{MemoryMatch}
+use Rattle.run_matches.specs.Pledges.{Pledge, Later}
+use Rattle.run_matches.specs.Addresses.{Same}
+use Rattle.run_matches.specs.Agreeing.{Agrees}
+use Rattle.run_matches.specs.Covered.{Uses, covers_type, covers_expr}
+use Rattle.run_matches.specs.Frames.{FrameMatch, OwnsAll, SameVariable, IsInPlace, IsOwnAddress, is_own_of}
+use Rattle.run_statements.specs.Frames.{ExpressionsAgree, ScalarsAreWritten, IsOpen, IsReadable, ScalarMatch, AnyUnits, context_of}
+use Rattle.agreeing_laws.proofs.Agreeing.{agrees_outside, left_alone, right_alone, then_agrees}
+use Rattle.agreeing_laws.proofs.Moves.{address_later}
+use Rattle.line_laws.specs.Lasting.{OwnShape}
+use Rattle.line_laws.proofs.Bounds.{exactly}
+use Rattle.line_laws.proofs.Uses.{good_parts, is_good, type_covered, address_found, path_is, name_reached, variable_reached, is_loud, name_is, scalar_type, shape_is}
+
+-- ---- types
+
+same_boolean : (t : Ty) → is_same_type types.boolean t ≡ true → t ≡ types.boolean
+same_boolean types.boolean e = refl
+same_boolean _ e = absurd (true≢false (sym e))
+
+same_byte : (t : Ty) → is_same_type types.byte t ≡ true → t ≡ types.byte
+same_byte types.byte e = refl
+same_byte _ e = absurd (true≢false (sym e))
+
+same_integer : (t : Ty) → is_same_type types.integer t ≡ true → t ≡ types.integer
+same_integer types.integer e = refl
+same_integer _ e = absurd (true≢false (sym e))
+
+same_long : (t : Ty) → is_same_type types.long t ≡ true → t ≡ types.long
+same_long types.long e = refl
+same_long _ e = absurd (true≢false (sym e))
+
+same_currency : (t : Ty) → is_same_type types.currency t ≡ true → t ≡ types.currency
+same_currency types.currency e = refl
+same_currency _ e = absurd (true≢false (sym e))
+
+same_text : (t : Ty) → is_same_type types.str t ≡ true → t ≡ types.str
+same_text types.str e = refl
+same_text _ e = absurd (true≢false (sym e))
+
+same_type : (s t : Ty) → covers_type s ≡ true → is_same_type s t ≡ true → t ≡ s
+same_type types.boolean t c e = same_boolean t e
+same_type types.byte t c e = same_byte t e
+same_type types.integer t c e = same_integer t e
+same_type types.long t c e = same_long t e
+same_type types.currency t c e = same_currency t e
+same_type types.str t c e = same_text t e
+same_type _ t c e = absurd (true≢false (sym c))
+
+-- a variable of another type takes no such value
+kept_scalar : (s t : Ty) (z : Value6) → covers_type s ≡ true → kept_as (simple s) (scalar t z) ≡ if_of_shape (is_same_type s t && is_typed t z) (scalar t z)
+kept_scalar types.boolean t z c = refl
+kept_scalar types.byte t z c = refl
+kept_scalar types.integer t z c = refl
+kept_scalar types.long t z c = refl
+kept_scalar types.currency t z c = refl
+kept_scalar types.str t z c = refl
+kept_scalar _ t z c = absurd (true≢false (sym c))
+
+not_kept : (locked : Locked) (s t : Ty) (z : Value6) (q : Position) (m : Memory) → covers_type s ≡ true → is_same_type s t ≡ false
+    → write locked (scalar t z) (root (simple s) q) m ≡ outside []
+not_kept locked s t z q m c e =
+    ap (λ o. some_of o (λ x w. store locked x q w) m) (kept_scalar s t z c ∙ ap (λ b. if_of_shape (b && is_typed t z) (scalar t z)) e)
+
+-- ---- what is written
+
+formed_alone : (T : Scope) (rank : ℕ) (ty : Ty) (a : net.Exp) → covers_type ty ≡ true → formed T rank ty a ≡ a
+formed_alone T rank types.boolean a c = refl
+formed_alone T rank types.byte a c = refl
+formed_alone T rank types.integer a c = refl
+formed_alone T rank types.long a c = refl
+formed_alone T rank types.currency a c = refl
+formed_alone T rank types.str a c = refl
+formed_alone T rank _ a c = absurd (true≢false (sym c))
+
+store_alone : (o : Option (List ℕ)) (t a : net.Exp) → store_by false o t a ≡ net.assign t a
+store_alone None t a = refl
+store_alone (Some ty) t a = refl
+
+-- for a variable it is an assignment to its name
+pub line_is : (U : Upgrade) (T : Scope) → T.declarations ≡ U.program.declarations → (ty : Ty) (v : VarId) (qualified : Bool) (r : IsReadable U v.0) (e : Expr)
+    → covers_type ty ≡ true → store_line T (typed ty (variable v qualified)) e ≡ net.assign (net.path (r.variable.name ∷ [])) (exp_of T e)
+line_is U T d ty v qualified r e c =
+    store_alone (put_type ty) (exp_of T (typed ty (variable v qualified))) (formed T (target_rank T (typed ty (variable v qualified))) ty (exp_of T e))
+    ∙ ap (λ a. net.assign (exp_of T (typed ty (variable v qualified))) a) (formed_alone T (target_rank T (typed ty (variable v qualified))) ty (exp_of T e) c)
+    ∙ ap (λ t. net.assign t (exp_of T e)) (path_is U T d ty v qualified r)
+
+-- ---- the assignment
+
+module _ (U : Upgrade) (expressions : ExpressionsAgree U) (scalars : ScalarsAreWritten U) (K : Pledge) (p : ℕ) (f : SourceFrame)
+    (g : NetFrame) (l : SourceLine) (k : NetLine) (c : Code) (T : Scope) (declared : T.declarations ≡ U.program.declarations) (oracle : SourceCalls)
+    (net_oracle : Jobs) (is_open : IsOpen (scope_of U.written c g k)) (uses : Uses) (readable : (v : VarId) → uses v ≡ true → IsReadable U v.0)
+    (own : (v : VarId) → uses v ≡ true → is_own_of U p v.0 ≡ true)
+    (shapes : (v : ℕ) (a : Address) → lookup (nat_eq v) f.vars ≡ Some a → is_own_of U p v ≡ true → OwnShape U v a) where
+  abbrev C : source.Context
+  C = context_of U oracle p f l
+
+  abbrev S : net_names.Scope
+  S = scope_of U.written c g k
+
+  module _ (w : World) (h : MemoryMatch U w) (F : FrameMatch U K w p f g) (owns : OwnsAll U K p f) (ty : Ty) (v : VarId) (qualified : Bool)
+      (use_v : uses v ≡ true) (e : Expr) (well : is_good uses e ≡ true) where
+    covers : covers_expr uses e ≡ true
+    covers = (good_parts uses e well).0
+
+    abbrev to : Expr
+    to = typed ty (variable v qualified)
+
+    abbrev readable_v : IsReadable U v.0
+    readable_v = readable v use_v
+
+    abbrev target_e : net.Exp
+    target_e = net.path ((readable v use_v).variable.name ∷ [])
+
+    -- a value that is stored behind its evaluation
+    abbrev IsStored : Reached → World → Type 0
+    IsStored r w1 =
+        (z : Value6) (y : net_value.Value) → LikeV U w1 (scalar (type_at e) z) y
+        → Agrees U K w1 AnyUnits (let_to C to (scalar (type_at e) z) w1.src) (assigned S net_oracle r y w1.net)
+
+    evaluated : (r : Reached) → target.reach S net_oracle false target_e w.net ≡ gives [] r w.net → ((w1 : World) → Later U K w w1 → IsStored r w1)
+        → Agrees U K w AnyUnits (then (source.value_of C e w.src) (let_to C to)) (assignment S net_oracle target_e (exp_of T e) w.net)
+    evaluated r at go =
+        let rest : Reached → net_store.Memory → Outcome net_store.Memory Unit =
+        λ r t. then (target.value_of S net_oracle (exp_of T e) t) (λ x t. assigned S net_oracle r x t) in
+        subst (λ z. Agrees U K w AnyUnits (then (source.value_of C e w.src) (let_to C to)) (then z rest)) (sym at)
+        (right_alone U K w AnyUnits (then (source.value_of C e w.src) (let_to C to)) (rest r w.net)
+        (then_agrees U K w (ScalarMatch U (type_at e)) AnyUnits (source.value_of C e w.src) (target.value_of S net_oracle (exp_of T e) w.net) (let_to C to)
+        (λ x t. assigned S net_oracle r x t) h (expressions K w p f g oracle net_oracle l k c T uses e h F declared is_open readable own covers (good_parts uses e well).1)
+        (λ x y w1 m later.
+        subst (λ a. Agrees U K w1 AnyUnits (let_to C to a w1.src) (assigned S net_oracle r y w1.net)) (sym m.1) (go w1 later m.0 y m.2))))
+
+    -- where the frame lacks the variable, the source is outside
+    missing : (r : Reached) (w1 : World) → lookup (nat_eq v.0) f.vars ≡ None → IsStored r w1
+    missing r w1 none z y m =
+        subst (λ a. Agrees U K w1 AnyUnits (then a (store_at C to (scalar (type_at e) z))) (assigned S net_oracle r y w1.net))
+        (sym (address_found U C refl ty v qualified readable_v w1.src ∙ ap (λ o. some_of o (λ a s. gives [] a s) w1.src) none))
+        (agrees_outside U K w1 AnyUnits (assigned S net_oracle r y w1.net))
+
+    written : (a : Address) (b : net_store.Address) (q : Position) (w1 : World) → MemoryMatch U w1 → Same U K w1 a b → a ≡ root (simple readable_v.variable.ty) q
+        → IsInPlace a → IsOwnAddress K a → (z : Value6) (y : net_value.Value) → LikeV U w1 (scalar (type_at e) z) y → (b0 : Bool)
+        → is_same_type readable_v.variable.ty (type_at e) ≡ b0
+        → Agrees U K w1 AnyUnits (write f.env (scalar (type_at e) z) a w1.src) (net_store.written b y w1.net)
+    written a b q w1 h1 same stands i o z y m true t =
+        scalars K w1 a b f.env (type_at e) z y (type_covered uses e covers) h1 same
+        (q, stands ∙ ap (λ s. root (simple s) q) (sym (same_type readable_v.variable.ty (type_at e) (scalar_type U v.0 readable_v) t))) i o m
+    written a b q w1 h1 same stands i o z y m false t =
+        subst (λ x. Agrees U K w1 AnyUnits x (net_store.written b y w1.net))
+        (sym (ap (λ d. write f.env (scalar (type_at e) z) d w1.src) stands
+        ∙ not_kept f.env readable_v.variable.ty (type_at e) z q w1.src (scalar_type U v.0 readable_v) t))
+        (agrees_outside U K w1 AnyUnits (net_store.written b y w1.net))
+
+    stored : (a : Address) (b : net_store.Address) (q : Position) → lookup (nat_eq v.0) f.vars ≡ Some a → Same U K w a b
+        → a ≡ root (simple readable_v.variable.ty) q → IsInPlace a → IsOwnAddress K a → (w1 : World) → Later U K w w1 → IsStored (at_place b) w1
+    stored a b q found same stands i o w1 later z y m =
+        subst (λ x. Agrees U K w1 AnyUnits (then x (store_at C to (scalar (type_at e) z))) (assigned S net_oracle (at_place b) y w1.net))
+        (sym (address_found U C refl ty v qualified readable_v w1.src ∙ ap (λ d. some_of d (λ a s. gives [] a s) w1.src) found))
+        (left_alone U K w1 AnyUnits (write f.env (scalar (type_at e) z) a w1.src) (assigned S net_oracle (at_place b) y w1.net)
+        (right_alone U K w1 AnyUnits (write f.env (scalar (type_at e) z) a w1.src) (net_store.written b y w1.net)
+        (written a b q w1 later.match (address_later U K w w1 a b later same) stands i o z y m (is_same_type readable_v.variable.ty (type_at e)) refl)))
+
+    assigned_by : (o : Option Address) → lookup (nat_eq v.0) f.vars ≡ o
+        → Agrees U K w AnyUnits (then (source.value_of C e w.src) (let_to C to)) (assignment S net_oracle target_e (exp_of T e) w.net)
+    assigned_by None none =
+        let x = name_reached S net_oracle readable_v.variable.name w.net in
+        evaluated x.0 x.1 (λ w1 later. missing x.0 w1 none)
+    assigned_by (Some a) found =
+        let s : SameVariable U K w v.0 a g = F.vars v.0 a found readable_v.sound in
+        let place : OwnShape U v.0 a = shapes v.0 a found (own v use_v) in
+        let same : Same U K w a s.address = exactly U K w (not (is_quiet U.program.declarations U.known v.0)) a s.address (is_loud U v.0 readable_v) s.bound in
+        let stands : a ≡ root (simple readable_v.variable.ty) (whole (made place.place)) =
+        place.stands ∙ ap (λ d. root d (whole (made place.place))) (shape_is U v.0 readable_v) in
+        evaluated (at_place s.address)
+        (variable_reached S net_oracle readable_v.variable.name s.address w.net (ap (λ n. net_names.var_in g.vars n) (sym (name_is U v.0 readable_v)) ∙ s.found))
+        (stored a s.address (whole (made place.place)) found same stands
+        (record { place = place.place; shape = variable_shape U.program.declarations v.0; path = []; stands = place.stands })
+        (owns.variables v.0 a found (own v use_v)))
+
+    pub assignment_agrees : Agrees U K w AnyUnits (then (source.value_of C e w.src) (let_to C to)) (assignment S net_oracle target_e (exp_of T e) w.net)
+    assignment_agrees = assigned_by (lookup (nat_eq v.0) f.vars) refl

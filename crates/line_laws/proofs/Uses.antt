@@ -1,0 +1,188 @@
+-- What a variable of a covered use leads to on both sides.
+use Rattle.std.proofs.Common.{◌≡◌, ◌∙◌, refl, sym, ap, ℕ, ℤ, Bool, true, false, cond, not, ◌&&◌, nat_eq, Option, Some, None, List, [], ◌∷◌, slice_get, true≢false, eqb-true, eq-eqb}
+use Rattle.std.specs.List.{list_all, list_any}
+use Rattle.std.specs.Map.{lookup}
+use Rattle.vb_tree.specs.BoundTree as types
+use Rattle.vb_tree.specs.BoundTree.{Ty}
+use Rattle.vb_tree.specs.declared.declared.Owner.{Owner}
+use Rattle.vb_tree.specs.declared.declared.Owner.TheVariants as owner
+use Rattle.vb_tree.specs.declared.declared.VarId.{VarId}
+use Rattle.bound_tree.specs.declared.body.Mention.{Mention}
+use Rattle.bound_tree.specs.Tree.{Variable, Declarations, Expr, typed, variable}
+use Rattle.bound_facts.proofs.Chains.{both_true}
+use Rattle.bound_facts.specs.Effects.{is_own_owner, is_own_variable}
+use Rattle.bound_facts.specs.Facts.{Known, is_quiet_owner, is_quiet_variable, is_quiet}
+use Rattle.bound_facts.specs.Node.{type_at, auto_class, class_in}
+use Rattle.net_tree.specs.Tree as net
+use Rattle.net_tree.specs.Tree.{Member, Module}
+use Rattle.run_base.specs.Outcomes.{gives, then, some_of}
+use Rattle.written_trees.specs.Exprs.{exp_of, made_if}
+use Rattle.written_trees.specs.Names.{Scope, alone, owner_path, variable_path_of, variable_name_of}
+use Rattle.vb6_run.specs.Expressions as source
+use Rattle.vb6_run.specs.Expressions.{Context, at_address, made_for, as_new, finished}
+use Rattle.vb6_run.specs.Runnables.{declarations_of, owned_address, declared_address, variable_address}
+use Rattle.vb6_run.specs.Shapes.{Shape, simple, shape_by, declared_shape, user_shapes, variable_shape}
+use Rattle.vb6_run.specs.Store.{Address, Memory, SourceFrame}
+use Rattle.net_run.specs.Expressions.{reach, started}
+use Rattle.net_run.specs.Making.{Jobs}
+use Rattle.net_run.specs.Members.{member_named}
+use Rattle.net_run.specs.Names as net_names
+use Rattle.net_run.specs.Names.{Reached, at_place, not_found, starts, frame_start, member_start, module_start, module_member, member_reached, var_in}
+use Rattle.net_run.specs.Shapes.{module_named, module_at, members_of}
+use Rattle.net_run.specs.Store as store
+use Rattle.run_matches.specs.Upgrades.{Upgrade, runnable_of}
+use Rattle.run_matches.specs.Formed.{is_formed}
+use Rattle.run_matches.specs.Covered.{Uses, covers_type, covers_owner, covers_variable, covers_some, covers_use, covers_expr, covers_term, belongs_to, is_mention_of}
+use Rattle.run_matches.specs.Frames.{is_own_of, name_of}
+use Rattle.run_statements.specs.Frames.{IsReadable}
+
+-- ---- expressions
+
+pub type_covered : (uses : Uses) (e : Expr) → covers_expr uses e ≡ true → covers_type (type_at e) ≡ true
+type_covered uses (typed ty t) h = (both_true (covers_type ty) (covers_term uses t) h).0
+
+-- ---- owners
+
+own_owner : (p : ℕ) (o : Owner) → belongs_to p o ≡ true → covers_owner o ≡ true → is_own_owner p o ≡ true
+own_owner p (owner.Local q) h c = eq-eqb q.0 p (sym (eqb-true p q.0 h))
+own_owner p _ h c = absurd (true≢false (sym c))
+
+own_some : (p : ℕ) (o : Option Variable) → covers_some p o ≡ true → is_own_variable p o ≡ true
+own_some p None h = absurd (true≢false (sym h))
+own_some p (Some x) h =
+    let parts : (belongs_to p x.owner ≡ true) × (covers_variable x ≡ true) = both_true (belongs_to p x.owner) (covers_variable x) h in
+    own_owner p x.owner parts.0 (both_true (covers_owner x.owner) (covers_type x.ty && not x.auto) parts.1).0
+
+-- a variable of a covered use is the procedure's own
+pub own_use : (U : Upgrade) (p : ℕ) (mentions : List Mention) (v : VarId) → covers_use U.program p mentions v ≡ true → is_own_of U p v.0 ≡ true
+own_use U p mentions v h =
+    own_some p (slice_get U.program.declarations.vars v.0)
+    (both_true (list_any (is_mention_of v) mentions) (covers_some p (slice_get U.program.declarations.vars v.0)) h).1
+
+quiet_owner : (F : Known) (o : Owner) → covers_owner o ≡ true → is_quiet_owner F o ≡ false
+quiet_owner F (owner.Local q) c = refl
+quiet_owner F _ c = absurd (true≢false (sym c))
+
+path_owner : (T : Scope) (qualified : Bool) (name : List ℕ) (o : Owner) → covers_owner o ≡ true → owner_path T qualified name o ≡ alone name
+path_owner T qualified name (owner.Local q) c = refl
+path_owner T qualified name _ c = absurd (true≢false (sym c))
+
+address_owner : (D : Declarations) (f : SourceFrame) (v : ℕ) (o : Owner) → covers_owner o ≡ true → owned_address D f v o ≡ lookup (nat_eq v) f.vars
+address_owner D f v (owner.Local q) c = refl
+address_owner D f v _ c = absurd (true≢false (sym c))
+
+simple_type : (users : ℕ → Shape) (bounds : List (ℤ × ℤ)) (ty : Ty) → covers_type ty ≡ true → shape_by users bounds ty ≡ simple ty
+simple_type users bounds types.boolean c = refl
+simple_type users bounds types.byte c = refl
+simple_type users bounds types.integer c = refl
+simple_type users bounds types.long c = refl
+simple_type users bounds types.currency c = refl
+simple_type users bounds types.str c = refl
+simple_type users bounds _ c = absurd (true≢false (sym c))
+
+not_true : (b : Bool) → not b ≡ true → b ≡ false
+not_true true e = absurd (true≢false (sym e))
+not_true false e = refl
+
+-- ---- a variable that can be read
+
+module _ (U : Upgrade) (v : ℕ) (r : IsReadable U v) where
+  abbrev D : Declarations
+  D = U.program.declarations
+
+  covered : (covers_owner r.variable.owner ≡ true) × (covers_type r.variable.ty && not r.variable.auto ≡ true)
+  covered = both_true (covers_owner r.variable.owner) (covers_type r.variable.ty && not r.variable.auto) r.covers
+
+  pub scalar_type : covers_type r.variable.ty ≡ true
+  scalar_type = (both_true (covers_type r.variable.ty) (not r.variable.auto) covered.1).0
+
+  no_auto : auto_class (slice_get D.vars v) ≡ None
+  no_auto =
+      ap auto_class r.is_variable
+      ∙ ap (λ b. cond b (class_in r.variable.ty) None) (not_true r.variable.auto (both_true (covers_type r.variable.ty) (not r.variable.auto) covered.1).1)
+
+  pub is_loud : not (is_quiet D U.known v) ≡ true
+  is_loud =
+      ap (λ o. not (is_quiet_variable U.known o && not (U.known.touched v))) r.is_variable
+      ∙ ap (λ b. not (b && not (U.known.touched v))) (quiet_owner U.known r.variable.owner covered.0)
+
+  pub shape_is : variable_shape D v ≡ simple r.variable.ty
+  shape_is = ap (declared_shape (user_shapes D)) r.is_variable ∙ simple_type (user_shapes D) r.variable.bounds r.variable.ty scalar_type
+
+  pub name_is : name_of U v ≡ r.variable.name
+  name_is = ap variable_name_of r.is_variable
+
+  -- its address in the source's frame
+  address_is : (f : SourceFrame) → variable_address D f v ≡ lookup (nat_eq v) f.vars
+  address_is f = ap (declared_address D f v) r.is_variable ∙ address_owner D f v r.variable.owner covered.0
+
+address_by : (C : Context) (o : Option Address) (m : Option ℕ) → m ≡ None → (s : Memory)
+    → then (then (some_of o (λ a w. gives [] (at_address a) w) s) (made_for C m)) finished ≡ some_of o (λ a w. gives [] a w) s
+address_by C None m e s = refl
+address_by C (Some a) m e s = ap (λ z. then (then (gives [] (at_address a) s) (made_for C z)) finished) e
+
+-- the target of an assignment in the source
+pub address_found : (U : Upgrade) (C : Context) → C.runnable ≡ runnable_of U → (ty : Ty) (v : VarId) (qualified : Bool) (r : IsReadable U v.0) (s : Memory)
+    → source.address_of C (typed ty (variable v qualified)) s ≡ some_of (lookup (nat_eq v.0) C.frame.vars) (λ a w. gives [] a w) s
+address_found U C e ty v qualified r s =
+    ap (λ o. then (then (some_of o (λ a w. gives [] (at_address a) w) s) (as_new C (variable v qualified))) finished)
+    (ap (λ R. variable_address (declarations_of R) C.frame v.0) e ∙ address_is U v.0 r C.frame)
+    ∙ address_by C (lookup (nat_eq v.0) C.frame.vars) (auto_class (slice_get (declarations_of C.runnable).vars v.0))
+    (ap (λ R. auto_class (slice_get (declarations_of R).vars v.0)) e ∙ no_auto U v.0 r) s
+
+-- ---- what is written for it
+
+-- its name alone
+pub path_is : (U : Upgrade) (T : Scope) → T.declarations ≡ U.program.declarations → (ty : Ty) (v : VarId) (qualified : Bool) (r : IsReadable U v.0)
+    → exp_of T (typed ty (variable v qualified)) ≡ net.path (r.variable.name ∷ [])
+path_is U T e ty v qualified r =
+    let slot : slice_get T.declarations.vars v.0 ≡ slice_get U.program.declarations.vars v.0 = ap (λ d. slice_get d.vars v.0) e in
+    ap (λ o. made_if T.declarations (auto_class (slice_get T.declarations.vars v.0)) (net.path (variable_path_of T qualified o))) (slot ∙ r.is_variable)
+    ∙ ap (λ m. made_if T.declarations m (net.path (owner_path T qualified r.variable.name r.variable.owner))) (ap auto_class slot ∙ no_auto U v.0 r)
+    ∙ ap net.path (path_owner T qualified r.variable.name r.variable.owner (covered U v.0 r).0)
+
+module _ (S : net_names.Scope) (oracle : Jobs) where
+  class_alone : (home : ℕ) (b : Bool) → module_member S home b [] ≡ starts not_found []
+  class_alone home true = refl
+  class_alone home false = refl
+
+  module_alone : (name : List ℕ) (o : Option (ℕ × Module)) → (r : Reached) × (module_start S name [] o ≡ starts r [])
+  module_alone name None = (not_found, refl)
+  module_alone name (Some found) = (not_found, class_alone found.0 found.1.class)
+
+  member_alone : (name : List ℕ) (o : Option (ℕ × Member)) → (r : Reached) × (member_start S name [] o ≡ starts r [])
+  member_alone name None = module_alone name (module_named S.project name)
+  member_alone name (Some found) = (member_reached S None S.home found.0 found.1, refl)
+
+  start_alone : (name : List ℕ) (o : Option store.Address) → (r : Reached) × (frame_start S name [] o ≡ starts r [])
+  start_alone name None = member_alone name (member_named name (members_of (module_at S.project S.home)))
+  start_alone name (Some a) = (at_place a, refl)
+
+  -- a name alone leads somewhere, and does nothing
+  pub name_reached : (name : List ℕ) (t : store.Memory) → (r : Reached) × (reach S oracle false (net.path (name ∷ [])) t ≡ gives [] r t)
+  name_reached name t =
+      let x = start_alone name (var_in S.vars name) in
+      (x.0, ap (λ z. started S oracle z t) x.1)
+
+  -- a variable of the frame
+  pub variable_reached : (name : List ℕ) (a : store.Address) (t : store.Memory) → var_in S.vars name ≡ Some a
+      → reach S oracle false (net.path (name ∷ [])) t ≡ gives [] (at_place a) t
+  variable_reached name a t e = ap (λ o. started S oracle (frame_start S name [] o) t) e
+
+-- ---- covered and well formed
+
+abbrev pub is_good : Uses → Expr → Bool
+is_good uses e = covers_expr uses e && is_formed e
+
+pub good : (uses : Uses) (e : Expr) → covers_expr uses e ≡ true → is_formed e ≡ true → is_good uses e ≡ true
+good uses e covers formed = ap (λ b. b && is_formed e) covers ∙ formed
+
+pub good_parts : (uses : Uses) (e : Expr) → is_good uses e ≡ true → (covers_expr uses e ≡ true) × (is_formed e ≡ true)
+good_parts uses e h = both_true (covers_expr uses e) (is_formed e) h
+
+pub all_good : (uses : Uses) (es : List Expr) → list_all (covers_expr uses) es ≡ true → list_all is_formed es ≡ true → list_all (is_good uses) es ≡ true
+all_good uses [] covers formed = refl
+all_good uses (e ∷ es) covers formed =
+    let c = both_true (covers_expr uses e) (list_all (covers_expr uses) es) covers in
+    let f = both_true (is_formed e) (list_all is_formed es) formed in
+    ap (λ b. b && list_all (is_good uses) es) (good uses e c.0 f.0) ∙ all_good uses es c.1 f.1

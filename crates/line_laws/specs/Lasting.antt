@@ -1,0 +1,67 @@
+-- Frames that go on to match at later worlds, and lines in them.
+use Rattle.std.specs.Prelude.{◌≡◌, ℕ, ◌<◌, true, nat_eq, Option, Some}
+use Rattle.std.specs.Map.{lookup}
+use Rattle.vb_tree.specs.declared.declared.VarId.{VarId}
+use Rattle.run_base.specs.Positions.{Position, made, whole}
+use Rattle.vb6_run.specs.Shapes.{variable_shape}
+use Rattle.vb6_run.specs.Forms.{SourceLine}
+use Rattle.vb6_run.specs.Programs as source
+use Rattle.vb6_run.specs.Store.{Address, root, SourceFrame, held_at}
+use Rattle.vb6_run.specs.Values.{Value}
+use Rattle.net_run.specs.Lines.{NetFrame, NetLine, scope_of}
+use Rattle.net_run.specs.Members.{Code, code_at}
+use Rattle.net_run.specs.Program as target
+use Rattle.net_run.specs.Store as net
+use Rattle.run_matches.specs.Upgrades.{Upgrade, code_of, runnable_of}
+use Rattle.run_matches.specs.Maps.{World, Below, IsMade, mark}
+use Rattle.run_matches.specs.Likeness.{LikeV, ShapedAs}
+use Rattle.run_matches.specs.Match.{MemoryMatch}
+use Rattle.run_matches.specs.Pledges.{Pledge, Later}
+use Rattle.run_matches.specs.Addresses.{Mirrors, position_of}
+use Rattle.run_matches.specs.Agreeing.{Agrees}
+use Rattle.run_matches.specs.Covered.{covers_use, covers_line}
+use Rattle.run_matches.specs.Frames.{HasNames, HasPlace, FrameMatch, OwnsAll, is_own_of, frame_pledge}
+use Rattle.run_matches.specs.Runs.{line_result}
+use Rattle.run_matches.specs.Sites.{Site}
+use Rattle.run_statements.specs.Frames.{IsOpen, IsReadable}
+use Rattle.run_statements.specs.Written.{WrittenLine}
+
+-- ---- frames
+
+-- the place of a variable has the shape of its declaration
+pub record OwnShape (U : Upgrade) (v : ℕ) (a : Address) : Type 0 where
+  pub place : ℕ
+  pub stands : a ≡ root (variable_shape U.program.declarations v) (whole (made place))
+
+-- frames match now and as long as the pledge is kept
+abbrev pub GoOnMatching : Upgrade → Pledge → (procedure : ℕ) → SourceFrame → NetFrame → World → Type 0
+GoOnMatching U K p f g w = (w1 : World) → Later U K w w1 → FrameMatch U K w1 p f g
+
+-- so they do, and the procedure's own variables have the shapes of their declarations
+pub record SteadyFrame (U : Upgrade) (K : Pledge) (w : World) (p : ℕ) (f : SourceFrame) (g : NetFrame) : Type 0 where
+  pub match : GoOnMatching U K p f g w
+  pub shapes : (v : ℕ) (a : Address) → lookup (nat_eq v) f.vars ≡ Some a → is_own_of U p v ≡ true → OwnShape U v a
+
+pub record SteadyNext (U : Upgrade) (K : Pledge) (p : ℕ) (me : Option ℕ) (w : World) (f : SourceFrame) (g : NetFrame) : Type 0 where
+  pub same_object : f.me ≡ me
+  pub frames : SteadyFrame U K w p f g
+  pub owns : OwnsAll U K p f
+
+-- ---- lines
+
+-- from such frames at the line of a number, a line of the procedure p and the written line lead to such frames
+abbrev pub SameSteadyLine : Upgrade → (p q number : ℕ) → SourceLine → NetLine → Type 0
+SameSteadyLine U p q number l k =
+    (w : World) (f : SourceFrame) (g : NetFrame) (turns : ℕ) → f.line ≡ number → MemoryMatch U w → SteadyFrame U (frame_pledge U p w f) w p f g
+    → Agrees U (frame_pledge U p w f) w (SteadyNext U (frame_pledge U p w f) p f.me)
+    (line_result (source.machine_of (runnable_of U)) turns p f l w.src)
+    (line_result (target.machine_of U.written) turns q g k w.net)
+
+-- a covered line and what is written for it do the same
+abbrev pub SteadyLinesAgree : Upgrade → Type 0
+SteadyLinesAgree U =
+    (p : ℕ) (s : Site) (written number : ℕ) (l : SourceLine) (c : Code) (L : WrittenLine U p s written number l) → code_at U.written written ≡ Some c
+    → ((g : NetFrame) (k : NetLine) → HasNames (code_of U p) g → IsOpen (scope_of U.written c g k))
+    → ((v : VarId) → covers_use U.program p l.form.bindings.mentions v ≡ true → IsReadable U v.0)
+    → covers_line U.program p l.form ≡ true
+    → SameSteadyLine U p written number l L.line

@@ -1,0 +1,9 @@
+pub mod Positions
+pub mod Moved
+pub mod Changes
+pub mod Places
+pub mod Scalars
+pub mod Reading
+pub mod Writing
+pub mod Making
+pub mod ByPledges

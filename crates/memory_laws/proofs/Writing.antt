@@ -1,0 +1,122 @@
+-- A scalar is written to a variable on both sides.
+use Rattle.std.proofs.Common.{◌≡◌, refl, sym, subst, ◌∙◌, ℕ, true, cond, Some, []}
+use Rattle.up_base.proofs.Tests.{by_test}
+use Rattle.vb_tree.specs.BoundTree.{Ty}
+use Rattle.vb_tree.specs.declared.value.Value6.{Value6}
+use Rattle.bound_facts.specs.Locks.{is_same_type}
+use Rattle.net_tree.specs.Types.{TypeName}
+use Rattle.net_meaning.specs.declared.value.ValueN.{ValueN}
+use Rattle.net_meaning.specs.declared.value.ValueN.TheVariants as n
+use Rattle.run_base.specs.Outcomes.{gives, outside, some_of}
+use Rattle.run_base.specs.Positions.{Position, made}
+use Rattle.vb6_run.specs.Shapes.{Shape, simple, variable_shape}
+use Rattle.vb6_run.specs.Store.{Address, root, Locked, Held, single, table, provided, with_held, put_single, store, write}
+use Rattle.vb6_run.specs.Values.{scalar}
+use Rattle.net_run.specs.Shapes as shape
+use Rattle.net_run.specs.Store as net
+use Rattle.net_run.specs.Values as net_value
+use Rattle.run_matches.specs.Upgrades.{Upgrade}
+use Rattle.run_matches.specs.Maps.{World, IsMatched, moved_at}
+use Rattle.run_matches.specs.Likeness.{LikeV, like_scalar, Like, are_same, scalar_word}
+use Rattle.run_matches.specs.Match.{Holds, holds_blank, holds_single, holds_table, holds_parts, MemoryMatch}
+use Rattle.run_matches.specs.Pledges.{Pledge, Later, IsLasting, IsHeld}
+use Rattle.run_matches.specs.Agreeing.{Agrees}
+use Rattle.run_matches.specs.Covered.{covers_type}
+use Rattle.run_matches.specs.Frames.{HasPlace, IsInPlace, IsOwnAddress}
+use Rattle.run_statements.specs.Frames.{AnyUnits, ScalarsAreWritten}
+use Rattle.agreeing_laws.proofs.Agreeing.{agrees_outside}
+use Rattle.memory_laws.specs.Changes.{changed, IsNoTable, GoesAlone}
+use Rattle.memory_laws.specs.Statements.{ScalarsAreWrittenInPlaces}
+use Rattle.memory_laws.proofs.Changes.{changed_later}
+use Rattle.memory_laws.proofs.Moved.{place_goes_alone, root_goes_alone}
+use Rattle.memory_laws.proofs.Positions.{at}
+use Rattle.memory_laws.proofs.Reading.{ScalarImage, scalar_image}
+use Rattle.memory_laws.proofs.Scalars.{scalar_is_no_array, kept_scalar, scalar_of_word, covered_same}
+
+no_table_in : (t : Ty) (x : Value6) (h : Held) → h ≡ single t x → IsNoTable h
+no_table_in t x h e d dims xs f = no_table (sym e ∙ f)
+  where
+    no_table : single t x ≡ table d dims xs → ⊥
+    no_table g = cc
+
+module _ (U : Upgrade) (K : Pledge) (w : World) (ty : Ty) (z : Value6) (y : ValueN) (q : Position) (c : covers_type ty ≡ true) (h : MemoryMatch U w)
+    (m : IsMatched U w q) (alone : GoesAlone U w q) (free : IsLasting U K w q → IsHeld w q → ⊥) (like : Like w ty z y) where
+  written_later : (t : Ty) (old : Value6) (before : ValueN) → t ≡ ty → w.src.held q ≡ single t old → w.net.cell (moved_at U w.map q) ≡ net.holds before
+      → Like w t old before → Later U K w (changed U w q (single t z) (net.holds y))
+  written_later t old before same is net_is l =
+      changed_later U w q (single t z) (net.holds y) h m alone (holds_single t z y (subst (λ u. Like w u z y) (sym same) like))
+      (no_table_in t old (w.src.held q) is) (λ k e. scalar_is_no_array (are_same w) t old before l k (sym net_is ∙ e))
+      (scalar_is_no_array (are_same w) ty z y like) K free
+
+  typed_agrees : (t : Ty) (old : Value6) (before : ValueN) → w.src.held q ≡ single t old → w.net.cell (moved_at U w.map q) ≡ net.holds before
+      → Like w t old before
+      → Agrees U K w AnyUnits (provided (is_same_type t ty) (λ v. gives [] tt (with_held q (single t z) v)) w.src)
+      (gives [] tt (net.with_cell (moved_at U w.map q) (net.holds y) w.net))
+  typed_agrees t old before is net_is l =
+      by_test (is_same_type t ty)
+      (λ b. Agrees U K w AnyUnits (provided b (λ v. gives [] tt (with_held q (single t z) v)) w.src)
+      (gives [] tt (net.with_cell (moved_at U w.map q) (net.holds y) w.net)))
+      (λ e. (refl, w.map, tt, written_later t old before (covered_same t ty c e) is net_is l))
+      (λ e. agrees_outside U K w AnyUnits (gives [] tt (net.with_cell (moved_at U w.map q) (net.holds y) w.net)))
+
+  put_agrees : (x : Held) (d : net.Cell) → w.src.held q ≡ x → w.net.cell (moved_at U w.map q) ≡ d → Holds U w x d
+      → Agrees U K w AnyUnits (put_single x q ty z w.src) (net.put d (moved_at U w.map q) y w.net)
+  put_agrees _ _ is net_is holds_blank = agrees_outside U K w AnyUnits (net.put net.blank (moved_at U w.map q) y w.net)
+  put_agrees _ _ is net_is (holds_single t old before l) = typed_agrees t old before is net_is l
+  put_agrees _ _ is net_is (holds_table e dims xs k l) =
+      agrees_outside U K w AnyUnits (net.put (net.holds (n.Array k)) (moved_at U w.map q) y w.net)
+  put_agrees _ _ is net_is holds_parts = agrees_outside U K w AnyUnits (net.put net.structure (moved_at U w.map q) y w.net)
+
+  -- a value of the type is written
+  pub value_is_written : (locked : Locked) (t : TypeName) → scalar_word ty ≡ Some t
+      → Agrees U K w AnyUnits (write locked (scalar ty z) (root (simple ty) q) w.src)
+      (net.written (net.root (shape.scalar t) (moved_at U w.map q)) (net_value.single y) w.net)
+  value_is_written locked t e =
+      subst
+      (λ o. Agrees U K w AnyUnits (some_of o (λ x v. store locked x q v) w.src)
+      (net.written (net.root (shape.scalar t) (moved_at U w.map q)) (net_value.single y) w.net))
+      (sym (kept_scalar (are_same w) ty z y c like))
+      (subst
+      (λ b. Agrees U K w AnyUnits (put_single (w.src.held q) q ty z w.src)
+      (cond b (net.put (w.net.cell (moved_at U w.map q)) (moved_at U w.map q) y w.net) (outside [])))
+      (sym (scalar_of_word (are_same w) ty z y t c e like))
+      (put_agrees (w.src.held q) (w.net.cell (moved_at U w.map q)) refl refl (h.stores.values q m)))
+
+module _ (U : Upgrade) where
+  like_is_written : (K : Pledge) (w : World) (locked : Locked) (ty : Ty) (z : Value6) (y : net_value.Value) (q : Position) (t : TypeName)
+      → covers_type ty ≡ true → MemoryMatch U w → IsMatched U w q → GoesAlone U w q → (IsLasting U K w q → IsHeld w q → ⊥) → scalar_word ty ≡ Some t
+      → LikeV U w (scalar ty z) y
+      → Agrees U K w AnyUnits (write locked (scalar ty z) (root (simple ty) q) w.src)
+      (net.written (net.root (shape.scalar t) (moved_at U w.map q)) y w.net)
+  like_is_written K w locked _ _ _ q t c h m alone free e (like_scalar ty z y l) = value_is_written U K w ty z y q c h m alone free l locked t e
+
+  -- where no other position goes to where the variable stands
+  image_is_written : (K : Pledge) (w : World) (a : Address) (b : net.Address) (locked : Locked) (ty : Ty) (z : Value6) (y : net_value.Value)
+      → covers_type ty ≡ true → MemoryMatch U w → (i : ScalarImage U w ty a b) → GoesAlone U w i.position → IsOwnAddress K a → LikeV U w (scalar ty z) y
+      → Agrees U K w AnyUnits (write locked (scalar ty z) a w.src) (net.written b y w.net)
+  image_is_written K w a b locked ty z y c h i alone own like =
+      subst (λ x. Agrees U K w AnyUnits (write locked (scalar ty z) x w.src) (net.written b y w.net)) (sym i.at_source)
+      (subst (λ x. Agrees U K w AnyUnits (write locked (scalar ty z) (root (simple ty) i.position) w.src) (net.written x y w.net)) (sym i.at_target)
+      (like_is_written K w locked ty z y i.position i.type_name c h i.is_matched alone
+      (λ l x. subst (λ u. IsOwnAddress K u) i.at_source own i.position refl l.old) i.is_name like))
+
+  place_alone : (w : World) (ty : Ty) (a : Address) (b : net.Address) → MemoryMatch U w → (i : ScalarImage U w ty a b) → IsInPlace a
+      → GoesAlone U w i.position
+  place_alone w ty a b h i p =
+      let s : i.position ≡ at (made p.place) p.path = same_in (simple ty) p.shape i.position (at (made p.place) p.path) (sym i.at_source ∙ p.stands) in
+      subst (λ x. GoesAlone U w x) (sym s) (place_goes_alone U w h.stores p.place p.path (subst (λ x. IsMatched U w x) s i.is_matched))
+    where
+      same_in : (s t : Shape) (q r : Position) → root s q ≡ root t r → q ≡ r
+      same_in s t q r e = cc
+
+  pub scalars_are_written_in_places : ScalarsAreWrittenInPlaces U
+  scalars_are_written_in_places K w a b locked ty z y c h same stands place own like =
+      let i : ScalarImage U w ty a b = scalar_image U K w ty a b c same stands in
+      image_is_written K w a b locked ty z y c h i (place_alone w ty a b h i place) own like
+
+  pub scalars_are_written : ScalarsAreWritten U
+  scalars_are_written = scalars_are_written_in_places
+
+-- the place of a variable
+pub is_in_place : (U : Upgrade) (w : World) (v : ℕ) (a : Address) → HasPlace U w v a → IsInPlace a
+is_in_place U w v a p = record { place = p.place; shape = variable_shape U.program.declarations v; path = []; stands = p.stands }

@@ -1,0 +1,36 @@
+-- Two memories in which one position has changed, or a place was made.
+use Rattle.std.specs.Prelude.{◌≡◌, ℕ, suc, false, Option, List}
+use Rattle.net_meaning.specs.declared.value.ValueN.TheVariants as n
+use Rattle.run_base.specs.Positions.{Position, updated_at}
+use Rattle.vb6_run.specs.Shapes.{Shape}
+use Rattle.vb6_run.specs.Store.{Held, table, with_held}
+use Rattle.vb6_run.specs.Values.{Dimension, Values}
+use Rattle.net_run.specs.Store as net
+use Rattle.run_matches.specs.Upgrades.{Upgrade}
+use Rattle.run_matches.specs.Maps.{World, IsMatched, moved_at}
+
+-- a position of the source holds something else, and so does the cell that stands for it
+abbrev pub changed : Upgrade → World → Position → Held → net.Cell → World
+changed U w q x c = record { map = w.map; src = with_held q x w.src; net = net.with_cell (moved_at U w.map q) c w.net }
+
+-- a place of each side, in which nothing stands; it may be known by the variable that declares it
+abbrev pub with_place : World → (declared : Option ℕ) → World
+with_place w d = record {
+  map = record w.map {
+    places = updated_at w.map.places w.src.next w.net.next;
+    alone = updated_at w.map.alone w.src.next false;
+    declares = updated_at w.map.declares w.src.next d;
+  };
+  src = record w.src { next = suc w.src.next };
+  net = record w.net { next = suc w.net.next };
+}
+
+abbrev pub IsNoTable : Held → Type 0
+IsNoTable x = (e : Shape) (dims : List Dimension) (xs : Values) → x ≡ table e dims xs → ⊥
+
+abbrev pub IsNoArray : net.Cell → Type 0
+IsNoArray c = (k : ℕ) → c ≡ net.holds (n.Array k) → ⊥
+
+-- no other position that is compared goes where this one goes
+abbrev pub GoesAlone : Upgrade → World → Position → Type 0
+GoesAlone U w q = (p : Position) → IsMatched U w p → moved_at U w.map q ≡ moved_at U w.map p → q ≡ p

@@ -1,0 +1,13 @@
+pub mod Lists
+pub mod Names
+pub mod WrittenMembers
+pub mod Declared
+pub mod Open
+pub mod Sets
+pub mod Arrows
+pub mod Owned
+pub mod Numbers
+pub mod Prologues
+pub mod Owns
+pub mod Uses
+pub mod Lines

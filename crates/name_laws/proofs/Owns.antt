@@ -1,0 +1,170 @@
+-- What a covered, clean procedure declares is written as it is declared.
+use Rattle.std.proofs.Common.{◌≡◌, refl, ap, sym, subst, ◌∙◌, ℕ, nat_eq, Bool, true, false, cond, not, ◌&&◌, List, map, Option, Some, None, slice_get, inl, inr}
+use Rattle.std.specs.Prelude.{is_some, ◌⊎◌}
+use Rattle.std.specs.Cmp.Lexicographic.{pointwise}
+use Rattle.std.specs.List.{list_all}
+use Rattle.vb_tree.specs.BoundTree as types
+use Rattle.vb_tree.specs.BoundTree.{Ty}
+use Rattle.vb_tree.specs.Blocks.{is_code}
+use Rattle.vb_tree.specs.declared.declared.Owner.{Owner}
+use Rattle.vb_tree.specs.declared.declared.Owner.TheVariants as owner
+use Rattle.vb_tree.specs.declared.value.Value6.{Value6}
+use Rattle.bound_tree.specs.Tree.{Variable, Constant, Procedure, Declarations, Program}
+use Rattle.bound_facts.specs.Clean.{variable, point_broken, IsClean}
+use Rattle.net_tree.specs.Tree as net
+use Rattle.written_trees.specs.Bodies.{inside_procedure, code_at}
+use Rattle.written_trees.specs.Facts.{is_flagged_variable, is_flagged_constant}
+use Rattle.written_trees.specs.Names.{Scope}
+use Rattle.written_trees.specs.Prologues.{declares, code_sets, constant_dim_by, constant_dim, prologue}
+use Rattle.vb6_run.specs.Programs.{is_local_of, owned_from}
+use Rattle.run_matches.specs.Covered.{covers_type, covers_owner, covers_variable, belongs_to, covers_head, covers_variables, covers_body, covers_names, are_different, covers_own, covers_owns, covers_site, covers_procedure}
+use Rattle.run_matches.specs.Sites.{Site, site_of, site_lines, first_statement, Own, own_variable, own_constant, own_name, owns_from, owns_of, variable_numbers}
+use Rattle.run_matches.specs.Upgrades.{Upgrade, is_unknown, type_of_some, type_of}
+use Rattle.run_statements.specs.Frames.{IsReadable}
+use Rattle.run_statements.specs.Kept.{own_dim, IsConstantDim, OwnsAreKept}
+use Rattle.run_statements.specs.Written.{IsWritten, WrittenProcedure, site_scope}
+use Rattle.name_laws.proofs.Lists.{both_true, none_of_both, Among, among, among_append, all_among, all_at, same_numbers}
+use Rattle.name_laws.proofs.Arrows.{variable_unbroken, constant_unbroken, variable_unflagged, constant_unflagged}
+use Rattle.name_laws.proofs.Owned.{IsOwn, lines_own, number_among, owned_is}
+use Rattle.name_laws.proofs.Numbers.{site_procedure}
+use Rattle.name_laws.proofs.Prologues.{prologue_is}
+
+-- ---- what can be read
+
+type_known : (ty : Ty) → covers_type ty ≡ true → is_unknown (Some ty) ≡ false
+type_known types.boolean h = refl
+type_known types.byte h = refl
+type_known types.integer h = refl
+type_known types.long h = refl
+type_known types.currency h = refl
+type_known types.str h = refl
+type_known (types.fixed units) h = absurd (cc h)
+type_known (types.user t) h = absurd (cc h)
+type_known (types.class c) h = absurd (cc h)
+type_known types.object h = absurd (cc h)
+type_known types.variant h = absurd (cc h)
+type_known (types.array e rank) h = absurd (cc h)
+type_known types.nothing h = absurd (cc h)
+type_known types.unknown h = absurd (cc h)
+
+-- a covered variable whose statement breaks no rule
+pub readable : (U : Upgrade) (v : ℕ) (x : Variable) → slice_get U.program.declarations.vars v ≡ Some x → covers_variable x ≡ true
+    → point_broken U.program.declarations U.facts.marks (variable v) ≡ false → IsReadable U v
+readable U v x e h unbroken =
+    let ty = both_true (covers_type x.ty) (not x.auto) (both_true (covers_owner x.owner) (covers_type x.ty && not x.auto) h).1 in
+    let known : is_unknown (type_of U v) ≡ false = ap (λ (o : Option Variable). is_unknown (type_of_some o)) e ∙ type_known x.ty ty.0 in
+    record {
+      variable = x;
+      is_variable = e;
+      covers = h;
+      sound =
+          none_of_both (is_flagged_variable U.facts v) (is_unknown (type_of U v)) (variable_unflagged U.program.declarations U.facts v x e unbroken) known;
+    }
+
+-- ---- the parts of what covers a procedure
+
+pub record Covers (P : Program) (p : ℕ) (s : Site) : Type 0 where
+  pub numbers : pointwise nat_eq (variable_numbers (owns_of P.declarations s)) (owned_from (is_local_of p) 0 P.declarations.vars) ≡ true
+  pub owns : list_all (covers_own p) (owns_of P.declarations s) ≡ true
+  pub vars : covers_variables P p ≡ true
+  pub body : covers_body P p (slice_get P.bodies p) ≡ true
+
+pub covered_parts : (P : Program) (p : ℕ) (s : Site) → site_of P.declarations p ≡ Some s → covers_procedure P p ≡ true → Covers P p s
+covered_parts P p s e h =
+    let D = P.declarations in
+    let os = owns_of D s in
+    let a = both_true (covers_names D) (covers_head P (slice_get D.procs p)
+    && (covers_site D p (site_of D p) && (covers_variables P p && covers_body P p (slice_get P.bodies p)))) h in
+    let b = both_true (covers_head P (slice_get D.procs p)) (covers_site D p (site_of D p) && (covers_variables P p && covers_body P p (slice_get P.bodies p))) a.1 in
+    let c = both_true (covers_site D p (site_of D p)) (covers_variables P p && covers_body P p (slice_get P.bodies p)) b.1 in
+    let d = both_true (covers_variables P p) (covers_body P p (slice_get P.bodies p)) c.1 in
+    let site : covers_site D p (Some s) ≡ true = sym (ap (covers_site D p) e) ∙ c.0 in
+    let f = both_true (not s.source_module.class) (covers_owns D p os) site in
+    let g = both_true (pointwise nat_eq (variable_numbers os) (owned_from (is_local_of p) 0 D.vars)) (list_all (covers_own p) os && are_different (map own_name os)) f.1 in
+    let i = both_true (list_all (covers_own p) os) (are_different (map own_name os)) g.1 in
+    record { numbers = g.0; owns = i.0; vars = d.0; body = d.1 }
+
+local_belongs : (p : ℕ) (o : Owner) → is_local_of p o ≡ true → belongs_to p o ≡ true
+local_belongs p (owner.Module file) h = absurd (cc h)
+local_belongs p (owner.Local q) h = h
+local_belongs p (owner.Static q) h = absurd (cc h)
+local_belongs p (owner.Value q) h = absurd (cc h)
+local_belongs p (owner.Reference q) h = absurd (cc h)
+local_belongs p (owner.Answer q) h = absurd (cc h)
+local_belongs p (owner.Field t) h = absurd (cc h)
+
+own_covers : (b c : Bool) → cond b c true ≡ true → b ≡ true → c ≡ true
+own_covers true c h e = h
+own_covers false c h e = absurd (cc e)
+
+-- ---- what the procedure declares
+
+pub own_is : (D : Declarations) (s : Site) (o : Own) → Among (owns_of D s) o → IsOwn D o
+own_is D s o h =
+    let file = s.source_module.file in
+    by (among_append (owns_from D file declares (first_statement s) (site_lines s)) (owns_from D file is_code (first_statement s) (site_lines s)) o h)
+  where
+    by : Among (owns_from D s.source_module.file declares (first_statement s) (site_lines s)) o
+        ⊎ Among (owns_from D s.source_module.file is_code (first_statement s) (site_lines s)) o → IsOwn D o
+    by (inl m) = lines_own D s.source_module.file declares (first_statement s) (site_lines s) o m
+    by (inr m) = lines_own D s.source_module.file is_code (first_statement s) (site_lines s) o m
+
+pub own_readable : (U : Upgrade) (p : ℕ) (s : Site) → Covers U.program p s → IsClean U.program U.facts.marks p → (v : ℕ) (y : Variable)
+    → Among (owns_of U.program.declarations s) (own_variable v y) → IsReadable U v
+own_readable U p s C clean v y h =
+    let D = U.program.declarations in
+    let stands : slice_get D.vars v ≡ Some y = own_is D s (own_variable v y) h in
+    let number : Among (owned_from (is_local_of p) 0 D.vars) v =
+    subst (λ (ns : List ℕ). Among ns v) (same_numbers (variable_numbers (owns_of D s)) (owned_from (is_local_of p) 0 D.vars) C.numbers)
+    (number_among (owns_of D s) v y h) in
+    let owned : belongs_to p y.owner ≡ true = local_belongs p y.owner (owned_is (is_local_of p) D.vars v y number stands) in
+    let covers : covers_variable y ≡ true =
+    own_covers (belongs_to p y.owner) (covers_variable y)
+    (all_at (λ (x : Variable). cond (belongs_to p x.owner) (covers_variable x) true) D.vars v y C.vars stands) owned in
+    readable U v y stands covers (variable_unbroken U.program U.facts.marks p v y clean stands owned)
+
+pub own_unflagged : (U : Upgrade) (p : ℕ) (s : Site) → Covers U.program p s → IsClean U.program U.facts.marks p → (c : ℕ) (y : Constant)
+    → Among (owns_of U.program.declarations s) (own_constant c y) → is_flagged_constant U.facts c ≡ false
+own_unflagged U p s C clean c y h =
+    let D = U.program.declarations in
+    let stands : slice_get D.consts c ≡ Some y = own_is D s (own_constant c y) h in
+    let own = both_true (belongs_to p y.owner) (is_some y.value) (all_among (covers_own p) (owns_of D s) (own_constant c y) C.owns h) in
+    constant_unflagged D U.facts c y stands (constant_unbroken U.program U.facts.marks p c y clean stands own.0)
+
+constant_kept : (S : Scope) (x : Constant) (b : Bool) (o : Option Value6) → b ≡ false → is_some o ≡ true → IsConstantDim (constant_dim_by S x (cond b None o))
+constant_kept S x true o h e = absurd (cc h)
+constant_kept S x false None h e = absurd (cc e)
+constant_kept S x false (Some v) h e = tt
+
+own_constant_dim : (U : Upgrade) (p : ℕ) (s : Site) → Covers U.program p s → IsClean U.program U.facts.marks p → (c : ℕ) (y : Constant)
+    → Among (owns_of U.program.declarations s) (own_constant c y) → IsConstantDim (constant_dim (inside_procedure (site_scope U s) p) (c, y))
+own_constant_dim U p s C clean c y h =
+    let own = both_true (belongs_to p y.owner) (is_some y.value) (all_among (covers_own p) (owns_of U.program.declarations s) (own_constant c y) C.owns h) in
+    constant_kept (inside_procedure (site_scope U s) p) y (is_flagged_constant U.facts c) y.value (own_unflagged U p s C clean c y h) own.1
+
+-- ---- the law
+
+prologue_kept : (U : Upgrade) (p : ℕ) (s : Site) (x : Procedure) (W : WrittenProcedure U p s x) → s.placed.at.procedure ≡ p
+    → covers_body U.program p (slice_get U.program.bodies p) ≡ true
+    → W.code.procedure.prologue ≡ map (own_dim (inside_procedure (site_scope U s) p)) (owns_of U.program.declarations s)
+prologue_kept U p s x W e h =
+    let S = site_scope U s in
+    let n = first_statement s in
+    let written : W.code.procedure.prologue
+    ≡ prologue (inside_procedure S s.placed.at.procedure) n (site_lines s) (code_at U.program S n s.placed.at.procedure (site_lines s)) =
+    ap (λ (t : net.Procedure). t.prologue) W.is_written in
+    let placed : prologue (inside_procedure S s.placed.at.procedure) n (site_lines s) (code_at U.program S n s.placed.at.procedure (site_lines s))
+    ≡ prologue (inside_procedure S p) n (site_lines s) (code_at U.program S n p (site_lines s)) =
+    ap (λ (q : ℕ). prologue (inside_procedure S q) n (site_lines s) (code_at U.program S n q (site_lines s))) e in
+    written ∙ placed ∙ prologue_is U.program (inside_procedure S p) p n (site_lines s) (code_sets S p n 0 (site_lines s)) h
+
+pub owns_are_kept : (U : Upgrade) → IsWritten U → (p : ℕ) (s : Site) (x : Procedure) → site_of U.program.declarations p ≡ Some s
+    → slice_get U.program.declarations.procs p ≡ Some x → (W : WrittenProcedure U p s x) → IsClean U.program U.facts.marks p
+    → covers_procedure U.program p ≡ true → OwnsAreKept U p s x W
+owns_are_kept U I p s x e f W clean h =
+    let C = covered_parts U.program p s e h in
+    record {
+      prologue = prologue_kept U p s x W (site_procedure U.program.declarations p s e) C.body;
+      variables = λ v y m. own_readable U p s C clean v y (among (owns_of U.program.declarations s) (own_variable v y) m);
+      constants = λ c y m. own_constant_dim U p s C clean c y (among (owns_of U.program.declarations s) (own_constant c y) m);
+    }

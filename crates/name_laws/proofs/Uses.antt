@@ -1,0 +1,86 @@
+-- The variables that clean, covered lines use can be read.
+use Rattle.std.proofs.Common.{◌≡◌, refl, ap, sym, subst, ◌∙◌, ℕ, zero, suc, true, false, List, [], ◌∷◌, map, Option, Some, None, slice_get}
+use Rattle.std.specs.List.{Contains, list_any}
+use Rattle.vb_tree.specs.declared.declared.VarId.{VarId}
+use Rattle.bound_tree.specs.declared.marks.Marks.{Marks}
+use Rattle.bound_tree.specs.Targets.{Aims, aims_of, steps}
+use Rattle.bound_tree.specs.Tree.{Variable, Line, Program}
+use Rattle.bound_facts.specs.Clean.{variable, stays, point_broken, IsClean}
+use Rattle.run_base.specs.Machines.{nth_line, line_in, line_at}
+use Rattle.vb6_run.specs.Forms.{SourceLine, with_aims, body_of}
+use Rattle.vb6_run.specs.Lines.{source_lines}
+use Rattle.vb6_run.specs.Programs.{machine_of}
+use Rattle.run_matches.specs.CleanLines.{IsCleanLine, lines_at, or_none, line_points}
+use Rattle.run_matches.specs.Covered.{covers_variable, belongs_to, covers_some, is_mention_of, covers_use}
+use Rattle.run_matches.specs.Upgrades.{Upgrade, runnable_of}
+use Rattle.run_statements.specs.Frames.{IsReadable}
+use Rattle.name_laws.proofs.Lists.{both_true, some_same, any_among}
+use Rattle.name_laws.proofs.Arrows.{variable_unbroken, mention_is_point}
+use Rattle.name_laws.proofs.Owns.{readable}
+
+-- a covered use is of a variable of the procedure
+record CoveredUse (P : Program) (p v : ℕ) : Type 0 where
+  pub used : Variable
+  pub is_used : slice_get P.declarations.vars v ≡ Some used
+  pub owner : belongs_to p used.owner ≡ true
+  pub covers : covers_variable used ≡ true
+
+use_is : (P : Program) (p v : ℕ) → covers_some p (slice_get P.declarations.vars v) ≡ true → CoveredUse P p v
+use_is P p v h = by (slice_get P.declarations.vars v) refl h
+  where
+    by : (o : Option Variable) → slice_get P.declarations.vars v ≡ o → covers_some p o ≡ true → CoveredUse P p v
+    by None e k = absurd (cc k)
+    by (Some x) e k = let b = both_true (belongs_to p x.owner) (covers_variable x) k in record { used = x; is_used = e; owner = b.0; covers = b.1 }
+
+-- in a clean procedure
+pub uses_are_readable : (U : Upgrade) (p : ℕ) (l : Line) → IsClean U.program U.facts.marks p → (v : VarId) → covers_use U.program p l.bindings.mentions v ≡ true
+    → IsReadable U v.0
+uses_are_readable U p l clean v h =
+    let b = both_true (list_any (is_mention_of v) l.bindings.mentions) (covers_some p (slice_get U.program.declarations.vars v.0)) h in
+    let used = use_is U.program p v.0 b.1 in
+    readable U v.0 used.used used.is_used used.covers (variable_unbroken U.program U.facts.marks p v.0 used.used clean used.is_used used.owner)
+
+-- the line that is clean by itself
+pub clean_line_is : (P : Program) (M : Marks) (p number : ℕ) (l : Line) (C : IsCleanLine P M p number) → nth_line (lines_at P p) number ≡ Some l → C.itself.line ≡ l
+clean_line_is P M p number l C e = some_same C.itself.line l (sym C.itself.is_line ∙ e)
+
+-- what a clean line mentions breaks no rule
+pub mentioned_unbroken : (P : Program) (M : Marks) (p number : ℕ) (l : Line) (v : VarId) → IsCleanLine P M p number → nth_line (lines_at P p) number ≡ Some l
+    → list_any (is_mention_of v) l.bindings.mentions ≡ true → point_broken P.declarations M (variable v.0) ≡ false
+mentioned_unbroken P M p number l v C e h =
+    let m = any_among (is_mention_of v) l.bindings.mentions h in
+    C.itself.mentions (variable v.0)
+    (subst (λ (k : Line). Contains (line_points P.declarations p k) (variable v.0)) (sym (clean_line_is P M p number l C e))
+    (mention_is_point P.declarations p l v m.0 m.1 m.2))
+    (variable v.0) (stays (variable v.0))
+
+-- in a line that is clean by itself
+pub line_uses_are_readable : (U : Upgrade) (p number : ℕ) (l : Line) → IsCleanLine U.program U.facts.marks p number → nth_line (lines_at U.program p) number ≡ Some l
+    → (v : VarId) → covers_use U.program p l.bindings.mentions v ≡ true → IsReadable U v.0
+line_uses_are_readable U p number l C e v h =
+    let b = both_true (list_any (is_mention_of v) l.bindings.mentions) (covers_some p (slice_get U.program.declarations.vars v.0)) h in
+    let used = use_is U.program p v.0 b.1 in
+    readable U v.0 used.used used.is_used used.covers (mentioned_unbroken U.program U.facts.marks p number l v C e b.0)
+
+-- ---- the lines of the machine
+
+abbrev form_in : Option SourceLine → Option Line
+form_in None = None
+form_in (Some y) = Some y.form
+
+aimed_at : (lines : List Line) (aims : List Aims) (k : ℕ) (l : SourceLine) → slice_get (with_aims lines aims) k ≡ Some l → slice_get lines k ≡ Some l.form
+aimed_at [] aims k l e = absurd (cc e)
+aimed_at (x ∷ xs) [] k l e = absurd (cc e)
+aimed_at (x ∷ xs) (a ∷ aims) zero l e = ap form_in e
+aimed_at (x ∷ xs) (a ∷ aims) (suc k) l e = aimed_at xs aims k l e
+
+bound_in : (bodies : List (List Line)) (i k : ℕ) (l : SourceLine) → line_in (slice_get (map body_of bodies) i) (suc k) ≡ Some l
+    → nth_line (or_none (slice_get bodies i)) (suc k) ≡ Some l.form
+bound_in [] i k l h = absurd (cc h)
+bound_in (lines ∷ bodies) zero k l h = aimed_at lines (aims_of (steps (source_lines lines))) k l h
+bound_in (lines ∷ bodies) (suc i) k l h = bound_in bodies i k l h
+
+-- a line of the machine is the bound line of its number
+pub line_is_bound : (U : Upgrade) (p k : ℕ) (l : SourceLine) → line_at (machine_of (runnable_of U)) p (suc k) ≡ Some l
+    → nth_line (lines_at U.program p) (suc k) ≡ Some l.form
+line_is_bound U p k l e = bound_in U.program.bodies p k l e

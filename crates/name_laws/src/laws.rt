@@ -1,0 +1,50 @@
+//! What is kept in what is written.
+ghost use Rattle.std.specs.Prelude.{◌≡◌, ℕ, suc, true, Some, slice_get};
+ghost use Rattle.vb_tree.specs.declared.declared.VarId.{VarId};
+ghost use Rattle.bound_tree.specs.Tree.{Line, Procedure};
+ghost use Rattle.bound_facts.specs.Clean.{IsClean};
+ghost use Rattle.run_base.specs.Machines.{nth_line};
+ghost use Rattle.run_matches.specs.CleanLines.{IsCleanLine, lines_at};
+ghost use Rattle.run_matches.specs.Covered.{IsCoveredLine, covers_procedure, covers_use};
+ghost use Rattle.run_matches.specs.Sites.{Site, site_of};
+ghost use Rattle.run_matches.specs.Upgrades.{Upgrade};
+ghost use Rattle.run_statements.specs.Frames.{IsReadable};
+ghost use Rattle.run_statements.specs.Kept.{IsUnreplaced, NamesAreOpen, OwnsAreKept};
+ghost use Rattle.run_statements.specs.Written.{IsWritten, WrittenProcedure};
+
+/// A law: where nothing is named as the support module or the library is, their names lead to them.
+pub fn names_are_open()
+    ensures { (U : Upgrade) → IsWritten U → NamesAreOpen U }
+{}
+
+/// A law: what a clean, covered procedure declares is written as it is declared.
+pub fn owns_are_kept()
+    ensures { (U : Upgrade) → IsWritten U → (p : ℕ) (s : Site) (x : Procedure) → site_of U.program.declarations p ≡ Some s
+        → slice_get U.program.declarations.procs p ≡ Some x → (W : WrittenProcedure U p s x) → IsClean U.program U.facts.marks p
+        → covers_procedure U.program p ≡ true → OwnsAreKept U p s x W }
+{}
+
+/// A law: no rule replaces a line of such a procedure.
+pub fn clean_lines_are_unreplaced()
+    ensures { (U : Upgrade) → IsWritten U → (p : ℕ) (s : Site) (x : Procedure) → site_of U.program.declarations p ≡ Some s
+        → slice_get U.program.declarations.procs p ≡ Some x → (W : WrittenProcedure U p s x) → IsClean U.program U.facts.marks p
+        → covers_procedure U.program p ≡ true → (k : ℕ) → IsUnreplaced U p s k }
+{}
+
+/// A law: nor a covered line that is clean by itself.
+pub fn clean_line_is_unreplaced()
+    ensures { (U : Upgrade) → IsWritten U → (p : ℕ) (s : Site) (k : ℕ) → site_of U.program.declarations p ≡ Some s
+        → IsCleanLine U.program U.facts.marks p (suc k) → IsCoveredLine U.program p (suc k) → IsUnreplaced U p s k }
+{}
+
+/// A law: the variables that the lines of a clean procedure use can be read.
+pub fn uses_are_readable()
+    ensures { (U : Upgrade) (p : ℕ) (l : Line) → IsClean U.program U.facts.marks p → (v : VarId) → covers_use U.program p l.bindings.mentions v ≡ true
+        → IsReadable U v.0 }
+{}
+
+/// A law: and those that a line uses which is clean by itself.
+pub fn line_uses_are_readable()
+    ensures { (U : Upgrade) (p number : ℕ) (l : Line) → IsCleanLine U.program U.facts.marks p number → nth_line (lines_at U.program p) number ≡ Some l
+        → (v : VarId) → covers_use U.program p l.bindings.mentions v ≡ true → IsReadable U v.0 }
+{}

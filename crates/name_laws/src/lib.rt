@@ -1,0 +1,9 @@
+//! What covered procedures and lines declare and name, and what is written for that.
+#![tactic(auto)]
+
+mod laws;
+
+pub use laws::{
+    clean_line_is_unreplaced, clean_lines_are_unreplaced, line_uses_are_readable, names_are_open,
+    owns_are_kept, uses_are_readable,
+};

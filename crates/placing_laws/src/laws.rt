@@ -1,0 +1,26 @@
+//! Which written procedure and which written line stands for one of the source.
+ghost use Rattle.run_matches.specs.Upgrades.{Upgrade};
+ghost use Rattle.run_statements.specs.Written.{IsWritten, ProceduresAreWritten};
+ghost use Rattle.run_statements.specs.Kept.{LinesAreWritten, NoFurtherLines};
+
+use target_laws::{same_aims, same_tests};
+
+/// A law: each procedure that is no part of a property has a number among the written ones, and what is written for it stands there, in
+/// the module that its own is written as.
+pub fn procedures_are_written()
+    ensures { (U : Upgrade) → IsWritten U → ProceduresAreWritten U }
+{}
+
+/// A law: each line of it has the line of its number there, from which control goes where it goes from the line, if nothing replaces it
+/// and the blocks of the procedure are kept.
+pub fn lines_are_written()
+    ensures { (U : Upgrade) → IsWritten U → LinesAreWritten U }
+{
+    same_aims();
+    same_tests();
+}
+
+/// A law: and there are no others.
+pub fn no_further_lines()
+    ensures { (U : Upgrade) → IsWritten U → NoFurtherLines U }
+{}

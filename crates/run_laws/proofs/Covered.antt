@@ -1,0 +1,280 @@
+-- What the tests of covered procedures and lines say.
+use Rattle.std.proofs.Common.{◌≡◌, refl, sym, ap, ◌∙◌, ℕ, zero, suc, Bool, true, false, cond, not, ◌&&◌, nat_eq, true≢false, Option, Some, None, option_map, List, [], ◌∷◌, map, eq-eqb, eqb-true}
+use Rattle.std.specs.Prelude.{slice_get, is_some}
+use Rattle.std.specs.Cmp.Lexicographic.{pointwise}
+use Rattle.std.specs.List.{list_all}
+use Rattle.up_base.proofs.Lists.{all_first, all_rest, all_leads}
+use Rattle.up_base.proofs.Tests.{both_true, not_true}
+use Rattle.up_base.specs.Names.{is_same_name, lower_case}
+use Rattle.vb_tree.specs.declared.declared.Owner.{Owner}
+use Rattle.vb_tree.specs.declared.declared.Owner.TheVariants as owner
+use Rattle.vb_tree.specs.declared.declared.ProcKind.{ProcKind}
+use Rattle.vb_tree.specs.declared.declared.ProcKind.TheVariants as kind
+use Rattle.vb_tree.specs.declared.declared.VarId.{VarId}
+use Rattle.vb_tree.specs.Tree.{Form}
+use Rattle.vb_tree.specs.Tree as source
+use Rattle.bound_tree.specs.Targets.{Aims, aims_at, aims_from, step_of, steps, Step}
+use Rattle.bound_tree.specs.Tree.{Expr, Line, Procedure, Program, Variable, Declarations}
+use Rattle.run_base.specs.Machines.{nth_line}
+use Rattle.vb6_run.specs.Forms.{SourceLine, body_of, tests_in, with_aims}
+use Rattle.vb6_run.specs.Lines.{source_lines}
+use Rattle.vb6_run.specs.Programs.{is_static_of, is_local_of, owned_from}
+use Rattle.vb6_run.specs.Runnables.{is_class_file}
+use Rattle.written_trees.specs.Arguments.{is_property_kind}
+use Rattle.run_matches.specs.Formed.{is_formed}
+use Rattle.run_matches.specs.Covered.{Uses, belongs_to, covers_body, covers_form, covers_head, covers_kind, covers_line, covers_names, covers_owner, covers_owns, covers_procedure, covers_site, covers_type, covers_use, covers_variable, covers_variables, has_no_parameters, is_plain, is_plain_kind, keeps_blocks, keeps_blocks_in, are_different, covers_own}
+use Rattle.run_matches.specs.Frames.{is_exact_head, is_own_head, is_own_line, is_quiet_head, is_static_in}
+use Rattle.run_matches.specs.Sites.{Site, own_name, owns_of, site_of, variable_numbers}
+use Rattle.run_matches.specs.Upgrades.{Upgrade}
+
+pub some_is : {A : Type 0} {x y : A} → ◌≡◌ {A = Option A} (Some x) (Some y) → x ≡ y
+some_is e = cc e
+
+pub not_none : {A : Type 0} {x : A} → ◌≡◌ {A = Option A} None (Some x) → ⊥
+not_none e = cc e
+
+pub not_some : {A : Type 0} {x : A} → ◌≡◌ {A = Option A} (Some x) None → ⊥
+not_some e = cc e
+
+-- ---- lists
+
+pub all_at : {A : Type 0} (f : A → Bool) (xs : List A) (k : ℕ) (x : A) → list_all f xs ≡ true → slice_get xs k ≡ Some x → f x ≡ true
+all_at f [] k x h e = absurd (not_none e)
+all_at f (y ∷ xs) zero x h e = ap f (sym (some_is e)) ∙ all_first f y xs h
+all_at f (y ∷ xs) (suc k) x h e = all_at f xs k x (all_rest f y xs h) e
+
+pub same_numbers : (xs ys : List ℕ) → pointwise nat_eq xs ys ≡ true → xs ≡ ys
+same_numbers [] [] h = refl
+same_numbers [] (y ∷ ys) h = absurd (true≢false (sym h))
+same_numbers (x ∷ xs) [] h = absurd (true≢false (sym h))
+same_numbers (x ∷ xs) (y ∷ ys) h =
+    let both = both_true (nat_eq x y) (pointwise nat_eq xs ys) h in
+    let one : x ≡ y = eqb-true x y both.0 in
+    let more : xs ≡ ys = same_numbers xs ys both.1 in
+    λ i. one i ∷ more i
+
+same_number : (n : ℕ) → nat_eq n n ≡ true
+same_number n = eq-eqb n n refl
+
+same_units : (xs : List ℕ) → pointwise nat_eq xs xs ≡ true
+same_units [] = refl
+same_units (x ∷ xs) = ap (λ b. b && pointwise nat_eq xs xs) (same_number x) ∙ same_units xs
+
+pub same_name : (name : List ℕ) → is_same_name name name ≡ true
+same_name name = same_units (lower_case name)
+
+-- ---- procedures
+
+record Head (o : Option Procedure) : Type 0 where
+  procedure : Procedure
+  is_procedure : o ≡ Some procedure
+  kind : covers_kind procedure.kind ≡ true
+  params : procedure.params ≡ []
+  answer : procedure.answer ≡ None
+
+no_parameters : (vs : List VarId) → has_no_parameters vs ≡ true → vs ≡ []
+no_parameters [] h = refl
+no_parameters (v ∷ vs) h = absurd (true≢false (sym h))
+
+no_answer : (o : Option VarId) → is_some o ≡ false → o ≡ None
+no_answer None h = refl
+no_answer (Some v) h = absurd (true≢false h)
+
+head_parts : (P : Program) (o : Option Procedure) → covers_head P o ≡ true → Head o
+head_parts P None h = absurd (true≢false (sym h))
+head_parts P (Some x) h =
+    let outer = not (is_class_file P.declarations x.module_number) in
+    let a = both_true (covers_kind x.kind) (has_no_parameters x.params && (not (is_some x.answer) && outer)) h in
+    let b = both_true (has_no_parameters x.params) (not (is_some x.answer) && outer) a.1 in
+    let c = both_true (not (is_some x.answer)) outer b.1 in
+    record {
+      procedure = x;
+      is_procedure = refl;
+      kind = a.0;
+      params = no_parameters x.params b.0;
+      answer = no_answer x.answer (not_true (is_some x.answer) c.0);
+    }
+
+record Stands (D : Declarations) (p : ℕ) (o : Option Site) : Type 0 where
+  site : Site
+  is_site : o ≡ Some site
+  owns : covers_owns D p (owns_of D site) ≡ true
+
+site_parts : (D : Declarations) (p : ℕ) (o : Option Site) → covers_site D p o ≡ true → Stands D p o
+site_parts D p None h = absurd (true≢false (sym h))
+site_parts D p (Some s) h =
+    record { site = s; is_site = refl; owns = (both_true (not s.source_module.class) (covers_owns D p (owns_of D s)) h).1 }
+
+record Body (P : Program) (p : ℕ) (o : Option (List Line)) : Type 0 where
+  lines : List Line
+  are_lines : o ≡ Some lines
+  covers : list_all (covers_line P p) lines ≡ true
+
+body_parts : (P : Program) (p : ℕ) (o : Option (List Line)) → covers_body P p o ≡ true → Body P p o
+body_parts P p None h = absurd (true≢false (sym h))
+body_parts P p (Some lines) h = record { lines = lines; are_lines = refl; covers = h }
+
+-- what is known of a covered procedure
+pub record CoveredProcedure (P : Program) (p : ℕ) : Type 0 where
+  pub names : covers_names P.declarations ≡ true
+  pub procedure : Procedure
+  pub is_procedure : slice_get P.declarations.procs p ≡ Some procedure
+  pub kind : covers_kind procedure.kind ≡ true
+  pub params : procedure.params ≡ []
+  pub answer : procedure.answer ≡ None
+  pub site : Site
+  pub is_site : site_of P.declarations p ≡ Some site
+  pub numbers : variable_numbers (owns_of P.declarations site) ≡ owned_from (is_local_of p) 0 P.declarations.vars
+  pub different : are_different (map own_name (owns_of P.declarations site)) ≡ true
+  pub variables : covers_variables P p ≡ true
+  pub lines : List Line
+  pub are_lines : slice_get P.bodies p ≡ Some lines
+  pub covers : list_all (covers_line P p) lines ≡ true
+
+pub covered_parts : (P : Program) (p : ℕ) → covers_procedure P p ≡ true → CoveredProcedure P p
+covered_parts P p h =
+    let D : Declarations = P.declarations in
+    let head = covers_head P (slice_get D.procs p) in
+    let at = covers_site D p (site_of D p) in
+    let body = covers_body P p (slice_get P.bodies p) in
+    let a = both_true (covers_names D) (head && (at && (covers_variables P p && body))) h in
+    let b = both_true head (at && (covers_variables P p && body)) a.1 in
+    let c = both_true at (covers_variables P p && body) b.1 in
+    let d = both_true (covers_variables P p) body c.1 in
+    let x : Head (slice_get D.procs p) = head_parts P (slice_get D.procs p) b.0 in
+    let s : Stands D p (site_of D p) = site_parts D p (site_of D p) c.0 in
+    let y : Body P p (slice_get P.bodies p) = body_parts P p (slice_get P.bodies p) d.1 in
+    let os = owns_of D s.site in
+    let m = both_true (pointwise nat_eq (variable_numbers os) (owned_from (is_local_of p) 0 D.vars))
+    (list_all (covers_own p) os && are_different (map own_name os)) s.owns in
+    let n = both_true (list_all (covers_own p) os) (are_different (map own_name os)) m.1 in
+    record {
+      names = a.0;
+      procedure = x.procedure;
+      is_procedure = x.is_procedure;
+      kind = x.kind;
+      params = x.params;
+      answer = x.answer;
+      site = s.site;
+      is_site = s.is_site;
+      numbers = same_numbers (variable_numbers os) (owned_from (is_local_of p) 0 D.vars) m.0;
+      different = n.1;
+      variables = d.0;
+      lines = y.lines;
+      are_lines = y.are_lines;
+      covers = y.covers;
+    }
+
+pub no_property : (k : ProcKind) → covers_kind k ≡ true → is_property_kind k ≡ false
+no_property kind.Sub h = refl
+no_property kind.Function h = refl
+no_property kind.Get h = absurd (true≢false (sym h))
+no_property kind.Let h = absurd (true≢false (sym h))
+no_property kind.Set h = absurd (true≢false (sym h))
+
+plain_kind : (k : ProcKind) → is_plain_kind k ≡ true → is_property_kind k ≡ false
+plain_kind kind.Sub h = refl
+plain_kind kind.Function h = refl
+plain_kind kind.Get h = absurd (true≢false (sym h))
+plain_kind kind.Let h = absurd (true≢false (sym h))
+plain_kind kind.Set h = absurd (true≢false (sym h))
+
+pub record PlainProcedure (o : Option Procedure) : Type 0 where
+  pub procedure : Procedure
+  pub is_procedure : o ≡ Some procedure
+  pub kind : is_property_kind procedure.kind ≡ false
+
+pub plain_parts : (o : Option Procedure) → is_plain o ≡ true → PlainProcedure o
+plain_parts None h = absurd (true≢false (sym h))
+plain_parts (Some x) h = record { procedure = x; is_procedure = refl; kind = plain_kind x.kind h }
+
+-- ---- a covered procedure has no Statics
+
+static_not : (p : ℕ) (o : Owner) (rest : Bool) → cond (belongs_to p o) (covers_owner o && rest) true ≡ true → is_static_of p o ≡ false
+static_not p (owner.Static q) rest h = by (nat_eq p q.0) h
+  where
+    by : (b : Bool) → cond b false true ≡ true → b ≡ false
+    by true e = absurd (true≢false (sym e))
+    by false e = refl
+static_not p (owner.Module file) rest h = refl
+static_not p (owner.Local q) rest h = refl
+static_not p (owner.Value q) rest h = refl
+static_not p (owner.Reference q) rest h = refl
+static_not p (owner.Answer q) rest h = refl
+static_not p (owner.Field t) rest h = refl
+
+abbrev own_covered : (p : ℕ) → Variable → Bool
+own_covered p x = cond (belongs_to p x.owner) (covers_variable x) true
+
+pub no_statics : (p k : ℕ) (xs : List Variable) → list_all (λ (x : Variable). cond (belongs_to p x.owner) (covers_variable x) true) xs ≡ true
+    → owned_from (is_static_of p) k xs ≡ []
+no_statics p k [] h = refl
+no_statics p k (x ∷ xs) h =
+    ap (λ b. cond b (k ∷ owned_from (is_static_of p) (suc k) xs) (owned_from (is_static_of p) (suc k) xs))
+    (static_not p x.owner (covers_type x.ty && not x.auto) (all_first (own_covered p) x xs h))
+    ∙ no_statics p (suc k) xs (all_rest (own_covered p) x xs h)
+
+pub no_static : (P : Program) (p v : ℕ) → covers_variables P p ≡ true → is_static_in p (slice_get P.declarations.vars v) ≡ false
+no_static P p v h = by (slice_get P.declarations.vars v) refl
+  where
+    by : (o : Option Variable) → slice_get P.declarations.vars v ≡ o → is_static_in p o ≡ false
+    by None e = refl
+    by (Some x) e = static_not p x.owner (covers_type x.ty && not x.auto) (all_at (own_covered p) P.declarations.vars v x h e)
+
+-- ---- lines
+
+pub form_covered : (P : Program) (p : ℕ) (l : Line) → covers_line P p l ≡ true
+    → covers_form (covers_use P p l.bindings.mentions) l.source.form l.bindings.exprs ≡ true
+form_covered P p l h =
+    (both_true (covers_form (covers_use P p l.bindings.mentions) l.source.form l.bindings.exprs) (list_all is_formed l.bindings.exprs) h).0
+
+form_keeps_blocks : (uses : Uses) (f : Form) (es : List Expr) → covers_form uses f es ≡ true → keeps_blocks_in f es ≡ true
+form_keeps_blocks uses (source.for_head counter start limit step) es h = absurd (true≢false (sym h))
+form_keeps_blocks uses (source.for_each name suffix e) es h = absurd (true≢false (sym h))
+form_keeps_blocks uses _ es h = refl
+
+pub blocks_are_kept : (P : Program) (p : ℕ) (lines : List Line) → list_all (covers_line P p) lines ≡ true → list_all keeps_blocks lines ≡ true
+blocks_are_kept P p lines h =
+    all_leads (covers_line P p) keeps_blocks (λ l e. form_keeps_blocks (covers_use P p l.bindings.mentions) l.source.form l.bindings.exprs (form_covered P p l e)) lines h
+
+-- covered lines have no With
+no_own_head : (U : Upgrade) (p : ℕ) (uses : Uses) (f : Form) (es : List Expr) → covers_form uses f es ≡ true → is_own_head U p f es ≡ false
+no_own_head U p uses (source.with_head e) es h = absurd (true≢false (sym h))
+no_own_head U p uses _ es h = refl
+
+no_quiet_head : (U : Upgrade) (uses : Uses) (f : Form) (es : List Expr) → covers_form uses f es ≡ true → is_quiet_head U f es ≡ false
+no_quiet_head U uses (source.with_head e) es h = absurd (true≢false (sym h))
+no_quiet_head U uses _ es h = refl
+
+pub no_own_line : (U : Upgrade) (P : Program) (p : ℕ) (l : Line) → covers_line P p l ≡ true → is_own_line U p l ≡ false
+no_own_line U P p l h = no_own_head U p (covers_use P p l.bindings.mentions) l.source.form l.bindings.exprs (form_covered P p l h)
+
+pub exact_head : (U : Upgrade) (P : Program) (p : ℕ) (lines : List Line) (h : ℕ) → list_all (covers_line P p) lines ≡ true
+    → is_exact_head U (nth_line lines h) ≡ true
+exact_head U P p lines zero c = refl
+exact_head U P p lines (suc h) c = by (slice_get lines h) refl
+  where
+    by : (o : Option Line) → slice_get lines h ≡ o → is_exact_head U o ≡ true
+    by None e = refl
+    by (Some l) e =
+        ap not (no_quiet_head U (covers_use P p l.bindings.mentions) l.source.form l.bindings.exprs (form_covered P p l (all_at (covers_line P p) lines h l c e)))
+
+-- ---- the lines of a body
+
+-- each is a bound line
+pub form_at : (ls : List Line) (aims : List Aims) (k : ℕ) (l : SourceLine) → slice_get (with_aims ls aims) k ≡ Some l → slice_get ls k ≡ Some l.form
+form_at [] aims k l e = absurd (not_none e)
+form_at (x ∷ ls) [] k l e = absurd (not_none e)
+form_at (x ∷ ls) (a ∷ aims) zero l e = ap (λ (o : Option SourceLine). option_map (λ (m : SourceLine). m.form) o) e
+form_at (x ∷ ls) (a ∷ aims) (suc k) l e = form_at ls aims k l e
+
+-- and each bound line is one
+line_from : (all : List Step) (n : ℕ) (ls : List Line) (k : ℕ) (l : Line) → slice_get ls k ≡ Some l
+    → (m : SourceLine) × (slice_get (with_aims ls (aims_from all n (steps (source_lines ls)))) k ≡ Some m) × (m.form ≡ l)
+line_from all n [] k l e = absurd (not_none e)
+line_from all n (x ∷ ls) zero l e =
+    (record { form = x; aims = aims_at all n (step_of x.source.form); tests = tests_in x.source.form }, refl, some_is e)
+line_from all n (x ∷ ls) (suc k) l e = line_from all (suc n) ls k l e
+
+pub bound_line : (ls : List Line) (k : ℕ) (l : Line) → slice_get ls k ≡ Some l → (m : SourceLine) × (slice_get (body_of ls) k ≡ Some m) × (m.form ≡ l)
+bound_line ls k l e = line_from (steps (source_lines ls)) 1 ls k l e

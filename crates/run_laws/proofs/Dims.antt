@@ -1,0 +1,142 @@
+-- What the declarations make that are written for scalar variables and constants.
+use Rattle.std.proofs.Common.{◌≡◌, refl, sym, ap, ◌∙◌, ℕ, Bool, true, false, cond, ◌&&◌, true≢false, not, Option, Some, None, List, []}
+use Rattle.up_base.proofs.Tests.{both_true, neither}
+use Rattle.vb_tree.specs.BoundTree as types
+use Rattle.vb_tree.specs.BoundTree.{Ty}
+use Rattle.vb_tree.specs.declared.declared.Owner.{Owner}
+use Rattle.vb_tree.specs.declared.declared.Owner.TheVariants as owner
+use Rattle.vb_tree.specs.declared.value.Value6.{Value6}
+use Rattle.bound_tree.specs.Tree.{Constant, Declarations, Variable}
+use Rattle.bound_facts.specs.Facts.{Known, is_quiet_owner}
+use Rattle.net_tree.specs.Tree as net_tree
+use Rattle.net_tree.specs.Types as words
+use Rattle.net_tree.specs.Types.{TypeName}
+use Rattle.run_base.specs.Outcomes.{gives, then}
+use Rattle.net_run.specs.Members.{Code}
+use Rattle.net_run.specs.Names.{declared_constant}
+use Rattle.net_run.specs.Program.{dim_made}
+use Rattle.net_run.specs.Shapes as shape
+use Rattle.net_run.specs.Store as net
+use Rattle.written_trees.specs.Facts.{is_flagged_variable}
+use Rattle.written_trees.specs.Names.{Scope}
+use Rattle.written_trees.specs.Prologues.{constant_dim, constant_dim_by, initial, is_static, object_variable, sound_value, typed_variable, variable_dim, written_constant}
+use Rattle.written_trees.specs.Types.{type_with}
+use Rattle.agreeing_laws.proofs.Outputs.{after_nothing}
+use Rattle.run_matches.specs.Covered.{covers_owner, covers_type}
+use Rattle.run_matches.specs.Frames.{dim_name}
+use Rattle.run_matches.specs.Likeness.{scalar_word}
+use Rattle.run_matches.specs.Sites.{Own, own_constant, own_name, own_variable}
+use Rattle.run_matches.specs.Upgrades.{Upgrade, is_unknown, type_of}
+use Rattle.run_statements.specs.Frames.{IsReadable}
+use Rattle.run_statements.specs.Kept.{IsConstantDim, own_dim}
+
+-- ---- types
+
+-- a type is written by a word, and its variables begin with what the word says
+record WordOf (ty : Ty) : Type 0 where
+  word : TypeName
+  is_word : scalar_word ty ≡ Some word
+  written : (D : Declarations) (file : ℕ) (qualified : Bool) (rank : ℕ) → type_with D file qualified rank ty ≡ word
+  plain : (S : Scope) (v : ℕ) (x : Variable) → initial S v x ty ≡ None
+  shaped : (N : net_tree.Project) (home : ℕ) → shape.shape_of N home word ≡ shape.scalar word
+
+word_of : (ty : Ty) → covers_type ty ≡ true → WordOf ty
+word_of types.boolean h =
+    record { word = words.boolean; is_word = refl; written = λ D f q r. refl; plain = λ S v x. refl; shaped = λ N home. refl }
+word_of types.byte h =
+    record { word = words.byte; is_word = refl; written = λ D f q r. refl; plain = λ S v x. refl; shaped = λ N home. refl }
+word_of types.integer h =
+    record { word = words.short; is_word = refl; written = λ D f q r. refl; plain = λ S v x. refl; shaped = λ N home. refl }
+word_of types.long h =
+    record { word = words.integer; is_word = refl; written = λ D f q r. refl; plain = λ S v x. refl; shaped = λ N home. refl }
+word_of types.currency h =
+    record { word = words.decimal; is_word = refl; written = λ D f q r. refl; plain = λ S v x. refl; shaped = λ N home. refl }
+word_of types.str h =
+    record { word = words.str; is_word = refl; written = λ D f q r. refl; plain = λ S v x. refl; shaped = λ N home. refl }
+word_of _ h = absurd (true≢false (sym h))
+
+-- ---- variables
+
+abbrev plain_variable : List ℕ → TypeName → net_tree.Variable
+plain_variable name t = record { name = name; ty = t; value = None }
+
+no_static : (o : Owner) → covers_owner o ≡ true → is_static o ≡ false
+no_static (owner.Static p) h = absurd (true≢false (sym h))
+no_static _ h = refl
+
+pub no_quiet : (F : Known) (o : Owner) → covers_owner o ≡ true → is_quiet_owner F o ≡ false
+no_quiet F (owner.Reference p) h = absurd (true≢false (sym h))
+no_quiet F _ h = refl
+
+dim_by : (b c : Bool) (x y : net_tree.Variable) → b ≡ false → c ≡ false
+    → cond b (net_tree.static_local (cond c x y)) (net_tree.local (cond c x y)) ≡ net_tree.local y
+dim_by true c x y d e = absurd (true≢false d)
+dim_by false true x y d e = absurd (true≢false e)
+dim_by false false x y d e = refl
+
+-- The declaration of a variable makes one of its word, under its name.
+pub record ScalarMade (U : Upgrade) (S : Scope) (c : Code) (v : ℕ) (r : IsReadable U v) : Type 0 where
+  pub word : TypeName
+  pub is_word : scalar_word r.variable.ty ≡ Some word
+  pub is_made :
+      (me : Option ℕ) (i : ℕ) (w : net.Memory)
+      → dim_made U.written c me i (own_dim S (own_variable v r.variable)) w
+      ≡ then (net.made_with (shape.scalar word) (shape.default_of (shape.scalar word)) w) (λ b t. gives [] (r.variable.name, b) t)
+
+pub variable_made : (U : Upgrade) (S : Scope) → S.facts ≡ U.facts → (c : Code) (v : ℕ) (r : IsReadable U v) → ScalarMade U S c v r
+variable_made U S facts c v r =
+    let x : Variable = r.variable in
+    let a = both_true (covers_owner x.owner) (covers_type x.ty && not x.auto) r.covers in
+    let m : WordOf x.ty = word_of x.ty (both_true (covers_type x.ty) (not x.auto) a.1).0 in
+    let unflagged : is_flagged_variable S.facts v ≡ false =
+    ap (λ F. is_flagged_variable F v) facts ∙ (neither (is_flagged_variable U.facts v) (is_unknown (type_of U v)) r.sound).0 in
+    let typed : typed_variable S v x ≡ plain_variable x.name m.word =
+    λ i. record { name = x.name; ty = m.written S.declarations S.file x.qualified (S.facts.rank v) i; value = m.plain S v x i } in
+    let dim : variable_dim S (v, x) ≡ net_tree.local (plain_variable x.name m.word) =
+    dim_by (is_static x.owner) (is_flagged_variable S.facts v) (object_variable x.name) (typed_variable S v x) (no_static x.owner a.0) unflagged
+    ∙ ap (λ y. net_tree.local y) typed in
+    let at = λ (d : Code). shape.shape_of U.written d.home m.word in
+    record {
+      word = m.word;
+      is_word = m.is_word;
+      is_made = λ me i w.
+          ap (λ d. dim_made U.written c me i d w) dim
+          ∙ after_nothing (then (net.made_with (at c) (shape.default_of (at c)) w) (λ b t. gives [] (x.name, b) t))
+          ∙ ap (λ s. then (net.made_with s (shape.default_of s) w) (λ b t. gives [] (x.name, b) t)) (m.shaped U.written c.home);
+    }
+
+-- ---- constants
+
+-- the declaration of a constant makes nothing
+pub record ConstantMade (U : Upgrade) (S : Scope) (c : Code) (d : ℕ) (x : Constant) : Type 0 where
+  pub address : net.Address
+  pub is_made : (me : Option ℕ) (i : ℕ) (w : net.Memory) → dim_made U.written c me i (own_dim S (own_constant d x)) w ≡ gives [] (x.name, address) w
+
+pub constant_made : (U : Upgrade) (S : Scope) (c : Code) (d : ℕ) (x : Constant) → IsConstantDim (constant_dim S (d, x)) → ConstantMade U S c d x
+constant_made U S c d x h = by (sound_value S.facts (d, x)) refl h
+  where
+    by : (o : Option Value6) → sound_value S.facts (d, x) ≡ o → IsConstantDim (constant_dim_by S x o) → ConstantMade U S c d x
+    by None e k = absurd k
+    by (Some z) e k = record {
+      address = declared_constant U.written c.home (written_constant S x z);
+      is_made = λ me i w. ap (λ o. dim_made U.written c me i (constant_dim_by S x o) w) e;
+    }
+
+-- ---- names
+
+name_by : (b c : Bool) (x y : net_tree.Variable) (name : List ℕ) → x.name ≡ name → y.name ≡ name
+    → dim_name (cond b (net_tree.static_local (cond c x y)) (net_tree.local (cond c x y))) ≡ name
+name_by true true x y name d e = d
+name_by true false x y name d e = e
+name_by false true x y name d e = d
+name_by false false x y name d e = e
+
+constant_name : (S : Scope) (x : Constant) (o : Option Value6) → dim_name (constant_dim_by S x o) ≡ x.name
+constant_name S x None = refl
+constant_name S x (Some z) = refl
+
+-- a declaration is written under its name
+pub own_dim_name : (S : Scope) (o : Own) → dim_name (own_dim S o) ≡ own_name o
+own_dim_name S (own_variable v x) =
+    name_by (is_static x.owner) (is_flagged_variable S.facts v) (object_variable x.name) (typed_variable S v x) x.name refl refl
+own_dim_name S (own_constant c x) = constant_name S x (sound_value S.facts (c, x))

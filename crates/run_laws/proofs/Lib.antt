@@ -1,0 +1,11 @@
+pub mod Covered
+pub mod Keeping
+pub mod Dims
+pub mod Locals
+pub mod Owns
+pub mod Entries
+pub mod Pledged
+pub mod Turns
+pub mod Lines
+pub mod Runs
+pub mod Composed

@@ -1,0 +1,87 @@
+-- What is written for a line of a procedure does the same.
+use Rattle.std.proofs.Common.{◌≡◌, sym, ap, subst, ◌∙◌, ℕ, zero, suc, true, Option, Some, option_map, List}
+use Rattle.std.specs.Prelude.{slice_get}
+use Rattle.std.specs.List.{list_all}
+use Rattle.std.proofs.lemmas.Option.{slice_get-map}
+use Rattle.vb_tree.specs.declared.declared.VarId.{VarId}
+use Rattle.bound_tree.specs.Tree.{Line, Procedure}
+use Rattle.run_base.specs.Machines.{line_at, line_in, nth_line}
+use Rattle.vb6_run.specs.Forms.{SourceLine, body_of}
+use Rattle.vb6_run.specs.Programs as source
+use Rattle.net_run.specs.Lines.{NetFrame, NetLine, scope_of}
+use Rattle.net_run.specs.Program as target
+use Rattle.run_matches.specs.CleanLines.{IsCleanLine}
+use Rattle.run_matches.specs.Covered.{IsCoveredLine, covers_line, covers_names, covers_use, keeps_blocks}
+use Rattle.run_matches.specs.Frames.{HasNames}
+use Rattle.run_matches.specs.Runs.{LineDoesTheSame, SameLine}
+use Rattle.run_matches.specs.Sites.{Site, site_of}
+use Rattle.run_matches.specs.Upgrades.{Upgrade, code_of, runnable_of}
+use Rattle.run_statements.specs.Frames.{IsOpen, IsReadable}
+use Rattle.run_statements.specs.Kept.{IsUnreplaced, LinesAgree, LinesAreWritten, NamesAreOpen}
+use Rattle.run_statements.specs.Written.{SameLines, WrittenLine, WrittenProcedure}
+use Rattle.run_laws.specs.Premises.{LinePremises}
+use Rattle.run_laws.proofs.Covered.{PlainProcedure, bound_line, not_none, plain_parts, some_is}
+use Rattle.run_laws.proofs.Entries.{code_is}
+
+-- the bound lines of a procedure, as its lines
+pub body_is : (U : Upgrade) (p : ℕ) (lines : List Line) → slice_get U.program.bodies p ≡ Some lines
+    → slice_get (source.machine_of (runnable_of U)).bodies p ≡ Some (body_of lines)
+body_is U p lines e = slice_get-map body_of U.program.bodies p ∙ ap (λ (o : Option (List Line)). option_map body_of o) e
+
+pub line_is : (U : Upgrade) (p : ℕ) (lines : List Line) (n : ℕ) → slice_get U.program.bodies p ≡ Some lines
+    → line_at (source.machine_of (runnable_of U)) p n ≡ nth_line (body_of lines) n
+line_is U p lines n e = ap (λ z. line_in z n) (body_is U p lines e)
+
+-- what is written for a line
+pub record LineSame (U : Upgrade) (p q n : ℕ) (l : SourceLine) : Type 0 where
+  pub line : NetLine
+  pub is_line : line_at (target.machine_of U.written) q n ≡ Some line
+  pub same : SameLine U p q n l line
+
+module _ (U : Upgrade) (lines_written : LinesAreWritten U) (names_open : NamesAreOpen U) (lines_agree : LinesAgree U)
+    (p : ℕ) (s : Site) (x : Procedure) (stands : site_of U.program.declarations p ≡ Some s) (W : WrittenProcedure U p s x) (lines : List Line) (are : slice_get U.program.bodies p ≡ Some lines) where
+  names_in : covers_names U.program.declarations ≡ true → (g : NetFrame) (k : NetLine) → HasNames (code_of U p) g → IsOpen (scope_of U.written W.code g k)
+  names_in n g k h = names_open p s x W g k n (subst (λ o. HasNames o g) (code_is U p s x W) h)
+
+  blocks_in : list_all keeps_blocks lines ≡ true → (others : List Line) → slice_get U.program.bodies p ≡ Some others → list_all keeps_blocks others ≡ true
+  blocks_in h others e = subst (λ ls. list_all keeps_blocks ls ≡ true) (some_is (sym are ∙ e)) h
+
+  pub line_same : (k : ℕ) (l : SourceLine) → line_at (source.machine_of (runnable_of U)) p (suc k) ≡ Some l → list_all keeps_blocks lines ≡ true
+      → IsUnreplaced U p s k → covers_names U.program.declarations ≡ true → covers_line U.program p l.form ≡ true
+      → ((v : VarId) → covers_use U.program p l.form.bindings.mentions v ≡ true → IsReadable U v.0) → LineSame U p W.number (suc k) l
+  line_same k l e blocks unreplaced names covers readable =
+      let L : WrittenLine U p s W.number (suc k) l = lines_written p s x stands W k l e (blocks_in blocks) unreplaced in
+      record {
+        line = L.line;
+        is_line = L.is_line;
+        same = lines_agree p s W.number (suc k) l W.code L W.is_code (names_in names) readable covers;
+      }
+
+-- ---- lines by themselves
+
+module _ (U : Upgrade) (h : LinePremises U) where
+  one_line : (p k : ℕ) → IsCleanLine U.program U.facts.marks p (suc k) → IsCoveredLine U.program p (suc k) → LineDoesTheSame U p (suc k)
+  one_line p k clean c =
+      let x : PlainProcedure (slice_get U.program.declarations.procs p) = plain_parts (slice_get U.program.declarations.procs p) c.plain in
+      let W : WrittenProcedure U p c.site x.procedure = h.procedures p c.site x.procedure c.is_site x.is_procedure x.kind in
+      let found = bound_line c.lines k c.line c.is_line in
+      let l : SourceLine = found.0 in
+      let form : l.form ≡ c.line = found.2 in
+      let is : line_at (source.machine_of (runnable_of U)) p (suc k) ≡ Some l = line_is U p c.lines (suc k) c.are_lines ∙ found.1 in
+      let z : LineSame U p W.number (suc k) l =
+      line_same U h.lines h.names h.agree p c.site x.procedure c.is_site W c.lines c.are_lines k l is c.blocks
+      (h.unreplaced p k c.site c.is_site clean c) c.names (subst (λ m. covers_line U.program p m ≡ true) (sym form) c.covers)
+      (λ v e. h.readable p k clean c v (subst (λ (m : Line). covers_use U.program p m.bindings.mentions v ≡ true) form e)) in
+      record {
+        written = W.number;
+        is_written = W.is_number;
+        line = l;
+        is_line = is;
+        written_line = z.line;
+        is_written_line = z.is_line;
+        same = z.same;
+      }
+
+  pub same_lines : SameLines U U.facts.marks
+  same_lines p zero clean c = absurd (not_none c.is_line)
+  same_lines p (suc k) clean c = one_line p k clean c

@@ -1,0 +1,255 @@
+-- The variables of a procedure are made on both sides, in the order of their declarations.
+use Rattle.std.proofs.Common.{◌≡◌, ◌⊎◌, inl, inr, refl, sym, ap, subst, ◌∙◌, ℕ, suc, ◌<◌, ◌≤◌, Bool, true, false, cond, not, ◌&&◌, nat_eq, true≢false, Option, Some, None, List, [], ◌∷◌, map, arith, append-nil, eqb-true}
+use Rattle.std.specs.List.{list_any}
+use Rattle.std.specs.Map.{lookup}
+use Rattle.up_base.proofs.Tests.{both_true, either, neither, not_true}
+use Rattle.up_base.specs.Names.{is_same_name}
+use Rattle.bound_tree.specs.Tree.{Declarations, Variable}
+use Rattle.run_base.specs.Outcomes.{Outcome, gives, raises, spent, outside, then}
+use Rattle.run_base.specs.Positions.{Position, Root, made, shared, field, whole}
+use Rattle.vb6_run.specs.Programs.{made_each}
+use Rattle.vb6_run.specs.Shapes.{Shape, variable_shape}
+use Rattle.vb6_run.specs.Store.{Address, Memory, constant, item, laid, make, provided, root}
+use Rattle.vb6_run.specs.Values.{is_makeable}
+use Rattle.net_run.specs.Members.{Code}
+use Rattle.net_run.specs.Names.{var_in}
+use Rattle.net_run.specs.Program.{dim_made, dims_made}
+use Rattle.net_run.specs.Shapes as shape
+use Rattle.net_run.specs.Store as net
+use Rattle.net_tree.specs.Types.{TypeName}
+use Rattle.written_trees.specs.Names.{Scope}
+use Rattle.run_matches.specs.Addresses.{Same, same_item, same_root, position_of}
+use Rattle.run_matches.specs.Agreeing.{Agrees}
+use Rattle.run_matches.specs.Covered.{are_different, is_named_in}
+use Rattle.run_matches.specs.Frames.{IsOwnAddress, is_own_of, is_place, stands_in}
+use Rattle.run_matches.specs.Maps.{Below, IsMade, World, mark}
+use Rattle.run_matches.specs.Match.{MemoryMatch}
+use Rattle.run_matches.specs.Pledges.{IsOld, Later, Pledge}
+use Rattle.run_matches.specs.Sites.{Own, own_constant, own_name, own_variable, variable_numbers}
+use Rattle.run_matches.specs.Upgrades.{Upgrade}
+use Rattle.run_statements.specs.Frames.{IsReadable, MadeMatch}
+use Rattle.run_statements.specs.Kept.{own_dim}
+use Rattle.agreeing_laws.specs.Promises.{Yields}
+use Rattle.agreeing_laws.proofs.Agreeing.{agrees_gives, agrees_yields, right_alone, then_agrees}
+use Rattle.agreeing_laws.proofs.Made.{below_then, more}
+use Rattle.agreeing_laws.proofs.Moves.{address_later, matched_whole}
+use Rattle.agreeing_laws.proofs.Outputs.{outputs_then}
+use Rattle.run_laws.specs.Entered.{LocalMatch, LocalsMatch, no_locals, next_constant, next_variable, AllSound}
+use Rattle.run_laws.specs.Premises.{LocalsAreMadeBy}
+use Rattle.run_laws.proofs.Covered.{not_none, same_name, some_is}
+use Rattle.run_laws.proofs.Dims.{ConstantMade, constant_made, ScalarMade, variable_made}
+
+-- ---- places
+
+not_less : (a b : ℕ) → a ≤ b → b < a → ⊥
+not_less a b x y = omega arith
+
+abbrev or_whole : Option Position → Position
+or_whole None = whole (made 0)
+or_whole (Some q) = q
+
+-- what an address in a place says of its position
+pub position_is : (a : Address) (s : Shape) (q p : Position) → a ≡ root s q → position_of a ≡ Some p → q ≡ p
+position_is a s q p e is = ap (λ b. or_whole (position_of b)) (sym e) ∙ ap or_whole is
+
+pub same_made : (U : Upgrade) (K : Pledge) (w : World) (a : Address) (b : net.Address) (s : Shape) (n : ℕ) → Same U K w a b → a ≡ root s (whole (made n))
+    → n < w.src.next
+same_made U K w _ _ s n (same_root t d q sh m r) e =
+    subst (λ (z : Position). IsMade (mark w.src) z.root) (ap (λ b. or_whole (position_of b)) e) (matched_whole U w t q m).is_made
+same_made U K w _ _ s n (same_item f t d q k j path keeps m has part sh) e = absurd (cc e)
+
+at_place : (n : ℕ) (r : Root) → is_place n r ≡ true → made n ≡ r
+at_place n (shared k) h = absurd (true≢false (sym h))
+at_place n (made m) h = ap made (eqb-true n m h)
+at_place n (field o k) h = absurd (true≢false (sym h))
+
+pub stands_new : (K : Pledge) (n : ℕ) (a : Address) → stands_in n a ≡ true → IsOwnAddress K a → IsOld K (made n) → ⊥
+stands_new K n (root s q) h own old = own q refl (subst (λ r. IsOld K r) (at_place n q.root h) old)
+stands_new K n (item e q j path) h own old = own q refl (subst (λ r. IsOld K r) (at_place n q.root h) old)
+stands_new K n (constant x) h own old = absurd (true≢false (sym h))
+
+-- a place that was made since the mark is no old one
+new_place : (K : Pledge) (w : World) (a : Address) (s : Shape) → Below K.base (mark w.src) → a ≡ root s (whole (made w.src.next)) → IsOwnAddress K a
+new_place K w a s low e q is old =
+    not_less K.base.places w.src.next low.places
+    (subst (λ (z : Position). IsOld K z.root) (sym (position_is a s (whole (made w.src.next)) q e is)) old).is_made
+
+-- ---- what a new variable is at a later world
+
+local_later : (U : Upgrade) (K : Pledge) (w0 w1 : World) (v : ℕ) (a : Address) (b : net.Address) → Later U K w0 w1 → LocalMatch U K w0 v a b
+    → LocalMatch U K w1 v a b
+local_later U K w0 w1 v a b l m = record {
+  place = record {
+    place = m.place.place;
+    stands = m.place.stands;
+    is_made = more m.place.place w0.src.next w1.src.next l.grows.places m.place.is_made;
+    declared = l.extends.same_declared m.place.place m.place.is_made ∙ m.place.declared;
+  };
+  same = address_later U K w0 w1 a b l m.same;
+  own = m.own;
+}
+
+-- ---- finding a variable
+
+-- the variable of a number, which the target has by its name; other names aren't its own
+pub record Found (U : Upgrade) (K : Pledge) (w : World) (v : ℕ) (a : Address) (os : List Own) (ys : List (List ℕ × net.Address)) : Type 0 where
+  pub readable : IsReadable U v
+  pub address : net.Address
+  pub found : var_in ys readable.variable.name ≡ Some address
+  pub match : LocalMatch U K w v a address
+  pub apart : (name : List ℕ) → is_named_in name (map own_name os) ≡ false → is_same_name name readable.variable.name ≡ false
+
+module _ (U : Upgrade) (S : Scope) (K : Pledge) (w : World) where
+  -- behind a declaration of another name
+  found_behind : (o : Own) (b : List ℕ × net.Address) (v : ℕ) (a : Address) (os : List Own) (ys : List (List ℕ × net.Address)) → b.0 ≡ own_name o
+      → is_named_in (own_name o) (map own_name os) ≡ false → Found U K w v a os ys → Found U K w v a (o ∷ os) (b ∷ ys)
+  found_behind o b v a os ys e other f = record {
+    readable = f.readable;
+    address = f.address;
+    found =
+        ap (λ t. cond t (Some b.1) (var_in ys f.readable.variable.name))
+        (ap (λ n. is_same_name n f.readable.variable.name) e ∙ f.apart (own_name o) other) ∙ f.found;
+    match = f.match;
+    apart = λ name h. f.apart name (neither (is_same_name name (own_name o)) (is_named_in name (map own_name os)) h).1;
+  }
+
+  first_differs : (o : Own) (os : List Own) → are_different (map own_name (o ∷ os)) ≡ true
+      → (is_named_in (own_name o) (map own_name os) ≡ false) × (are_different (map own_name os) ≡ true)
+  first_differs o os h =
+      let both = both_true (not (is_named_in (own_name o) (map own_name os))) (are_different (map own_name os)) h in
+      (not_true (is_named_in (own_name o) (map own_name os)) both.0, both.1)
+
+  pub local_found : (os : List Own) (xs : List (ℕ × Address)) (ys : List (List ℕ × net.Address)) → LocalsMatch U K w os xs ys → AllSound U S os
+      → are_different (map own_name os) ≡ true → (v : ℕ) (a : Address) → lookup (nat_eq v) xs ≡ Some a → Found U K w v a os ys
+  local_found _ _ _ no_locals sound different v a e = absurd (not_none e)
+  local_found _ _ _ (next_variable u x c b os xs ys name m rest) sound different v a e =
+      by (nat_eq v u) refl e (λ z. local_found os xs ys rest sound.1 (first_differs (own_variable u x) os different).1 v a z)
+    where
+      by : (t : Bool) → nat_eq v u ≡ t → cond t (Some c) (lookup (nat_eq v) xs) ≡ Some a → (lookup (nat_eq v) xs ≡ Some a → Found U K w v a os ys)
+          → Found U K w v a (own_variable u x ∷ os) (b ∷ ys)
+      by true same z more =
+          let one : v ≡ u = eqb-true v u same in
+          let r : IsReadable U u = sound.0.0 in
+          let at = ap (λ n. is_same_name n r.variable.name) (name ∙ ap (λ (y : Variable). y.name) (sym sound.0.1)) ∙ same_name r.variable.name in
+          subst (λ n. Found U K w n a (own_variable u x ∷ os) (b ∷ ys)) (sym one) (record {
+            readable = r;
+            address = b.1;
+            found = ap (λ t. cond t (Some b.1) (var_in ys r.variable.name)) at;
+            match = subst (λ d. LocalMatch U K w u d b.1) (some_is z) m;
+            apart = λ n h.
+                ap (λ (y : Variable). is_same_name n y.name) sound.0.1 ∙ (neither (is_same_name n x.name) (is_named_in n (map own_name os)) h).0;
+          })
+      by false same z more = found_behind (own_variable u x) b v a os ys name (first_differs (own_variable u x) os different).0 (more z)
+  local_found _ _ _ (next_constant c x b os xs ys name rest) sound different v a e =
+      found_behind (own_constant c x) b v a os ys name (first_differs (own_constant c x) os different).0
+      (local_found os xs ys rest sound.1 (first_differs (own_constant c x) os different).1 v a e)
+
+  -- the target has all names
+  pub local_names : (os : List Own) (xs : List (ℕ × Address)) (ys : List (List ℕ × net.Address)) → LocalsMatch U K w os xs ys
+      → map (λ (y : List ℕ × net.Address). y.0) ys ≡ map own_name os
+  local_names _ _ _ no_locals = refl
+  local_names _ _ _ (next_variable v x a b os xs ys name m rest) =
+      let more = local_names os xs ys rest in
+      λ i. name i ∷ more i
+  local_names _ _ _ (next_constant c x b os xs ys name rest) =
+      let more = local_names os xs ys rest in
+      λ i. name i ∷ more i
+
+  -- no place of theirs is an old one
+  pub local_places : (p : ℕ) (os : List Own) (xs : List (ℕ × Address)) (ys : List (List ℕ × net.Address)) → LocalsMatch U K w os xs ys → (n : ℕ)
+      → list_any (λ (x : ℕ × Address). is_own_of U p x.0 && stands_in n x.1) xs ≡ true → IsOld K (made n) → ⊥
+  local_places p _ _ _ no_locals n h old = true≢false (sym h)
+  local_places p _ _ _ (next_variable v x a b os xs ys name m rest) n h old =
+      by (either (is_own_of U p v && stands_in n a) (list_any (λ (x : ℕ × Address). is_own_of U p x.0 && stands_in n x.1) xs) h)
+      (λ z. local_places p os xs ys rest n z old)
+    where
+      by : (is_own_of U p v && stands_in n a ≡ true) ⊎ (list_any (λ (x : ℕ × Address). is_own_of U p x.0 && stands_in n x.1) xs ≡ true)
+          → (list_any (λ (x : ℕ × Address). is_own_of U p x.0 && stands_in n x.1) xs ≡ true → ⊥) → ⊥
+      by (inl z) more = stands_new K n a (both_true (is_own_of U p v) (stands_in n a) z).1 m.own old
+      by (inr z) more = more z
+  local_places p _ _ _ (next_constant c x b os xs ys name rest) n h old = local_places p os xs ys rest n h old
+
+pub locals_later : (U : Upgrade) (K : Pledge) (w0 w1 : World) (os : List Own) (xs : List (ℕ × Address)) (ys : List (List ℕ × net.Address)) → Later U K w0 w1
+    → LocalsMatch U K w0 os xs ys → LocalsMatch U K w1 os xs ys
+locals_later U K w0 w1 _ _ _ l no_locals = no_locals
+locals_later U K w0 w1 _ _ _ l (next_variable v x a b os xs ys name m rest) =
+    next_variable v x a b os xs ys name (local_later U K w0 w1 v a b.1 l m) (locals_later U K w0 w1 os xs ys l rest)
+locals_later U K w0 w1 _ _ _ l (next_constant c x b os xs ys name rest) =
+    next_constant c x b os xs ys name (locals_later U K w0 w1 os xs ys l rest)
+
+-- ---- making
+
+abbrev lay_by : Bool → Shape → Position → Memory → Outcome Memory Unit
+lay_by b s q w = provided b (λ v. gives [] tt (laid s q v)) w
+
+-- the source makes the next place
+makes_next : (s : Shape) (w : Memory) → Yields (λ (a : Address) (u : Memory). a ≡ root s (whole (made w.next))) (make s w)
+makes_next s w = by (is_makeable s)
+  where
+    by : (b : Bool) → Yields (λ (a : Address) (u : Memory). a ≡ root s (whole (made w.next)))
+        (then (lay_by b s (whole (made w.next)) (record w { next = suc w.next })) (λ u v. gives [] (root s (whole (made w.next))) v))
+    by true = refl
+    by false = tt
+
+-- the target goes on with a function of what it gives
+then_gives : {A B C : Type 0} (U : Upgrade) (K : Pledge) (w : World) (R : World → A → B → Type 0) (S : World → A → C → Type 0) (f : B → C)
+    (r : Outcome Memory A) (r' : Outcome net.Memory B) → ((u : World) (a : A) (b : B) → R u a b → S u a (f b)) → Agrees U K w R r r'
+    → Agrees U K w S r (then r' (λ b t. gives [] (f b) t))
+then_gives U K w R S f (gives o a s) (gives q b t) g h = (append-nil q ∙ h.0, h.1, g (record { map = h.1; src = s; net = t }) a b h.2, h.3)
+then_gives U K w R S f (raises o e s) (raises q d t) g h = h
+then_gives U K w R S f (spent o s) (spent q t) g h = h
+then_gives U K w R S f (outside o) r' g h = outputs_then o h.0 r' (λ b t. gives [] (f b) t) h.1
+then_gives U K w R S f _ _ g h = absurd h
+
+abbrev pub Locals : Upgrade → Pledge → List Own → World → List (ℕ × Address) → List (List ℕ × net.Address) → Type 0
+Locals U K os w xs ys = LocalsMatch U K w os xs ys
+
+module _ (U : Upgrade) (K : Pledge) (made_alike : LocalsAreMadeBy U K) (S : Scope) (facts : S.facts ≡ U.facts) (c : Code) (me : Option ℕ) where
+  abbrev MadeNext : World → (v : ℕ) (r : IsReadable U v) → TypeName → World → Address → net.Address → Type 0
+  MadeNext w v r t u a b = MadeMatch U K v r.variable.ty t u a b × (a ≡ root (variable_shape U.program.declarations v) (whole (made w.src.next)))
+
+  abbrev Named : (v : ℕ) → List ℕ → World → Address → List ℕ × net.Address → Type 0
+  Named v name u a b = (b.0 ≡ name) × LocalMatch U K u v a b.1
+
+  one_agrees : (w : World) (i v : ℕ) (r : IsReadable U v) → Below K.base (mark w.src) → MemoryMatch U w
+      → Agrees U K w (Named v r.variable.name) (make (variable_shape U.program.declarations v) w.src)
+      (dim_made U.written c me i (own_dim S (own_variable v r.variable)) w.net)
+  one_agrees w i v r low h =
+      let m : ScalarMade U S c v r = variable_made U S facts c v r in
+      let s : Shape = variable_shape U.program.declarations v in
+      subst (λ x. Agrees U K w (Named v r.variable.name) (make s w.src) x) (sym (m.is_made me i w.net))
+      (then_gives U K w (MadeNext w v r m.word) (Named v r.variable.name) (λ b. (r.variable.name, b)) (make s w.src)
+      (net.made_with (shape.scalar m.word) (shape.default_of (shape.scalar m.word)) w.net)
+      (λ u a b x. (refl, record { place = x.0.place; same = x.0.same; own = new_place K w a s low x.1 }))
+      (agrees_yields U K w (MadeMatch U K v r.variable.ty m.word) (λ (a : Address) (u : Memory). a ≡ root s (whole (made w.src.next))) (make s w.src)
+      (net.made_with (shape.scalar m.word) (shape.default_of (shape.scalar m.word)) w.net) (makes_next s w.src)
+      (made_alike w v r m.word m.is_word h)))
+
+  pub locals_agree : (w : World) (i : ℕ) (os : List Own) → AllSound U S os → Below K.base (mark w.src) → MemoryMatch U w
+      → Agrees U K w (Locals U K os) (made_each U.program.declarations (variable_numbers os) w.src) (dims_made U.written c me i (map (own_dim S) os) w.net)
+  locals_agree w i [] sound low h = agrees_gives U K w (Locals U K []) [] [] h no_locals
+  locals_agree w i (own_variable v x ∷ os) sound low h =
+      let D : Declarations = U.program.declarations in
+      let ds = map (own_dim S) os in
+      then_agrees U K w (Named v x.name) (Locals U K (own_variable v x ∷ os)) (make (variable_shape D v) w.src)
+      (dim_made U.written c me i (own_dim S (own_variable v x)) w.net)
+      (λ a s. then (made_each D (variable_numbers os) s) (λ rest s. gives [] ((v, a) ∷ rest) s))
+      (λ b t. then (dims_made U.written c me (suc i) ds t) (λ rest t. gives [] (b ∷ rest) t)) h
+      (subst (λ (y : Variable). Agrees U K w (Named v y.name) (make (variable_shape D v) w.src) (dim_made U.written c me i (own_dim S (own_variable v y)) w.net))
+      sound.0.1 (one_agrees w i v sound.0.0 low h))
+      (λ a b u m lat. then_agrees U K u (Locals U K os) (Locals U K (own_variable v x ∷ os)) (made_each D (variable_numbers os) u.src)
+      (dims_made U.written c me (suc i) ds u.net) (λ rest s. gives [] ((v, a) ∷ rest) s) (λ rest t. gives [] (b ∷ rest) t) lat.match
+      (locals_agree u (suc i) os sound.1 (below_then K.base (mark w.src) (mark u.src) low lat.grows) lat.match)
+      (λ xs ys z rest later. agrees_gives U K z (Locals U K (own_variable v x ∷ os)) ((v, a) ∷ xs) (b ∷ ys) later.match
+      (next_variable v x a b os xs ys m.0 (local_later U K u z v a b.1 later m.1) rest)))
+  locals_agree w i (own_constant d x ∷ os) sound low h =
+      let m : ConstantMade U S c d x = constant_made U S c d x sound.0 in
+      let ds = map (own_dim S) os in
+      subst (λ r. Agrees U K w (Locals U K (own_constant d x ∷ os)) (made_each U.program.declarations (variable_numbers os) w.src)
+      (then r (λ b t. then (dims_made U.written c me (suc i) ds t) (λ rest t. gives [] (b ∷ rest) t)))) (sym (m.is_made me i w.net))
+      (right_alone U K w (Locals U K (own_constant d x ∷ os)) (made_each U.program.declarations (variable_numbers os) w.src)
+      (then (dims_made U.written c me (suc i) ds w.net) (λ rest t. gives [] ((x.name, m.address) ∷ rest) t))
+      (then_gives U K w (Locals U K os) (Locals U K (own_constant d x ∷ os)) (λ rest. (x.name, m.address) ∷ rest)
+      (made_each U.program.declarations (variable_numbers os) w.src) (dims_made U.written c me (suc i) ds w.net)
+      (λ u xs ys rest. next_constant d x (x.name, m.address) os xs ys refl rest)
+      (locals_agree w (suc i) os sound.1 low h)))

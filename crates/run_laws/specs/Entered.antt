@@ -1,0 +1,54 @@
+-- The variables that an entry makes, and frames that run.
+use Rattle.std.specs.Prelude.{◌≡◌, ℕ, true, false, ◌&&◌, Option, Some, List, [], ◌∷◌, nat_eq}
+use Rattle.std.specs.List.{list_any}
+use Rattle.std.specs.Map.{lookup}
+use Rattle.bound_tree.specs.Tree.{Constant, Variable}
+use Rattle.bound_facts.specs.Facts.{is_quiet}
+use Rattle.run_base.specs.Positions.{made}
+use Rattle.vb6_run.specs.Store.{Address, SourceFrame}
+use Rattle.net_run.specs.Lines.{NetFrame}
+use Rattle.net_run.specs.Store as net
+use Rattle.written_trees.specs.Names.{Scope}
+use Rattle.written_trees.specs.Prologues.{constant_dim}
+use Rattle.run_matches.specs.Addresses.{Same}
+use Rattle.run_matches.specs.Frames.{HasPlace, IsOwnAddress, NextMatch, is_own_of, stands_in}
+use Rattle.run_matches.specs.Maps.{World}
+use Rattle.run_matches.specs.Pledges.{Pledge, IsOld}
+use Rattle.run_matches.specs.Sites.{Own, own_variable, own_constant}
+use Rattle.run_matches.specs.Upgrades.{Upgrade}
+use Rattle.run_statements.specs.Frames.{IsReadable}
+use Rattle.run_statements.specs.Kept.{IsConstantDim}
+
+-- ---- variables
+
+-- a variable of a procedure, made on both sides
+pub record LocalMatch (U : Upgrade) (K : Pledge) (w : World) (v : ℕ) (a : Address) (b : net.Address) : Type 0 where
+  pub place : HasPlace U w v a
+  pub same : Same U K w a b
+  pub own : IsOwnAddress K a
+
+-- what a procedure declares, with the variables of both frames: a constant has a name in the target's alone
+pub data LocalsMatch (U : Upgrade) (K : Pledge) (w : World) : List Own → List (ℕ × Address) → List (List ℕ × net.Address) → Type 0 where
+  no_locals : LocalsMatch U K w [] [] []
+  next_variable : (v : ℕ) (x : Variable) (a : Address) (b : List ℕ × net.Address) (os : List Own) (xs : List (ℕ × Address)) (ys : List (List ℕ × net.Address))
+      → b.0 ≡ x.name → LocalMatch U K w v a b.1 → LocalsMatch U K w os xs ys → LocalsMatch U K w (own_variable v x ∷ os) ((v, a) ∷ xs) (b ∷ ys)
+  next_constant : (c : ℕ) (x : Constant) (b : List ℕ × net.Address) (os : List Own) (xs : List (ℕ × Address)) (ys : List (List ℕ × net.Address))
+      → b.0 ≡ x.name → LocalsMatch U K w os xs ys → LocalsMatch U K w (own_constant c x ∷ os) xs (b ∷ ys)
+
+-- a variable that can be read, or a constant that is written as one
+abbrev pub IsSound : Upgrade → Scope → Own → Type 0
+IsSound U S (own_variable v x) = (r : IsReadable U v) × (r.variable ≡ x)
+IsSound U S (own_constant c x) = IsConstantDim (constant_dim S (c, x))
+
+abbrev pub AllSound : Upgrade → Scope → List Own → Type 0
+AllSound U S [] = Unit {0}
+AllSound U S (o ∷ os) = IsSound U S o × AllSound U S os
+
+-- ---- frames
+
+-- A frame of a call that runs, with one that stands for it: its variables aren't quiet, and those of its own are in places that the call
+-- has made.
+pub record RunMatch (U : Upgrade) (K : Pledge) (p : ℕ) (me : Option ℕ) (w : World) (f : SourceFrame) (g : NetFrame) : Type 0 where
+  pub next : NextMatch U K p me w f g
+  pub exact : (v : ℕ) (a : Address) → lookup (nat_eq v) f.vars ≡ Some a → is_quiet U.program.declarations U.known v ≡ false
+  pub places : (n : ℕ) → list_any (λ (x : ℕ × Address). is_own_of U p x.0 && stands_in n x.1) f.vars ≡ true → IsOld K (made n) → ⊥
