@@ -1,0 +1,23 @@
+mod Heads
+mod Numbers
+mod Naming
+mod CoveredLines
+mod Variants
+mod Lines
+mod Lists
+mod Owns
+mod Merging
+mod BodyComments
+mod AllComments
+mod PlacedBodies
+mod PropertyParts
+mod NoProcedures
+mod Commented
+mod Among
+mod Support
+mod WalkedPaths
+mod KnownPaths
+mod KnownLines
+mod UsedPaths
+mod Alone
+pub mod Corresponding

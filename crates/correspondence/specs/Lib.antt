@@ -1,0 +1,9 @@
+pub mod Lists
+pub mod Heads
+pub mod Uses
+pub mod Variants
+pub mod Owns
+pub mod Comments
+pub mod Paths
+pub mod Support
+pub mod Corresponds
