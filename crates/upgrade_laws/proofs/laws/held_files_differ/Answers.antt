@@ -1,0 +1,5 @@
+use Rattle.upgrade_laws.proofs.Files as terms
+use Rattle.upgrade_laws.proofs.laws.held_files_differ.Goals as goal
+
+pub returns : goal.returns
+returns c = terms.held_differs

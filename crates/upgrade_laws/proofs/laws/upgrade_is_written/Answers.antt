@@ -1,0 +1,5 @@
+use Rattle.upgrade_laws.proofs.Making as terms
+use Rattle.upgrade_laws.proofs.laws.upgrade_is_written.Goals as goal
+
+pub returns : goal.returns
+returns c = terms.upgrade_is_written

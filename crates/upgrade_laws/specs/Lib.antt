@@ -1,0 +1,4 @@
+pub mod Separate
+pub mod Ordered
+pub mod Mentioned
+pub mod Upgrades
