@@ -1,0 +1,3 @@
+mod Examples
+pub mod FileNames
+pub mod Pieces
