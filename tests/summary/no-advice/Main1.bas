@@ -1,0 +1,3 @@
+Sub Main()
+    Beep
+End Sub
