@@ -53,7 +53,6 @@ rule_texts =
     ∷ (24, codes "As New in an array, by reference or in With")
     ∷ (25, codes "constant out of range")
     ∷ (26, codes "order of effects")
-    ∷ (99, codes "not translated yet")
     ∷ []
 
 -- the text of a rule, where there is one of this number

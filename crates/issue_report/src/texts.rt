@@ -31,7 +31,7 @@ pub fn fault_text(kind: u8) -> Option<&'static [u8]>
     Some(text)
 }
 
-/// The text of a rule, and none where no rule has this number. The rules have the numbers 1 to 26, and 99.
+/// The text of a rule, and none where no rule has this number. The rules have the numbers 1 to 26.
 pub fn rule_text(rule: u8) -> Option<&'static [u8]>
     ensures { option_copied result ≡ rule_text rule }
 {
@@ -62,7 +62,6 @@ pub fn rule_text(rule: u8) -> Option<&'static [u8]>
         24 => b"As New in an array, by reference or in With",
         25 => b"constant out of range",
         26 => b"order of effects",
-        99 => b"not translated yet",
         _ => return None,
     };
     Some(text)

@@ -1,5 +1,5 @@
 -- The files that are written have names of their own, so all of them stand after they were put.
-use Rattle.std.proofs.Common.{◌≡◌, ◌≢◌, ℕ, zero, suc, ◌+◌, ◌-◌, Bool, true, false, not, ◌&&◌, ◌||◌, codes, List, [], ◌∷◌, ◌++◌, map, length, drop, append_assoc, Option, Some, None, refl, sym, ap, ◌∙◌, subst, arith}
+use Rattle.std.proofs.Common.{◌≡◌, ◌≢◌, ℕ, suc, ◌+◌, ◌-◌, Bool, true, false, not, ◌&&◌, ◌||◌, codes, List, [], ◌∷◌, ◌++◌, map, length, drop, append_assoc, Option, Some, refl, sym, ap, ◌∙◌, subst, arith}
 use Rattle.std.specs.Prelude.{insert, nat_eq}
 use Rattle.std.specs.List.{list_all, list_any}
 use Rattle.std.specs.Cmp.Lexicographic.{pointwise}
@@ -7,14 +7,12 @@ use Rattle.std.proofs.lemmas.Bool.Decides.{nat_tests}
 use Rattle.std.proofs.lemmas.List.{append_cancel_right}
 use Rattle.std.proofs.lemmas.List.Elements.{All-cons, All-nil}
 use Rattle.up_base.specs.Names.{is_same_name, lower_case}
-use Rattle.up_base.specs.Outside.{Files, ChangesOnly}
+use Rattle.up_base.specs.Outside.{Files}
 use Rattle.vb_tree.specs.declared.project.Entry.{Entry}
 use Rattle.vb_tree.specs.ProjectLines.{is_new, is_taken, is_reserved, with_earlier, are_apart}
-use Rattle.vb_tree.specs.Tree.{Module}
 use Rattle.net_tree.specs.Text.{files_of, file_name, module_text, response_text}
 use Rattle.net_tree.specs.Tree as net
 use Rattle.wizard_cli.specs.Headline.{moved, in_folder, report_file, put_order, PutAll, HoldsAll}
-use Rattle.wizard_cli.proofs.Grammar.{AreOf}
 
 abbrev File : Type 0
 File = List ℕ × List ℕ

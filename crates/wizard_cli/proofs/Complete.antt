@@ -65,6 +65,15 @@ pub done_ends : (n : ℕ) → IsDone (done_status n)
 done_ends zero = inl refl
 done_ends (suc n) = inr refl
 
+-- nothing was put, unless all was or the writing stopped
+pub leaves_outlet : (words : List (List ℕ)) (told : Told) (untouched : Type 0) (answer : Answer) (ended : Status) → ended ≡ status_of answer → IsAnswer words told untouched answer → ¬ (IsDone ended) → ¬ (ended ≡ status.WriteFault) → untouched
+leaves_outlet words told untouched (Done n) ended is h not_done not_stopped = absurd (not_done (subst IsDone (sym is) (done_ends n)))
+leaves_outlet words told untouched BadWords ended is h not_done not_stopped = h.1
+leaves_outlet words told untouched (Refused said fault) ended is h not_done not_stopped = h.3
+leaves_outlet words told untouched (ReadFault said) ended is h not_done not_stopped = h.3
+leaves_outlet words told untouched (WriteFault said) ended is h not_done not_stopped = absurd (not_stopped is)
+leaves_outlet words told untouched OutOfMemory ended is h not_done not_stopped = h
+
 -- a held project is upgraded, where nothing failed and memory sufficed
 pub completes : (words : List (List ℕ)) (told : Told) (untouched R W : Type 0) (answer : Answer) (files : Files) (file : List ℕ) (P : Project) → told.held ≡ Some files → AsksUpgrade words file → HeldProject files file P → (R → ⊥) → (W → ⊥) → OnFault answer R W → IsAnswer words told untouched answer → IsDone (status_of answer) ⊎ (status_of answer ≡ status.OutOfMemory)
 completes words told untouched R W (Done n) files file P held asks project no_read no_write cause h = inl (done_ends n)

@@ -1,18 +1,14 @@
 -- What is known of a project of the grammar: its entries, and the modules by them.
-use Rattle.std.proofs.Common.{◌≡◌, ℕ, suc, ◌+◌, ◌<◌, ◌≤◌, Bool, true, false, not, ◌&&◌, ◌||◌, cond, codes, nat_eq, List, [], ◌∷◌, ◌++◌, map, length, Option, Some, None, refl, sym, ap, ◌∙◌, subst, arith}
-use Rattle.std.specs.List.{list_all, list_any}
-use Rattle.std.specs.Prelude.{nat_le}
-use Rattle.up_base.specs.Names.{is_name, is_printable, is_same_name}
+use Rattle.std.proofs.Common.{◌≡◌, ℕ, ◌+◌, true, List, [], ◌∷◌, ap, ◌∙◌}
+use Rattle.std.specs.List.{list_all}
 use Rattle.vb_tree.specs.declared.project.Entry.{Entry}
-use Rattle.vb_tree.specs.ProjectLines.{is_module_name, is_letter, is_name_unit, is_named, is_new, is_taken, is_reserved, with_earlier, are_apart, lines_of}
+use Rattle.vb_tree.specs.ProjectLines.{is_named, are_apart, lines_of}
 use Rattle.vb_tree.specs.Tree.{Module, Project}
-use Rattle.vb_lines.specs.Modules.{Head, ended, malformed, unended, IsModule, IsModuleOf}
+use Rattle.vb_lines.specs.Modules.{Head, ended, malformed, unended, IsModule}
 use Rattle.project_file.proofs.EntryNames.{named_entries}
 use Rattle.project_file.proofs.Limits.{entries_apart}
-use Rattle.project_loader.specs.Held.{TextIsFile, AreModules, IsOfGrammar, HeldEntries, HeldProject}
-use Rattle.project_loader.specs.Modules.{TextIsModule}
-use Rattle.project_loader.specs.Texts.{decoded, size_of}
-use Rattle.up_base.specs.Outside.{Files}
+use Rattle.project_loader.specs.Held.{AreModules, IsOfGrammar}
+use Rattle.project_loader.specs.Texts.{decoded}
 
 pub entries_named : (P : Project) → IsOfGrammar P → list_all is_named P.file.entries ≡ true
 entries_named P g = ap (λ f. list_all is_named f.entries) g.file.says ∙ named_entries (lines_of (decoded g.bytes))

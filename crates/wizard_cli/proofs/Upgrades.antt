@@ -1,61 +1,62 @@
 -- What stands in the outlet after all files of an upgrade were put.
-use Rattle.std.proofs.Common.{◌≡◌, ℕ, ◌+◌, ◌<◌, ◌≤◌, Bool, true, false, ◌&&◌, codes, List, [], ◌∷◌, ◌++◌, map, length, Option, Some, None, refl, sym, ap, ◌∙◌, subst, inl, inr}
+use Rattle.std.proofs.Common.{◌≡◌, ℕ, ◌+◌, ◌-◌, List, [], ◌∷◌, map, length, insert, Option, Some, None, refl, sym, ap, ◌∙◌, subst, inl, inr}
 use Rattle.std.specs.Prelude.{IfSome}
-use Rattle.std.specs.List.{list_all}
 use Rattle.up_base.specs.Outside.{Files, IfTold}
+use Rattle.up_base.specs.declared.issue.Issue.{Issue}
 use Rattle.vb_tree.specs.declared.project.Entry.{Entry}
-use Rattle.vb_tree.specs.BoundTree.{Bound}
 use Rattle.vb_tree.specs.Tree.{Module, Project}
+use Rattle.bound_tree.specs.Tree.{Program}
 use Rattle.net_tree.specs.Text.{files_of, IsWritable}
 use Rattle.net_tree.specs.Tree as net
 use Rattle.net_tree.specs.View.{project_of}
 use Rattle.project_loader.specs.Faults.{file_names}
 use Rattle.project_loader.specs.Held.{HeldFile, HeldProject, IsOfGrammar}
 use Rattle.project_loader.specs.Loading.{ReadsAll}
-use Rattle.scalar_binder.specs.Scalars.{bound}
-use Rattle.scalar_rewrite.specs.Marks.{first_place, behind_all}
-use Rattle.scalar_rewrite.specs.Modules.{written_modules}
-use Rattle.scalar_rewrite.specs.Projects.{written_project}
-use Rattle.rewrite_laws.proofs.Placing.{kept_same}
-use Rattle.line_order.proofs.Projects.{ordered_grammar}
-use Rattle.scalar_correspondence.specs.Corresponds.{FilesCorrespond}
-use Rattle.scalar_correspondence.proofs.Corresponding.{corresponds}
-use Rattle.bound_locals.proofs.Locals.{locals_declared}
+use Rattle.written_trees.specs.Facts.{Facts}
+use Rattle.written_trees.specs.Placing.{Numbers, behind_members}
+use Rattle.written_trees.specs.Projects.{modules_from, next_module, first_numbers, written_project}
+use Rattle.project_upgrade.specs.declared.files.UpgradedFiles.{UpgradedFiles}
+use Rattle.project_upgrade.specs.Files.{IsUpgradedAs}
 use Rattle.wizard_cli.specs.declared.answer.Answer.{Answer}
 use Rattle.wizard_cli.specs.declared.answer.Answer.TheVariants.{Done, BadWords, Refused, ReadFault, WriteFault, OutOfMemory}
 use Rattle.wizard_cli.specs.declared.answer.Status.{Status}
 use Rattle.wizard_cli.specs.declared.answer.Status.TheVariants as status
 use Rattle.wizard_cli.specs.Asks.{AsksUpgrade}
 use Rattle.wizard_cli.specs.Answers.{done_status, status_of}
-use Rattle.wizard_cli.specs.Headline.{put_order, PutAll, IsTranslation, IsUpgrade, IsUpgraded, report_of}
-use Rattle.wizard_cli.specs.Runs.{Told, ReadsWhole, Upgrades, IsAnswer, IsDone, PutAnswer}
+use Rattle.wizard_cli.specs.Headline.{put_order, moved, report_file, PutAll, IsTranslation, IsUpgrade, IsUpgraded, report_of}
+use Rattle.wizard_cli.specs.Runs.{Told, ReadsWhole, IsAnswer, IsDone, PutAnswer}
 use Rattle.wizard_cli.specs.declared.upgrading.WrittenFiles.{WrittenFiles}
-use Rattle.wizard_cli.specs.declared.upgrading.Translation.{Translation}
-use Rattle.wizard_cli.specs.Upgrading.{AreFiles, IsTranslated}
+use Rattle.wizard_cli.specs.Upgrading.{AreFiles}
 use Rattle.wizard_cli.proofs.Apart.{NamedAs, put_apart, put_stand}
 use Rattle.wizard_cli.proofs.Grammar.{AreOf, entries_are_apart, modules_are_of}
+use Rattle.upgrade_laws.proofs.Settling.{broken_project}
+use Rattle.wizard_cli.proofs.Translations.{translates}
 
--- what is written for a project is a translation of it
-pub translates : (P : Project) (N : net.Project) → IsOfGrammar P → N ≡ written_project (bound P) → IsTranslation P N
-translates P N grammar e = record {
-  written = e;
-  files_correspond = subst (FilesCorrespond (bound P)) (sym e) (corresponds (bound P) (locals_declared P) (ordered_grammar P grammar));
-  same_runs = λ p clean. kept_same (bound P) N (locals_declared P) (ap (λ (n : net.Project). n.modules) e) p clean.kept;
-}
+-- ---- what is written for a project
 
-pub written_named : (P : Bound) (k p : ℕ) (es : List Entry) (ms : List Module) → AreOf k es ms → NamedAs es (written_modules P p ms)
-written_named P k p [] [] h = tt
-written_named P k p [] (m ∷ ms) h = absurd h
-written_named P k p (e ∷ es) [] h = absurd h
-written_named P k p (e ∷ es) (m ∷ ms) h =
-    (h.0, written_named P (k + 1) (behind_all (first_place P.declarations.project.modules p m) m.members).procedure es ms h.2)
+-- the written modules have the names of the entries
+modules_named : (P : Program) (F : Facts) (at : Numbers) (k : ℕ) (es : List Entry) (ms : List Module) → AreOf k es ms → NamedAs es (modules_from P F at ms)
+modules_named P F at k [] [] h = tt
+modules_named P F at k [] (m ∷ ms) h = absurd h
+modules_named P F at k (e ∷ es) [] h = absurd h
+modules_named P F at k (e ∷ es) (m ∷ ms) h = (h.0, modules_named P F (next_module (behind_members at m.members)) (k + 1) es ms h.2)
+
+pub written_named : (P : Project) (D : Program) (F : Facts) → IsOfGrammar P → D.declarations.project ≡ P → NamedAs P.file.entries (written_project D F).modules
+written_named P D F g same =
+    subst (λ (p : Project). NamedAs P.file.entries (modules_from D F first_numbers p.modules)) (sym same)
+    (modules_named D F first_numbers 1 P.file.entries P.modules (modules_are_of P g))
+
+pub translation_named : (P : Project) (issues : List Issue) (N : net.Project) → IsOfGrammar P → (t : IsTranslation P issues N) → NamedAs P.file.entries N.modules
+translation_named P issues N g t =
+    subst (λ (n : net.Project). NamedAs P.file.entries n.modules) (sym (t.written ∙ t.is_written))
+    (written_named P t.upgrade.program t.upgrade.facts g (ap (λ (q : Program). q.declarations.project) t.program ∙ broken_project P issues t.broken))
 
 -- after all files of an upgrade were put, the project is upgraded
 pub upgraded : (files : Files) (name : List ℕ) (P : Project) (count : ℕ) (before after : Files) → HeldProject files name P → IsOfGrammar P → (u : IsUpgrade name P count) → IsWritable u.net_project → PutAll (put_order u.net_project (report_of u)) before after → IsUpgraded files name count before after
 upgraded files name P count before after held grammar u writable put =
-    let named : NamedAs P.file.entries u.net_project.modules =
-    subst (λ (n : net.Project). NamedAs P.file.entries n.modules) (sym u.translation.written) (written_named (bound P) 1 0 P.file.entries P.modules (modules_are_of P grammar)) in
-    let apart = put_apart u.net_project (report_of u) P.file.entries (ap (λ (n : net.Project). n.support.name) u.translation.written) (entries_are_apart P grammar) named in
+    let named = translation_named P u.issues u.net_project grammar u.translation in
+    let support = ap (λ (n : net.Project). n.support.name) (u.translation.written ∙ u.translation.is_written) in
+    let apart = put_apart u.net_project (report_of u) P.file.entries support (entries_are_apart P grammar) named in
     let stand = put_stand u.net_project (report_of u) before after apart put in
     record {
       project = P;
@@ -83,19 +84,23 @@ reads_whole told name P held reads = (P.file, of_held told.held held, reads)
     of_held None h = tt
     of_held (Some files) h = h.file
 
--- the files of a translation
-pub are_files : (name : List ℕ) (P : Project) (t : Translation) (u : WrittenFiles) → IsOfGrammar P → IsWritable (project_of t.tree) → IsTranslated name P t → u.issues ≡ t.issues → u.files.items ≡ put_order (project_of t.tree) t.report → AreFiles name P u
-are_files name P t u grammar writable is count files =
+-- the files of what is made of a project
+pub are_files : (name : List ℕ) (P : Project) (made : UpgradedFiles) (u : WrittenFiles) → IsOfGrammar P → IsUpgradedAs (file_names name P.file.entries) P made
+    → u.issues ≡ made.issues → u.files.items ≡ insert (map moved made.files) (length made.files - 1) (report_file made.report) → AreFiles name P u
+are_files name P made u grammar is count files =
+    let N = project_of is.made.tree in
     record {
       upgrade = record {
-        net_project = project_of t.tree;
-        translation = translates P (project_of t.tree) grammar is.tree;
-        issues = is.issues;
-        are_issues = is.are_issues;
-        count_is = count ∙ is.count;
+        net_project = N;
+        issues = is.made.issues;
+        translation = translates P is.made grammar is.upgraded;
+        count_is = count ∙ is.are.issues;
       };
-      writable = writable;
-      files = files ∙ ap (put_order (project_of t.tree)) is.report;
+      writable = is.are.writable;
+      files =
+          files
+          ∙ ap (λ (fs : List (List ℕ × List ℕ)). insert (map moved fs) (length fs - 1) (report_file made.report)) is.are.files
+          ∙ ap (λ (report : List ℕ). insert (map moved (files_of N)) (length (files_of N) - 1) (report_file report)) is.are.report;
     }
 
 -- how the writing ended is how the run did

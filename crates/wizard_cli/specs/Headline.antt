@@ -1,56 +1,36 @@
 -- What is written for a project, and that it does the same.
-use Rattle.std.specs.Prelude.{◌≡◌, ◌-◌, ℕ, Bool, true, false, List, [], ◌∷◌, ◌++◌, map, insert, take, length, codes, All, Some, slice_get}
-use Rattle.std.specs.List.{flat_map, list_any}
+use Rattle.std.specs.Prelude.{◌≡◌, ◌-◌, ℕ, List, [], ◌∷◌, ◌++◌, map, insert, take, length, codes, All, Some, slice_get}
 use Rattle.up_base.specs.Outside.{Files, ChangesOnly, LeavesPrefix}
 use Rattle.up_base.specs.declared.issue.Issue.{Issue}
-use Rattle.vb_tree.specs.declared.form_parts.Compare.{Compare}
-use Rattle.vb_tree.specs.declared.form_parts.Compare.TheVariants as compare
-use Rattle.vb_tree.specs.Tree.{Form, option_compare, Member, alone, group, proc, Module, Project}
-use Rattle.scalar_vb6_run.specs.Program.{procedures_in}
+use Rattle.vb_tree.specs.Tree.{Project}
 use Rattle.net_tree.specs.Tree as net
 use Rattle.net_tree.specs.Text.{files_of, NetText}
+use Rattle.broken_rules.specs.Broken.{AreBroken}
+use Rattle.broken_rules.specs.Marks.{all_marks}
 use Rattle.issue_report.specs.Reports.{report_text}
 use Rattle.project_loader.specs.Held.{HeldProject}
 use Rattle.project_loader.specs.Faults.{file_names}
-use Rattle.scalar_binder.specs.Scalars.{bound}
-use Rattle.rewrite_laws.specs.Match.{IsWrittenAs, SameLines, SameRun}
-use Rattle.scalar_rewrite.specs.Modules.{IsKept}
-use Rattle.scalar_rewrite.specs.Projects.{written_project}
-use Rattle.scalar_correspondence.specs.Corresponds.{FilesCorrespond}
-use Rattle.wizard_cli.specs.Breaks.{broken_rules, AreIssues}
-
--- ---- clean procedures
-
-abbrev pub compares_texts : Form → Bool
-compares_texts (option_compare compare.Text) = true
-compares_texts _ = false
-
-abbrev pub member_compares_texts : Member → Bool
-member_compares_texts (alone l) = compares_texts l.form
-member_compares_texts (group head lines close) = false
-member_compares_texts (proc head body close) = false
-
--- for each procedure in project order, whether its module compares texts without case
-abbrev pub text_flags : List Module → List Bool
-text_flags ms = flat_map (λ (m : Module). map (λ w. list_any member_compares_texts m.members) (flat_map procedures_in m.members)) ms
-
--- All lines of the procedure p are translated, and no line of its module says that texts are compared without case.
-pub record IsClean (P : Project) (p : ℕ) : Type 0 where
-  pub kept : IsKept (bound P) p
-  pub compares : slice_get (text_flags P.modules) p ≡ Some false
+use Rattle.written_facts.specs.United.{AreUnited}
+use Rattle.written_trees.specs.Projects.{written_project}
+use Rattle.run_matches.specs.Upgrades.{Upgrade}
+use Rattle.run_statements.specs.Written.{SameLines, SameRuns}
+use Rattle.correspondence.specs.Corresponds.{FilesCorrespond}
 
 -- ---- the written project
 
--- the clean procedure p stands in the written project, and does the same there line by line, and as a whole
-abbrev pub IsKeptIn : Project → net.Project → (p : ℕ) → Type 0
-IsKeptIn P N p = (q : ℕ) × IsWrittenAs (bound P) N p q × SameLines (bound P) N p q × SameRun (bound P) N p q
-
--- N is what is written for a project. It corresponds to it part by part, and each clean procedure stands in it and does the
--- same.
-pub record IsTranslation (P : Project) (N : net.Project) : Type 0 where
-  pub written : N ≡ written_project (bound P)
-  pub files_correspond : FilesCorrespond (bound P) N
-  pub same_runs : (p : ℕ) → IsClean P p → IsKeptIn P N p
+-- N is what is written for a project with these issues. They are the rules that the project breaks, and what is clean is so by them. What is
+-- written corresponds to the project part by part. A code line that is clean by itself, and a clean procedure, does the same in what is
+-- written for it, where it is covered.
+pub record IsTranslation (P : Project) (issues : List Issue) (N : net.Project) : Type 0 where
+  pub broken : AreBroken P issues
+  pub upgrade : Upgrade
+  pub program : upgrade.program ≡ broken.program
+  pub marks : AreUnited (all_marks broken.passes) upgrade.facts.marks
+  pub written : N ≡ upgrade.written
+  pub is_written : upgrade.written ≡ written_project upgrade.program upgrade.facts
+  pub files_correspond : FilesCorrespond upgrade
+  pub same_lines : SameLines upgrade upgrade.facts.marks
+  pub same_runs : SameRuns upgrade upgrade.facts.marks
 
 -- ---- files
 
@@ -93,9 +73,8 @@ HoldsAll written files = All (λ f. files (in_folder f.0) ≡ Some f.1) written
 -- What is written for the project under a name: a translation of it, and its issues, of which there are so many.
 pub record IsUpgrade (name : List ℕ) (P : Project) (count : ℕ) : Type 0 where
   pub net_project : net.Project
-  pub translation : IsTranslation P net_project
   pub issues : List Issue
-  pub are_issues : AreIssues (broken_rules P) issues
+  pub translation : IsTranslation P issues net_project
   pub count_is : count ≡ length issues
 
 -- the report of an upgrade

@@ -1,5 +1,4 @@
 pub mod Asks
-pub mod Breaks
 pub mod Answers
 pub mod Headline
 pub mod Runs

@@ -14,7 +14,6 @@ ghost use Rattle.wizard_cli.specs.Runs.{IsAnswer, Concludes, IsRefusedFor, IsDon
 ghost use Rattle.wizard_cli.specs.Answers.{done_status};
 
 mod answer;
-mod issues;
 mod message;
 mod upgrading;
 mod words;
@@ -28,7 +27,7 @@ pub use words::Words;
 
 /// Does what the command words ask for: `upgrade FILE` reads the project file of that name and the files of its entries
 /// from the folder, and puts the files of the .NET project whose clean procedures do the same under `upgraded/` into the
-/// outlet, with a report of the lines that aren't translated. What came of it is said on the console and is the status.
+/// outlet, with a report of the rules that its lines break. What came of it is said on the console and is the status.
 pub fn run<F: Folder, O: Outlet, C: Console>(
     alloc: Global,
     words: &Words,

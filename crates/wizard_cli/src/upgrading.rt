@@ -1,32 +1,23 @@
 //! From the command words to the written files.
-ghost use Rattle.std.specs.Prelude.{◌≡◌, ◌≤◌, ℕ, List, true, map, length, codes, IfOk, OnOk};
+ghost use Rattle.std.specs.Prelude.{◌≡◌, ◌≤◌, ◌-◌, true, insert, map, length, IfOk};
 ghost use Rattle.std.specs.List.{list_all};
 ghost use Rattle.up_base.specs.Names.{is_name};
 ghost use Rattle.up_base.specs.Outside.{Rose};
 ghost use Rattle.vb_tree.specs.View.{project_of};
-ghost use Rattle.net_tree.specs.View.{project_of as net_project_of};
-ghost use Rattle.net_tree.specs.Text.{IsWritable, files_of};
 ghost use Rattle.project_loader.specs.Faults.{file_names};
 ghost use Rattle.project_loader.specs.Held.{IsOfGrammar};
-ghost use Rattle.scalar_binder.specs.Scalars.{bound};
-ghost use Rattle.scalar_rewrite.specs.Projects.{written_project};
-ghost use Rattle.wizard_cli.specs.Breaks.{broken_rules, AreIssues};
-ghost use Rattle.wizard_cli.specs.Headline.{in_folder, report_file, put_order};
+ghost use Rattle.wizard_cli.specs.Headline.{in_folder, moved, report_file};
 ghost use Rattle.wizard_cli.specs.Runs.{IsAnswer, OnFault, PutAnswer};
-ghost use Rattle.wizard_cli.specs.Upgrading.{AreFiles, IsTranslated};
+ghost use Rattle.wizard_cli.specs.Upgrading.{AreFiles};
 
 use crate::answer::{Answer, answer_to};
-use crate::issues::{dropped_issues, found_issues};
 use crate::words::{Words, WordsFail, file_to_upgrade};
 use crate::writing::{move_into_folder, put_all};
-use issue_report::report;
-use net_emitter::emit;
-use net_tree::NetProject;
+use net_tree::NetFiles;
 use project_loader::load_project;
-use scalar_binder::bind_scalars;
-use scalar_rewrite::{Rewritten, rewrite};
+use project_upgrade::{UpgradedFiles, upgraded_files};
 use std::alloc::Global;
-use up_base::{Bytes, Folder, Issues, Mem, Name, Names, Outlet};
+use up_base::{Bytes, Folder, Mem, Name, Names, Outlet};
 use vb_tree::{Entry, Project6};
 
 /// Upgrades the project that the words ask for. All is translated before the first file is put, and from then on no
@@ -65,72 +56,31 @@ pub(crate) struct WrittenFiles {
     pub(crate) issues: usize,
 }
 
-// What is written for the project under a name. Its tree is let go of before the bytes of the files are made.
+// What is written for the project under a name. What was made of it is let go of before the files get their names.
 fn translate(alloc: Global, name: &Name, project: Project6) -> Result<WrittenFiles, Mem>
     requires { IsOfGrammar (project_of project) }
     ensures { IfOk result (λ u. AreFiles name.now (project_of project) u) }
 {
-    let Translation {
-        tree,
-        report,
-        issues,
-    } = translated(alloc, name, project)?;
-    Ok(WrittenFiles {
-        files: all_files(alloc, tree, report)?,
-        issues,
-    })
-}
-
-/// The tree that is written for a project, the report on it, and how many issues it has.
-#[derive(Drop)]
-pub(crate) struct Translation {
-    tree: NetProject,
-    report: Bytes,
-    issues: usize,
-}
-
-fn translated(alloc: Global, name: &Name, project: Project6) -> Result<Translation, Mem>
-    requires { IsOfGrammar (project_of project) }
-    ensures { IfOk result (IsTranslated name.now (project_of project)) }
-{
     let names = file_names(alloc, name, project.file.entries.as_slice())?;
-    let Rewriting { tree, issues } = rewritten(alloc, project)?;
-    let report = report(alloc, &issues, &names)?;
-    Ok(Translation {
-        tree,
+    let UpgradedFiles {
+        files,
         report,
-        issues: issues.len(),
+        issues,
+        ..
+    } = upgraded_files(alloc, &names, project)?;
+    Ok(WrittenFiles {
+        files: all_files(alloc, files, report)?,
+        issues,
     })
-}
-
-/// The tree that is written for a project, and its issues.
-#[derive(Drop)]
-pub(crate) struct Rewriting {
-    tree: NetProject,
-    issues: Issues,
-}
-
-// Both. What is bound in the project is let go of as it is written, and its own tree behind that.
-fn rewritten(alloc: Global, project: Project6) -> Result<Rewriting, Mem>
-    ensures { IfOk result (λ made. (net_project_of made.tree ≡ written_project (bound (project_of project))) × AreIssues (broken_rules (project_of project)) made.issues) }
-{
-    let bound = bind_scalars(alloc, project)?;
-    let dropped = dropped_issues(alloc, bound.declared.project.file.dropped.as_slice())?;
-    let Rewritten {
-        project: tree,
-        untranslated,
-    } = rewrite(alloc, bound)?;
-    let issues = found_issues(dropped, &untranslated)?;
-    Ok(Rewriting { tree, issues })
 }
 
 // The files that stand for a project with the report, which goes before the last one.
-fn all_files(alloc: Global, tree: NetProject, report: Bytes) -> Result<Vec<(Name, Bytes)>, Mem>
-    requires writable { IsWritable (net_project_of tree) }
-    requires named { list_all (λ f. is_name (in_folder f.0)) (files_of (net_project_of tree)) ≡ true }
-    ensures { IfOk result (λ files. files.items ≡ put_order (net_project_of tree) report) }
+fn all_files(alloc: Global, files: NetFiles, report: Bytes) -> Result<Vec<(Name, Bytes)>, Mem>
+    requires some { 1 ≤ length files }
+    requires named { list_all (λ f. is_name (in_folder f.0)) files ≡ true }
+    ensures { IfOk result (λ all. all.items ≡ insert (map moved files) (length files - 1) (report_file report)) }
 {
-    let mut files = emit(alloc, &tree)?.into_vec();
+    let mut files = files.into_vec();
     move_into_folder(alloc, &mut files)?;
     let report_file = report_file(alloc, report)?;
     let last = files.len() - 1;

@@ -6,11 +6,11 @@ Sub Main()
     Debug.Print "total"; price * pieces
 End Sub
 
-' Counts up.
+' Counts in halves.
 Sub Count()
     Dim i As Integer
     Debug.Print "start"
     For i = 1 To 3
-        Debug.Print i
+        Debug.Print i / 2
     Next
 End Sub

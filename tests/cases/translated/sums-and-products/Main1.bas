@@ -1,6 +1,5 @@
 Sub Main()
     Dim t As Boolean, b As Byte, i As Integer, n As Long
-    i = 32767 + 1
     i = b + 100
     b = b + 1
     n = t + 1

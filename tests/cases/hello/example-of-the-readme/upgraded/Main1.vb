@@ -10,7 +10,13 @@ Public Module Main1
         price = 10.25D
         UpgradeSupport.PrintLine(("total" & UpgradeSupport.PrintNum(UpgradeSupport.Cur((price * CDec(pieces))))))
     End Sub
-    ' Counts up.
-    'UPGRADE U99: For i = 1 To 3
-    'UPGRADE U99: Next
+    ' Counts in halves.
+    Public Sub Count()
+        Dim i As Short
+        UpgradeSupport.PrintLine("start")
+        For i = 1S To 3S
+            'UPGRADE U02: Debug.Print i / 2
+            UpgradeSupport.NotUpgraded(2)
+        Next
+    End Sub
 End Module

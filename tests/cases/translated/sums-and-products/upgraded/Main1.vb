@@ -7,7 +7,6 @@ Public Module Main1
         Dim b As Byte
         Dim i As Short
         Dim n As Integer
-        i = (32767S + 1S)
         i = (CShort(b) + 100S)
         b = CByte((CShort(b) + 1S))
         n = CInt((CShort(t) + 1S))

@@ -8,7 +8,7 @@ Public Module Main1
         c = 5D
         c = 5D
         c = 2.5D
-        c = (-1.5D)
+        c = UpgradeSupport.Cur((-1.5D))
         c = 0.5D
         c = 9999999999D
         c = 0.0001D

@@ -1,9 +1,0 @@
-pub mod Types
-pub mod Declarations
-pub mod Names
-pub mod Operators
-pub mod Scalars
-pub mod RowView
-pub mod LocalView
-pub mod Shapes
-pub mod CodeLines

@@ -1,3 +1,0 @@
-mod Naming
-mod Distinct
-pub mod Corresponding

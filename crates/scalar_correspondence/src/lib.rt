@@ -1,6 +1,0 @@
-//! What is written for a project corresponds to it, part by part.
-#![tactic(auto)]
-
-mod laws;
-
-pub use laws::files_correspond;

@@ -1,3 +1,0 @@
-pub mod Store
-pub mod Calls
-pub mod Run

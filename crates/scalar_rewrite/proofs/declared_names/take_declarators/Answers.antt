@@ -1,9 +1,0 @@
-use Rattle.std.proofs.Common.{◌++◌, drop, ap}
-use Rattle.std.proofs.lemmas.List.{drop_all}
-use Rattle.scalar_rewrite.proofs.NameLists.{variable_names, names_end}
-use Rattle.scalar_rewrite.proofs.declared_names.take_declarators.Goals as goal
-
-pub returns-clause-names : goal.returns-clause-names
-returns-clause-names c =
-    names_end (variable_names (drop c.loop-declarator.declarator-index c.args.declarators.now)) c.loop-declarator.own (variable_names c.args.declarators.now ++ c.args.own.now)
-    (ap variable_names (drop_all c.loop-declarator.declarator-index c.args.declarators.now c.loop-declarator-test.false)) c.loop-declarator.invariant.1

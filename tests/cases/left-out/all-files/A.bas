@@ -1,3 +1,0 @@
-Sub Main()
-Dim b As Long
-End Sub

@@ -1,7 +1,0 @@
-Sub Go()
-Debug.Print "go"
-End Sub
-
-Sub Ring()
-Beep
-End Sub

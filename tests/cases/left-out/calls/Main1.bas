@@ -1,7 +1,0 @@
-Sub Main()
-    Other
-    Call Other
-End Sub
-
-Sub Other()
-End Sub

@@ -1,4 +1,0 @@
-Sub Main()
-    Beep
-    Exit Sub
-End Sub

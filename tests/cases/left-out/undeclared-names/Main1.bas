@@ -1,4 +1,0 @@
-Sub Main()
-    x = 1
-    Debug.Print x
-End Sub

@@ -1,0 +1,5 @@
+Option Compare Binary
+
+Sub Work()
+    Debug.Print "a" = "A"
+End Sub

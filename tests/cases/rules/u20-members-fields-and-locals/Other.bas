@@ -1,0 +1,2 @@
+Public UpgradeSupport As Long
+Public b As Long

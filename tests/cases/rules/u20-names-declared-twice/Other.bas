@@ -1,0 +1,2 @@
+Attribute VB_Name = "OTHER"
+Public total As Long

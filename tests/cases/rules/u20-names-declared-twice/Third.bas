@@ -1,0 +1,2 @@
+Attribute VB_Name = "Module3"
+Public total As Long

@@ -1,0 +1,3 @@
+Private Sub MAIN()
+    Debug.Print "two"
+End Sub

@@ -1,0 +1,8 @@
+﻿Option Explicit On
+Option Strict Off
+Option Compare Binary
+Public Module Main1
+    Public Sub Main()
+        UpgradeSupport.PrintLine("main")
+    End Sub
+End Module
