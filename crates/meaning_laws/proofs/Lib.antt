@@ -14,4 +14,5 @@ pub mod ConversionRows
 pub mod VariantRows
 pub mod SameRows
 pub mod LiteralRows
+pub mod WrittenWhere
 mod Examples

@@ -1,13 +1,15 @@
 //! What is written gives the same values: where an operation of Visual Basic 6 gives a value, its written form on matching
 //! operands gives one that matches, and where it raises a number, so does the written form. Where nothing is written for an
 //! operator, there is no value to give.
-ghost use Rattle.std.specs.Prelude.{◌≡◌, ℕ, Bool, true};
-ghost use Rattle.vb_tree.specs.BoundTree.{Ty};
+ghost use Rattle.std.specs.Prelude.{◌≡◌, ℕ, Bool, true, is_some};
+ghost use Rattle.vb_tree.specs.BoundTree.{Ty, variant};
 ghost use Rattle.vb_tree.specs.declared.expression.BinOp.{BinOp};
 ghost use Rattle.vb_tree.specs.declared.expression.UnOp.{UnOp};
 ghost use Rattle.vb_tree.specs.declared.value.Value6.{Value6};
 ghost use Rattle.net_meaning.specs.WrittenLiterals.{is_within, write_constant, IsWrittenConstant};
-ghost use Rattle.net_meaning.specs.SameValues.{IsSameOperator, IsSameUnary, IsSameConversion, IsSameFromVariant, IsOneToOne};
+ghost use Rattle.net_meaning.specs.WrittenRows.{write_conversion, write_from_variant};
+ghost use Rattle.net_meaning.specs.SameValues.{is_typed, IsSameOperator, IsSameUnary, IsSameConversion, IsSameFromVariant, IsOneToOne};
+ghost use Rattle.meaning_laws.specs.Conversions.{has_conversion, has_literal};
 
 /// What is written for `+`, on numbers and on texts, gives the same.
 #[tactic(auto, using(crate::proofs::SameRows::add))]
@@ -160,4 +162,18 @@ pub fn same_from_variant()
 pub fn same_constant()
     ensures { (are_same : ℕ → ℕ → Bool) (hexadecimal : Bool) (a : Value6) → is_within a ≡ true
         → IsWrittenConstant are_same a (write_constant hexadecimal a) }
+{}
+
+/// Something is written for a conversion between two types exactly where there is one, and so for a conversion of a Variant: where
+/// `same_conversion` and `same_from_variant` say nothing, there is none.
+#[tactic(auto, using(crate::proofs::WrittenWhere::conversion, crate::proofs::WrittenWhere::from_variant))]
+pub fn conversion_is_written()
+    ensures conversions { (s t : Ty) → is_typed s ≡ true → is_some (write_conversion s t) ≡ has_conversion s t }
+    ensures variants { (t : Ty) → is_some (write_from_variant t) ≡ has_conversion variant t }
+{}
+
+/// Each Boolean, number and text has a written constant, and nothing else has one.
+#[tactic(auto, using(crate::proofs::WrittenWhere::constant))]
+pub fn constant_is_written()
+    ensures { (hexadecimal : Bool) (a : Value6) → is_some (write_constant hexadecimal a) ≡ has_literal a }
 {}
