@@ -3,3 +3,9 @@ mod Numbers
 mod Founded
 mod Arguments
 mod Words
+mod TypedParts
+mod TypedArguments
+mod TypedWords
+mod TypedTargets
+mod AssignedTypes
+mod TypedLines

@@ -3,4 +3,6 @@
 
 mod laws;
 
-pub use laws::untyped_has_a_cause;
+pub use laws::{
+    bound_lines_are_typed, bound_runs_leave_at_edges, untyped_has_a_cause, uses_have_types,
+};

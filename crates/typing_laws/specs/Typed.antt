@@ -1,0 +1,94 @@
+-- Which bound expressions and lines are well typed: the use of a variable has the variable's type, a conversion gives the type to which it
+-- goes, and what is assigned has the type that its target takes. That operators and constants have the types of their rows is told by
+-- `is_formed`.
+use Rattle.std.specs.Prelude.{ℕ, Bool, true, false, ◌&&◌, ◌||◌, Option, Some, None, List, [], ◌∷◌, slice_get}
+use Rattle.std.specs.List.{list_all}
+use Rattle.vb_tree.specs.BoundTree as types
+use Rattle.vb_tree.specs.BoundTree.{Ty}
+use Rattle.vb_tree.specs.Tree.{Form}
+use Rattle.vb_tree.specs.Tree as source
+use Rattle.bound_tree.specs.Tree.{Variable, Declarations, Program, Expr, typed, Term, constant, variable, field, element, call, library, unary, binary, convert, new_object, me, with_object, err_number, err_raise, err_clear, is_same, loose, Exprs, no_exprs, next_expr, Object, no_object, of_object, Passed, no_passed, next_passed, Argument}
+use Rattle.bound_tree.specs.Tree as tree
+use Rattle.bound_facts.specs.Locks.{is_same_type}
+use Rattle.bound_facts.specs.Node.{type_at}
+
+-- ---- expressions
+
+abbrev pub has_type : Ty → Option Variable → Bool
+has_type ty None = false
+has_type ty (Some x) = is_same_type ty x.ty
+
+abbrev mutual
+  pub is_typed : Declarations → Expr → Bool
+  is_typed D (typed ty t) = is_typed_term D ty t
+
+  pub is_typed_term : Declarations → Ty → Term → Bool
+  is_typed_term D ty (constant x origin) = true
+  is_typed_term D ty (variable v qualified) = has_type ty (slice_get D.vars v.0)
+  is_typed_term D ty (field e k) = is_typed D e
+  is_typed_term D ty (element e indexes) = is_typed D e && are_typed D indexes
+  is_typed_term D ty (call p qualified of args) = is_typed_object D of && are_typed_passed D args
+  is_typed_term D ty (library f args) = are_typed D args
+  is_typed_term D ty (unary op e) = is_typed D e
+  is_typed_term D ty (binary op d e) = is_typed D d && is_typed D e
+  is_typed_term D ty (convert to e) = is_same_type ty to && is_typed D e
+  is_typed_term D ty (new_object c) = true
+  is_typed_term D ty me = true
+  is_typed_term D ty (with_object root) = true
+  is_typed_term D ty err_number = true
+  is_typed_term D ty (err_raise e) = is_typed D e
+  is_typed_term D ty err_clear = true
+  is_typed_term D ty (is_same d e) = is_typed D d && is_typed D e
+  is_typed_term D ty (loose e rules) = true
+
+  pub is_typed_object : Declarations → Object → Bool
+  is_typed_object D no_object = true
+  is_typed_object D (of_object e) = is_typed D e
+
+  pub are_typed : Declarations → Exprs → Bool
+  are_typed D no_exprs = true
+  are_typed D (next_expr e rest) = is_typed D e && are_typed D rest
+
+  pub are_typed_passed : Declarations → Passed → Bool
+  are_typed_passed D no_passed = true
+  are_typed_passed D (next_passed a rest) = is_typed_argument D a && are_typed_passed D rest
+
+  pub is_typed_argument : Declarations → Argument → Bool
+  is_typed_argument D (tree.by_value e) = is_typed D e
+  is_typed_argument D (tree.by_reference e) = is_typed D e
+
+-- ---- lines
+
+-- a fixed string takes a String
+abbrev pub taken : Ty → Ty
+taken (types.fixed units) = types.str
+taken t = t
+
+abbrev pub is_unknown : Ty → Bool
+is_unknown types.unknown = true
+is_unknown _ = false
+
+-- what has no type takes any value, and a value without a type goes anywhere: such a line breaks a rule
+abbrev pub takes : (target value : Ty) → Bool
+takes t s = is_same_type (taken t) s || (is_unknown t || is_unknown s)
+
+abbrev pub is_taken : List Expr → Bool
+is_taken (to ∷ e ∷ []) = takes (type_at to) (type_at e)
+is_taken es = true
+
+abbrev pub assigns_typed : Form → List Expr → Bool
+assigns_typed (source.assign target value) es = is_taken es
+assigns_typed _ es = true
+
+abbrev pub is_typed_line : Declarations → tree.Line → Bool
+is_typed_line D l = assigns_typed l.source.form l.bindings.exprs && list_all (is_typed D) l.bindings.exprs
+
+-- ---- procedures
+
+abbrev pub are_typed_lines : Declarations → Option (List tree.Line) → Bool
+are_typed_lines D None = true
+are_typed_lines D (Some lines) = list_all (is_typed_line D) lines
+
+-- the lines of a procedure, if there is one of this number
+abbrev pub is_typed_procedure : Program → (procedure : ℕ) → Bool
+is_typed_procedure P p = are_typed_lines P.declarations (slice_get P.bodies p)
