@@ -1,5 +1,5 @@
 -- The variables of a covered procedure have their names alone.
-use Rattle.std.proofs.Common.{◌≡◌, ◌⊎◌, ℕ, zero, suc, ◌+◌, Bool, true, false, not, ◌&&◌, cond, nat_eq, List, [], ◌∷◌, map, Some, sym, ap, ◌∙◌, subst, inl, inr, arith}
+use Rattle.std.proofs.Common.{◌≡◌, ◌⊎◌, ℕ, zero, suc, ◌+◌, Bool, true, false, not, ◌&&◌, cond, nat_eq, List, [], ◌∷◌, ◌++◌, map, Option, Some, None, refl, sym, ap, ◌∙◌, subst, inl, inr, arith}
 use Rattle.std.specs.Cmp.Lexicographic.{bytes_decides, pointwise}
 use Rattle.std.specs.List.{list_all}
 use Rattle.std.specs.Prelude.{slice_get}
@@ -10,14 +10,17 @@ use Rattle.vb_tree.specs.Tree.{Form}
 use Rattle.vb_tree.specs.Tree as source
 use Rattle.vb_tree.specs.declared.declared.Owner.{Owner}
 use Rattle.vb_tree.specs.declared.declared.Owner.TheVariants as owner
-use Rattle.bound_tree.specs.Tree.{Variable, Constant, Declarations, Program}
+use Rattle.vb_tree.specs.declared.declared.VarId.{VarId}
+use Rattle.bound_tree.specs.Tree.{Variable, Constant, Procedure, Declarations, Program}
 use Rattle.written_trees.specs.Prologues.{declares, is_statement, variables_from, variables_of, constants_of}
-use Rattle.vb6_run.specs.Programs.{is_local_of, owned_from}
-use Rattle.run_matches.specs.Covered.{are_different, belongs_to, covers_body, covers_head, covers_names, covers_own, covers_owner, covers_owns, covers_procedure, covers_site, covers_type, covers_variable, covers_variables, is_named_in}
+use Rattle.vb6_run.specs.Programs.{answer_in, is_local_of, owned_from}
+use Rattle.vb6_run.specs.Runnables.{is_class_file}
+use Rattle.run_matches.specs.Callees.{answer_owns, frame_owns, own_of_some, parameter_owns}
+use Rattle.run_matches.specs.Covered.{are_different, belongs_to, covers_body, covers_all_calls, covers_head, covers_kind, covers_names, covers_own, covers_owner, covers_owns, covers_parameter, covers_procedure, covers_result, covers_site, covers_type, covers_variable, covers_variables, has_result, is_answer_of, is_named_in, is_value_of}
 use Rattle.run_matches.specs.Sites.{Own, own_variable, own_constant, own_name, own_variables, own_constants, statement_owns, owns_from, owns_of, variable_numbers, Site, site_of, site_lines, first_statement}
 use Rattle.correspondence.specs.Lists.{In}
 use Rattle.correspondence.specs.Uses.{IsAlone}
-use Rattle.correspondence.proofs.Among.{has_any, in_either, in_map, from_map}
+use Rattle.correspondence.proofs.Among.{has_any, in_either, in_left, in_map, in_right, from_map}
 use Rattle.correspondence.proofs.Naming.{some_same}
 
 same_list : (a c : List ℕ) → pointwise nat_eq a c ≡ true → a ≡ c
@@ -142,55 +145,123 @@ different (o ∷ os) a c h i j e =
 
 record Covers (P : Program) (p : ℕ) (s : Site) : Type 0 where
   numbers : pointwise nat_eq (variable_numbers (owns_of P.declarations s)) (owned_from (is_local_of p) 0 P.declarations.vars) ≡ true
-  apart : are_different (map own_name (owns_of P.declarations s)) ≡ true
+  procedure : Procedure
+  params : pointwise nat_eq (map (λ (v : VarId). v.0) procedure.params) (owned_from (is_value_of p) 0 P.declarations.vars) ≡ true
+  answer : pointwise nat_eq (answer_in procedure.answer) (owned_from (is_answer_of p) 0 P.declarations.vars) ≡ true
+  apart : are_different (map own_name (frame_owns P.declarations (Some procedure) s)) ≡ true
   vars : covers_variables P p ≡ true
 
 covered_parts : (P : Program) (p : ℕ) (s : Site) → site_of P.declarations p ≡ Some s → covers_procedure P p ≡ true → Covers P p s
 covered_parts P p s e h =
     let D = P.declarations in
     let os = owns_of D s in
-    let a = both_true (covers_names D) (covers_head P (slice_get D.procs p)
-    && (covers_site D p (site_of D p) && (covers_variables P p && covers_body P p (slice_get P.bodies p)))) h in
-    let b = both_true (covers_head P (slice_get D.procs p)) (covers_site D p (site_of D p) && (covers_variables P p && covers_body P p (slice_get P.bodies p))) a.1 in
+    let whole = both_true (covers_all_calls P p (slice_get P.bodies p)) (covers_names D && (covers_head P p (slice_get D.procs p)
+    && (covers_site D p (site_of D p) && (covers_variables P p && covers_body P p (slice_get P.bodies p))))) h in
+    let a = both_true (covers_names D) (covers_head P p (slice_get D.procs p)
+    && (covers_site D p (site_of D p) && (covers_variables P p && covers_body P p (slice_get P.bodies p)))) whole.1 in
+    let b = both_true (covers_head P p (slice_get D.procs p)) (covers_site D p (site_of D p) && (covers_variables P p && covers_body P p (slice_get P.bodies p))) a.1 in
     let c = both_true (covers_site D p (site_of D p)) (covers_variables P p && covers_body P p (slice_get P.bodies p)) b.1 in
     let d = both_true (covers_variables P p) (covers_body P p (slice_get P.bodies p)) c.1 in
     let site : covers_site D p (Some s) ≡ true = sym (ap (covers_site D p) e) ∙ c.0 in
-    let f = both_true (not s.source_module.class) (covers_owns D p os) site in
-    let g = both_true (pointwise nat_eq (variable_numbers os) (owned_from (is_local_of p) 0 D.vars)) (list_all (covers_own p) os && are_different (map own_name os)) f.1 in
-    let i = both_true (list_all (covers_own p) os) (are_different (map own_name os)) g.1 in
-    record { numbers = g.0; apart = i.1; vars = d.0 }
-
-owner_local : (p : ℕ) (o : Owner) → belongs_to p o ≡ true → covers_owner o ≡ true → is_local_of p o ≡ true
-owner_local p (owner.Module file) h c = absurd (cc c)
-owner_local p (owner.Local q) h c = h
-owner_local p (owner.Static q) h c = absurd (cc c)
-owner_local p (owner.Value q) h c = absurd (cc c)
-owner_local p (owner.Reference q) h c = absurd (cc c)
-owner_local p (owner.Answer q) h c = absurd (cc c)
-owner_local p (owner.Field t) h c = absurd (cc c)
+    let names = are_different (map own_name (frame_owns D (slice_get D.procs p) s)) in
+    let f = both_true (covers_owns D p os) names (both_true (not s.source_module.class) (covers_owns D p os && names) site).1 in
+    let g = both_true (pointwise nat_eq (variable_numbers os) (owned_from (is_local_of p) 0 D.vars)) (list_all (covers_own p) os) f.0 in
+    by (slice_get D.procs p) b.0 f.1 g.0 d.0
+  where
+    by : (o : Option Procedure) → covers_head P p o ≡ true → are_different (map own_name (frame_owns P.declarations o s)) ≡ true
+        → pointwise nat_eq (variable_numbers (owns_of P.declarations s)) (owned_from (is_local_of p) 0 P.declarations.vars) ≡ true
+        → covers_variables P p ≡ true → Covers P p s
+    by None h names numbers vars = absurd (cc h)
+    by (Some x) h names numbers vars =
+        let D = P.declarations in
+        let outer = not (is_class_file D x.module_number) in
+        let params = pointwise nat_eq (map (λ (v : VarId). v.0) x.params) (owned_from (is_value_of p) 0 D.vars) in
+        let answer = pointwise nat_eq (answer_in x.answer) (owned_from (is_answer_of p) 0 D.vars) in
+        let a = both_true (covers_kind x.kind) (list_all (covers_parameter D p) x.params && (covers_result D p x && outer)) h in
+        let b = both_true (list_all (covers_parameter D p) x.params) (covers_result D p x && outer) a.1 in
+        let c = both_true (covers_result D p x) outer b.1 in
+        let d = both_true (has_result D p x x.kind) (params && answer) c.0 in
+        let e = both_true params answer d.1 in
+        record { numbers = numbers; procedure = x; params = e.0; answer = e.1; apart = names; vars = vars }
 
 passes_at : (test : Variable → Bool) (xs : List Variable) (i : ℕ) (x : Variable) → list_all test xs ≡ true → slice_get xs i ≡ Some x → test x ≡ true
 passes_at test [] i x h e = absurd (cc e)
 passes_at test (y ∷ ys) zero x h e = sym (ap test (some_same y x e)) ∙ (both_true (test y) (list_all test ys) h).0
 passes_at test (y ∷ ys) (suc i) x h e = passes_at test ys i x (both_true (test y) (list_all test ys) h).1 e
 
--- a variable of the procedure is among what it declares
-own_among : (P : Program) (p : ℕ) (s : Site) → Covers P p s → (v : ℕ) (x : Variable) → slice_get P.declarations.vars v ≡ Some x → belongs_to p x.owner ≡ true
-    → In (own_variable v x) (owns_of P.declarations s)
-own_among P p s C v x e h =
-    let D = P.declarations in
-    let passes = passes_at (λ (y : Variable). cond (belongs_to p y.owner) (covers_variable y) true) D.vars v x C.vars e in
-    let covers : covers_variable x ≡ true = sym (ap {B = Bool} (λ (c : Bool). cond c (covers_variable x) true) h) ∙ passes in
-    let local = owner_local p x.owner h (both_true (covers_owner x.owner) (covers_type x.ty && not x.auto) covers).0 in
-    let number : In v (owned_from (is_local_of p) 0 D.vars) = owned_at (is_local_of p) 0 D.vars v v x (omega arith) e local in
-    let found = own_of_number (owns_of D s) v (subst (In v) (sym (same_list (variable_numbers (owns_of D s)) (owned_from (is_local_of p) 0 D.vars) C.numbers)) number) in
-    let same : found.0 ≡ x = some_same found.0 x (sym (own_is D s (own_variable v found.0) found.1) ∙ e) in
-    subst (λ (y : Variable). In (own_variable v y) (owns_of D s)) same found.1
+-- ---- a variable of the procedure is among what its frame has
+
+id_of_number : (ids : List VarId) (v : ℕ) → In v (map (λ (i : VarId). i.0) ids) → In (record { 0 = v }) ids
+id_of_number [] v h = absurd h
+id_of_number (i ∷ ids) v (inl e) = inl (λ j. record { 0 = e j })
+id_of_number (i ∷ ids) v (inr h) = inr (id_of_number ids v h)
+
+parameter_among : (D : Declarations) (ids : List VarId) (i : VarId) (x : Variable) → slice_get D.vars i.0 ≡ Some x → In i ids → In (own_variable i.0 x) (parameter_owns D ids)
+parameter_among D [] i x e h = absurd h
+parameter_among D (j ∷ ids) i x e (inl same) =
+    in_left (own_of_some j.0 (slice_get D.vars j.0)) (parameter_owns D ids) (own_variable i.0 x)
+    (subst (λ (k : VarId). In (own_variable i.0 x) (own_of_some k.0 (slice_get D.vars k.0))) same
+    (subst (λ o. In (own_variable i.0 x) (own_of_some i.0 o)) (sym e) (inl refl)))
+parameter_among D (j ∷ ids) i x e (inr h) =
+    in_right (own_of_some j.0 (slice_get D.vars j.0)) (parameter_owns D ids) (own_variable i.0 x) (parameter_among D ids i x e h)
+
+answer_among : (D : Declarations) (o : Option VarId) (v : ℕ) (x : Variable) → slice_get D.vars v ≡ Some x → In v (answer_in o) → In (own_variable v x) (answer_owns D o)
+answer_among D None v x e h = absurd h
+answer_among D (Some i) v x e (inl same) =
+    subst (λ n. In (own_variable v x) (own_of_some n (slice_get D.vars n))) same (subst (λ o. In (own_variable v x) (own_of_some v o)) (sym e) (inl refl))
+answer_among D (Some i) v x e (inr h) = absurd h
+
+module _ (P : Program) (p : ℕ) (s : Site) (C : Covers P p s) (v : ℕ) (x : Variable) (e : slice_get P.declarations.vars v ≡ Some x) where
+  abbrev D : Declarations
+  D = P.declarations
+
+  abbrev params : List Own
+  params = parameter_owns D C.procedure.params
+
+  abbrev rest : List Own
+  rest = answer_owns D C.procedure.answer ++ owns_of D s
+
+  number_of : (test : Owner → Bool) → test x.owner ≡ true → In v (owned_from test 0 D.vars)
+  number_of test h = owned_at test 0 D.vars v v x (omega arith) e h
+
+  local_among : is_local_of p x.owner ≡ true → In (own_variable v x) (owns_of D s)
+  local_among local =
+      let found = own_of_number (owns_of D s) v
+      (subst (In v) (sym (same_list (variable_numbers (owns_of D s)) (owned_from (is_local_of p) 0 D.vars) C.numbers)) (number_of (is_local_of p) local)) in
+      let same : found.0 ≡ x = some_same found.0 x (sym (own_is D s (own_variable v found.0) found.1) ∙ e) in
+      subst (λ (y : Variable). In (own_variable v y) (owns_of D s)) same found.1
+
+  among_by : (o : Owner) → x.owner ≡ o → belongs_to p o ≡ true → covers_owner o ≡ true → In (own_variable v x) (params ++ rest)
+  among_by (owner.Module file) is h c = absurd (cc h)
+  among_by (owner.Local q) is h c =
+      in_right params rest (own_variable v x)
+      (in_right (answer_owns D C.procedure.answer) (owns_of D s) (own_variable v x) (local_among (ap (is_local_of p) is ∙ h)))
+  among_by (owner.Static q) is h c = absurd (cc c)
+  among_by (owner.Value q) is h c =
+      in_left params rest (own_variable v x)
+      (parameter_among D C.procedure.params (record { 0 = v }) x e
+      (id_of_number C.procedure.params v
+      (subst (In v) (sym (same_list (map (λ (i : VarId). i.0) C.procedure.params) (owned_from (is_value_of p) 0 D.vars) C.params))
+      (number_of (is_value_of p) (ap (is_value_of p) is ∙ h)))))
+  among_by (owner.Reference q) is h c = absurd (cc c)
+  among_by (owner.Answer q) is h c =
+      in_right params rest (own_variable v x)
+      (in_left (answer_owns D C.procedure.answer) (owns_of D s) (own_variable v x)
+      (answer_among D C.procedure.answer v x e
+      (subst (In v) (sym (same_list (answer_in C.procedure.answer) (owned_from (is_answer_of p) 0 D.vars) C.answer))
+      (number_of (is_answer_of p) (ap (is_answer_of p) is ∙ h)))))
+  among_by (owner.Field t) is h c = absurd (cc h)
+
+  own_among : belongs_to p x.owner ≡ true → In (own_variable v x) (frame_owns D (Some C.procedure) s)
+  own_among h =
+      let passes = passes_at (λ (y : Variable). cond (belongs_to p y.owner) (covers_variable y) true) D.vars v x C.vars e in
+      let covers : covers_variable x ≡ true = sym (ap {B = Bool} (λ (c : Bool). cond c (covers_variable x) true) h) ∙ passes in
+      among_by x.owner refl h (both_true (covers_owner x.owner) (covers_type x.ty && not x.auto) covers).0
 
 pub alone_in : (P : Program) (p : ℕ) (s : Site) → site_of P.declarations p ≡ Some s → covers_procedure P p ≡ true → (v : ℕ) (x : Variable)
     → slice_get P.declarations.vars v ≡ Some x → belongs_to p x.owner ≡ true → IsAlone P.declarations p v x
 alone_in P p s e h v x at own = λ u y f g same.
     let C = covered_parts P p s e h in
     let is : own_variable u y ≡ own_variable v x =
-    different (owns_of P.declarations s) (own_variable u y) (own_variable v x) C.apart (own_among P p s C u y f g) (own_among P p s C v x at own) same in
+    different (frame_owns P.declarations (Some C.procedure) s) (own_variable u y) (own_variable v x) C.apart (own_among P p s C u y f g) (own_among P p s C v x at own) same in
     cc is

@@ -1,25 +1,33 @@
 -- Covered lines that no rule replaces name their variables as often as the source uses them.
-use Rattle.std.proofs.Common.{◌≡◌, ℕ, true, false, ◌&&◌, List, [], ◌∷◌, Option, Some, None, refl, sym, ap, ◌∙◌, subst}
-use Rattle.std.specs.List.{list_all}
+use Rattle.std.proofs.Common.{◌≡◌, ℕ, ◌+◌, true, false, ◌&&◌, List, [], ◌∷◌, Option, Some, None, refl, sym, ap, ◌∙◌, subst, arith, Bool, nat_eq}
+use Rattle.std.specs.List.{flat_map, list_all, list_any}
+use Rattle.std.specs.Prelude.{option_to_list, slice_get}
 use Rattle.up_base.proofs.Lists.{both_true}
 use Rattle.vb_tree.specs.BoundTree as types
 use Rattle.vb_tree.specs.BoundTree.{Ty}
-use Rattle.vb_tree.specs.Tree.{Form}
+use Rattle.vb_tree.specs.Tree.{CaseItem, Form}
 use Rattle.vb_tree.specs.Tree as source
 use Rattle.bound_tree.specs.declared.body.Mention.{Mention}
 use Rattle.bound_tree.specs.Labels.{Label}
-use Rattle.bound_tree.specs.Tree.{Program, Expr, typed, variable, Line}
+use Rattle.bound_tree.specs.Tree.{Program, Expr, typed, variable, Line, Term, library, Exprs, no_exprs, next_expr, Declarations, call, no_object, of_object, Passed}
+use Rattle.vb_tree.specs.declared.bound.LibCall.{LibCall}
+use Rattle.vb_tree.specs.declared.bound.LibCall.TheVariants as lib
+use Rattle.bound_facts.specs.Locks.{is_same_type}
+use Rattle.vb_tree.specs.declared.declared.ProcId.{ProcId}
 use Rattle.bound_facts.specs.Node.{type_at}
-use Rattle.net_tree.specs.Tree.{Exp}
+use Rattle.bound_facts.specs.Nodes.{nodes, nodes_in}
+use Rattle.net_tree.specs.Tree.{Exp, Exps}
 use Rattle.net_tree.specs.Tree as net
-use Rattle.written_trees.specs.Exprs.{exp_of}
-use Rattle.written_trees.specs.Lines.{items_exp, line_of}
-use Rattle.written_trees.specs.Names.{Scope}
+use Rattle.written_trees.specs.Exprs.{called, exp_of, is_bare, passed_of}
+use Rattle.written_trees.specs.Lines.{as_call, case_items, first_exp, items_exp, line_of, step_exp, call_line}
+use Rattle.written_trees.specs.Names.{Scope, Path, module_name, procedure_path}
 use Rattle.written_trees.specs.Puts.{formed, put_type, store_by, store_line, stored_value, target_rank}
-use Rattle.run_matches.specs.Covered.{covers_type, covers_use, covers_expr, covers_term, covers_store, covers_form, covers_line, is_variable}
-use Rattle.run_matches.specs.Formed.{is_formed}
-use Rattle.correspondence.specs.Uses.{FormCorresponds}
-use Rattle.correspondence.proofs.Naming.{items_names, assigned_names}
+use Rattle.run_matches.specs.Covered.{covers_type, covers_use, covers_expr, covers_term, covers_condition, covers_counter, covers_counting, covers_items, covers_step, covers_store, covers_form, covers_line, covers_value, is_comparison, is_counter, is_variable, covers_library, covers_exprs, covers_box, covers_call, covers_called_in, is_box, is_reached}
+use Rattle.run_matches.specs.Formed.{is_formed, is_row_of_call, are_formed}
+use Rattle.correspondence.specs.Uses.{FormCorresponds, SameUses, case_exps, names, total, uses, CallCorresponds, IsAlone, IsSharedAlone, is_call_in, is_call_of, path_names, shared_names}
+use Rattle.correspondence.proofs.NamedCalls.{neither, none_of_both, path_other, shared_path_other}
+use Rattle.correspondence.proofs.Naming.{IsRight, expr_names, items_names, assigned_names, box_names, term_names}
+use Rattle.correspondence.proofs.Variables.{no_support, own_use, shared_use}
 
 formed_plain : (S : Scope) (rank : ℕ) (ty : Ty) (a : Exp) → covers_type ty ≡ true → formed S rank ty a ≡ a
 formed_plain S rank (types.array e r) a h = absurd (cc h)
@@ -42,8 +50,48 @@ pub type_covered : (P : Program) (p : ℕ) (mentions : List Mention) (e : Expr) 
 type_covered P p mentions (typed ty t) h = (both_true (covers_type ty) (covers_term (covers_use P p mentions) t) h).0
 
 module _ (P : Program) (S : Scope) (same : S.declarations ≡ P.declarations) (p : ℕ) (labels : List (Option Label)) (mentions : List Mention) where
+  -- what holds of any count that is right
+  abbrev Counts : List Expr → List Exp → Type 0
+  Counts es ws =
+      (v : ℕ) (count : Path → ℕ) (test : Expr → Bool) → IsRight P S p mentions v count test → list_any test (flat_map nodes es) ≡ false
+      → total (uses v) es ≡ total (names count) ws
+
+  pub same_uses : (es : List Expr) (ws : List Exp) → Counts es ws → SameUses S p es ws
+  same_uses es ws each = record {
+    own = λ v x at own alone free.
+        let here : slice_get P.declarations.vars v ≡ Some x = ap (λ (d : Declarations). slice_get d.vars v) (sym same) ∙ at in
+        let apart : IsAlone P.declarations p v x = subst (λ (d : Declarations). IsAlone d p v x) same alone in
+        each v (path_names x.name) (is_call_of S.declarations x.name)
+        record {
+          no_support = λ n. refl;
+          no_strings = λ n. refl;
+          no_math = refl;
+          used = own_use P S same p v x here own apart mentions;
+          uncalled = λ ty q qualified args e. path_other S.declarations S refl x.name qualified q.0 e;
+        }
+        free;
+    shared = λ v x file at of reached alone free.
+        let here : slice_get P.declarations.vars v ≡ Some x = ap (λ (d : Declarations). slice_get d.vars v) (sym same) ∙ at in
+        let there : is_reached P.declarations p v x.name x.owner ≡ true = subst (λ (d : Declarations). is_reached d p v x.name x.owner ≡ true) same reached in
+        let apart : IsSharedAlone P.declarations v file x = subst (λ (d : Declarations). IsSharedAlone d v file x) same alone in
+        subst (λ (d : Declarations). total (uses v) es ≡ total (names (shared_names (nat_eq S.file file) (module_name d file) x.name)) ws) (sym same)
+        (each v (shared_names (nat_eq S.file file) (module_name P.declarations file) x.name)
+        (is_call_in P.declarations (module_name P.declarations file) x.name)
+        record {
+          no_support = no_support P S same p v x file here of there apart;
+          no_strings = λ n. refl;
+          no_math = refl;
+          used = shared_use P S same p v x file here of there apart mentions;
+          uncalled = λ ty q qualified args e. shared_path_other P.declarations S same file x.name qualified q.0 e;
+        }
+        (subst (λ (d : Declarations). list_any (is_call_in d (module_name d file) x.name) (flat_map nodes es) ≡ false) same free));
+  }
+
+  abbrev IsCall : List Expr → Type 0
+  IsCall es = CallCorresponds S p es (call_line S es)
+
   assigned : (target value : source.Exp) (es : List Expr) → covers_store (covers_use P p mentions) es ≡ true → list_all is_formed es ≡ true
-      → FormCorresponds P.declarations p (source.assign target value) es (line_of S labels (source.assign target value) es)
+      → FormCorresponds S p (source.assign target value) es (line_of S labels (source.assign target value) es)
   assigned target value [] h f = absurd (cc h)
   assigned target value (to ∷ []) h f = absurd (cc h)
   assigned target value (to ∷ e ∷ d ∷ es) h f = absurd (cc h)
@@ -53,19 +101,193 @@ module _ (P : Program) (S : Scope) (same : S.declarations ≡ P.declarations) (p
       let both = both_true (covers_expr cover to) (covers_expr cover e) first.1 in
       let forms = both_true (is_formed to) (list_all is_formed (e ∷ [])) f in
       let form = both_true (is_formed e) true forms.1 in
-      subst (FormCorresponds P.declarations p (source.assign target value) (to ∷ e ∷ []))
+      subst (FormCorresponds S p (source.assign target value) (to ∷ e ∷ []))
       (sym (stored_plain S to e first.0 (type_covered P p mentions to both.0)))
-      (λ v x at alone. assigned_names P S same p v x at alone mentions to e both.0 both.1 forms.0 form.0)
+      (same_uses (to ∷ e ∷ []) (exp_of S to ∷ exp_of S e ∷ [])
+      (λ v count test right free. assigned_names P S p v count test mentions right to e both.0 both.1 forms.0 form.0 free))
+
+  condition_uses : (es : List Expr) → covers_condition (covers_use P p mentions) es ≡ true → list_all is_formed es ≡ true
+      → Counts es (first_exp S es ∷ [])
+  condition_uses [] h f v count test right free = absurd (cc h)
+  condition_uses (e ∷ []) h f v count test right free =
+      ap {B = ℕ} (λ n. n + 0) (expr_names P S p v count test mentions right e h (both_true (is_formed e) true f).0 (none_of_both test (nodes e) [] free).0)
+  condition_uses (e ∷ d ∷ es) h f v count test right free = absurd (cc h)
+
+  items_use : (items : List CaseItem) (es : List Expr) → covers_items (covers_use P p mentions) items es ≡ true → list_all is_formed es ≡ true
+      → Counts es (flat_map case_exps (case_items S items es))
+  items_use [] [] h f v count test right free = refl
+  items_use [] (e ∷ es) h f v count test right free = absurd (cc h)
+  items_use (source.case_value y ∷ items) [] h f v count test right free = absurd (cc h)
+  items_use (source.case_value y ∷ items) (e ∷ es) h f v count test right free =
+      let cover = covers_use P p mentions in
+      let a = both_true (covers_expr cover e) (covers_items cover items es) h in
+      let b = both_true (is_formed e) (list_all is_formed es) f in
+      let parted = none_of_both test (nodes e) (flat_map nodes es) free in
+      let one = expr_names P S p v count test mentions right e a.0 b.0 parted.0 in
+      let more = items_use items es a.1 b.1 v count test right parted.1 in
+      omega (arith, one, more)
+  items_use (source.case_range y z ∷ items) [] h f v count test right free = absurd (cc h)
+  items_use (source.case_range y z ∷ items) (d ∷ []) h f v count test right free = absurd (cc h)
+  items_use (source.case_range y z ∷ items) (d ∷ e ∷ es) h f v count test right free =
+      let cover = covers_use P p mentions in
+      let a = both_true (covers_expr cover d) (covers_expr cover e && covers_items cover items es) h in
+      let c = both_true (covers_expr cover e) (covers_items cover items es) a.1 in
+      let b = both_true (is_formed d) (list_all is_formed (e ∷ es)) f in
+      let g = both_true (is_formed e) (list_all is_formed es) b.1 in
+      let parted = none_of_both test (nodes d) (flat_map nodes (e ∷ es)) free in
+      let others = none_of_both test (nodes e) (flat_map nodes es) parted.1 in
+      let low = expr_names P S p v count test mentions right d a.0 b.0 parted.0 in
+      let high = expr_names P S p v count test mentions right e c.0 g.0 others.0 in
+      let more = items_use items es c.1 g.1 v count test right others.1 in
+      omega (arith, low, high, more)
+  items_use (source.case_is o y ∷ items) [] h f v count test right free = absurd (cc h)
+  items_use (source.case_is o y ∷ items) (e ∷ es) h f v count test right free =
+      let cover = covers_use P p mentions in
+      let k = both_true (is_comparison o) (covers_expr cover e && covers_items cover items es) h in
+      let a = both_true (covers_expr cover e) (covers_items cover items es) k.1 in
+      let b = both_true (is_formed e) (list_all is_formed es) f in
+      let parted = none_of_both test (nodes e) (flat_map nodes es) free in
+      let one = expr_names P S p v count test mentions right e a.0 b.0 parted.0 in
+      let more = items_use items es a.1 b.1 v count test right parted.1 in
+      omega (arith, one, more)
+
+  counted_use : (e start limit : Expr) (steps : List Expr) → covers_counting (covers_use P p mentions) (e ∷ start ∷ limit ∷ steps) ≡ true
+      → list_all is_formed (e ∷ start ∷ limit ∷ steps) ≡ true
+      → Counts (e ∷ start ∷ limit ∷ steps) (exp_of S e ∷ exp_of S start ∷ exp_of S limit ∷ option_to_list (step_exp S steps))
+  counted_use e start limit steps h f v count test right free =
+      let cover = covers_use P p mentions in
+      let ty = type_at e in
+      let a = both_true (covers_counter cover e) (covers_value cover ty start && (covers_value cover ty limit && covers_step cover ty steps)) h in
+      let d = both_true (is_variable e) (is_counter ty && covers_expr cover e) a.0 in
+      let g = both_true (is_counter ty) (covers_expr cover e) d.1 in
+      let i = both_true (covers_value cover ty start) (covers_value cover ty limit && covers_step cover ty steps) a.1 in
+      let j = both_true (covers_value cover ty limit) (covers_step cover ty steps) i.1 in
+      let k = both_true (is_formed e) (list_all is_formed (start ∷ limit ∷ steps)) f in
+      let l = both_true (is_formed start) (list_all is_formed (limit ∷ steps)) k.1 in
+      let m = both_true (is_formed limit) (list_all is_formed steps) l.1 in
+      let first_parts = none_of_both test (nodes e) (flat_map nodes (start ∷ limit ∷ steps)) free in
+      let start_parts = none_of_both test (nodes start) (flat_map nodes (limit ∷ steps)) first_parts.1 in
+      let limit_parts = none_of_both test (nodes limit) (flat_map nodes steps) start_parts.1 in
+      let counted = expr_names P S p v count test mentions right e g.1 k.0 first_parts.0 in
+      let first =
+      expr_names P S p v count test mentions right start (both_true (is_same_type ty (type_at start)) (covers_expr cover start) i.0).1 l.0 start_parts.0 in
+      let last =
+      expr_names P S p v count test mentions right limit (both_true (is_same_type ty (type_at limit)) (covers_expr cover limit) j.0).1 m.0 limit_parts.0 in
+      let pace = by_step steps j.1 m.1 limit_parts.1 in
+      omega (arith, counted, first, last, pace)
+    where
+      by_step : (ss : List Expr) → covers_step (covers_use P p mentions) (type_at e) ss ≡ true → list_all is_formed ss ≡ true
+          → list_any test (flat_map nodes ss) ≡ false → total (uses v) ss ≡ total (names count) (option_to_list (step_exp S ss))
+      by_step [] c g n = refl
+      by_step (s ∷ []) c g n =
+          let one =
+          expr_names P S p v count test mentions right s (both_true (is_same_type (type_at e) (type_at s)) (covers_expr (covers_use P p mentions) s) c).1
+          (both_true (is_formed s) true g).0 (none_of_both test (nodes s) [] n).0 in
+          omega (arith, one)
+      by_step (s ∷ d ∷ ss) c g n = absurd (cc c)
+
+  counting_uses : (counter from to : source.Exp) (by : Option source.Exp) (es : List Expr) → covers_counting (covers_use P p mentions) es ≡ true
+      → list_all is_formed es ≡ true
+      → FormCorresponds S p (source.for_head counter from to by) es (line_of S labels (source.for_head counter from to by) es)
+  counting_uses counter from to by [] h f = absurd (cc h)
+  counting_uses counter from to by (e ∷ []) h f = absurd (cc h)
+  counting_uses counter from to by (e ∷ d ∷ []) h f = absurd (cc h)
+  counting_uses counter from to by (e ∷ start ∷ limit ∷ steps) h f =
+      same_uses (e ∷ start ∷ limit ∷ steps) (exp_of S e ∷ exp_of S start ∷ exp_of S limit ∷ option_to_list (step_exp S steps)) (counted_use e start limit steps h f)
+
+  boxed : (ty : Ty) (g : LibCall) (args : Exprs) → is_box g ≡ true → covers_exprs (covers_use P p mentions) args ≡ true
+      → is_formed (typed ty (library g args)) ≡ true → IsCall (typed ty (library g args) ∷ [])
+  boxed ty lib.MsgBox no_exprs box h f =
+      let call = both_true (is_same_type types.nothing ty && false) true f in
+      absurd (cc (both_true (is_same_type types.nothing ty) false call.0).1)
+  boxed ty lib.MsgBox (next_expr e (next_expr d rest)) box h f =
+      let call = both_true (is_same_type types.nothing ty && (is_same_type (type_at e) types.str && false)) (are_formed (next_expr e (next_expr d rest))) f in
+      let given = both_true (is_same_type types.nothing ty) (is_same_type (type_at e) types.str && false) call.0 in
+      absurd (cc (both_true (is_same_type (type_at e) types.str) false given.1).1)
+  boxed ty lib.MsgBox (next_expr e no_exprs) box h f =
+      let both = both_true (covers_expr (covers_use P p mentions) e) true h in
+      let forms = both_true (is_row_of_call lib.MsgBox (type_at e ∷ []) ty) (is_formed e && true) f in
+      let form = both_true (is_formed e) true forms.1 in (
+        exp_of S e,
+        refl,
+        refl,
+        same_uses (typed ty (library lib.MsgBox (next_expr e no_exprs)) ∷ []) (exp_of S e ∷ [])
+            (λ v count test right free. box_names P S p v count test mentions right ty e both.0 form.0 free),
+      )
+  boxed ty _ args box h f = absurd (cc box)
+
+  shown : (ty : Ty) (t : Term) → covers_box (covers_use P p mentions) t ≡ true → is_formed (typed ty t) ≡ true → IsCall (typed ty t ∷ [])
+  shown ty (library g args) h f =
+      let both = both_true (is_box g) (covers_term (covers_use P p mentions) (library g args)) h in
+      boxed ty g args both.0 (both_true (covers_library g) (covers_exprs (covers_use P p mentions) args) both.1).1 f
+  shown ty _ h f = absurd (cc h)
+
+  -- a call of a procedure
+  called_one : (ty : Ty) (q : ProcId) (qualified : Bool) (args : Passed) → covers_term (covers_use P p mentions) (call q qualified no_object args) ≡ true
+      → is_formed (typed ty (call q qualified no_object args)) ≡ true → IsCall (typed ty (call q qualified no_object args) ∷ [])
+  called_one ty q qualified args h f = by (is_bare S q.0 qualified no_object args) counted
+    where
+      counted : Counts (typed ty (call q qualified no_object args) ∷ []) (called (is_bare S q.0 qualified no_object args) (net.path (procedure_path S qualified q.0)) (passed_of S q.0 0 args) ∷ [])
+      counted v count test right free =
+          let whole = none_of_both test (nodes (typed ty (call q qualified no_object args))) [] free in
+          let own = neither (test (typed ty (call q qualified no_object args))) (list_any test (nodes_in (call q qualified no_object args))) whole.0 in
+          ap {B = ℕ} (λ n. n + 0) (term_names P S p v count test mentions right ty (call q qualified no_object args) h f own.0 own.1)
+
+      by : (b : Bool) → Counts (typed ty (call q qualified no_object args) ∷ []) (called b (net.path (procedure_path S qualified q.0)) (passed_of S q.0 0 args) ∷ [])
+          → CallCorresponds S p (typed ty (call q qualified no_object args) ∷ []) (as_call (called b (net.path (procedure_path S qualified q.0)) (passed_of S q.0 0 args)))
+      by true n =
+          same_uses (typed ty (call q qualified no_object args) ∷ []) (net.call_of (net.path (procedure_path S qualified q.0)) net.no_exps ∷ [])
+          (λ v count test right free. let m = n v count test right free in omega (arith, m))
+      by false n = same_uses (typed ty (call q qualified no_object args) ∷ []) (net.call_of (net.path (procedure_path S qualified q.0)) (passed_of S q.0 0 args) ∷ []) n
+
+  called_in : (ty : Ty) (t : Term) → covers_called_in (covers_use P p mentions) t ≡ true → is_formed (typed ty t) ≡ true → IsCall (typed ty t ∷ [])
+  called_in ty (call q qualified (of_object d) args) h f = absurd (cc h)
+  called_in ty (call q qualified no_object args) h f = called_one ty q qualified args h f
+  called_in ty (library g args) h f = shown ty (library g args) h f
+  called_in ty _ h f = absurd (cc h)
+
+  called_line : (es : List Expr) → covers_call (covers_use P p mentions) es ≡ true → list_all is_formed es ≡ true → IsCall es
+  called_line [] h f = absurd (cc h)
+  called_line (typed ty t ∷ []) h f = called_in ty t h (both_true (is_formed (typed ty t)) true f).0
+  called_line (d ∷ e ∷ es) h f = absurd (cc h)
 
   form_corresponds : (f : Form) (es : List Expr) → covers_form (covers_use P p mentions) f es ≡ true → list_all is_formed es ≡ true
-      → FormCorresponds P.declarations p f es (line_of S labels f es)
+      → FormCorresponds S p f es (line_of S labels f es)
   form_corresponds (source.assign target value) es h f = assigned target value es h f
-  form_corresponds (source.debug_print items ended) es h f =
-      (items_exp S es, refl, refl, λ v x at alone. items_names P S same p v x at alone mentions es h f)
+  form_corresponds (source.debug_print items ended) es h f = (
+    items_exp S es,
+    refl,
+    refl,
+    same_uses es (items_exp S es ∷ []) (λ v count test right free. items_names P S p v count test mentions right es h f free),
+  )
+  form_corresponds (source.if_head condition) es h f = same_uses es (first_exp S es ∷ []) (condition_uses es h f)
+  form_corresponds (source.line_if condition) es h f = same_uses es (first_exp S es ∷ []) (condition_uses es h f)
+  form_corresponds (source.else_if condition) es h f = same_uses es (first_exp S es ∷ []) (condition_uses es h f)
+  form_corresponds source.else_line es h f = tt
+  form_corresponds source.end_if es h f = tt
+  form_corresponds (source.select value) es h f = same_uses es (first_exp S es ∷ []) (condition_uses es h f)
+  form_corresponds (source.case_line items) es h f = same_uses es (flat_map case_exps (case_items S items es)) (items_use items es h f)
+  form_corresponds source.case_else es h f = tt
+  form_corresponds source.end_select es h f = tt
+  form_corresponds (source.for_head counter from to by) es h f = counting_uses counter from to by es h f
+  form_corresponds (source.next name) es h f = tt
+  form_corresponds source.do_head es h f = tt
+  form_corresponds (source.do_while condition) es h f = same_uses es (first_exp S es ∷ []) (condition_uses es h f)
+  form_corresponds (source.do_until condition) es h f = same_uses es (first_exp S es ∷ []) (condition_uses es h f)
+  form_corresponds source.loop es h f = tt
+  form_corresponds (source.loop_while condition) es h f = same_uses es (first_exp S es ∷ []) (condition_uses es h f)
+  form_corresponds (source.loop_until condition) es h f = same_uses es (first_exp S es ∷ []) (condition_uses es h f)
+  form_corresponds (source.while_head condition) es h f = same_uses es (first_exp S es ∷ []) (condition_uses es h f)
+  form_corresponds source.wend es h f = tt
+  form_corresponds (source.goto l) es h f = tt
+  form_corresponds (source.label l) es h f = tt
+  form_corresponds (source.exit kind) es h f = tt
+  form_corresponds (source.call callee) es h f = called_line es h f
+  form_corresponds (source.invoke callee args) es h f = called_line es h f
   form_corresponds _ es h f = absurd (cc h)
 
 pub covered_corresponds : (P : Program) (S : Scope) → S.declarations ≡ P.declarations → (p : ℕ) (labels : List (Option Label)) (l : Line) → covers_line P p l ≡ true
-    → FormCorresponds P.declarations p l.source.form l.bindings.exprs (line_of S labels l.source.form l.bindings.exprs)
+    → FormCorresponds S p l.source.form l.bindings.exprs (line_of S labels l.source.form l.bindings.exprs)
 covered_corresponds P S same p labels l h =
     let es = l.bindings.exprs in
     let both = both_true (covers_form (covers_use P p l.bindings.mentions) l.source.form es) (list_all is_formed es) h in

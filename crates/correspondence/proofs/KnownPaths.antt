@@ -1,6 +1,9 @@
 -- The paths in what is written for a covered line are names alone, of the run-time library, or of functions that all projects can use.
-use Rattle.std.proofs.Common.{◌≡◌, ℕ, zero, suc, Bool, true, false, ◌&&◌, cond, List, [], ◌∷◌, ◌++◌, Option, Some, None, unwrap_or, refl, sym, ap, inl, inr}
-use Rattle.std.specs.Prelude.{slice_get, pos, negsuc, codes}
+use Rattle.std.proofs.Common.{◌≡◌, ℕ, zero, suc, nat_eq, Bool, true, false, ◌&&◌, ◌||◌, cond, List, [], ◌∷◌, ◌++◌, Option, Some, None, unwrap_or, refl, sym, ap, ◌∙◌, inl, inr}
+use Rattle.std.specs.Prelude.{find, slice_get, pos, negsuc, codes}
+use Rattle.std.specs.Cmp.Lexicographic.{bytes_decides}
+use Rattle.std.specs.List.{list_all}
+use Rattle.up_base.proofs.Lists.{both_true}
 use Rattle.vb_tree.specs.BoundTree as types
 use Rattle.vb_tree.specs.BoundTree.{Ty}
 use Rattle.vb_tree.specs.declared.expression.BinOp.{BinOp}
@@ -10,7 +13,9 @@ use Rattle.vb_tree.specs.declared.expression.UnOp.TheVariants as u
 use Rattle.vb_tree.specs.declared.value.Value6.{Value6}
 use Rattle.vb_tree.specs.declared.value.Value6.TheVariants as v6
 use Rattle.bound_tree.specs.declared.expression.Origin.{Origin}
-use Rattle.bound_tree.specs.Tree.{Expr, typed, Term, constant}
+use Rattle.vb_tree.specs.Tree.{Module}
+use Rattle.bound_tree.specs.Tree.{Constant, Declarations, Expr, typed, Term, Variable, constant}
+use Rattle.bound_tree.specs.Tree as tree
 use Rattle.bound_facts.specs.Folded.{converted_value}
 use Rattle.bound_facts.specs.Locks.{is_same_type}
 use Rattle.bound_facts.specs.Node.{type_at}
@@ -29,9 +34,10 @@ use Rattle.support_text.specs.VariantConversions.{the_var_str, the_var_byte, the
 use Rattle.written_trees.specs.Conversions.{Conversion, stands, by_word, by_support, text_object, cut, applied, counted, to_count, to_text, to_variant, conversion, converted, literal_or}
 use Rattle.written_trees.specs.Lines.{printed}
 use Rattle.written_trees.specs.Literals.{Piece, quoted, unit, piece_exp, text, joined, pieces_of, constant_exp, literal_as, literal_of, spelt, takes_literals, is_whole, is_hexadecimal}
-use Rattle.written_trees.specs.Names.{Path}
+use Rattle.written_trees.specs.Names.{Path, Scope, first_name, is_foreign, module_name, name_in, procedure_path, procedure_path_of}
 use Rattle.written_trees.specs.Operators.{signed, checked, is_text, typed_operator, typed_unary, operand}
 use Rattle.written_trees.specs.Supports.{fixed_functions, function_name}
+use Rattle.run_matches.specs.Covered.{covers_names, is_free_name}
 use Rattle.correspondence.specs.Lists.{In}
 use Rattle.correspondence.specs.Paths.{Each, paths_of_exp}
 
@@ -54,6 +60,45 @@ AreKnown ps = Each IsKnown ps
 pub known_append : (ps qs : List Path) → AreKnown ps → AreKnown qs → AreKnown (ps ++ qs)
 known_append [] qs h k = k
 known_append (p ∷ ps) qs h k = (h.0, known_append ps qs h.1 k)
+
+-- ---- paths of procedures
+
+-- a module whose name is free isn't the support module
+free_other : (name : List ℕ) → is_free_name name ≡ true → is_same_text name (codes "UpgradeSupport") ≡ true → ⊥
+free_other name h e =
+    let same : name ≡ codes "UpgradeSupport" = (bytes_decides name (codes "UpgradeSupport")).0 e in
+    let not_free : is_free_name name ≡ false = ap is_free_name same in
+    absurd (cc (h, not_free))
+
+free_found : (test : Module → Bool) (ms : List Module) → list_all (λ (m : Module). is_free_name m.name) ms ≡ true → is_free_name (name_in (find test ms)) ≡ true
+free_found test [] h = refl
+free_found test (m ∷ ms) h =
+    let both = both_true (is_free_name m.name) (list_all (λ (x : Module). is_free_name x.name) ms) h in
+    by (test m) both.0 (free_found test ms both.1)
+  where
+    by : (b : Bool) → is_free_name m.name ≡ true → is_free_name (name_in (find test ms)) ≡ true → is_free_name (name_in (cond b (Some m) (find test ms))) ≡ true
+    by true k rest = k
+    by false k rest = rest
+
+pub path_known : (D : Declarations) (S : Scope) → S.declarations ≡ D → covers_names D ≡ true → (q : Bool) (p : ℕ) → IsKnown (procedure_path S q p)
+path_known D S same h q p = by (slice_get S.declarations.procs p)
+  where
+    modules : list_all (λ (m : Module). is_free_name m.name) S.declarations.project.modules ≡ true
+    modules =
+        ap (λ (E : Declarations). list_all (λ (m : Module). is_free_name m.name) E.project.modules) same
+        ∙ (both_true (list_all (λ (m : Module). is_free_name m.name) D.project.modules)
+        (list_all (λ (x : Variable). is_free_name x.name) D.vars
+        && (list_all (λ (c : Constant). is_free_name c.name) D.consts && list_all (λ (x : tree.Procedure). is_free_name x.name) D.procs)) h).0
+
+    either : (b : Bool) (m n : List ℕ) → is_free_name m ≡ true → IsKnown (cond b (m ∷ n ∷ []) (n ∷ []))
+    either true m n k = λ e. absurd (free_other m k e)
+    either false m n k = tt
+
+    by : (o : Option tree.Procedure) → IsKnown (procedure_path_of S q o)
+    by None = tt
+    by (Some y) =
+        either (q || is_foreign S.declarations S.file y.module_number) (module_name S.declarations y.module_number) (first_name S.declarations (Some y))
+        (free_found (λ (m : Module). nat_eq m.file y.module_number) S.declarations.project.modules modules)
 
 pub in_place : {A : Type 0} (xs : List A) (k : ℕ) (x : A) → slice_get xs k ≡ Some x → In x xs
 in_place [] k x e = absurd (cc e)
@@ -220,7 +265,7 @@ pub operand_known : (c : Bool) (e : Expr) (a : Exp) → HasKnown a → HasKnown 
 operand_known true e a h = converted_known types.currency e a h
 operand_known false e a h = h
 
-checked_known : (ty : Ty) (e : Exp) → HasKnown e → HasKnown (checked ty e)
+pub checked_known : (ty : Ty) (e : Exp) → HasKnown e → HasKnown (checked ty e)
 checked_known types.currency e h = (λ s. (is_cur, refl), known_append (paths_of_exp e) [] h tt)
 checked_known _ e h = h
 

@@ -1,5 +1,7 @@
 mod Heads
 mod Numbers
+mod Variables
+mod NamedCalls
 mod Naming
 mod CoveredLines
 mod Variants
@@ -17,6 +19,7 @@ mod Among
 mod Support
 mod WalkedPaths
 mod KnownPaths
+mod KnownLibrary
 mod KnownLines
 mod UsedPaths
 mod Alone

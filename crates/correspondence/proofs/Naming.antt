@@ -1,16 +1,13 @@
 -- What is written for a covered expression names each variable as often as the expression uses it.
-use Rattle.std.proofs.Common.{◌≡◌, ℕ, ◌+◌, Bool, true, false, not, ◌&&◌, cond, List, [], ◌∷◌, Option, Some, None, refl, sym, ap, ◌∙◌, arith, nat_eq, unwrap_or, eq-eqb, eqb-true}
-use Rattle.std.specs.List.{list_all, list_any}
-use Rattle.std.specs.Prelude.{slice_get, ◌||◌, pos, negsuc, is_some}
-use Rattle.std.specs.Cmp.Lexicographic.{pointwise}
-use Rattle.up_base.specs.Names.{is_same_name, lower_case}
-use Rattle.up_base.proofs.Lists.{both_true, by_test}
+use Rattle.std.proofs.Common.{◌≡◌, ℕ, ◌+◌, Bool, true, false, not, ◌&&◌, cond, List, [], ◌∷◌, ◌++◌, Option, Some, None, refl, sym, ap, ◌∙◌, arith, nat_eq, unwrap_or, codes, suc}
+use Rattle.std.specs.List.{list_all, list_any, flat_map}
+use Rattle.std.specs.Prelude.{◌||◌, pos, negsuc, is_some, codes}
+use Rattle.up_base.proofs.Lists.{both_true}
 use Rattle.vb_tree.specs.BoundTree as types
 use Rattle.vb_tree.specs.BoundTree.{Ty}
 use Rattle.vb_tree.specs.declared.bound.LibCall.{LibCall}
 use Rattle.vb_tree.specs.declared.bound.LibCall.TheVariants as lib
-use Rattle.vb_tree.specs.declared.declared.Owner.{Owner}
-use Rattle.vb_tree.specs.declared.declared.Owner.TheVariants as owner
+use Rattle.vb_tree.specs.declared.declared.ProcId.{ProcId}
 use Rattle.vb_tree.specs.declared.declared.VarId.{VarId}
 use Rattle.vb_tree.specs.declared.expression.BinOp.{BinOp}
 use Rattle.vb_tree.specs.declared.expression.BinOp.TheVariants as b
@@ -20,127 +17,134 @@ use Rattle.vb_tree.specs.declared.value.Value6.{Value6}
 use Rattle.vb_tree.specs.declared.value.Value6.TheVariants as v6
 use Rattle.bound_tree.specs.declared.body.Mention.{Mention}
 use Rattle.bound_tree.specs.declared.expression.Origin.{Origin}
-use Rattle.bound_tree.specs.Tree as tree
-use Rattle.bound_tree.specs.Tree.{Variable, Program, Expr, typed, Term, constant, variable, library, unary, binary, convert}
-use Rattle.bound_facts.specs.Node.{type_at, auto_class, class_in, is_variant}
+use Rattle.bound_tree.specs.Tree.{Program, Expr, typed, Term, constant, variable, library, unary, binary, convert, Exprs, no_exprs, next_expr, call, no_object, of_object, by_value, by_reference, Passed, no_passed, next_passed}
+use Rattle.bound_facts.specs.Nodes.{nodes, nodes_in, nodes_of_all, nodes_of_passed}
+use Rattle.bound_facts.specs.Node.{type_at, is_variant}
 use Rattle.net_meaning.specs.WrittenRows.{write_operator, write_unary, write_conversion}
 use Rattle.net_tree.specs.declared.expression.NetBin.TheVariants as op
 use Rattle.net_tree.specs.declared.expression.NetUn.TheVariants as un
 use Rattle.net_tree.specs.Tree.{Exp}
 use Rattle.net_tree.specs.Tree as net
-use Rattle.written_trees.specs.Conversions.{Conversion, stands, by_word, by_support, text_object, cut, applied, conversion, converted, literal_or}
-use Rattle.written_trees.specs.Exprs.{exp_of, term_exp, made_if}
+use Rattle.written_trees.specs.Conversions.{Conversion, stands, by_word, by_support, text_object, cut, applied, conversion, converted, literal_or, call_path, support_call}
+use Rattle.written_trees.specs.Arguments.{is_property, takes_reference}
+use Rattle.written_trees.specs.Exprs.{exp_of, term_exp, library_of, exps_of, is_bare, passed_of, reads_itself}
+use Rattle.written_trees.specs.Library.{text_call, absolute_path}
 use Rattle.written_trees.specs.Lines.{printed, printed_item, joined_items, items_exp}
 use Rattle.bound_facts.specs.Folded.{converted_value}
 use Rattle.written_trees.specs.Literals.{Piece, quoted, unit, piece_exp, text, joined, pieces_of, constant_exp, written_constant, literal_as, literal_of, spelt, takes_literals, is_whole, is_hexadecimal}
-use Rattle.written_trees.specs.Names.{Scope, variable_path_of, owner_path}
+use Rattle.written_trees.specs.Names.{Path, Scope, support, strings, procedure_path}
 use Rattle.written_trees.specs.Operators.{signed, checked, is_text, typed_operator, typed_unary, operand, is_product_in_currency, variant_operator, variant_unary}
 use Rattle.written_trees.specs.Prologues.{one_if}
-use Rattle.run_matches.specs.Covered.{covers_type, covers_owner, covers_variable, belongs_to, covers_some, is_mention_of, covers_use, covers_library, covers_operator, covers_expr, covers_term, covers_exprs}
-use Rattle.run_matches.specs.Formed.{is_formed, is_formed_term, is_row_of_one, is_row_of_two}
-use Rattle.correspondence.specs.Uses.{uses, term_uses, names, total, IsAlone}
+use Rattle.run_matches.specs.Covered.{covers_type, covers_use, covers_library, covers_operator, covers_expr, covers_term, covers_exprs, covers_passed}
+use Rattle.run_matches.specs.Formed.{is_formed, is_formed_term, is_row_of_one, is_row_of_two, is_row_of_call, is_conversion_to, types_of, are_formed, passed_are_formed}
+use Rattle.correspondence.specs.Uses.{uses, term_uses, exprs_uses, passed_uses, names, exps_name, total}
+use Rattle.correspondence.proofs.NamedCalls.{argument_names, bare_names, full_names, neither, none_before, none_of_both}
 
--- ---- constants name nothing
+module _ (count : Path → ℕ) (no_support : (name : List ℕ) → count (support name) ≡ 0) (no_strings : (name : List ℕ) → count (strings name) ≡ 0) where
+  -- ---- constants name nothing
 
-piece_names : (name : List ℕ) (p : Piece) → names name (piece_exp p) ≡ 0
-piece_names name (quoted run) = refl
-piece_names name (unit c) = refl
+  piece_names : (p : Piece) → names count (piece_exp p) ≡ 0
+  piece_names (quoted run) = refl
+  piece_names (unit c) = let none = no_strings (codes "ChrW") in omega (arith, none)
 
-joined_none : (name : List ℕ) (e : Exp) (ps : List Piece) → names name e ≡ 0 → names name (joined e ps) ≡ 0
-joined_none name e [] h = h
-joined_none name e (p ∷ ps) h =
-    let here = piece_names name p in
-    joined_none name (net.binary op.Concat e (piece_exp p)) ps (omega (arith, h, here))
+  joined_none : (e : Exp) (ps : List Piece) → names count e ≡ 0 → names count (joined e ps) ≡ 0
+  joined_none e [] h = h
+  joined_none e (p ∷ ps) h =
+      let here = piece_names p in
+      joined_none (net.binary op.Concat e (piece_exp p)) ps (omega (arith, h, here))
 
-constant_names : (name : List ℕ) (h : Bool) (x : Value6) → names name (constant_exp h x) ≡ 0
-constant_names name h (v6.Boolean t) = refl
-constant_names name h (v6.Byte m) = refl
-constant_names name h (v6.Int z) = refl
-constant_names name h (v6.Long z) = refl
-constant_names name h (v6.Cur (pos m)) = refl
-constant_names name h (v6.Cur (negsuc m)) = refl
-constant_names name h (v6.Str units) = joined_none name (text (pieces_of units).first) (pieces_of units).more refl
-constant_names name h v6.Nothing = refl
-constant_names name h (v6.Object k) = refl
-constant_names name h v6.Empty = refl
+  constant_names : (h : Bool) (x : Value6) → names count (constant_exp h x) ≡ 0
+  constant_names h (v6.Boolean t) = refl
+  constant_names h (v6.Byte m) = refl
+  constant_names h (v6.Int z) = refl
+  constant_names h (v6.Long z) = refl
+  constant_names h (v6.Cur (pos m)) = refl
+  constant_names h (v6.Cur (negsuc m)) = refl
+  constant_names h (v6.Str units) = joined_none (text (pieces_of units).first) (pieces_of units).more refl
+  constant_names h v6.Nothing = refl
+  constant_names h (v6.Object k) = refl
+  constant_names h v6.Empty = refl
 
--- ---- conversions and operators
+  -- ---- conversions and operators
 
-applied_names : (name : List ℕ) (c : Conversion) (e : Exp) → names name (applied c e) ≡ names name e
-applied_names name stands e = refl
-applied_names name (by_word w) e = refl
-applied_names name (by_support f) e = omega arith
-applied_names name text_object e = omega arith
-applied_names name (cut c units) e = let inner = applied_names name c e in omega (arith, inner)
+  applied_names : (c : Conversion) (e : Exp) → names count (applied c e) ≡ names count e
+  applied_names stands e = refl
+  applied_names (by_word w) e = refl
+  applied_names (by_support f) e = let none = no_support f in omega (arith, none)
+  applied_names text_object e = omega arith
+  applied_names (cut c units) e =
+      let inner = applied_names c e in
+      let none = no_support (codes "Fix") in
+      omega (arith, inner, none)
 
--- what is written for a literal of another type names as much
-abbrev Alike : List ℕ → Option Exp → Exp → Type 0
-Alike name None e = Unit {0}
-Alike name (Some l) e = names name l ≡ names name e
+  -- what is written for a literal of another type names as much
+  abbrev Alike : Option Exp → Exp → Type 0
+  Alike None e = Unit {0}
+  Alike (Some l) e = names count l ≡ names count e
 
-spelt_alike : (name : List ℕ) (origin : Origin) (o : Option Value6) (e : Exp) → names name e ≡ 0 → Alike name (spelt origin o) e
-spelt_alike name origin None e h = tt
-spelt_alike name origin (Some x) e h = constant_names name (is_hexadecimal origin) x ∙ sym h
+  spelt_alike : (origin : Origin) (o : Option Value6) (e : Exp) → names count e ≡ 0 → Alike (spelt origin o) e
+  spelt_alike origin None e h = tt
+  spelt_alike origin (Some x) e h = constant_names (is_hexadecimal origin) x ∙ sym h
 
-literal_alike : (S : Scope) (name : List ℕ) (to ty : Ty) (t : Term) → Alike name (literal_of to t) (exp_of S (typed ty t))
-literal_alike S name to ty (constant x origin) = spelt_alike name origin (converted_value to (Some x)) (written_constant x origin) (constant_names name (is_hexadecimal origin) x)
-literal_alike S name to ty _ = tt
+  literal_alike : (S : Scope) (to ty : Ty) (t : Term) → Alike (literal_of to t) (exp_of S (typed ty t))
+  literal_alike S to ty (constant x origin) = spelt_alike origin (converted_value to (Some x)) (written_constant x origin) (constant_names (is_hexadecimal origin) x)
+  literal_alike S to ty _ = tt
 
-as_alike : (S : Scope) (name : List ℕ) (to : Ty) (e : Expr) → Alike name (literal_as to e) (exp_of S e)
-as_alike S name to (typed from t) = by (takes_literals to && is_whole from)
-  where
-    by : (c : Bool) → Alike name (cond c (literal_of to t) None) (exp_of S (typed from t))
-    by true = literal_alike S name to from t
-    by false = tt
+  as_alike : (S : Scope) (to : Ty) (e : Expr) → Alike (literal_as to e) (exp_of S e)
+  as_alike S to (typed from t) = by (takes_literals to && is_whole from)
+    where
+      by : (c : Bool) → Alike (cond c (literal_of to t) None) (exp_of S (typed from t))
+      by true = literal_alike S to from t
+      by false = tt
 
-literal_names : (name : List ℕ) (l : Option Exp) (d e : Exp) → Alike name l e → names name d ≡ names name e → names name (literal_or l d) ≡ names name e
-literal_names name None d e h k = k
-literal_names name (Some l) d e h k = h
+  literal_names : (l : Option Exp) (d e : Exp) → Alike l e → names count d ≡ names count e → names count (literal_or l d) ≡ names count e
+  literal_names None d e h k = k
+  literal_names (Some l) d e h k = h
 
-converted_names : (S : Scope) (name : List ℕ) (to : Ty) (e : Expr) → names name (converted to e (exp_of S e)) ≡ names name (exp_of S e)
-converted_names S name to e =
-    literal_names name (literal_as to e) (applied (conversion (type_at e) to) (exp_of S e)) (exp_of S e) (as_alike S name to e)
-    (applied_names name (conversion (type_at e) to) (exp_of S e))
+  converted_names : (S : Scope) (to : Ty) (e : Expr) → names count (converted to e (exp_of S e)) ≡ names count (exp_of S e)
+  converted_names S to e =
+      literal_names (literal_as to e) (applied (conversion (type_at e) to) (exp_of S e)) (exp_of S e) (as_alike S to e)
+      (applied_names (conversion (type_at e) to) (exp_of S e))
 
-operand_names : (S : Scope) (name : List ℕ) (c : Bool) (e : Expr) → names name (operand c e (exp_of S e)) ≡ names name (exp_of S e)
-operand_names S name true e = converted_names S name types.currency e
-operand_names S name false e = refl
+  operand_names : (S : Scope) (c : Bool) (e : Expr) → names count (operand c e (exp_of S e)) ≡ names count (exp_of S e)
+  operand_names S true e = converted_names S types.currency e
+  operand_names S false e = refl
 
-checked_names : (name : List ℕ) (ty : Ty) (e : Exp) → names name (checked ty e) ≡ names name e
-checked_names name types.currency e = omega arith
-checked_names name _ e = refl
+  checked_names : (ty : Ty) (e : Exp) → names count (checked ty e) ≡ names count e
+  checked_names types.currency e = let none = no_support (codes "Cur") in omega (arith, none)
+  checked_names _ e = refl
 
-unary_names : (name : List ℕ) (o : UnOp) (ty : Ty) (e : Exp) → names name (typed_unary o ty e) ≡ names name e
-unary_names name u.Neg ty e = checked_names name ty (net.unary un.Neg e)
-unary_names name u.Not ty e = refl
+  unary_names : (o : UnOp) (ty : Ty) (e : Exp) → names count (typed_unary o ty e) ≡ names count e
+  unary_names u.Neg ty e = checked_names ty (net.unary un.Neg e)
+  unary_names u.Not ty e = refl
 
-sum_names : (name : List ℕ) (s : Bool) (ty : Ty) (a c : Exp) → names name (cond s (net.binary op.Concat a c) (checked ty (net.binary op.Add a c))) ≡ names name a + names name c
-sum_names name true ty a c = refl
-sum_names name false ty a c = checked_names name ty (net.binary op.Add a c)
+  sum_names : (s : Bool) (ty : Ty) (a c : Exp) → names count (cond s (net.binary op.Concat a c) (checked ty (net.binary op.Add a c))) ≡ names count a + names count c
+  sum_names true ty a c = refl
+  sum_names false ty a c = checked_names ty (net.binary op.Add a c)
 
-operator_names : (name : List ℕ) (o : BinOp) (s t ty : Ty) (a c : Exp) → is_row_of_two o ty (write_operator o s t) ≡ true
-    → names name (typed_operator o s ty a c) ≡ names name a + names name c
-operator_names name b.Pow s t ty a c h = absurd (cc h)
-operator_names name b.Div s t ty a c h = absurd (cc h)
-operator_names name b.Like s t ty a c h = absurd (cc h)
-operator_names name b.Add s t ty a c h = sum_names name (is_text s) ty a c
-operator_names name b.Sub s t ty a c h = checked_names name ty (signed b.Sub a c)
-operator_names name b.Mul s t ty a c h = checked_names name ty (signed b.Mul a c)
-operator_names name b.IntDiv s t ty a c h = refl
-operator_names name b.Mod s t ty a c h = refl
-operator_names name b.Concat s t ty a c h = refl
-operator_names name b.Equal s t ty a c h = refl
-operator_names name b.NotEqual s t ty a c h = refl
-operator_names name b.Less s t ty a c h = refl
-operator_names name b.Greater s t ty a c h = refl
-operator_names name b.LessEqual s t ty a c h = refl
-operator_names name b.GreaterEqual s t ty a c h = refl
-operator_names name b.Is s t ty a c h = refl
-operator_names name b.And s t ty a c h = refl
-operator_names name b.Or s t ty a c h = refl
-operator_names name b.Xor s t ty a c h = refl
-operator_names name b.Eqv s t ty a c h = refl
-operator_names name b.Imp s t ty a c h = refl
+  operator_names : (o : BinOp) (s t ty : Ty) (a c : Exp) → is_row_of_two o ty (write_operator o s t) ≡ true
+      → names count (typed_operator o s ty a c) ≡ names count a + names count c
+  operator_names b.Pow s t ty a c h = absurd (cc h)
+  operator_names b.Div s t ty a c h = absurd (cc h)
+  operator_names b.Like s t ty a c h = absurd (cc h)
+  operator_names b.Add s t ty a c h = sum_names (is_text s) ty a c
+  operator_names b.Sub s t ty a c h = checked_names ty (signed b.Sub a c)
+  operator_names b.Mul s t ty a c h = checked_names ty (signed b.Mul a c)
+  operator_names b.IntDiv s t ty a c h = refl
+  operator_names b.Mod s t ty a c h = refl
+  operator_names b.Concat s t ty a c h = refl
+  operator_names b.Equal s t ty a c h = refl
+  operator_names b.NotEqual s t ty a c h = refl
+  operator_names b.Less s t ty a c h = refl
+  operator_names b.Greater s t ty a c h = refl
+  operator_names b.LessEqual s t ty a c h = refl
+  operator_names b.GreaterEqual s t ty a c h = refl
+  operator_names b.Is s t ty a c h = refl
+  operator_names b.And s t ty a c h = refl
+  operator_names b.Or s t ty a c h = refl
+  operator_names b.Xor s t ty a c h = refl
+  operator_names b.Eqv s t ty a c h = refl
+  operator_names b.Imp s t ty a c h = refl
 
 pub neither_variant : (c d : Bool) → c ≡ false → d ≡ false → (c || d) ≡ false
 neither_variant true d h k = absurd (cc h)
@@ -156,177 +160,200 @@ no_variant _ h = refl
 pub covered_type : (cover : VarId → Bool) (e : Expr) → covers_expr cover e ≡ true → covers_type (type_at e) ≡ true
 covered_type cover (typed ty t) h = (both_true (covers_type ty) (covers_term cover t) h).0
 
-pub no_library : (f : LibCall) (rest : Bool) → (covers_library f && rest) ≡ true → ⊥
-no_library lib.Len rest h = absurd (cc h)
-no_library lib.Left rest h = absurd (cc h)
-no_library lib.Right rest h = absurd (cc h)
-no_library lib.Mid rest h = absurd (cc h)
-no_library lib.Trim rest h = absurd (cc h)
-no_library lib.LTrim rest h = absurd (cc h)
-no_library lib.RTrim rest h = absurd (cc h)
-no_library lib.UCase rest h = absurd (cc h)
-no_library lib.LCase rest h = absurd (cc h)
-no_library lib.Space rest h = absurd (cc h)
-no_library lib.Chr rest h = absurd (cc h)
-no_library lib.Asc rest h = absurd (cc h)
-no_library lib.InStr rest h = absurd (cc h)
-no_library lib.Abs rest h = absurd (cc h)
-no_library lib.CBool rest h = absurd (cc h)
-no_library lib.CByte rest h = absurd (cc h)
-no_library lib.CInt rest h = absurd (cc h)
-no_library lib.CLng rest h = absurd (cc h)
-no_library lib.CCur rest h = absurd (cc h)
-no_library lib.CStr rest h = absurd (cc h)
-no_library lib.IsEmpty rest h = absurd (cc h)
-no_library lib.UBound rest h = absurd (cc h)
-no_library lib.LBound rest h = absurd (cc h)
-no_library lib.MsgBox rest h = absurd (cc h)
-no_library lib.InputBox rest h = absurd (cc h)
+-- ---- calls of the library
 
--- ---- variables
+module _ (count : Path → ℕ) (no_support : (name : List ℕ) → count (support name) ≡ 0) (no_strings : (name : List ℕ) → count (strings name) ≡ 0)
+    (no_math : count absolute_path ≡ 0) where
+  text_names : (f : List ℕ) (es : net.Exps) → names count (text_call f es) ≡ exps_name count es
+  text_names f es = let none = no_strings f in omega (arith, none)
 
--- the covered variable y, which stands at the number k
-abbrev pub IsCoveredAt : (P : Program) (p k : ℕ) → Variable → Type 0
-IsCoveredAt P p k y = (slice_get P.declarations.vars k ≡ Some y) × (belongs_to p y.owner ≡ true) × (covers_owner y.owner ≡ true) × (y.auto ≡ false)
+  function_names : (f : List ℕ) (es : net.Exps) → names count (support_call f es) ≡ exps_name count es
+  function_names f es = let none = no_support f in omega (arith, none)
 
-pub covered_at : (P : Program) (p k : ℕ) → covers_some p (slice_get P.declarations.vars k) ≡ true → (y : Variable) × IsCoveredAt P p k y
-covered_at P p k h = by (slice_get P.declarations.vars k) refl h
-  where
-    negated : (c : Bool) → not c ≡ true → c ≡ false
-    negated true e = absurd (cc e)
-    negated false e = refl
+  conversion_names : (S : Scope) (to ty : Ty) (e : Expr) (rest : Exprs) → is_conversion_to to (types_of (next_expr e rest)) ty ≡ true
+      → names count (converted to e (exp_of S e)) ≡ exps_name count (exps_of S (next_expr e rest))
+  conversion_names S to ty e no_exprs h = let same = converted_names count no_support no_strings S to e in omega (arith, same)
+  conversion_names S to ty e (next_expr d rest) h = absurd (cc h)
 
-    by : (o : Option Variable) → slice_get P.declarations.vars k ≡ o → covers_some p o ≡ true → (y : Variable) × IsCoveredAt P p k y
-    by None e c = absurd (cc c)
-    by (Some y) e c =
-        let f = both_true (belongs_to p y.owner) (covers_variable y) c in
-        let g = both_true (covers_owner y.owner) (covers_type y.ty && not y.auto) f.1 in
-        let i = both_true (covers_type y.ty) (not y.auto) g.1 in
-        (y, (e, f.0, g.0, negated y.auto i.1))
+  library_names : (S : Scope) (g : LibCall) (ty : Ty) (args : Exprs) → covers_library g ≡ true → is_row_of_call g (types_of args) ty ≡ true
+      → names count (library_of S ty g args) ≡ exps_name count (exps_of S args)
+  library_names S g ty no_exprs c h = refl
+  library_names S lib.Len ty (next_expr e rest) c h = text_names (codes "Len") (exps_of S (next_expr e rest))
+  library_names S lib.Left ty (next_expr e rest) c h = text_names (codes "Left") (exps_of S (next_expr e rest))
+  library_names S lib.Right ty (next_expr e rest) c h = text_names (codes "Right") (exps_of S (next_expr e rest))
+  library_names S lib.Mid ty (next_expr e rest) c h = text_names (codes "Mid") (exps_of S (next_expr e rest))
+  library_names S lib.Trim ty (next_expr e rest) c h = text_names (codes "Trim") (exps_of S (next_expr e rest))
+  library_names S lib.LTrim ty (next_expr e rest) c h = text_names (codes "LTrim") (exps_of S (next_expr e rest))
+  library_names S lib.RTrim ty (next_expr e rest) c h = text_names (codes "RTrim") (exps_of S (next_expr e rest))
+  library_names S lib.UCase ty (next_expr e rest) c h = text_names (codes "UCase") (exps_of S (next_expr e rest))
+  library_names S lib.LCase ty (next_expr e rest) c h = text_names (codes "LCase") (exps_of S (next_expr e rest))
+  library_names S lib.Space ty (next_expr e rest) c h = text_names (codes "Space") (exps_of S (next_expr e rest))
+  library_names S lib.Chr ty (next_expr e rest) c h = text_names (codes "Chr") (exps_of S (next_expr e rest))
+  library_names S lib.Asc ty (next_expr e rest) c h = text_names (codes "Asc") (exps_of S (next_expr e rest))
+  library_names S lib.InStr ty (next_expr e rest) c h = text_names (codes "InStr") (exps_of S (next_expr e rest))
+  library_names S lib.Abs ty (next_expr e rest) c h =
+      let inner = checked_names count no_support no_strings ty (call_path absolute_path (exps_of S (next_expr e rest))) in omega (arith, inner, no_math)
+  library_names S lib.CBool ty (next_expr e rest) c h = conversion_names S types.boolean ty e rest h
+  library_names S lib.CByte ty (next_expr e rest) c h = conversion_names S types.byte ty e rest h
+  library_names S lib.CInt ty (next_expr e rest) c h = conversion_names S types.integer ty e rest h
+  library_names S lib.CLng ty (next_expr e rest) c h = conversion_names S types.long ty e rest h
+  library_names S lib.CCur ty (next_expr e rest) c h = conversion_names S types.currency ty e rest h
+  library_names S lib.CStr ty (next_expr e rest) c h = conversion_names S types.str ty e rest h
+  library_names S lib.IsEmpty ty (next_expr e rest) c h = absurd (cc c)
+  library_names S lib.UBound ty (next_expr e rest) c h = absurd (cc c)
+  library_names S lib.LBound ty (next_expr e rest) c h = absurd (cc c)
+  library_names S lib.MsgBox ty (next_expr e rest) c h = function_names (codes "Box") (exps_of S (next_expr e rest))
+  library_names S lib.InputBox ty (next_expr e rest) c h = function_names (codes "Ask") (exps_of S (next_expr e rest))
 
-owner_alone : (S : Scope) (q : Bool) (name : List ℕ) (o : Owner) → covers_owner o ≡ true → owner_path S q name o ≡ name ∷ []
-owner_alone S q name (owner.Module file) h = absurd (cc h)
-owner_alone S q name (owner.Local p) h = refl
-owner_alone S q name (owner.Static p) h = absurd (cc h)
-owner_alone S q name (owner.Value p) h = absurd (cc h)
-owner_alone S q name (owner.Reference p) h = absurd (cc h)
-owner_alone S q name (owner.Answer p) h = absurd (cc h)
-owner_alone S q name (owner.Field t) h = absurd (cc h)
+-- ---- expressions
 
--- a use of it is written as its name alone
-pub variable_exp : (P : Program) (S : Scope) → S.declarations ≡ P.declarations → (p : ℕ) (v : VarId) (q : Bool) (ty : Ty) (y : Variable) → IsCoveredAt P p v.0 y
-    → exp_of S (typed ty (variable v q)) ≡ net.path (y.name ∷ [])
-variable_exp P S same p v q ty y is =
-    let at : slice_get S.declarations.vars v.0 ≡ Some y = ap (λ (d : tree.Declarations). slice_get d.vars v.0) same ∙ is.0 in
-    let auto : auto_class (Some y) ≡ None = ap (λ (c : Bool). cond c (class_in y.ty) None) is.3 in
-    ap (λ (o : Option Variable). made_if S.declarations (auto_class o) (net.path (variable_path_of S q o))) at
-    ∙ ap (λ (o : Option ℕ). made_if S.declarations o (net.path (owner_path S q y.name y.owner))) auto
-    ∙ ap net.path (owner_alone S q y.name y.owner is.2)
+-- A count of paths is right for a variable: it counts the paths of covered uses, none of the run-time library or of the support module, and no
+-- path of a procedure whose calls a test doesn't find.
+pub record IsRight (P : Program) (S : Scope) (p : ℕ) (mentions : List Mention) (v : ℕ) (count : Path → ℕ) (test : Expr → Bool) : Type 0 where
+  pub no_support : (name : List ℕ) → count (support name) ≡ 0
+  pub no_strings : (name : List ℕ) → count (strings name) ≡ 0
+  pub no_math : count absolute_path ≡ 0
+  pub used : (k : VarId) (q : Bool) (ty : Ty) → covers_use P p mentions k ≡ true → one_if (nat_eq v k.0) ≡ names count (exp_of S (typed ty (variable k q)))
+  pub uncalled :
+      (ty : Ty) (q : ProcId) (qualified : Bool) (args : Passed) → test (typed ty (call q qualified no_object args)) ≡ false
+      → count (procedure_path S qualified q.0) ≡ 0
 
--- it is named where it is used
-same_itself : (xs : List ℕ) → pointwise nat_eq xs xs ≡ true
-same_itself [] = refl
-same_itself (x ∷ xs) = ap {B = Bool} (λ c. c && pointwise nat_eq xs xs) (eq-eqb x x refl) ∙ same_itself xs
+module _ (P : Program) (S : Scope) (p v : ℕ) (count : Path → ℕ) (test : Expr → Bool) (mentions : List Mention)
+    (right : IsRight P S p mentions v count test) where
+  -- the test finds no node
+  abbrev Free : List Expr → Type 0
+  Free es = list_any test es ≡ false
 
-module _ (P : Program) (S : Scope) (same : S.declarations ≡ P.declarations) (p v : ℕ) (x : Variable) (at : slice_get P.declarations.vars v ≡ Some x) (alone : IsAlone P.declarations p v x) where
-  is_named : (k : ℕ) (y : Variable) → IsCoveredAt P p k y → one_if (nat_eq v k) ≡ one_if (is_same_name y.name x.name)
-  is_named k y is =
-      by_test (nat_eq v k) (λ c. one_if c ≡ one_if (is_same_name y.name x.name))
-      (λ e. same_variable (eqb-true v k e)) (λ e. other e)
-    where
-      same_variable : v ≡ k → one_if true ≡ one_if (is_same_name y.name x.name)
-      same_variable e =
-          let found : x ≡ y = some_same x y (sym at ∙ ap (slice_get P.declarations.vars) e ∙ is.0) in
-          ap one_if (sym (ap (λ (z : Variable). is_same_name z.name x.name) (sym found) ∙ same_itself (lower_case x.name)))
+  mutual
+    pub expr_names : (e : Expr) → covers_expr (covers_use P p mentions) e ≡ true → is_formed e ≡ true → Free (nodes e) → uses v e ≡ names count (exp_of S e)
+    expr_names (typed ty t) h f free =
+        let both = neither (test (typed ty t)) (list_any test (nodes_in t)) free in
+        term_names ty t (both_true (covers_type ty) (covers_term (covers_use P p mentions) t) h).1 f both.0 both.1
 
-      other : nat_eq v k ≡ false → one_if false ≡ one_if (is_same_name y.name x.name)
-      other e =
-          by_test (is_same_name y.name x.name) (λ c. one_if false ≡ one_if c)
-          (λ c. absurd (cc (sym e ∙ eq-eqb v k (sym (alone k y is.0 is.1 c)))))
-          (λ c. refl)
+    pub term_names : (ty : Ty) (t : Term) → covers_term (covers_use P p mentions) t ≡ true → is_formed_term ty t ≡ true
+        → test (typed ty t) ≡ false → Free (nodes_in t) → term_uses v t ≡ names count (term_exp S ty t)
+    term_names ty (constant y origin) h f own free = sym (constant_names count right.no_support right.no_strings (is_hexadecimal origin) y)
+    term_names ty (variable k q) h f own free = right.used k q ty h
+    term_names ty (library g args) h f own free =
+        let both = both_true (covers_library g) (covers_exprs (covers_use P p mentions) args) h in
+        let forms = both_true (is_row_of_call g (types_of args) ty) (are_formed args) f in
+        args_names args both.1 forms.1 free ∙ sym (library_names count right.no_support right.no_strings right.no_math S g ty args both.0 forms.0)
+    term_names ty (unary o e) h f own free =
+        let form = both_true (is_row_of_one ty (write_unary o (type_at e))) (is_formed e) f in
+        let plain = no_variant (type_at e) (covered_type (covers_use P p mentions) e h) in
+        expr_names e h form.1 free
+        ∙ sym (ap {B = ℕ} (λ c. names count (cond c (variant_unary o (exp_of S e)) (typed_unary o ty (exp_of S e)))) plain
+        ∙ unary_names count right.no_support right.no_strings o ty (exp_of S e))
+    term_names ty (binary o d e) h f own free =
+        let both = both_true (covers_operator o) (covers_expr (covers_use P p mentions) d && covers_expr (covers_use P p mentions) e) h in
+        let sides = both_true (covers_expr (covers_use P p mentions) d) (covers_expr (covers_use P p mentions) e) both.1 in
+        let form = both_true (is_row_of_two o ty (write_operator o (type_at d) (type_at e))) (is_formed d && is_formed e) f in
+        let forms = both_true (is_formed d) (is_formed e) form.1 in
+        let parted = none_of_both test (nodes d) (nodes e) free in
+        let left = expr_names d sides.0 forms.0 parted.0 in
+        let other = expr_names e sides.1 forms.1 parted.1 in
+        let c = is_product_in_currency o ty in
+        let first = operand_names count right.no_support right.no_strings S c d in
+        let second = operand_names count right.no_support right.no_strings S c e in
+        let whole =
+        operator_names count right.no_support right.no_strings o (type_at d) (type_at e) ty (operand c d (exp_of S d)) (operand c e (exp_of S e)) form.0 in
+        let plain =
+        ap {B = ℕ}
+        (λ t. names count (cond t (variant_operator o (exp_of S d) (exp_of S e))
+        (typed_operator o (type_at d) ty (operand c d (exp_of S d)) (operand c e (exp_of S e)))))
+        (neither_variant (is_variant (type_at d)) (is_variant (type_at e))
+        (no_variant (type_at d) (covered_type (covers_use P p mentions) d sides.0)) (no_variant (type_at e) (covered_type (covers_use P p mentions) e sides.1))) in
+        omega (arith, left, other, first, second, whole, plain)
+    term_names ty (convert to e) h f own free =
+        let both = both_true (covers_type to) (covers_expr (covers_use P p mentions) e) h in
+        let form = both_true (is_some (write_conversion (type_at e) to)) (is_formed e) f in
+        expr_names e both.1 form.1 free ∙ sym (converted_names count right.no_support right.no_strings S to e)
+    term_names ty (call q qualified (of_object e) args) h f own free = absurd (cc h)
+    term_names ty (call q qualified no_object no_passed) h f own free =
+        sym (bare_names count (is_bare S q.0 qualified no_object no_passed) (net.path (procedure_path S qualified q.0))
+        (right.uncalled ty q qualified no_passed own))
+    term_names ty (call q qualified no_object (next_passed a rest)) h f own free =
+        none_before (passed_uses v (next_passed a rest))
+        ∙ passed_names q.0 0 (next_passed a rest) h f free
+        ∙ sym (full_names count (is_property S.declarations q.0) (not (reads_itself S q.0 qualified no_object)) (net.path (procedure_path S qualified q.0))
+        (passed_of S q.0 0 (next_passed a rest)) (right.uncalled ty q qualified (next_passed a rest) own))
+    term_names ty _ h f own free = absurd (cc h)
 
-  module _ (mentions : List Mention) where
-    use_names : (k : VarId) (q : Bool) (ty : Ty) → covers_use P p mentions k ≡ true
-        → one_if (nat_eq v k.0) ≡ names x.name (exp_of S (typed ty (variable k q)))
-    use_names k q ty h =
-        let found = covered_at P p k.0 (both_true (list_any (is_mention_of k) mentions) (covers_some p (slice_get P.declarations.vars k.0)) h).1 in
-        is_named k.0 found.0 found.1 ∙ sym (ap (names x.name) (variable_exp P S same p k q ty found.0 found.1))
+    args_names : (args : Exprs) → covers_exprs (covers_use P p mentions) args ≡ true → are_formed args ≡ true → Free (nodes_of_all args)
+        → exprs_uses v args ≡ exps_name count (exps_of S args)
+    args_names no_exprs h f free = refl
+    args_names (next_expr e rest) h f free =
+        let both = both_true (covers_expr (covers_use P p mentions) e) (covers_exprs (covers_use P p mentions) rest) h in
+        let forms = both_true (is_formed e) (are_formed rest) f in
+        let parted = none_of_both test (nodes e) (nodes_of_all rest) free in
+        let here = expr_names e both.0 forms.0 parted.0 in
+        let more = args_names rest both.1 forms.1 parted.1 in
+        omega (arith, here, more)
 
-    mutual
-      pub expr_names : (e : Expr) → covers_expr (covers_use P p mentions) e ≡ true → is_formed e ≡ true → uses v e ≡ names x.name (exp_of S e)
-      expr_names (typed ty t) h f = term_names ty t (both_true (covers_type ty) (covers_term (covers_use P p mentions) t) h).1 f
+    passed_names : (q i : ℕ) (args : Passed) → covers_passed (covers_use P p mentions) args ≡ true → passed_are_formed args ≡ true
+        → Free (nodes_of_passed args) → passed_uses v args ≡ exps_name count (passed_of S q i args)
+    passed_names q i no_passed h f free = refl
+    passed_names q i (next_passed (by_reference e) rest) h f free = absurd (cc h)
+    passed_names q i (next_passed (by_value e) rest) h f free =
+        let both = both_true (covers_expr (covers_use P p mentions) e) (covers_passed (covers_use P p mentions) rest) h in
+        let forms = both_true (is_formed e) (passed_are_formed rest) f in
+        let parted = none_of_both test (nodes e) (nodes_of_passed rest) free in
+        let here = expr_names e both.0 forms.0 parted.0 in
+        let written = argument_names S count (takes_reference S.declarations q i) e (covered_type (covers_use P p mentions) e both.0) in
+        let more = passed_names q (suc i) rest both.1 forms.1 parted.1 in
+        omega (arith, here, written, more)
 
-      term_names : (ty : Ty) (t : Term) → covers_term (covers_use P p mentions) t ≡ true → is_formed_term ty t ≡ true → term_uses v t ≡ names x.name (term_exp S ty t)
-      term_names ty (constant y origin) h f = sym (constant_names x.name (is_hexadecimal origin) y)
-      term_names ty (variable k q) h f = use_names k q ty h
-      term_names ty (library g args) h f = absurd (no_library g (covers_exprs (covers_use P p mentions) args) h)
-      term_names ty (unary o e) h f =
-          let form = both_true (is_row_of_one ty (write_unary o (type_at e))) (is_formed e) f in
-          let plain = no_variant (type_at e) (covered_type (covers_use P p mentions) e h) in
-          expr_names e h form.1
-          ∙ sym (ap {B = ℕ} (λ c. names x.name (cond c (variant_unary o (exp_of S e)) (typed_unary o ty (exp_of S e)))) plain
-          ∙ unary_names x.name o ty (exp_of S e))
-      term_names ty (binary o d e) h f =
-          let both = both_true (covers_operator o) (covers_expr (covers_use P p mentions) d && covers_expr (covers_use P p mentions) e) h in
-          let sides = both_true (covers_expr (covers_use P p mentions) d) (covers_expr (covers_use P p mentions) e) both.1 in
-          let form = both_true (is_row_of_two o ty (write_operator o (type_at d) (type_at e))) (is_formed d && is_formed e) f in
-          let forms = both_true (is_formed d) (is_formed e) form.1 in
-          let left = expr_names d sides.0 forms.0 in
-          let right = expr_names e sides.1 forms.1 in
-          let c = is_product_in_currency o ty in
-          let first = operand_names S x.name c d in
-          let second = operand_names S x.name c e in
-          let whole = operator_names x.name o (type_at d) (type_at e) ty (operand c d (exp_of S d)) (operand c e (exp_of S e)) form.0 in
-          let plain =
-          ap {B = ℕ}
-          (λ t. names x.name (cond t (variant_operator o (exp_of S d) (exp_of S e))
-          (typed_operator o (type_at d) ty (operand c d (exp_of S d)) (operand c e (exp_of S e)))))
-          (neither_variant (is_variant (type_at d)) (is_variant (type_at e))
-          (no_variant (type_at d) (covered_type (covers_use P p mentions) d sides.0)) (no_variant (type_at e) (covered_type (covers_use P p mentions) e sides.1))) in
-          omega (arith, left, right, first, second, whole, plain)
-      term_names ty (convert to e) h f =
-          let both = both_true (covers_type to) (covers_expr (covers_use P p mentions) e) h in
-          let form = both_true (is_some (write_conversion (type_at e) to)) (is_formed e) f in
-          expr_names e both.1 form.1 ∙ sym (converted_names S x.name to e)
-      term_names ty _ h f = absurd (cc h)
+  -- ---- lines
 
-    -- ---- lines
+  printed_names : (ty : Ty) (e : Exp) → names count (printed ty e) ≡ names count e
+  printed_names types.boolean e = refl
+  printed_names types.byte e = let none = right.no_support (codes "PrintNum") in omega (arith, none)
+  printed_names types.integer e = let none = right.no_support (codes "PrintNum") in omega (arith, none)
+  printed_names types.long e = let none = right.no_support (codes "PrintNum") in omega (arith, none)
+  printed_names types.currency e = let none = right.no_support (codes "PrintNum") in omega (arith, none)
+  printed_names types.variant e = let none = right.no_support (codes "PrintVar") in omega (arith, none)
+  printed_names _ e = refl
 
-    printed_names : (ty : Ty) (e : Exp) → names x.name (printed ty e) ≡ names x.name e
-    printed_names types.boolean e = refl
-    printed_names types.byte e = omega arith
-    printed_names types.integer e = omega arith
-    printed_names types.long e = omega arith
-    printed_names types.currency e = omega arith
-    printed_names types.variant e = omega arith
-    printed_names _ e = refl
+  joined_names : (w : Exp) (es : List Expr) → list_all (covers_expr (covers_use P p mentions)) es ≡ true → list_all is_formed es ≡ true
+      → Free (flat_map nodes es) → names count (joined_items S w es) ≡ names count w + total (uses v) es
+  joined_names w [] h f free = omega arith
+  joined_names w (e ∷ es) h f free =
+      let both = both_true (covers_expr (covers_use P p mentions) e) (list_all (covers_expr (covers_use P p mentions)) es) h in
+      let forms = both_true (is_formed e) (list_all is_formed es) f in
+      let parted = none_of_both test (nodes e) (flat_map nodes es) free in
+      let here = expr_names e both.0 forms.0 parted.0 in
+      let item = printed_names (type_at e) (exp_of S e) in
+      let more = joined_names (net.binary op.Concat w (printed_item S e)) es both.1 forms.1 parted.1 in
+      omega (arith, here, item, more)
 
-    joined_names : (w : Exp) (es : List Expr) → list_all (covers_expr (covers_use P p mentions)) es ≡ true → list_all is_formed es ≡ true
-        → names x.name (joined_items S w es) ≡ names x.name w + total (uses v) es
-    joined_names w [] h f = omega arith
-    joined_names w (e ∷ es) h f =
-        let both = both_true (covers_expr (covers_use P p mentions) e) (list_all (covers_expr (covers_use P p mentions)) es) h in
-        let forms = both_true (is_formed e) (list_all is_formed es) f in
-        let here = expr_names e both.0 forms.0 in
-        let item = printed_names (type_at e) (exp_of S e) in
-        let more = joined_names (net.binary op.Concat w (printed_item S e)) es both.1 forms.1 in
-        omega (arith, here, item, more)
+  pub items_names : (es : List Expr) → list_all (covers_expr (covers_use P p mentions)) es ≡ true → list_all is_formed es ≡ true
+      → Free (flat_map nodes es) → total (uses v) es ≡ total (names count) (items_exp S es ∷ [])
+  items_names [] h f free = refl
+  items_names (e ∷ es) h f free =
+      let both = both_true (covers_expr (covers_use P p mentions) e) (list_all (covers_expr (covers_use P p mentions)) es) h in
+      let forms = both_true (is_formed e) (list_all is_formed es) f in
+      let parted = none_of_both test (nodes e) (flat_map nodes es) free in
+      let here = expr_names e both.0 forms.0 parted.0 in
+      let item = printed_names (type_at e) (exp_of S e) in
+      let more = joined_names (printed_item S e) es both.1 forms.1 parted.1 in
+      omega (arith, here, item, more)
 
-    pub items_names : (es : List Expr) → list_all (covers_expr (covers_use P p mentions)) es ≡ true → list_all is_formed es ≡ true
-        → total (uses v) es ≡ total (names x.name) (items_exp S es ∷ [])
-    items_names [] h f = refl
-    items_names (e ∷ es) h f =
-        let both = both_true (covers_expr (covers_use P p mentions) e) (list_all (covers_expr (covers_use P p mentions)) es) h in
-        let forms = both_true (is_formed e) (list_all is_formed es) f in
-        let here = expr_names e both.0 forms.0 in
-        let item = printed_names (type_at e) (exp_of S e) in
-        let more = joined_names (printed_item S e) es both.1 forms.1 in
-        omega (arith, here, item, more)
+  pub assigned_names : (to e : Expr) → covers_expr (covers_use P p mentions) to ≡ true → covers_expr (covers_use P p mentions) e ≡ true
+      → is_formed to ≡ true → is_formed e ≡ true → Free (flat_map nodes (to ∷ e ∷ []))
+      → total (uses v) (to ∷ e ∷ []) ≡ total (names count) (exp_of S to ∷ exp_of S e ∷ [])
+  assigned_names to e h k f g free =
+      let parted = none_of_both test (nodes to) (flat_map nodes (e ∷ [])) free in
+      let last = none_of_both test (nodes e) [] parted.1 in
+      let left = expr_names to h f parted.0 in
+      let value = expr_names e k g last.0 in
+      omega (arith, left, value)
 
-    pub assigned_names : (to e : Expr) → covers_expr (covers_use P p mentions) to ≡ true → covers_expr (covers_use P p mentions) e ≡ true
-        → is_formed to ≡ true → is_formed e ≡ true
-        → total (uses v) (to ∷ e ∷ []) ≡ total (names x.name) (exp_of S to ∷ exp_of S e ∷ [])
-    assigned_names to e h k f g =
-        let left = expr_names to h f in
-        let right = expr_names e k g in
-        omega (arith, left, right)
+  -- the text of a box
+  pub box_names : (ty : Ty) (e : Expr) → covers_expr (covers_use P p mentions) e ≡ true → is_formed e ≡ true
+      → Free (flat_map nodes (typed ty (library lib.MsgBox (next_expr e no_exprs)) ∷ []))
+      → total (uses v) (typed ty (library lib.MsgBox (next_expr e no_exprs)) ∷ []) ≡ total (names count) (exp_of S e ∷ [])
+  box_names ty e h f free =
+      let parted = none_of_both test (nodes (typed ty (library lib.MsgBox (next_expr e no_exprs)))) [] free in
+      let inner = neither (test (typed ty (library lib.MsgBox (next_expr e no_exprs)))) (list_any test (nodes e ++ [])) parted.0 in
+      let here = expr_names e h f (none_of_both test (nodes e) [] inner.1).0 in
+      omega (arith, here)

@@ -137,6 +137,6 @@ lines_supported P S same p labels F N w s n c e code h =
       λ r. let flagged = k.replaced r in
           each_named P F N w s (paths_of_line l) (λ q j. line_has N n c l q e i j)
           (subst (λ (m : net.Line). AreKnown (paths_of_line m)) (sym flagged.3) (flagged_known flagged.0 flagged.1 d.1.source.form)),
-      λ r covers. each_named P F N w s (paths_of_line l) (λ q j. line_has N n c l q e i j)
-          (subst (λ (m : net.Line). AreKnown (paths_of_line m)) (sym (k.whole r)) (covered_known P S same p labels d.1 covers)),
+      λ r free covers. each_named P F N w s (paths_of_line l) (λ q j. line_has N n c l q e i j)
+          (subst (λ (m : net.Line). AreKnown (paths_of_line m)) (sym (k.whole r)) (covered_known P S same free p labels d.1 covers)),
     )

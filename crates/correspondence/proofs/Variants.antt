@@ -145,7 +145,7 @@ module _ (P : Program) (S : Scope) (same : S.declarations ≡ P.declarations) (p
             (found.0, k, found.1, ap (line_by S labels k f es) found.1);
         variant = λ h e. subst (IsVariant labels f) (sym (unreplaced k c h)) (variant_is S labels f es e);
         whole = λ h. unreplaced k c h;
-        covered = λ h e. subst (FormCorresponds P.declarations p f es) (sym (unreplaced k c h)) (covered_corresponds P S same p labels c.1 e);
+        covered = λ h e. subst (FormCorresponds S p f es) (sym (unreplaced k c h)) (covered_corresponds P S same p labels c.1 e);
       }
 
   pub lines_correspond : (k : ℕ) (code : List Code) → Pairwise (LineCorresponds P S p labels) code (written_from S labels k code)

@@ -5,7 +5,7 @@ use Rattle.bound_tree.specs.Tree.{Declarations, Line, Program}
 use Rattle.net_tree.specs.Tree as net
 use Rattle.written_trees.specs.Facts.{Facts}
 use Rattle.written_trees.specs.Supports.{all_functions, is_used, calls, is_same_function}
-use Rattle.run_matches.specs.Covered.{covers_line}
+use Rattle.run_matches.specs.Covered.{covers_line, covers_names}
 use Rattle.correspondence.specs.Lists.{In}
 use Rattle.correspondence.specs.Paths.{Each, NamesFunction, paths_of_line}
 use Rattle.correspondence.specs.Variants.{is_replaced}
@@ -32,8 +32,8 @@ pub record SupportCorresponds (D : Declarations) (F : Facts) (modules : List net
   pub has_needed : (g : net.Procedure) → In g (all_functions D F) → IsNeeded (all_functions D F) modules g → set g ≡ true
   pub least : (g : net.Procedure) → set g ≡ true → IsNeeded (all_functions D F) modules g
 
--- a line that is replaced, or that is covered: each path in it that begins with the name of the support module names a function of that
+-- a line that is replaced, or that is covered where nothing is named as the support module is: each path in it that begins with the name of the support module names a function of that
 abbrev pub LineIsSupported : Program → (procedure : ℕ) → (support : net.Module) → RuleSet × Line → net.Line → Type 0
 LineIsSupported P p support c w =
     (is_replaced c.0 ≡ true → Each (NamesFunction support) (paths_of_line w))
-    × (is_replaced c.0 ≡ false → covers_line P p c.1 ≡ true → Each (NamesFunction support) (paths_of_line w))
+    × (is_replaced c.0 ≡ false → covers_names P.declarations ≡ true → covers_line P p c.1 ≡ true → Each (NamesFunction support) (paths_of_line w))

@@ -1,15 +1,19 @@
 -- How often variables are used, and how often they are named in what is written.
-use Rattle.std.specs.Prelude.{◌≡◌, ℕ, ◌+◌, nat_eq, true, cond, Some, List, [], ◌∷◌, slice_get}
+use Rattle.std.specs.Prelude.{◌≡◌, ℕ, ◌+◌, nat_eq, true, cond, Some, List, [], ◌∷◌, slice_get, option_to_list, codes, Bool, not, ◌&&◌, false, Option, None}
+use Rattle.std.specs.List.{flat_map, list_any}
 use Rattle.up_base.specs.Names.{is_same_name}
+use Rattle.vb_tree.specs.declared.declared.Owner.TheVariants as owner
 use Rattle.vb_tree.specs.Tree.{Form}
 use Rattle.vb_tree.specs.Tree as source
-use Rattle.bound_tree.specs.Tree.{Variable, Declarations, Expr, typed, Term, constant, variable, field, element, call, library, unary, binary, convert, new_object, me, with_object, err_number, err_raise, err_clear, is_same, loose, Object, no_object, of_object, Exprs, no_exprs, next_expr, Argument, by_value, by_reference, Passed, no_passed, next_passed}
+use Rattle.bound_tree.specs.Tree.{Variable, Procedure, Declarations, Expr, typed, Term, constant, variable, field, element, call, library, unary, binary, convert, new_object, me, with_object, err_number, err_raise, err_clear, is_same, loose, Object, no_object, of_object, Exprs, no_exprs, next_expr, Argument, by_value, by_reference, Passed, no_passed, next_passed}
+use Rattle.bound_facts.specs.Node.{called}
+use Rattle.bound_facts.specs.Nodes.{nodes}
 use Rattle.net_tree.specs.Tree.{Exp, Exps, no_exps, next_exp}
 use Rattle.net_tree.specs.Tree as net
 use Rattle.written_trees.specs.Conversions.{one}
 use Rattle.written_trees.specs.Lines.{print_name}
-use Rattle.written_trees.specs.Names.{support}
-use Rattle.run_matches.specs.Covered.{belongs_to}
+use Rattle.written_trees.specs.Names.{Path, Scope, is_standard_module, module_at, module_name, support, procedure_name}
+use Rattle.run_matches.specs.Covered.{belongs_to, is_reached}
 
 -- ---- bound expressions
 
@@ -56,33 +60,40 @@ abbrev mutual
 -- ---- written expressions
 
 -- whether a path is a name alone, and this one; letters are compared without case
-abbrev pub path_names : List ℕ → List (List ℕ) → ℕ
+abbrev pub path_names : List ℕ → Path → ℕ
 path_names name [] = 0
 path_names name (n ∷ []) = cond (is_same_name n name) 1 0
 path_names name (n ∷ m ∷ more) = 0
 
-abbrev mutual
-  -- how often a written expression names a variable
-  pub names : List ℕ → Exp → ℕ
-  names name (net.lit l) = 0
-  names name net.nothing = 0
-  names name net.me = 0
-  names name (net.path p) = path_names name p
-  names name (net.with_dot m) = 0
-  names name (net.dot e m) = names name e
-  names name (net.call_of e es) = names name e + exps_name name es
-  names name (net.cast w e) = names name e
-  names name (net.ctype e ty) = names name e
-  names name (net.unary u e) = names name e
-  names name (net.binary o a b) = names name a + names name b
-  names name (net.paren e) = names name e
-  names name (net.new_object ty es) = exps_name name es
-  names name (net.new_array ty es) = exps_name name es
-  names name (net.type_of e ty) = names name e
+-- whether it is the name of a variable of a standard module behind that of the module, or alone inside of the module
+abbrev pub shared_names : (inside : Bool) → (of name : List ℕ) → Path → ℕ
+shared_names inside of name [] = 0
+shared_names inside of name (n ∷ []) = cond (inside && is_same_name n name) 1 0
+shared_names inside of name (o ∷ n ∷ []) = cond (is_same_name o of && is_same_name n name) 1 0
+shared_names inside of name (o ∷ n ∷ m ∷ more) = 0
 
-  pub exps_name : List ℕ → Exps → ℕ
-  exps_name name no_exps = 0
-  exps_name name (next_exp e es) = names name e + exps_name name es
+abbrev mutual
+  -- how often a written expression names a variable that its paths name so often
+  pub names : (Path → ℕ) → Exp → ℕ
+  names count (net.lit l) = 0
+  names count net.nothing = 0
+  names count net.me = 0
+  names count (net.path p) = count p
+  names count (net.with_dot m) = 0
+  names count (net.dot e m) = names count e
+  names count (net.call_of e es) = names count e + exps_name count es
+  names count (net.cast w e) = names count e
+  names count (net.ctype e ty) = names count e
+  names count (net.unary u e) = names count e
+  names count (net.binary o a b) = names count a + names count b
+  names count (net.paren e) = names count e
+  names count (net.new_object ty es) = exps_name count es
+  names count (net.new_array ty es) = exps_name count es
+  names count (net.type_of e ty) = names count e
+
+  pub exps_name : (Path → ℕ) → Exps → ℕ
+  exps_name count no_exps = 0
+  exps_name count (next_exp e es) = names count e + exps_name count es
 
 -- the sum over items
 abbrev pub total : {A : Type 0} → (A → ℕ) → List A → ℕ
@@ -96,13 +107,88 @@ abbrev pub IsAlone : Declarations → (procedure variable : ℕ) → Variable �
 IsAlone D p v x =
     (u : ℕ) (y : Variable) → slice_get D.vars u ≡ Some y → belongs_to p y.owner ≡ true → is_same_name y.name x.name ≡ true → u ≡ v
 
--- expressions use each variable as often as written ones name it
-abbrev pub SameUses : Declarations → (procedure : ℕ) → List Expr → List Exp → Type 0
-SameUses D p es ws = (v : ℕ) (x : Variable) → slice_get D.vars v ≡ Some x → IsAlone D p v x → total (uses v) es ≡ total (names x.name) ws
+-- no other variable of a module has its name in a module of the same name
+abbrev pub IsSharedAlone : Declarations → (variable file : ℕ) → Variable → Type 0
+IsSharedAlone D v file x =
+    (u : ℕ) (y : Variable) (f : ℕ) → slice_get D.vars u ≡ Some y → y.owner ≡ owner.Module f → is_same_name y.name x.name ≡ true
+    → is_same_name (module_name D f) (module_name D file) ≡ true → u ≡ v
+
+abbrev pub is_named_so : Declarations → List ℕ → Option ℕ → Bool
+is_named_so D name None = false
+is_named_so D name (Some q) = is_same_name (procedure_name D q) name
+
+-- whether a node calls a procedure of the name
+abbrev pub is_call_of : Declarations → List ℕ → Expr → Bool
+is_call_of D name e = is_named_so D name (called e)
+
+abbrev pub stands_elsewhere : Declarations → (of : List ℕ) → Option Procedure → Bool
+stands_elsewhere D of None = true
+stands_elsewhere D of (Some y) = is_standard_module (module_at D.project y.module_number) && not (is_same_name (module_name D y.module_number) of)
+
+abbrev pub is_named_there : Declarations → (of name : List ℕ) → Option ℕ → Bool
+is_named_there D of name None = false
+is_named_there D of name (Some q) = is_same_name (procedure_name D q) name && not (stands_elsewhere D of (slice_get D.procs q))
+
+-- whether a node calls a procedure of the name that stands in no standard module of another name
+abbrev pub is_call_in : Declarations → (of name : List ℕ) → Expr → Bool
+is_call_in D of name e = is_named_there D of name (called e)
+
+-- Expressions use each variable of the procedure, and each of a standard module to which names lead, as often as written ones name it, where
+-- they call no procedure of its name: a result variable has that of its procedure.
+pub record SameUses (S : Scope) (p : ℕ) (es : List Expr) (ws : List Exp) : Type 0 where
+  pub own :
+      (v : ℕ) (x : Variable) → slice_get S.declarations.vars v ≡ Some x → belongs_to p x.owner ≡ true → IsAlone S.declarations p v x
+      → list_any (is_call_of S.declarations x.name) (flat_map nodes es) ≡ false
+      → total (uses v) es ≡ total (names (path_names x.name)) ws
+  pub shared :
+      (v : ℕ) (x : Variable) (file : ℕ) → slice_get S.declarations.vars v ≡ Some x → x.owner ≡ owner.Module file
+      → is_reached S.declarations p v x.name x.owner ≡ true → IsSharedAlone S.declarations v file x
+      → list_any (is_call_in S.declarations (module_name S.declarations file) x.name) (flat_map nodes es) ≡ false
+      → total (uses v) es ≡ total (names (shared_names (nat_eq S.file file) (module_name S.declarations file) x.name)) ws
+
+-- the expressions of an item of a Case
+abbrev pub case_exps : net.CaseItem → List Exp
+case_exps (net.case_value e) = e ∷ []
+case_exps (net.case_range d e) = d ∷ e ∷ []
+case_exps (net.case_is o e) = e ∷ []
+
+-- a MsgBox is written as a call of Box, and a call of a procedure as one
+abbrev pub CallCorresponds : Scope → (procedure : ℕ) → List Expr → net.Line → Type 0
+CallCorresponds S p (typed ty (library f given) ∷ []) (net.call callee args) =
+    (text : Exp) × (callee ≡ net.path (support (codes "Box"))) × (args ≡ one text) × SameUses S p (typed ty (library f given) ∷ []) (text ∷ [])
+CallCorresponds S p (typed ty (call q qualified of given) ∷ []) (net.call callee args) =
+    SameUses S p (typed ty (call q qualified of given) ∷ []) (net.call_of callee args ∷ [])
+CallCorresponds S p _ w = ⊥
 
 -- An assignment to a variable is written as one, and Debug.Print as a call of PrintLine or, where it doesn't end the line, of PrintPart.
-abbrev pub FormCorresponds : Declarations → (procedure : ℕ) → Form → List Expr → net.Line → Type 0
-FormCorresponds D p (source.assign target value) es (net.assign t v) = SameUses D p es (t ∷ v ∷ [])
-FormCorresponds D p (source.debug_print items ended) es (net.call callee args) =
-    (text : Exp) × (callee ≡ net.path (support (print_name ended))) × (args ≡ one text) × SameUses D p es (text ∷ [])
-FormCorresponds D p _ es w = ⊥
+-- A call is written as one. What opens, parts or closes a block is written for one, a condition, the items of a Case and the expressions of a
+-- For for theirs, and a line without expressions for one; which one that is the variant of its form says.
+abbrev pub FormCorresponds : Scope → (procedure : ℕ) → Form → List Expr → net.Line → Type 0
+FormCorresponds S p (source.assign target value) es (net.assign t v) = SameUses S p es (t ∷ v ∷ [])
+FormCorresponds S p (source.debug_print items ended) es (net.call callee args) =
+    (text : Exp) × (callee ≡ net.path (support (print_name ended))) × (args ≡ one text) × SameUses S p es (text ∷ [])
+FormCorresponds S p (source.if_head condition) es (net.if_head e) = SameUses S p es (e ∷ [])
+FormCorresponds S p (source.line_if condition) es (net.if_head e) = SameUses S p es (e ∷ [])
+FormCorresponds S p (source.else_if condition) es (net.else_if e) = SameUses S p es (e ∷ [])
+FormCorresponds S p source.else_line es net.else_line = Unit {0}
+FormCorresponds S p source.end_if es net.end_if = Unit {0}
+FormCorresponds S p (source.select value) es (net.select e) = SameUses S p es (e ∷ [])
+FormCorresponds S p (source.case_line items) es (net.case_line ws) = SameUses S p es (flat_map case_exps ws)
+FormCorresponds S p source.case_else es net.case_else = Unit {0}
+FormCorresponds S p source.end_select es net.end_select = Unit {0}
+FormCorresponds S p (source.for_head counter start limit step) es (net.for_head c from to by) = SameUses S p es (c ∷ from ∷ to ∷ option_to_list by)
+FormCorresponds S p (source.next name) es net.next = Unit {0}
+FormCorresponds S p source.do_head es net.do_head = Unit {0}
+FormCorresponds S p (source.do_while condition) es (net.do_while e) = SameUses S p es (e ∷ [])
+FormCorresponds S p (source.do_until condition) es (net.do_until e) = SameUses S p es (e ∷ [])
+FormCorresponds S p source.loop es net.loop = Unit {0}
+FormCorresponds S p (source.loop_while condition) es (net.loop_while e) = SameUses S p es (e ∷ [])
+FormCorresponds S p (source.loop_until condition) es (net.loop_until e) = SameUses S p es (e ∷ [])
+FormCorresponds S p (source.while_head condition) es (net.while_head e) = SameUses S p es (e ∷ [])
+FormCorresponds S p source.wend es net.end_while = Unit {0}
+FormCorresponds S p (source.goto l) es (net.goto m) = Unit {0}
+FormCorresponds S p (source.label l) es (net.label m) = Unit {0}
+FormCorresponds S p (source.exit kind) es (net.exit what) = Unit {0}
+FormCorresponds S p (source.call callee) es w = CallCorresponds S p es w
+FormCorresponds S p (source.invoke callee args) es w = CallCorresponds S p es w
+FormCorresponds S p _ es w = ⊥

@@ -118,4 +118,4 @@ pub record LineCorresponds (P : Program) (S : Scope) (procedure : ℕ) (labels :
   pub replaced : is_replaced c.0 ≡ true → (n : ℕ) × (k : ℕ) × (replaced_by c.0 ≡ Some n) × (w ≡ flagged_line n k c.1.source.form)
   pub variant : is_replaced c.0 ≡ false → has_expressions c.1.source.form c.1.bindings.exprs ≡ true → IsVariant labels c.1.source.form w
   pub whole : is_replaced c.0 ≡ false → w ≡ line_of S labels c.1.source.form c.1.bindings.exprs
-  pub covered : is_replaced c.0 ≡ false → covers_line P procedure c.1 ≡ true → FormCorresponds P.declarations procedure c.1.source.form c.1.bindings.exprs w
+  pub covered : is_replaced c.0 ≡ false → covers_line P procedure c.1 ≡ true → FormCorresponds S procedure c.1.source.form c.1.bindings.exprs w

@@ -1,5 +1,6 @@
 -- Covered expressions do the same as what is written for them.
-use Rattle.std.proofs.Common.{◌≡◌, ◌∙◌, refl, sym, ap, subst, ℕ, Bool, true, false, cond, ◌&&◌, ◌||◌, [], Option, Some, None, IfSome}
+use Rattle.std.proofs.Common.{◌≡◌, ◌∙◌, refl, sym, ap, subst, ℕ, suc, Bool, true, false, cond, ◌&&◌, ◌||◌, List, [], ◌∷◌, Option, Some, None, IfSome}
+use Rattle.std.specs.List.{list_all}
 use Rattle.std.specs.Prelude.{is_some}
 use Rattle.vb_tree.specs.BoundTree as types
 use Rattle.vb_tree.specs.BoundTree.{Ty}
@@ -10,11 +11,12 @@ use Rattle.vb_tree.specs.declared.expression.UnOp.{UnOp}
 use Rattle.vb_tree.specs.declared.expression.UnOp.TheVariants as un
 use Rattle.vb_tree.specs.declared.value.Value6.{Value6}
 use Rattle.vb6_meaning.specs.Values.{operate}
-use Rattle.bound_tree.specs.Tree.{Expr, typed, constant, variable, field, element, call, library, unary, binary, convert, new_object, me, with_object, err_number, err_raise, err_clear, is_same, loose}
+use Rattle.bound_tree.specs.Tree.{Expr, typed, constant, variable, field, element, call, library, unary, binary, convert, new_object, me, with_object, err_number, err_raise, err_clear, is_same, loose, no_exprs, next_expr, no_object, of_object, by_value, by_reference, Passed, no_passed, next_passed}
 use Rattle.bound_facts.specs.Folded.{binary_row, unary_row}
 use Rattle.bound_facts.specs.Locks.{is_same_type}
 use Rattle.bound_facts.specs.Node.{type_at, is_variant}
-use Rattle.net_tree.specs.Tree.{Exp}
+use Rattle.net_tree.specs.declared.declaration.NetPassing.{NetPassing}
+use Rattle.net_tree.specs.Tree.{Exp, call_of, path, next_exp}
 use Rattle.net_meaning.specs.declared.value.ValueN.{ValueN}
 use Rattle.net_meaning.specs.declared.value.ValueN.TheVariants as net_scalar
 use Rattle.net_meaning.specs.SameValues.{IsSame, IsSameOperator, IsSameUnary}
@@ -22,11 +24,13 @@ use Rattle.net_meaning.specs.SameValues as values
 use Rattle.net_meaning.specs.WrittenRows.{Written, evaluate, write_operator, write_unary, write_conversion}
 use Rattle.meaning_laws.proofs.SameRows as same
 use Rattle.meaning_laws.proofs.ConversionRows.{minus, turn}
-use Rattle.run_base.specs.Outcomes.{Outcome, after, then, answered}
+use Rattle.run_base.specs.Frames.{Given}
+use Rattle.run_base.specs.Outcomes.{Outcome, gives, after, then, answered}
 use Rattle.vb6_run.specs.Expressions as source
 use Rattle.vb6_run.specs.Expressions.{Context, Parts, at_address}
 use Rattle.vb6_run.specs.Forms.{SourceLine}
 use Rattle.vb6_run.specs.Store.{Memory, SourceCalls, SourceFrame}
+use Rattle.net_run.specs.Calls.{passings_at}
 use Rattle.net_run.specs.Expressions as target
 use Rattle.net_run.specs.Lines.{NetFrame, NetLine, scope_of}
 use Rattle.net_run.specs.Making.{Jobs}
@@ -34,29 +38,37 @@ use Rattle.net_run.specs.Members.{Code}
 use Rattle.net_run.specs.Names as net_names
 use Rattle.net_run.specs.Store as net
 use Rattle.net_run.specs.Values as net_value
-use Rattle.written_trees.specs.Exprs.{exp_of}
-use Rattle.written_trees.specs.Names.{Scope}
+use Rattle.written_trees.specs.Arguments.{is_property, takes_reference}
+use Rattle.written_trees.specs.Exprs.{exp_of, passed_of}
+use Rattle.written_trees.specs.Names.{Scope, procedure_path}
 use Rattle.written_trees.specs.Operators.{binary_exp, unary_exp}
 use Rattle.run_matches.specs.Agreeing.{Agrees}
-use Rattle.run_matches.specs.Covered.{Uses, covers_type, covers_term, covers_operator, covers_expr}
+use Rattle.run_matches.specs.Covered.{Uses, covers_type, covers_term, covers_operator, covers_expr, covers_passed}
 use Rattle.run_matches.specs.Frames.{frame_pledge}
 use Rattle.run_matches.specs.Likeness.{are_same}
 use Rattle.run_matches.specs.Maps.{World}
 use Rattle.run_matches.specs.Match.{MemoryMatch}
 use Rattle.run_matches.specs.Pledges.{Pledge, Later}
 use Rattle.run_matches.specs.Upgrades.{Upgrade}
-use Rattle.run_statements.specs.Frames.{ScalarMatch, PlainMatch, IsOpen, context_of, AreReadable, ExpressionsAgree}
+use Rattle.run_matches.specs.Runs.{CallsAgree}
+use Rattle.run_statements.specs.Frames.{AllCalled, AllCalledFor, AnyParts, CallsAreMade, CanCall, ScalarMatch, PlainMatch, IsOpen, context_of, AreReadable, ExpressionsAgree, is_value}
+use Rattle.run_statements.specs.Written.{Passes}
 use Rattle.row_laws.specs.Constants.{IsHeld}
 use Rattle.row_laws.specs.Follows.{Any, RowOfOne, RowOfTwo}
 use Rattle.row_laws.specs.Rows.{IsOf, Fits, operand_of, is_direct, is_ready}
 use Rattle.row_laws.proofs.Stated as rows
-use Rattle.run_matches.specs.Formed.{is_row_of_one, is_row_of_two, is_formed}
+use Rattle.run_matches.specs.Formed.{is_row_of_one, is_row_of_two, passed_are_formed, is_formed}
+use Rattle.agreeing_laws.proofs.Agreeing.{agrees_gives, agrees_weaker}
+use Rattle.expression_laws.specs.Calls.{GivenMatch, Stands, ValuesMatch, no_values}
 use Rattle.expression_laws.specs.Images.{HaveImages}
 use Rattle.expression_laws.specs.Statements.{VariablesAreReadBy, FormedExpressionsAgreeBy, FormedScalarsAgreeBy, VariablesAreRead, FormedScalarsAgree}
 use Rattle.expression_laws.proofs.Types.{both_true, same_as, covered_typed}
 use Rattle.expression_laws.proofs.Checks.{TermMatch, term_agrees, plain_agrees}
 use Rattle.expression_laws.proofs.Conversions.{IsConstant, formed_constant, constant_agrees, conversion_agrees}
+use Rattle.expression_laws.proofs.Arguments.{stands_now, stands_later}
+use Rattle.expression_laws.proofs.Calls.{argument_agrees, argument_is, call_agrees, call_value_agrees, callee_is, given_is, rest_are_values}
 use Rattle.expression_laws.proofs.Images.{images_now, images_later}
+use Rattle.expression_laws.proofs.Library.{library_agrees}
 use Rattle.expression_laws.proofs.Variables.{variable_agrees}
 use Rattle.expression_laws.proofs.RowsAgree.{any_same, At, one_agrees, two_agree}
 
@@ -165,7 +177,7 @@ module _ (U : Upgrade) (K : Pledge) (S : net_names.Scope) (oracle : Jobs) where
 
 module _ (U : Upgrade) (K : Pledge) (reads : VariablesAreReadBy U K) (p : ℕ) (f : SourceFrame) (g : NetFrame) (oracle : SourceCalls) (net_oracle : Jobs)
     (l : SourceLine) (k : NetLine) (c : Code) (T : Scope) (uses : Uses) (same_declarations : T.declarations ≡ U.program.declarations)
-    (opened : IsOpen (scope_of U.written c g k)) (readable : AreReadable U uses) where
+    (opened : IsOpen (scope_of U.written c g k)) (readable : AreReadable U uses) (agree : CallsAgree U (Passes U) oracle net_oracle) where
   abbrev C : Context
   C = context_of U oracle p f l
 
@@ -175,87 +187,154 @@ module _ (U : Upgrade) (K : Pledge) (reads : VariablesAreReadBy U K) (p : ℕ) (
   abbrev written : Expr → World → Outcome net.Memory net_value.Value
   written e w = target.value_of S net_oracle (exp_of T e) w.net
 
-  pub expression_agrees : (e : Expr) (w : World) → MemoryMatch U w → HaveImages U K w f g uses → covers_expr uses e ≡ true → is_formed e ≡ true
-      → Agrees U K w (ScalarMatch U (type_at e)) (source.value_of C e w.src) (written e w)
-  expression_agrees (typed ty (constant x origin)) w start have covers formed =
-      let both = both_true (covers_type ty) true covers in
-      term_agrees U K C ty ty (constant x origin) w (written (typed ty (constant x origin)) w) refl both.0 start
-      (constant_agrees U K S net_oracle opened w ty x origin (formed_constant ty x origin both.0 formed) start)
-  expression_agrees (typed ty (variable v qualified)) w start have covers formed =
-      let both = both_true (covers_type ty) (uses v) covers in
-      variable_agrees U K reads p f g oracle net_oracle l k c T uses ty v qualified w same_declarations readable have both.1 both.0 start
-  expression_agrees (typed ty (unary o e)) w start have covers formed =
-      let both = both_true (covers_type ty) (covers_expr uses e) covers in
-      let forms = both_true (is_row_of_one ty (write_unary o (type_at e))) (is_formed e) formed in
-      let type_is : covers_type (type_at e) ≡ true = covered_type uses e both.1 in
-      term_agrees U K C ty ty (unary o e) w (written (typed ty (unary o e)) w) refl both.0 start
-      (subst (λ q. Agrees U K w (TermMatch U ty) (then (source.scalar_value C e w.src) (λ z v. source.answer_as ty (operate q z z) v)) (written (typed ty (unary o e)) w))
-      (sym (typed_unary (type_at e) o type_is))
-      (unary_agrees U K S net_oracle o ty e (exp_of T e) (write_unary o (type_at e)) (source.scalar_value C e w.src) w both.0 forms.0
-      (rows.unary_is_row o S net_oracle opened.support e (exp_of T e) net_scalar.Nothing (covered_typed (type_at e) type_is))
-      (λ v z y m. same_unary (are_same v) o (type_at e) z z y net_scalar.Nothing (covered_typed (type_at e) type_is) m) start
-      (plain_agrees U K C e (type_at e) w (written e w) start (expression_agrees e w start have both.1 forms.1))))
-  expression_agrees (typed ty (binary o d e)) w start have covers formed =
-      let both = both_true (covers_type ty) (covers_operator o && (covers_expr uses d && covers_expr uses e)) covers in
-      let operator = both_true (covers_operator o) (covers_expr uses d && covers_expr uses e) both.1 in
-      let operands = both_true (covers_expr uses d) (covers_expr uses e) operator.1 in
-      let forms = both_true (is_row_of_two o ty (write_operator o (type_at d) (type_at e))) (is_formed d && is_formed e) formed in
-      let inner = both_true (is_formed d) (is_formed e) forms.1 in
-      let first_is : covers_type (type_at d) ≡ true = covered_type uses d operands.0 in
-      let second_is : covers_type (type_at e) ≡ true = covered_type uses e operands.1 in
-      term_agrees U K C ty ty (binary o d e) w (written (typed ty (binary o d e)) w) refl both.0 start
-      (subst (λ q. Agrees U K w (TermMatch U ty)
-      (then (source.scalar_value C d w.src) (λ z v. then (answered (source.left_operand q z) v) (λ z v.
-      then (source.scalar_value C e v) (λ z' u. source.answer_as ty (operate (source.then_row q) z z') u))))
-      (written (typed ty (binary o d e)) w)) (sym (typed_binary (type_at d) (type_at e) o first_is second_is))
-      (binary_agrees U K S net_oracle o ty d e (exp_of T d) (exp_of T e) (write_operator o (type_at d) (type_at e)) (source.scalar_value C d w.src)
-      (source.scalar_value C e) w both.0 forms.0
-      (rows.operator_is_row o S net_oracle opened.support any_same d e (exp_of T d) (exp_of T e) (covered_typed (type_at d) first_is)
-      (covered_typed (type_at e) second_is))
-      (rows.literal_fits d S net_oracle T (formed_held d first_is inner.0)) (rows.literal_fits e S net_oracle T (formed_held e second_is inner.1))
-      (λ v z z' y y' m m'.
-      same_operator (are_same v) o operator.0 (type_at d) (type_at e) z z' y y' (covered_typed (type_at d) first_is) (covered_typed (type_at e) second_is) m m')
-      start (plain_agrees U K C d (type_at d) w (written d w) start (expression_agrees d w start have operands.0 inner.0))
-      (λ v later.
-      plain_agrees U K C e (type_at e) v (written e v) later.match
-      (expression_agrees e v later.match (images_later U K w v f g uses later have) operands.1 inner.1))))
-  expression_agrees (typed ty (convert to (typed from t))) w start have covers formed =
-      let both = both_true (covers_type ty) (covers_type to && covers_expr uses (typed from t)) covers in
-      let operand = both_true (covers_type to) (covers_expr uses (typed from t)) both.1 in
-      let forms = both_true (is_some (write_conversion from to)) (is_formed (typed from t)) formed in
-      term_agrees U K C ty to (convert to (typed from t)) w (written (typed ty (convert to (typed from t))) w) refl both.0 start
-      (conversion_agrees U K S net_oracle opened C from to t (exp_of T (typed from t)) w (covered_type uses (typed from t) operand.1) forms.1 forms.0 start
-      (plain_agrees U K C (typed from t) from w (written (typed from t) w) start (expression_agrees (typed from t) w start have operand.1 forms.1)))
-  expression_agrees (typed ty (field e i)) w start have covers formed = absurd (cc formed)
-  expression_agrees (typed ty (element e indexes)) w start have covers formed = absurd (cc formed)
-  expression_agrees (typed ty (call q qualified of args)) w start have covers formed = absurd (cc formed)
-  expression_agrees (typed ty (library function args)) w start have covers formed = absurd (cc formed)
-  expression_agrees (typed ty (new_object class)) w start have covers formed = absurd (cc formed)
-  expression_agrees (typed ty me) w start have covers formed = absurd (cc formed)
-  expression_agrees (typed ty (with_object root)) w start have covers formed = absurd (cc formed)
-  expression_agrees (typed ty err_number) w start have covers formed = absurd (cc formed)
-  expression_agrees (typed ty (err_raise e)) w start have covers formed = absurd (cc formed)
-  expression_agrees (typed ty err_clear) w start have covers formed = absurd (cc formed)
-  expression_agrees (typed ty (is_same d e)) w start have covers formed = absurd (cc formed)
-  expression_agrees (typed ty (loose e rules)) w start have covers formed = absurd (cc formed)
+  abbrev Can : ℕ → Type 0
+  Can q = CanCall U K (scope_of U.written c g k) T q
+
+  mutual
+    pub expression_agrees : (e : Expr) (w : World) → MemoryMatch U w → HaveImages U K w f S T uses → Stands U K w f g → AllCalled Can e
+        → covers_expr uses e ≡ true → is_formed e ≡ true → Agrees U K w (ScalarMatch U (type_at e)) (source.value_of C e w.src) (written e w)
+    expression_agrees (typed ty (constant x origin)) w start have stands can covers formed =
+        let both = both_true (covers_type ty) true covers in
+        term_agrees U K C ty ty (constant x origin) w (written (typed ty (constant x origin)) w) refl both.0 start
+        (constant_agrees U K S net_oracle opened w ty x origin (formed_constant ty x origin both.0 formed) start)
+    expression_agrees (typed ty (variable v qualified)) w start have stands can covers formed =
+        let both = both_true (covers_type ty) (uses v) covers in
+        variable_agrees U K reads p f g oracle net_oracle l k c T uses ty v qualified w same_declarations readable have both.1 both.0 start
+    expression_agrees (typed ty (unary o e)) w start have stands can covers formed =
+        let both = both_true (covers_type ty) (covers_expr uses e) covers in
+        let forms = both_true (is_row_of_one ty (write_unary o (type_at e))) (is_formed e) formed in
+        let type_is : covers_type (type_at e) ≡ true = covered_type uses e both.1 in
+        term_agrees U K C ty ty (unary o e) w (written (typed ty (unary o e)) w) refl both.0 start
+        (subst (λ q. Agrees U K w (TermMatch U ty) (then (source.scalar_value C e w.src) (λ z v. source.answer_as ty (operate q z z) v)) (written (typed ty (unary o e)) w))
+        (sym (typed_unary (type_at e) o type_is))
+        (unary_agrees U K S net_oracle o ty e (exp_of T e) (write_unary o (type_at e)) (source.scalar_value C e w.src) w both.0 forms.0
+        (rows.unary_is_row o S net_oracle opened.support e (exp_of T e) net_scalar.Nothing (covered_typed (type_at e) type_is))
+        (λ v z y m. same_unary (are_same v) o (type_at e) z z y net_scalar.Nothing (covered_typed (type_at e) type_is) m) start
+        (plain_agrees U K C e (type_at e) w (written e w) start (expression_agrees e w start have stands can both.1 forms.1))))
+    expression_agrees (typed ty (binary o d e)) w start have stands can covers formed =
+        let both = both_true (covers_type ty) (covers_operator o && (covers_expr uses d && covers_expr uses e)) covers in
+        let operator = both_true (covers_operator o) (covers_expr uses d && covers_expr uses e) both.1 in
+        let operands = both_true (covers_expr uses d) (covers_expr uses e) operator.1 in
+        let forms = both_true (is_row_of_two o ty (write_operator o (type_at d) (type_at e))) (is_formed d && is_formed e) formed in
+        let inner = both_true (is_formed d) (is_formed e) forms.1 in
+        let first_is : covers_type (type_at d) ≡ true = covered_type uses d operands.0 in
+        let second_is : covers_type (type_at e) ≡ true = covered_type uses e operands.1 in
+        term_agrees U K C ty ty (binary o d e) w (written (typed ty (binary o d e)) w) refl both.0 start
+        (subst (λ q. Agrees U K w (TermMatch U ty)
+        (then (source.scalar_value C d w.src) (λ z v. then (answered (source.left_operand q z) v) (λ z v.
+        then (source.scalar_value C e v) (λ z' u. source.answer_as ty (operate (source.then_row q) z z') u))))
+        (written (typed ty (binary o d e)) w)) (sym (typed_binary (type_at d) (type_at e) o first_is second_is))
+        (binary_agrees U K S net_oracle o ty d e (exp_of T d) (exp_of T e) (write_operator o (type_at d) (type_at e)) (source.scalar_value C d w.src)
+        (source.scalar_value C e) w both.0 forms.0
+        (rows.operator_is_row o S net_oracle opened.support any_same d e (exp_of T d) (exp_of T e) (covered_typed (type_at d) first_is)
+        (covered_typed (type_at e) second_is))
+        (rows.literal_fits d S net_oracle T (formed_held d first_is inner.0)) (rows.literal_fits e S net_oracle T (formed_held e second_is inner.1))
+        (λ v z z' y y' m m'.
+        same_operator (are_same v) o operator.0 (type_at d) (type_at e) z z' y y' (covered_typed (type_at d) first_is) (covered_typed (type_at e) second_is) m m')
+        start (plain_agrees U K C d (type_at d) w (written d w) start (expression_agrees d w start have stands can.0 operands.0 inner.0))
+        (λ v later.
+        plain_agrees U K C e (type_at e) v (written e v) later.match
+        (expression_agrees e v later.match (images_later U K w v f S T uses later have) (stands_later U K w v f g later stands) can.1 operands.1 inner.1))))
+    expression_agrees (typed ty (convert to (typed from t))) w start have stands can covers formed =
+        let both = both_true (covers_type ty) (covers_type to && covers_expr uses (typed from t)) covers in
+        let operand = both_true (covers_type to) (covers_expr uses (typed from t)) both.1 in
+        let forms = both_true (is_some (write_conversion from to)) (is_formed (typed from t)) formed in
+        term_agrees U K C ty to (convert to (typed from t)) w (written (typed ty (convert to (typed from t))) w) refl both.0 start
+        (conversion_agrees U K S net_oracle opened C from to t (exp_of T (typed from t)) w (covered_type uses (typed from t) operand.1) forms.1 forms.0 start
+        (plain_agrees U K C (typed from t) from w (written (typed from t) w) start (expression_agrees (typed from t) w start have stands can operand.1 forms.1)))
+    expression_agrees (typed ty (field e i)) w start have stands can covers formed = absurd (cc formed)
+    expression_agrees (typed ty (element e indexes)) w start have stands can covers formed = absurd (cc formed)
+    expression_agrees (typed ty (call q qualified (of_object e) args)) w start have stands can covers formed =
+        absurd (cc (both_true (covers_type ty) false covers).1)
+    expression_agrees (typed ty (call q qualified no_object args)) w start have stands can covers formed =
+        let both = both_true (covers_type ty) (covers_passed uses args) covers in
+        let parted = call_of (path (procedure_path T qualified q.0)) (passed_of T q.0 0 args) in
+        let called = call_agrees U K p f g oracle net_oracle l k c T agree ty q qualified args can.0 w stands start
+        (passed_agree q.0 can.0.values 0 args (passings_at U.written (Some can.0.number)) w can.0.net_values start have stands can.1 both.1 formed) in
+        subst (λ x. Agrees U K w (ScalarMatch U ty) (source.value_of C (typed ty (call q qualified no_object args)) w.src) (target.value_of S net_oracle x w.net))
+        (sym (callee_is T ty q qualified args (ap (λ D. is_property D q.0) same_declarations ∙ can.0.plain)))
+        (call_value_agrees U K p f g oracle net_oracle l k c T agree ty q qualified args both.0 w (target.address_of S net_oracle parted w.net) start called)
+    expression_agrees (typed ty (library function no_exprs)) w start have stands can covers formed =
+        library_agrees U K S net_oracle opened C T uses ty function no_exprs w start covers formed tt
+    expression_agrees (typed ty (library function (next_expr d no_exprs))) w start have stands can covers formed =
+        library_agrees U K S net_oracle opened C T uses ty function (next_expr d no_exprs) w start covers formed
+        ((λ v later h i. expression_agrees d v later.match (images_later U K w v f S T uses later have) (stands_later U K w v f g later stands) can.0 h i), tt)
+    expression_agrees (typed ty (library function (next_expr d (next_expr e no_exprs)))) w start have stands can covers formed =
+        library_agrees U K S net_oracle opened C T uses ty function (next_expr d (next_expr e no_exprs)) w start covers formed (
+          (λ v later h i. expression_agrees d v later.match (images_later U K w v f S T uses later have) (stands_later U K w v f g later stands) can.0 h i),
+          ((λ v later h i. expression_agrees e v later.match (images_later U K w v f S T uses later have) (stands_later U K w v f g later stands) can.1.0 h i), tt),
+        )
+    expression_agrees (typed ty (library function (next_expr d (next_expr e (next_expr x rest))))) w start have stands can covers formed =
+        library_agrees U K S net_oracle opened C T uses ty function (next_expr d (next_expr e (next_expr x rest))) w start covers formed (
+          (λ v later h i. expression_agrees d v later.match (images_later U K w v f S T uses later have) (stands_later U K w v f g later stands) can.0 h i),
+          (
+            (λ v later h i. expression_agrees e v later.match (images_later U K w v f S T uses later have) (stands_later U K w v f g later stands) can.1.0 h i),
+            ((λ v later h i. expression_agrees x v later.match (images_later U K w v f S T uses later have) (stands_later U K w v f g later stands) can.1.1.0 h i), tt),
+          ),
+        )
+    expression_agrees (typed ty (new_object class)) w start have stands can covers formed = absurd (cc formed)
+    expression_agrees (typed ty me) w start have stands can covers formed = absurd (cc formed)
+    expression_agrees (typed ty (with_object root)) w start have stands can covers formed = absurd (cc formed)
+    expression_agrees (typed ty err_number) w start have stands can covers formed = absurd (cc formed)
+    expression_agrees (typed ty (err_raise e)) w start have stands can covers formed = absurd (cc formed)
+    expression_agrees (typed ty err_clear) w start have stands can covers formed = absurd (cc formed)
+    expression_agrees (typed ty (is_same d e)) w start have stands can covers formed = absurd (cc formed)
+    expression_agrees (typed ty (loose e rules)) w start have stands can covers formed = absurd (cc formed)
+
+    -- the values of arguments
+    pub passed_agree : (q : ℕ) → ((i : ℕ) → takes_reference U.program.declarations q i ≡ false) → (i : ℕ) (args : Passed) (modes : List NetPassing) (w : World)
+        → list_all is_value modes ≡ true → MemoryMatch U w → HaveImages U K w f S T uses → Stands U K w f g → AllCalledFor Can args
+        → covers_passed uses args ≡ true → passed_are_formed args ≡ true
+        → Agrees U K w (ValuesMatch U) (source.args_of C q i args w.src) (target.args_of S net_oracle modes (passed_of T q i args) w.net)
+    passed_agree q values i no_passed modes w takes start have stands can covers formed = agrees_gives U K w (ValuesMatch U) [] [] start no_values
+    passed_agree q values i (next_passed (by_reference e) rest) modes w takes start have stands can covers formed = absurd (cc covers)
+    passed_agree q values i (next_passed (by_value e) rest) modes w takes start have stands can covers formed =
+        let both = both_true (covers_expr uses e) (covers_passed uses rest) covers in
+        let forms = both_true (is_formed e) (passed_are_formed rest) formed in
+        let whole = λ (x : Exp). target.args_of S net_oracle modes (next_exp x (passed_of T q (suc i) rest)) w.net in
+        let goes = λ (r : Outcome net.Memory (Given net_value.Value net.Address)).
+        then r (λ y t. then (target.args_of S net_oracle (target.rest_passings modes) (passed_of T q (suc i) rest) t) (λ ys t. gives [] (y ∷ ys) t)) in
+        subst (λ x. Agrees U K w (ValuesMatch U) (source.args_of C q i (next_passed (by_value e) rest) w.src) (whole x))
+        (sym (argument_is T (takes_reference T.declarations q i) e (ap (λ D. takes_reference D q i) same_declarations ∙ values i) (covered_type uses e both.0)))
+        (subst (λ r. Agrees U K w (ValuesMatch U) (source.args_of C q i (next_passed (by_value e) rest) w.src) (goes r))
+        (sym (given_is U K S net_oracle modes (exp_of T e) w.net takes))
+        (argument_agrees U K w (type_at e) (source.value_of C e w.src) (target.value_of S net_oracle (exp_of T e) w.net) (source.args_of C q (suc i) rest)
+        (target.args_of S net_oracle (target.rest_passings modes) (passed_of T q (suc i) rest)) start
+        (expression_agrees e w start have stands can.0 both.0 forms.0)
+        (λ v later.
+        passed_agree q values (suc i) rest (target.rest_passings modes) v (rest_are_values U K modes takes) later.match
+        (images_later U K w v f S T uses later have) (stands_later U K w v f g later stands) can.1 both.1 forms.1)))
 
 -- ---- the laws
 
 pub expressions_agree_by : (U : Upgrade) (K : Pledge) → VariablesAreReadBy U K → FormedExpressionsAgreeBy U K
-expressions_agree_by U K reads w p f g oracle net_oracle l k c T uses e start frames declarations opened readable own covers formed =
-    expression_agrees U K reads p f g oracle net_oracle l k c T uses declarations opened readable e w start
-    (images_now U K w p f g uses frames readable own) covers formed
+expressions_agree_by U K reads w p f g oracle net_oracle l k c T uses e start frames declarations opened readable placed agree can covers formed =
+    expression_agrees U K reads p f g oracle net_oracle l k c T uses declarations opened readable agree e w start
+    (images_now U K w p f g (scope_of U.written c g k) refl T declarations frames uses readable placed) (stands_now U K w p f g frames) can covers formed
 
 pub scalars_agree_by : (U : Upgrade) (K : Pledge) → VariablesAreReadBy U K → FormedScalarsAgreeBy U K
-scalars_agree_by U K reads w p f g oracle net_oracle l k c T uses e start frames declarations opened readable own covers formed =
+scalars_agree_by U K reads w p f g oracle net_oracle l k c T uses e start frames declarations opened readable placed agree can covers formed =
     plain_agrees U K (context_of U oracle p f l) e (type_at e) w (target.value_of (scope_of U.written c g k) net_oracle (exp_of T e) w.net) start
-    (expressions_agree_by U K reads w p f g oracle net_oracle l k c T uses e start frames declarations opened readable own covers formed)
+    (expressions_agree_by U K reads w p f g oracle net_oracle l k c T uses e start frames declarations opened readable placed agree can covers formed)
 
 pub expressions_agree : (U : Upgrade) → VariablesAreRead U → ExpressionsAgree U
 expressions_agree U reads K = expressions_agree_by U K (reads K)
 
 pub scalars_agree : (U : Upgrade) → VariablesAreRead U → FormedScalarsAgree U
 scalars_agree U reads K = scalars_agree_by U K (reads K)
+
+-- a covered call is made on both sides
+pub calls_are_made : (U : Upgrade) → VariablesAreRead U → CallsAreMade U
+calls_are_made U reads K w p f g oracle net_oracle l k c T uses ty q qualified args start frames declarations opened readable placed agree can covers formed =
+    let C : Context = context_of U oracle p f l in
+    let S : net_names.Scope = scope_of U.written c g k in
+    let stands : Stands U K w f g = stands_now U K w p f g frames in
+    let r' = target.address_of S net_oracle (call_of (path (procedure_path T qualified q.0)) (passed_of T q.0 0 args)) w.net in
+    agrees_weaker U K w (GivenMatch U) AnyParts (source.term_parts C ty (call q qualified no_object args) w.src) r' (λ v x a l m. tt)
+    (call_agrees U K p f g oracle net_oracle l k c T agree ty q qualified args can.0 w stands start
+    (passed_agree U K (reads K) p f g oracle net_oracle l k c T uses declarations opened readable agree q.0 can.0.values 0 args
+    (passings_at U.written (Some can.0.number)) w can.0.net_values start
+    (images_now U K w p f g (scope_of U.written c g k) refl T declarations frames uses readable placed) stands can.1 covers formed))
 
 -- under the pledge of a frame
 

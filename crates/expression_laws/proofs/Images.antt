@@ -1,42 +1,50 @@
--- Variables of a frame are images of each other, and stay so.
-use Rattle.std.proofs.Common.{◌≡◌, refl, sym, ap, ◌∙◌, ℕ, Bool, true, false, not, ◌&&◌, List, Option, Some, None}
-use Rattle.std.specs.Prelude.{slice_get}
-use Rattle.std.specs.List.{list_any}
-use Rattle.std.proofs.lemmas.Bool.{eqb-true, eq-eqb}
+-- Variables that are used are images of each other, and stay so.
+use Rattle.std.proofs.Common.{◌≡◌, refl, sym, ap, subst, ◌∙◌, inl, inr, ℕ, Bool, true, false, cond, not, ◌&&◌, nat_eq, List, [], ◌∷◌, Some}
+use Rattle.std.specs.Prelude.{slice_get, is_some}
+use Rattle.std.specs.Map.{lookup}
 use Rattle.vb_tree.specs.declared.declared.Owner.{Owner}
 use Rattle.vb_tree.specs.declared.declared.Owner.TheVariants as owner
-use Rattle.bound_tree.specs.declared.body.Mention.{Mention}
-use Rattle.bound_tree.specs.Tree.{Variable}
+use Rattle.bound_tree.specs.Tree.{Variable, Declarations}
 use Rattle.bound_facts.specs.Effects.{is_own_owner, is_own_variable}
 use Rattle.bound_facts.specs.Facts.{Known, is_quiet, is_quiet_owner, is_quiet_variable}
-use Rattle.run_base.specs.Positions.{made, whole}
-use Rattle.vb6_run.specs.Shapes.{variable_shape}
-use Rattle.vb6_run.specs.Store.{Address, SourceFrame}
+use Rattle.run_base.specs.Positions.{Position, made, shared, whole}
+use Rattle.written_trees.specs.Names.{Scope, alone, owner_path, variable_path, variable_path_of, variable_name_of}
+use Rattle.vb6_run.specs.Runnables.{is_class_file, owned_address, declared_address, variable_address, object_root, root_address}
+use Rattle.vb6_run.specs.Shapes.{simple, shape_by, variable_shape, declared_shape, user_shapes}
+use Rattle.vb6_run.specs.Store.{Address, root, SourceFrame}
 use Rattle.net_run.specs.Lines.{NetFrame}
+use Rattle.net_run.specs.Names as net_names
+use Rattle.net_run.specs.Names.{path_start, starts, at_place, frame_start, var_in}
+use Rattle.net_run.specs.Shapes as net_shapes
 use Rattle.net_run.specs.Store as net
-use Rattle.run_matches.specs.Addresses.{Same, Bound, images, mirrored}
-use Rattle.run_matches.specs.Covered.{Uses, belongs_to, covers_owner, covers_type, covers_variable, covers_some, covers_use, is_mention_of}
-use Rattle.run_matches.specs.Frames.{FrameMatch, SameVariable, HasPlace}
-use Rattle.run_matches.specs.Maps.{World}
+use Rattle.run_matches.specs.Addresses.{Same, same_root, Bound, images, mirrored}
+use Rattle.run_matches.specs.Covered.{Uses, covers_owner, covers_type, covers_variable}
+use Rattle.run_matches.specs.Frames.{FrameMatch, SameVariable, HasPlace, is_own_of}
+use Rattle.run_matches.specs.Likeness.{same_scalar}
+use Rattle.run_matches.specs.Maps.{World, IsMatched, key_or_none, moved_at}
 use Rattle.run_matches.specs.Pledges.{Pledge, Later}
-use Rattle.run_matches.specs.Upgrades.{Upgrade}
-use Rattle.run_statements.specs.Frames.{IsReadable, AreOwn, AreReadable}
+use Rattle.run_matches.specs.Upgrades.{Upgrade, variable_key}
+use Rattle.run_statements.specs.Frames.{IsReadable, IsShared, IsPlaced, ArePlaced, AreReadable}
 use Rattle.agreeing_laws.proofs.Moves.{address_later}
 use Rattle.expression_laws.specs.Images.{HasImage, HaveImages}
-use Rattle.expression_laws.proofs.Types.{both_true}
+use Rattle.expression_laws.proofs.Types.{both_true, simple_type}
 
--- a local variable is no quiet parameter
+-- a covered variable is no quiet parameter
 unquiet_owner : (F : Known) (o : Owner) → covers_owner o ≡ true → is_quiet_owner F o ≡ false
-unquiet_owner F (owner.Module file) h = absurd (cc h)
+unquiet_owner F (owner.Module file) h = refl
 unquiet_owner F (owner.Local p) h = refl
 unquiet_owner F (owner.Static p) h = absurd (cc h)
-unquiet_owner F (owner.Value p) h = absurd (cc h)
+unquiet_owner F (owner.Value p) h = refl
 unquiet_owner F (owner.Reference p) h = absurd (cc h)
-unquiet_owner F (owner.Answer p) h = absurd (cc h)
+unquiet_owner F (owner.Answer p) h = refl
 unquiet_owner F (owner.Field t) h = absurd (cc h)
 
 pub owner_covered : (x : Variable) → covers_variable x ≡ true → covers_owner x.owner ≡ true
 owner_covered x h = (both_true (covers_owner x.owner) (covers_type x.ty && not x.auto) h).0
+
+type_covered : (x : Variable) → covers_variable x ≡ true → covers_type x.ty ≡ true
+type_covered x h =
+    (both_true (covers_type x.ty) (not x.auto) (both_true (covers_owner x.owner) (covers_type x.ty && not x.auto) h).1).0
 
 exact_same : (U : Upgrade) (K : Pledge) (w : World) (exact : Bool) (a : Address) (b : net.Address) → exact ≡ true → Bound U K w exact a b → Same U K w a b
 exact_same U K w _ _ _ e (images exact a b same) = same
@@ -47,47 +55,134 @@ readable_exact U v r =
     ap (λ x. not (is_quiet_variable U.known x && not (U.known.touched v))) r.is_variable
     ∙ ap (λ q. not (q && not (U.known.touched v))) (unquiet_owner U.known r.variable.owner (owner_covered r.variable r.covers))
 
--- the variables that a covered line of a procedure uses are its own
-own_owner : (p : ℕ) (o : Owner) → covers_owner o ≡ true → belongs_to p o ≡ true → is_own_owner p o ≡ true
-own_owner p (owner.Module file) c h = absurd (cc c)
-own_owner p (owner.Local q) c h = eq-eqb q.0 p (sym (eqb-true p q.0 h))
-own_owner p (owner.Static q) c h = absurd (cc c)
-own_owner p (owner.Value q) c h = absurd (cc c)
-own_owner p (owner.Reference q) c h = absurd (cc c)
-own_owner p (owner.Answer q) c h = absurd (cc c)
-own_owner p (owner.Field t) c h = absurd (cc c)
+-- ---- the procedure's own
 
-own_variable : (p : ℕ) (o : Option Variable) → covers_some p o ≡ true → is_own_variable p o ≡ true
-own_variable p None h = absurd (cc h)
-own_variable p (Some x) h =
-    let both = both_true (belongs_to p x.owner) (covers_variable x) h in
-    own_owner p x.owner (owner_covered x both.1) both.0
+own_address : (D : Declarations) (f : SourceFrame) (p v : ℕ) (o : Owner) → is_own_owner p o ≡ true → owned_address D f v o ≡ lookup (nat_eq v) f.vars
+own_address D f p v (owner.Module file) h = absurd (cc h)
+own_address D f p v (owner.Local q) h = refl
+own_address D f p v (owner.Static q) h = absurd (cc h)
+own_address D f p v (owner.Value q) h = refl
+own_address D f p v (owner.Reference q) h = absurd (cc h)
+own_address D f p v (owner.Answer q) h = refl
+own_address D f p v (owner.Field t) h = absurd (cc h)
 
-pub used_are_own : (U : Upgrade) (p : ℕ) (mentions : List Mention) → AreOwn U p (covers_use U.program p mentions)
-used_are_own U p mentions v h =
-    own_variable p (slice_get U.program.declarations.vars v.0)
-    (both_true (list_any (is_mention_of v) mentions) (covers_some p (slice_get U.program.declarations.vars v.0)) h).1
+own_path : (T : Scope) (qualified : Bool) (name : List ℕ) (p : ℕ) (o : Owner) → is_own_owner p o ≡ true → owner_path T qualified name o ≡ alone name
+own_path T qualified name p (owner.Module file) h = absurd (cc h)
+own_path T qualified name p (owner.Local q) h = refl
+own_path T qualified name p (owner.Static q) h = absurd (cc h)
+own_path T qualified name p (owner.Value q) h = refl
+own_path T qualified name p (owner.Reference q) h = absurd (cc h)
+own_path T qualified name p (owner.Answer q) h = refl
+own_path T qualified name p (owner.Field t) h = absurd (cc h)
 
--- variables that are used have images in frames that match
-pub images_now : (U : Upgrade) (K : Pledge) (w : World) (p : ℕ) (f : SourceFrame) (g : NetFrame) (uses : Uses) → FrameMatch U K w p f g → AreReadable U uses
-    → AreOwn U p uses → HaveImages U K w f g uses
-images_now U K w p f g uses h readable own v a used is =
-    let r : IsReadable U v.0 = readable v used in
-    let same : SameVariable U K w v.0 a g = h.vars v.0 a is r.sound in
-    let place : HasPlace U w v.0 a = h.own v.0 a is (own v used) in
-    record {
-      address = same.address;
-      found = same.found;
-      same = exact_same U K w (not (is_quiet U.program.declarations U.known v.0)) a same.address (readable_exact U v.0 r) same.bound;
-      shape = variable_shape U.program.declarations v.0;
-      position = whole (made place.place);
-      stands = place.stands;
-    }
+own_is : (U : Upgrade) (p v : ℕ) (x : Variable) → slice_get U.program.declarations.vars v ≡ Some x → is_own_of U p v ≡ true → is_own_owner p x.owner ≡ true
+own_is U p v x e h = sym (ap (is_own_variable p) e) ∙ h
 
-pub images_later : (U : Upgrade) (K : Pledge) (w0 w1 : World) (f : SourceFrame) (g : NetFrame) (uses : Uses) → Later U K w0 w1
-    → HaveImages U K w0 f g uses → HaveImages U K w1 f g uses
-images_later U K w0 w1 f g uses l h v a used is =
-    let x : HasImage U K w0 g v.0 a = h v a used is in
+-- a name that stands for a variable of the frame leads to it
+named_start : (S : net_names.Scope) (name : List ℕ) (b : net.Address) → var_in S.vars name ≡ Some b → path_start S false (name ∷ []) ≡ starts (at_place b) []
+named_start S name b h = ap (frame_start S name []) h
+
+-- ---- those of standard modules
+
+shared_address : (D : Declarations) (f : SourceFrame) (v : ℕ) (x : Variable) (file : ℕ) → slice_get D.vars v ≡ Some x → x.owner ≡ owner.Module file
+    → is_class_file D file ≡ false → variable_address D f v ≡ Some (root (variable_shape D v) (whole (shared (v ∷ []))))
+shared_address D f v x file is of standard =
+    ap (declared_address D f v) is ∙ ap (owned_address D f v) of
+    ∙ ap (λ b. root_address D v (cond b (object_root f.me v) (Some (shared (v ∷ []))))) standard
+
+abbrev at_key : ℕ → Position
+at_key v = whole (shared (v ∷ []))
+
+some_is : {A : Type 0} (x y : A) → Some x ≡ Some y → x ≡ y
+some_is x y e = cc e
+
+shared_shape : (D : Declarations) (x : Variable) → covers_type x.ty ≡ true → shape_by (user_shapes D) x.bounds x.ty ≡ simple x.ty
+shared_shape D x c = simple_type (user_shapes D) x.bounds x.ty c
+
+shared_matched : (U : Upgrade) (w : World) (v : ℕ) (x : IsReadable U v) → variable_key U v ≡ Some (key_or_none (variable_key U v)) → IsMatched U w (at_key v)
+shared_matched U w v x e = record {
+  is_made = tt;
+  counterpart = ap is_some e;
+  sound = ap not x.sound;
+}
+
+module _ (U : Upgrade) (K : Pledge) (w : World) (f : SourceFrame) (S : net_names.Scope) (T : Scope) (v : ℕ) (r : IsReadable U v) (s : IsShared U S T v) where
+  abbrev D : Declarations
+  D = U.program.declarations
+
+  same_variable : s.variable ≡ r.variable
+  same_variable = some_is s.variable r.variable (sym s.is_variable ∙ r.is_variable)
+
+  covers_shared : covers_type s.variable.ty ≡ true
+  covers_shared = subst (λ (x : Variable). covers_type x.ty ≡ true) (sym same_variable) (type_covered r.variable r.covers)
+
+  shape_is : variable_shape D v ≡ simple s.variable.ty
+  shape_is = ap (declared_shape (user_shapes D)) s.is_variable ∙ shared_shape D s.variable covers_shared
+
+  abbrev there : net.Address
+  there = net.root (net_shapes.scalar s.word) (moved_at U w.map (at_key v))
+
+  stands_there : there ≡ net.root (net_shapes.scalar s.word) (whole (shared s.key))
+  stands_there = ap (λ o. net.root (net_shapes.scalar s.word) (whole (shared (key_or_none o)))) s.is_key
+
+  key_there : variable_key U v ≡ Some (key_or_none (variable_key U v))
+  key_there = s.is_key ∙ ap (λ o. Some (key_or_none o)) (sym s.is_key)
+
+  shared_same : Same U K w (root (simple s.variable.ty) (at_key v)) there
+  shared_same =
+      same_root (simple s.variable.ty) (net_shapes.scalar s.word) (at_key v) (same_scalar s.variable.ty s.word s.is_word) (shared_matched U w v r key_there) tt
+
+  pub shared_image : (a : Address) → variable_address D f v ≡ Some a → HasImage U K w S T v a
+  shared_image a is =
+      let stands : a ≡ root (simple s.variable.ty) (at_key v) =
+      some_is a (root (simple s.variable.ty) (at_key v))
+      (sym is ∙ shared_address D f v s.variable s.file s.is_variable s.is_owner s.standard ∙ ap (λ z. Some (root z (at_key v))) shape_is) in
+      record {
+        address = there;
+        found = λ q. s.leads q ∙ ap (λ b. starts (at_place b) []) (sym stands_there);
+        same = subst (λ z. Same U K w z there) (sym stands) shared_same;
+        shape = simple s.variable.ty;
+        position = at_key v;
+        stands = stands;
+      }
+
+-- ---- now and later
+
+module _ (U : Upgrade) (K : Pledge) (w : World) (p : ℕ) (f : SourceFrame) (g : NetFrame) (S : net_names.Scope) (vars : S.vars ≡ g.vars) (T : Scope)
+    (same_declarations : T.declarations ≡ U.program.declarations) (h : FrameMatch U K w p f g) where
+  own_image : (v : ℕ) → IsReadable U v → is_own_of U p v ≡ true → (a : Address) → variable_address U.program.declarations f v ≡ Some a → HasImage U K w S T v a
+  own_image v r own a is =
+      let of : is_own_owner p r.variable.owner ≡ true = own_is U p v r.variable r.is_variable own in
+      let at : lookup (nat_eq v) f.vars ≡ Some a =
+      sym (ap (declared_address U.program.declarations f v) r.is_variable ∙ own_address U.program.declarations f p v r.variable.owner of) ∙ is in
+      let same : SameVariable U K w v a g = h.vars v a at r.sound in
+      let place : HasPlace U w v a = h.own v a at own in
+      let name : var_in S.vars r.variable.name ≡ Some same.address =
+      ap (λ xs. var_in xs r.variable.name) vars ∙ ap (λ o. var_in g.vars (variable_name_of o)) (sym r.is_variable) ∙ same.found in
+      let path : (q : Bool) → variable_path T q v ≡ r.variable.name ∷ [] =
+      λ q. ap (λ (E : Declarations). variable_path_of T q (slice_get E.vars v)) same_declarations ∙ ap (variable_path_of T q) r.is_variable
+      ∙ own_path T q r.variable.name p r.variable.owner of in
+      record {
+        address = same.address;
+        found = λ q. ap (path_start S false) (path q) ∙ named_start S r.variable.name same.address name;
+        same = exact_same U K w (not (is_quiet U.program.declarations U.known v)) a same.address (readable_exact U v r) same.bound;
+        shape = variable_shape U.program.declarations v;
+        position = whole (made place.place);
+        stands = place.stands;
+      }
+
+  -- variables that are used have images in frames that match
+  pub images_now : (uses : Uses) → AreReadable U uses → ArePlaced U p S T uses → HaveImages U K w f S T uses
+  images_now uses readable placed v a used is = by (placed v used)
+    where
+      by : IsPlaced U p S T v.0 → HasImage U K w S T v.0 a
+      by (inl own) = own_image v.0 (readable v used) own a is
+      by (inr s) = shared_image U K w f S T v.0 (readable v used) s a is
+
+pub images_later : (U : Upgrade) (K : Pledge) (w0 w1 : World) (f : SourceFrame) (S : net_names.Scope) (T : Scope) (uses : Uses) → Later U K w0 w1
+    → HaveImages U K w0 f S T uses → HaveImages U K w1 f S T uses
+images_later U K w0 w1 f S T uses l h v a used is =
+    let x : HasImage U K w0 S T v.0 a = h v a used is in
     record {
       address = x.address;
       found = x.found;

@@ -4,5 +4,10 @@ pub mod Variables
 pub mod RowsAgree
 pub mod Conversions
 pub mod Images
+mod LibraryArguments
+mod Inputs
+pub mod Library
+pub mod Arguments
+pub mod Calls
 pub mod Expressions
 mod Examples

@@ -1,5 +1,5 @@
 -- Rows on operands that agree.
-use Rattle.std.proofs.Common.{refl, sym, subst, ℕ, Bool, true, []}
+use Rattle.std.proofs.Common.{◌≡◌, refl, sym, subst, ℕ, Bool, true, []}
 use Rattle.vb_tree.specs.BoundTree.{Ty}
 use Rattle.vb_tree.specs.declared.value.Value6.{Value6}
 use Rattle.vb6_meaning.specs.Answers.{Answer}
@@ -24,8 +24,9 @@ use Rattle.run_matches.specs.Pledges.{Pledge, Later}
 use Rattle.run_matches.specs.Upgrades.{Upgrade}
 use Rattle.run_statements.specs.Frames.{PlainMatch}
 use Rattle.agreeing_laws.proofs.Agreeing.{agrees_gives, left_alone, then_agrees, answered_agrees}
+use Rattle.agreeing_laws.proofs.Lasting.{later_then}
 use Rattle.agreeing_laws.proofs.Scalars.{matches_more, same_later}
-use Rattle.row_laws.specs.Follows.{single_value, answers, Any, Follows, RowOfOne, RowOfTwo}
+use Rattle.row_laws.specs.Follows.{single_value, answers, on_three_values, Any, Follows, RowOfOne, RowOfTwo}
 use Rattle.row_laws.specs.Rows.{IsOf}
 use Rattle.expression_laws.proofs.Checks.{TermMatch}
 
@@ -94,3 +95,36 @@ module _ (U : Upgrade) (K : Pledge) (S : Scope) (oracle : Jobs) where
           subst (λ q. Agrees U K v (TermMatch U t) (then (r' v.src) (λ z' u. source.answer_as t (f z z') u)) q) (sym (g.is v.net))
           (then_agrees U K v (PlainMatch U s') (TermMatch U t) (r' v.src) (target.value_of S oracle second v.net) (λ z' u. source.answer_as t (f z z') u)
           g.behind l.match (other v l) (λ z' y u like l'. last z z' x y v u g m l' like))
+
+  -- a row on the values of three, by its equation
+  pub three_agree : (s s' s'' t : Ty) (f : Value6 → Value6 → Value6 → Answer Value6) (row : ValueN → ValueN → ValueN → Answer ValueN) (whole first second third : Exp)
+      (r : Outcome Memory Value6) (r' r'' : Memory → Outcome Memory Value6) (w : World)
+      → (target.value_of S oracle whole w.net
+      ≡ then (target.value_of S oracle first w.net) (λ x v. then (target.value_of S oracle second v) (λ y u. then (target.value_of S oracle third u) (on_three_values row x y))))
+      → ((v : World) (z z' z'' : Value6) (x x' x'' : ValueN) → At v s z x → At v s' z' x' → At v s'' z'' x'' → values.Agrees (At v t) (f z z' z'') (row x x' x''))
+      → MemoryMatch U w → Agrees U K w (PlainMatch U s) r (target.value_of S oracle first w.net)
+      → ((v : World) → Later U K w v → Agrees U K v (PlainMatch U s') (r' v.src) (target.value_of S oracle second v.net))
+      → ((v : World) → Later U K w v → Agrees U K v (PlainMatch U s'') (r'' v.src) (target.value_of S oracle third v.net))
+      → Agrees U K w (TermMatch U t) (then r (λ z v. then (r' v) (λ z' u. then (r'' u) (λ z'' q. source.answer_as t (f z z' z'') q)))) (target.value_of S oracle whole w.net)
+  three_agree s s' s'' t f row whole first second third r r' r'' w is law start operand second_agrees third_agrees =
+      subst (λ q. Agrees U K w (TermMatch U t) (then r (λ z v. then (r' v) (λ z' u. then (r'' u) (λ z'' q. source.answer_as t (f z z' z'') q)))) q) (sym is)
+      (then_agrees U K w (PlainMatch U s) (TermMatch U t) r (target.value_of S oracle first w.net)
+      (λ z v. then (r' v) (λ z' u. then (r'' u) (λ z'' q. source.answer_as t (f z z' z'') q)))
+      (λ x v. then (target.value_of S oracle second v) (λ y u. then (target.value_of S oracle third u) (on_three_values row x y))) start operand
+      (λ z x v like l.
+      then_agrees U K v (PlainMatch U s') (TermMatch U t) (r' v.src) (target.value_of S oracle second v.net)
+      (λ z' u. then (r'' u) (λ z'' q. source.answer_as t (f z z' z'') q)) (λ y u. then (target.value_of S oracle third u) (on_three_values row x y)) l.match
+      (second_agrees v l)
+      (λ z' y u like' l'.
+      then_agrees U K u (PlainMatch U s'') (TermMatch U t) (r'' u.src) (target.value_of S oracle third u.net) (λ z'' q. source.answer_as t (f z z' z'') q)
+      (on_three_values row x y) l'.match (third_agrees u (later_then U K w v u start l l'))
+      (λ z'' y' q like'' l''. behind z z' z'' x y y' v u q like like' like'' l' l''))))
+    where
+      behind : (z z' z'' : Value6) (x y y' : net_value.Value) (v u q : World) → LikeV U v (scalar s z) x → LikeV U u (scalar s' z') y
+          → LikeV U q (scalar s'' z'') y' → Later U K v u → Later U K u q
+          → Agrees U K q (TermMatch U t) (source.answer_as t (f z z' z'') q.src) (on_three_values row x y y' q.net)
+      behind _ _ _ _ _ _ v u q (like_scalar _ z x m) (like_scalar _ z' x' m') (like_scalar _ z'' x'' m'') l l' =
+          let before : At u s z x = matches_more (are_same v) (are_same u) (same_later v u l.extends l.grows) s z x m in
+          let now : At q s z x = matches_more (are_same u) (are_same q) (same_later u q l'.extends l'.grows) s z x before in
+          let second : At q s' z' x' = matches_more (are_same u) (are_same q) (same_later u q l'.extends l'.grows) s' z' x' m' in
+          answer_agrees U K q t (f z z' z'') (row x x' x'') l'.match (law q z z' z'' x x' x'' now second m'')

@@ -1,12 +1,12 @@
 -- Types of which one is covered are equal where they are the same.
-use Rattle.std.proofs.Common.{◌≡◌, Bool, true, false, ◌&&◌, refl}
+use Rattle.std.proofs.Common.{◌≡◌, ℕ, ℤ, Bool, true, false, ◌&&◌, List, refl}
 use Rattle.vb_tree.specs.BoundTree as types
 use Rattle.vb_tree.specs.BoundTree.{Ty}
 use Rattle.bound_tree.specs.Tree.{Declarations}
 use Rattle.bound_facts.specs.Locks.{is_same_type}
 use Rattle.net_meaning.specs.SameValues.{is_typed}
 use Rattle.vb6_run.specs.Expressions.{type_shape}
-use Rattle.vb6_run.specs.Shapes.{simple}
+use Rattle.vb6_run.specs.Shapes.{Shape, simple, shape_by}
 use Rattle.run_matches.specs.Covered.{covers_type}
 
 pub both_true : (a b : Bool) → (a && b) ≡ true → (a ≡ true) × (b ≡ true)
@@ -118,3 +118,12 @@ covered_shape D types.variant c = refl
 covered_shape D (types.array x k) c = absurd (cc c)
 covered_shape D types.nothing c = refl
 covered_shape D types.unknown c = refl
+
+pub simple_type : (users : ℕ → Shape) (bounds : List (ℤ × ℤ)) (ty : Ty) → covers_type ty ≡ true → shape_by users bounds ty ≡ simple ty
+simple_type users bounds types.boolean c = refl
+simple_type users bounds types.byte c = refl
+simple_type users bounds types.integer c = refl
+simple_type users bounds types.long c = refl
+simple_type users bounds types.currency c = refl
+simple_type users bounds types.str c = refl
+simple_type users bounds _ c = absurd (cc c)

@@ -1,13 +1,10 @@
 -- The values of variables.
-use Rattle.std.proofs.Common.{◌≡◌, ◌∙◌, refl, sym, ap, subst, ℕ, Bool, true, false, cond, not, ◌&&◌, List, [], ◌∷◌, Option, Some, None}
-use Rattle.std.specs.Prelude.{nat_eq, slice_get}
-use Rattle.std.specs.Map.{lookup}
+use Rattle.std.proofs.Common.{◌≡◌, ◌∙◌, refl, sym, ap, subst, ℕ, Bool, true, false, cond, not, ◌&&◌, List, [], Option, Some, None}
+use Rattle.std.specs.Prelude.{slice_get}
 use Rattle.vb_tree.specs.BoundTree.{Ty}
-use Rattle.vb_tree.specs.declared.declared.Owner.{Owner}
-use Rattle.vb_tree.specs.declared.declared.Owner.TheVariants as owner
 use Rattle.vb_tree.specs.declared.declared.VarId.{VarId}
 use Rattle.vb_tree.specs.declared.value.Value6.{Value6}
-use Rattle.bound_tree.specs.Tree.{Variable, Declarations, typed, variable}
+use Rattle.bound_tree.specs.Tree.{Variable, typed, variable}
 use Rattle.bound_facts.specs.Locks.{is_same_type}
 use Rattle.bound_facts.specs.Node.{auto_class, class_in}
 use Rattle.net_tree.specs.Tree.{path}
@@ -16,7 +13,7 @@ use Rattle.run_base.specs.Positions.{Position}
 use Rattle.vb6_run.specs.Expressions as source
 use Rattle.vb6_run.specs.Expressions.{Context, at_address, declared, type_shape}
 use Rattle.vb6_run.specs.Forms.{SourceLine}
-use Rattle.vb6_run.specs.Runnables.{owned_address, declared_address, variable_address}
+use Rattle.vb6_run.specs.Runnables.{variable_address}
 use Rattle.vb6_run.specs.Shapes.{Shape, simple, group, array, endless}
 use Rattle.vb6_run.specs.Store as store
 use Rattle.vb6_run.specs.Store.{Held, blank, table, parts, Address, root, Memory, Does, SourceCalls, SourceFrame, provided, value_if, single_in, array_in, fields_from, gathered, all_gathered}
@@ -26,11 +23,11 @@ use Rattle.net_run.specs.Lines.{NetFrame, NetLine, scope_of}
 use Rattle.net_run.specs.Making.{Jobs}
 use Rattle.net_run.specs.Members.{Code}
 use Rattle.net_run.specs.Names as net_names
-use Rattle.net_run.specs.Names.{var_in}
+use Rattle.net_run.specs.Names.{path_start, starts, at_place}
 use Rattle.net_run.specs.Store as net
 use Rattle.net_run.specs.Values as net_value
 use Rattle.written_trees.specs.Exprs.{exp_of, made_if}
-use Rattle.written_trees.specs.Names.{Scope, alone, owner_path, variable_path_of, variable_name_of}
+use Rattle.written_trees.specs.Names.{Scope, variable_path}
 use Rattle.run_matches.specs.Addresses.{Same}
 use Rattle.run_matches.specs.Agreeing.{Agrees}
 use Rattle.run_matches.specs.Covered.{Uses, covers_owner, covers_type, covers_variable}
@@ -44,7 +41,6 @@ use Rattle.expression_laws.specs.Images.{HasImage, HaveImages}
 use Rattle.expression_laws.specs.Statements.{VariablesAreReadBy}
 use Rattle.expression_laws.proofs.Types.{both_true, same_as, same_of, covered_shape}
 use Rattle.expression_laws.proofs.Checks.{source_then, checked_agrees}
-use Rattle.expression_laws.proofs.Images.{owner_covered}
 
 -- ---- addresses of other shapes
 
@@ -102,48 +98,20 @@ not_auto x h =
     let rest = both_true (covers_owner x.owner) (covers_type x.ty && not x.auto) h in
     not_true x.auto (both_true (covers_type x.ty) (not x.auto) rest.1).1
 
-local_address : (D : Declarations) (f : SourceFrame) (v : ℕ) (o : Owner) → covers_owner o ≡ true → owned_address D f v o ≡ lookup (nat_eq v) f.vars
-local_address D f v (owner.Module file) h = absurd (cc h)
-local_address D f v (owner.Local p) h = refl
-local_address D f v (owner.Static p) h = absurd (cc h)
-local_address D f v (owner.Value p) h = absurd (cc h)
-local_address D f v (owner.Reference p) h = absurd (cc h)
-local_address D f v (owner.Answer p) h = absurd (cc h)
-local_address D f v (owner.Field t) h = absurd (cc h)
-
-local_path : (T : Scope) (qualified : Bool) (name : List ℕ) (o : Owner) → covers_owner o ≡ true → owner_path T qualified name o ≡ alone name
-local_path T qualified name (owner.Module file) h = absurd (cc h)
-local_path T qualified name (owner.Local p) h = refl
-local_path T qualified name (owner.Static p) h = absurd (cc h)
-local_path T qualified name (owner.Value p) h = absurd (cc h)
-local_path T qualified name (owner.Reference p) h = absurd (cc h)
-local_path T qualified name (owner.Answer p) h = absurd (cc h)
-local_path T qualified name (owner.Field t) h = absurd (cc h)
-
 pub auto_none : (vars : List Variable) (v : ℕ) (x : Variable) → slice_get vars v ≡ Some x → covers_variable x ≡ true → auto_class (slice_get vars v) ≡ None
 auto_none vars v x is covers = ap auto_class is ∙ ap (λ b. cond b (class_in x.ty) None) (not_auto x covers)
 
-pub address_is : (D : Declarations) (f : SourceFrame) (v : ℕ) (x : Variable) → slice_get D.vars v ≡ Some x → covers_variable x ≡ true
-    → variable_address D f v ≡ lookup (nat_eq v) f.vars
-address_is D f v x is covers = ap (λ o. declared_address D f v o) is ∙ local_address D f v x.owner (owner_covered x covers)
-
--- its name is written
+-- its path is written
 pub variable_exp : (T : Scope) (ty : Ty) (v : VarId) (qualified : Bool) (x : Variable) → slice_get T.declarations.vars v.0 ≡ Some x → covers_variable x ≡ true
-    → exp_of T (typed ty (variable v qualified)) ≡ path (x.name ∷ [])
+    → exp_of T (typed ty (variable v qualified)) ≡ path (variable_path T qualified v.0)
 variable_exp T ty v qualified x is covers =
-    ap (λ o. made_if T.declarations (auto_class o) (path (variable_path_of T qualified o))) is
-    ∙ ap (λ b. made_if T.declarations (cond b (class_in x.ty) None) (path (owner_path T qualified x.name x.owner))) (not_auto x covers)
-    ∙ ap (λ names. path names) (local_path T qualified x.name x.owner (owner_covered x covers))
+    ap (λ o. made_if T.declarations o (path (variable_path T qualified v.0)))
+    (ap auto_class is ∙ ap (λ b. cond b (class_in x.ty) None) (not_auto x covers))
 
--- a name that stands for a variable of the frame is read
-pub path_read : (S : net_names.Scope) (oracle : Jobs) (name : List ℕ) (b : net.Address) (w : net.Memory) → var_in S.vars name ≡ Some b
-    → target.value_of S oracle (path (name ∷ [])) w ≡ target.read b w
-path_read S oracle name b w h = ap (λ o. target.value_from S oracle (target.started S oracle (net_names.frame_start S name [] o) w)) h
-
--- and leads to it
-pub path_address : (S : net_names.Scope) (oracle : Jobs) (name : List ℕ) (b : net.Address) (w : net.Memory) → var_in S.vars name ≡ Some b
-    → target.address_of S oracle (path (name ∷ [])) w ≡ gives [] b w
-path_address S oracle name b w h = ap (λ o. target.address_from S oracle (target.started S oracle (net_names.frame_start S name [] o) w)) h
+-- a path that leads to a variable is read
+pub path_read : (S : net_names.Scope) (oracle : Jobs) (names : List (List ℕ)) (b : net.Address) (w : net.Memory) → path_start S false names ≡ starts (at_place b) []
+    → target.value_of S oracle (path names) w ≡ target.read b w
+path_read S oracle names b w h = ap (λ x. target.value_from S oracle (target.started S oracle x w)) h
 
 -- ---- reading
 
@@ -209,32 +177,30 @@ module _ (U : Upgrade) (K : Pledge) (p : ℕ) (f : SourceFrame) (g : NetFrame) (
 module _ (U : Upgrade) (K : Pledge) (reads : VariablesAreReadBy U K) (p : ℕ) (f : SourceFrame) (g : NetFrame) (oracle : SourceCalls) (net_oracle : Jobs)
     (l : SourceLine) (k : NetLine) (c : Code) (T : Scope) (uses : Uses) where
   pub variable_agrees : (ty : Ty) (v : VarId) (qualified : Bool) (w : World) → T.declarations ≡ U.program.declarations → AreReadable U uses
-      → HaveImages U K w f g uses → uses v ≡ true → covers_type ty ≡ true → MemoryMatch U w
+      → HaveImages U K w f (scope_of U.written c g k) T uses → uses v ≡ true → covers_type ty ≡ true → MemoryMatch U w
       → Agrees U K w (ScalarMatch U ty)
       (source.value_of (context_of U oracle p f l) (typed ty (variable v qualified)) w.src)
       (target.value_of (scope_of U.written c g k) net_oracle (exp_of T (typed ty (variable v qualified))) w.net)
   variable_agrees ty v qualified w same readable have used covers start =
       let r : IsReadable U v.0 = readable v used in
-      subst (λ o. From U K p f g oracle net_oracle l k c T ty v qualified w o (auto_class (slice_get U.program.declarations.vars v.0)))
-      (sym (address_is U.program.declarations f v.0 r.variable r.is_variable r.covers))
-      (subst (λ m. From U K p f g oracle net_oracle l k c T ty v qualified w (lookup (nat_eq v.0) f.vars) m)
+      subst (λ m. From U K p f g oracle net_oracle l k c T ty v qualified w (variable_address U.program.declarations f v.0) m)
       (sym (auto_none U.program.declarations.vars v.0 r.variable r.is_variable r.covers))
-      (by_address (lookup (nat_eq v.0) f.vars) refl r))
+      (by_address (variable_address U.program.declarations f v.0) refl r)
     where
-      written : (r : IsReadable U v.0) (b : net.Address) → var_in g.vars r.variable.name ≡ Some b
+      written : (r : IsReadable U v.0) (b : net.Address)
+          → path_start (scope_of U.written c g k) false (variable_path T qualified v.0) ≡ starts (at_place b) []
           → Whole U K p f g oracle net_oracle l k c T ty v qualified w ≡ target.read b w.net
       written r b is =
           ap (λ e. target.value_of (scope_of U.written c g k) net_oracle e w.net)
           (variable_exp T ty v qualified r.variable (ap (λ D. slice_get D.vars v.0) same ∙ r.is_variable) r.covers)
-          ∙ path_read (scope_of U.written c g k) net_oracle r.variable.name b w.net is
+          ∙ path_read (scope_of U.written c g k) net_oracle (variable_path T qualified v.0) b w.net is
 
-      by_address : (o : Option Address) → lookup (nat_eq v.0) f.vars ≡ o → IsReadable U v.0 → From U K p f g oracle net_oracle l k c T ty v qualified w o None
+      by_address : (o : Option Address) → variable_address U.program.declarations f v.0 ≡ o → IsReadable U v.0
+          → From U K p f g oracle net_oracle l k c T ty v qualified w o None
       by_address None is r = agrees_outside U K w (ScalarMatch U ty) (Whole U K p f g oracle net_oracle l k c T ty v qualified w)
       by_address (Some a) is r =
-          let x : HasImage U K w g v.0 a = have v a used is in
-          let name : var_in g.vars r.variable.name ≡ Some x.address =
-          subst (λ n. var_in g.vars n ≡ Some x.address) (ap (λ o. variable_name_of o) r.is_variable) x.found in
+          let x : HasImage U K w (scope_of U.written c g k) T v.0 a = have v a used is in
           subst (λ z. Agrees U K w (ScalarMatch U ty) (after [] (then (after [] (store.read a w.src)) (Checked (context_of U oracle p f l) ty))) z)
-          (sym (written r x.address name))
+          (sym (written r x.address (x.found qualified)))
           (left_alone U K w (ScalarMatch U ty) (then (after [] (store.read a w.src)) (Checked (context_of U oracle p f l) ty)) (target.read x.address w.net)
           (address_agrees U K reads (context_of U oracle p f l) ty a x.shape x.position x.address w x.stands covers start x.same))

@@ -1,29 +1,29 @@
--- What an expression needs of the frames in which it stands: its variables are found on both sides, and are images of each other.
-use Rattle.std.specs.Prelude.{◌≡◌, ℕ, true, nat_eq, Some}
-use Rattle.std.specs.Map.{lookup}
+-- What an expression needs of where it stands: its variables are found on both sides, and are images of each other.
+use Rattle.std.specs.Prelude.{◌≡◌, ℕ, Bool, true, false, Some, []}
 use Rattle.vb_tree.specs.declared.declared.VarId.{VarId}
 use Rattle.run_base.specs.Positions.{Position}
+use Rattle.written_trees.specs.Names.{Scope, variable_path}
+use Rattle.vb6_run.specs.Runnables.{variable_address}
 use Rattle.vb6_run.specs.Shapes.{Shape}
 use Rattle.vb6_run.specs.Store.{Address, root, SourceFrame}
-use Rattle.net_run.specs.Lines.{NetFrame}
-use Rattle.net_run.specs.Names.{var_in}
+use Rattle.net_run.specs.Names as net_names
+use Rattle.net_run.specs.Names.{path_start, starts, at_place}
 use Rattle.net_run.specs.Store as net
 use Rattle.run_matches.specs.Addresses.{Same}
 use Rattle.run_matches.specs.Covered.{Uses}
-use Rattle.run_matches.specs.Frames.{name_of, is_own_of}
 use Rattle.run_matches.specs.Maps.{World}
 use Rattle.run_matches.specs.Pledges.{Pledge}
 use Rattle.run_matches.specs.Upgrades.{Upgrade}
-use Rattle.run_statements.specs.Frames.{IsReadable}
 
--- a variable of the source has one in the target's frame
-pub record HasImage (U : Upgrade) (K : Pledge) (w : World) (g : NetFrame) (v : ℕ) (a : Address) : Type 0 where
+-- what is written for a variable of the source leads to one of the target
+pub record HasImage (U : Upgrade) (K : Pledge) (w : World) (S : net_names.Scope) (T : Scope) (v : ℕ) (a : Address) : Type 0 where
   pub address : net.Address
-  pub found : var_in g.vars (name_of U v) ≡ Some address
+  pub found : (qualified : Bool) → path_start S false (variable_path T qualified v) ≡ starts (at_place address) []
   pub same : Same U K w a address
   pub shape : Shape
   pub position : Position
   pub stands : a ≡ root shape position
 
-abbrev pub HaveImages : Upgrade → Pledge → World → SourceFrame → NetFrame → Uses → Type 0
-HaveImages U K w f g uses = (v : VarId) (a : Address) → uses v ≡ true → lookup (nat_eq v.0) f.vars ≡ Some a → HasImage U K w g v.0 a
+abbrev pub HaveImages : Upgrade → Pledge → World → SourceFrame → net_names.Scope → Scope → Uses → Type 0
+HaveImages U K w f S T uses =
+    (v : VarId) (a : Address) → uses v ≡ true → variable_address U.program.declarations f v.0 ≡ Some a → HasImage U K w S T v.0 a

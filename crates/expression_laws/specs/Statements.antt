@@ -24,7 +24,9 @@ use Rattle.run_matches.specs.Maps.{World}
 use Rattle.run_matches.specs.Match.{MemoryMatch}
 use Rattle.run_matches.specs.Pledges.{Pledge}
 use Rattle.run_matches.specs.Upgrades.{Upgrade}
-use Rattle.run_statements.specs.Frames.{ScalarMatch, PlainMatch, IsOpen, context_of, AreOwn, AreReadable}
+use Rattle.run_statements.specs.Frames.{ScalarMatch, PlainMatch, IsOpen, context_of, ArePlaced, AreReadable, AllCalled, CanCall}
+use Rattle.run_matches.specs.Runs.{CallsAgree}
+use Rattle.run_statements.specs.Written.{Passes}
 use Rattle.run_matches.specs.Formed.{is_formed}
 
 -- ---- under one pledge
@@ -40,7 +42,8 @@ abbrev pub FormedExpressionsAgreeBy : Upgrade → Pledge → Type 0
 FormedExpressionsAgreeBy U K =
     (w : World) (p : ℕ) (f : SourceFrame) (g : NetFrame) (oracle : SourceCalls) (net_oracle : Jobs) (l : SourceLine) (k : NetLine) (c : Code)
     (T : Scope) (uses : Uses) (e : Expr) → MemoryMatch U w → FrameMatch U K w p f g → T.declarations ≡ U.program.declarations
-    → IsOpen (scope_of U.written c g k) → AreReadable U uses → AreOwn U p uses → covers_expr uses e ≡ true → is_formed e ≡ true
+    → IsOpen (scope_of U.written c g k) → AreReadable U uses → ArePlaced U p (scope_of U.written c g k) T uses → CallsAgree U (Passes U) oracle net_oracle
+    → AllCalled (CanCall U K (scope_of U.written c g k) T) e → covers_expr uses e ≡ true → is_formed e ≡ true
     → Agrees U K w (ScalarMatch U (type_at e))
     (source.value_of (context_of U oracle p f l) e w.src)
     (target.value_of (scope_of U.written c g k) net_oracle (exp_of T e) w.net)
@@ -50,7 +53,8 @@ abbrev pub FormedScalarsAgreeBy : Upgrade → Pledge → Type 0
 FormedScalarsAgreeBy U K =
     (w : World) (p : ℕ) (f : SourceFrame) (g : NetFrame) (oracle : SourceCalls) (net_oracle : Jobs) (l : SourceLine) (k : NetLine) (c : Code)
     (T : Scope) (uses : Uses) (e : Expr) → MemoryMatch U w → FrameMatch U K w p f g → T.declarations ≡ U.program.declarations
-    → IsOpen (scope_of U.written c g k) → AreReadable U uses → AreOwn U p uses → covers_expr uses e ≡ true → is_formed e ≡ true
+    → IsOpen (scope_of U.written c g k) → AreReadable U uses → ArePlaced U p (scope_of U.written c g k) T uses → CallsAgree U (Passes U) oracle net_oracle
+    → AllCalled (CanCall U K (scope_of U.written c g k) T) e → covers_expr uses e ≡ true → is_formed e ≡ true
     → Agrees U K w (PlainMatch U (type_at e))
     (source.scalar_value (context_of U oracle p f l) e w.src)
     (target.value_of (scope_of U.written c g k) net_oracle (exp_of T e) w.net)

@@ -1,5 +1,5 @@
 -- Addresses that are bound to each other stay so at a later world.
-use Rattle.std.proofs.Common.{◌≡◌, ◌∙◌, sym, ap, subst, ℕ, Bool, true, false, Option, Some, None, true≢false}
+use Rattle.std.proofs.Common.{◌≡◌, sym, ap, subst, Bool, true, false, Option, Some, None, true≢false}
 use Rattle.run_base.specs.Frames.{Kept}
 use Rattle.run_base.specs.Positions.{Position}
 use Rattle.vb6_run.specs.Store.{Address}
@@ -7,11 +7,11 @@ use Rattle.vb6_run.specs.Values.{Value}
 use Rattle.net_run.specs.Store as net
 use Rattle.net_run.specs.Values as net_value
 use Rattle.run_matches.specs.Upgrades.{Upgrade}
-use Rattle.run_matches.specs.Maps.{World, Below, IsMade, Extends, is_auto_variable, mark}
+use Rattle.run_matches.specs.Maps.{World, IsMade, Extends, is_auto_variable, mark}
 use Rattle.run_matches.specs.Match.{MemoryMatch}
 use Rattle.run_matches.specs.Pledges.{Pledge, Later}
 use Rattle.run_matches.specs.Addresses.{Same, same_root, same_item, Bound, images, mirrored, position_of, IsPlain, KeptMatch, both_nothing, both_limits, both_choices, both_objects, both_arrays, both_addresses}
-use Rattle.agreeing_laws.proofs.Made.{made_more, same_variable}
+use Rattle.agreeing_laws.proofs.Made.{same_variable}
 use Rattle.agreeing_laws.proofs.Lasting.{later_now, later_then}
 use Rattle.agreeing_laws.proofs.Moves.{address_later, matched_whole}
 use Rattle.agreeing_laws.proofs.Scalars.{scalar_later}

@@ -1,19 +1,25 @@
 -- Frames that match go on to match at a later world, and at another line.
-use Rattle.std.proofs.Common.{◌≡◌, ◌∙◌, refl, sym, ap, ℕ, ◌<◌, Bool, not, Option, Some, None, option_map}
+use Rattle.std.proofs.Common.{◌≡◌, ◌∙◌, refl, sym, ap, subst, ℕ, suc, ◌<◌, Bool, true, false, cond, not, nat_eq, eqb-true, Option, Some, None, option_map, List}
 use Rattle.bound_facts.specs.Facts.{is_quiet}
-use Rattle.run_base.specs.Frames.{Handler, Frame}
+use Rattle.vb_tree.specs.Tree.{Form}
+use Rattle.bound_tree.specs.Tree.{Expr, Line}
+use Rattle.run_base.specs.Frames.{Handler, Frame, Kept, keeps_address, keeping}
 use Rattle.run_base.specs.Machines.{nth_line}
-use Rattle.run_base.specs.Positions.{Root, whole}
+use Rattle.run_base.specs.Positions.{Root, whole, updated_at}
 use Rattle.vb6_run.specs.Shapes.{variable_shape}
 use Rattle.vb6_run.specs.Store.{Address, SourceFrame}
+use Rattle.vb6_run.specs.Values.{Value}
 use Rattle.net_run.specs.Lines.{NetFrame}
 use Rattle.net_run.specs.Members.{Code}
 use Rattle.net_run.specs.Store as net
+use Rattle.net_run.specs.Values as net_value
 use Rattle.run_matches.specs.Upgrades.{Upgrade, code_of}
 use Rattle.run_matches.specs.Maps.{World, Below, Extends, mark}
 use Rattle.run_matches.specs.Match.{MemoryMatch}
 use Rattle.run_matches.specs.Pledges.{Pledge, Later}
-use Rattle.run_matches.specs.Frames.{SameVariable, SameStatic, HasNames, HasPlace, FrameMatch, is_exact_head, lines_of}
+use Rattle.run_matches.specs.Addresses.{KeptMatch}
+use Rattle.run_matches.specs.Covered.{covers_line}
+use Rattle.run_matches.specs.Frames.{SameVariable, SameStatic, HasNames, HasPlace, KeptBy, FrameMatch, OwnsAll, is_exact_head, lines_of}
 use Rattle.agreeing_laws.proofs.Made.{more, below_then, same_at}
 use Rattle.agreeing_laws.proofs.Moves.{all_matched_later, all_ranked_later, matched_whole, locks_later}
 use Rattle.line_laws.proofs.Bounds.{bound_made, bound_later, kept_later, plain_later}
@@ -74,6 +80,8 @@ module _ (U : Upgrade) (K : Pledge) where
     own = λ v a e o. place_later U w0 w1 v a l.extends l.grows (F.own v a e o);
     own_heads = F.own_heads;
     kept = λ i. kept_later U K w0 w1 h l (is_exact_head U (nth_line (lines_of U p) i)) (f.kept i) (g.kept i) (F.kept i);
+    covered_heads = F.covered_heads;
+    has_locals = F.has_locals;
     locks = locks_later U K w0 w1 f.env l F.locks;
     low = below_then K.base (mark w0.src) (mark w1.src) F.low l.grows;
   }
@@ -105,6 +113,74 @@ frame_placed U K w p f g n m h i t u r s a b c d F = record {
   own = F.own;
   own_heads = F.own_heads;
   kept = F.kept;
+  covered_heads = F.covered_heads;
+  has_locals = F.has_locals;
   locks = F.locks;
   low = F.low;
 }
+
+-- ---- with what the head at its line keeps
+
+abbrev pub KeptHere : Upgrade → (procedure : ℕ) → SourceFrame → Kept Value Address → Kept net_value.Value net.Address → Type 0
+KeptHere U p f x y = (l : Line) → nth_line (lines_of U p) f.line ≡ Some l → KeptBy f.vars l.source.form l.bindings.exprs x y
+
+abbrev pub IsNoAddress : Kept Value Address → Type 0
+IsNoAddress x = (a : Address) → x ≡ keeps_address a → ⊥
+
+module _ (U : Upgrade) (K : Pledge) (w : World) (p : ℕ) (f : SourceFrame) (g : NetFrame) (x : Kept Value Address) (y : Kept net_value.Value net.Address)
+    (matched : (exact : Bool) → KeptMatch U K w exact x y) (no_address : IsNoAddress x) (is_here : KeptHere U p f x y) (F : FrameMatch U K w p f g) where
+  names_kept : (o : Option Code) (m : ℕ) → HasNames o g → HasNames o (keeping y m g)
+  names_kept None m h = h
+  names_kept (Some c) m h = h
+
+  kept_by : (b exact : Bool) (k : Kept Value Address) (j : Kept net_value.Value net.Address) → KeptMatch U K w exact k j
+      → KeptMatch U K w exact (cond b x k) (cond b y j)
+  kept_by true exact k j h = matched exact
+  kept_by false exact k j h = h
+
+  own_by : (b : Bool) (k : Kept Value Address) (a : Address) → cond b x k ≡ keeps_address a → k ≡ keeps_address a
+  own_by true k a e = absurd (no_address a e)
+  own_by false k a e = e
+
+  here_by : (b : Bool) (h : ℕ) → nat_eq f.line h ≡ b → (l : Line) → nth_line (lines_of U p) h ≡ Some l → covers_line U.program p l ≡ true
+      → KeptBy f.vars l.source.form l.bindings.exprs (cond b x (f.kept h)) (cond b y (g.kept h))
+  here_by true h e l is covers = is_here l (ap (nth_line (lines_of U p)) (eqb-true f.line h e) ∙ is)
+  here_by false h e l is covers = F.covered_heads h l is covers
+
+  pub frame_keeping : (n m : ℕ) → m ≡ n → FrameMatch U K w p (keeping x n f) (keeping y m g)
+  frame_keeping n m e = record {
+    line = e;
+    handler = F.handler;
+    active = F.active;
+    resume = F.resume;
+    me = F.me;
+    me_made = F.me_made;
+    names = names_kept (code_of U p) m F.names;
+    vars = λ v a e s. let z = F.vars v a e s in record { address = z.address; found = z.found; bound = z.bound; plain = z.plain };
+    statics = λ v r e s.
+        let z = F.statics v r e s in
+        record { written = z.written; found = z.found; same = z.same; is_matched = z.is_matched; ranked = z.ranked };
+    own = F.own;
+    own_heads = λ h l a is own k. F.own_heads h l a is own (own_by (nat_eq f.line (suc h)) (f.kept (suc h)) a k);
+    kept = λ h.
+        subst (λ z. KeptMatch U K w (is_exact_head U (nth_line (lines_of U p) h)) (updated_at f.kept f.line x h) (updated_at g.kept z y h)) (sym F.line)
+        (kept_by (nat_eq f.line h) (is_exact_head U (nth_line (lines_of U p) h)) (f.kept h) (g.kept h) (F.kept h));
+    covered_heads = λ h l is covers.
+        subst (λ z. KeptBy f.vars l.source.form l.bindings.exprs (updated_at f.kept f.line x h) (updated_at g.kept z y h)) (sym F.line)
+        (here_by (nat_eq f.line h) h refl l is covers);
+    has_locals = F.has_locals;
+    locks = F.locks;
+    low = F.low;
+  }
+
+  pub heads_keeping : (n : ℕ) → OwnsAll U K p f → OwnsAll U K p (keeping x n f)
+  heads_keeping n owns = record {
+    variables = owns.variables;
+    heads = λ h l a is own k. owns.heads h l a is own (own_by (nat_eq f.line (suc h)) (f.kept (suc h)) a k);
+  }
+
+-- a line of a form may keep something, and go on so
+abbrev pub Keeps : Upgrade → Pledge → (procedure : ℕ) → SourceFrame → NetFrame → (World → SourceFrame → NetFrame → Type 0) → World → Form → List Expr → Type 0
+Keeps U K p f g R w form es =
+    (x : Kept Value Address) (y : Kept net_value.Value net.Address) → IsNoAddress x → KeptBy f.vars form es x y → (n m : ℕ) → m ≡ n
+    → (w1 : World) → Later U K w w1 → ((exact : Bool) → KeptMatch U K w1 exact x y) → R w1 (keeping x n f) (keeping y m g)

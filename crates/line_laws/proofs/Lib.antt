@@ -1,7 +1,16 @@
+pub mod Called
 pub mod Bounds
 pub mod FrameLater
 pub mod Owning
 pub mod Uses
+pub mod Shared
 pub mod Stores
 pub mod Prints
+pub mod Conditions
+pub mod Jumps
+pub mod Choices
+pub mod Counts
+pub mod Counting
+pub mod Rounds
+pub mod Boxes
 pub mod Lines

@@ -1,60 +1,81 @@
 -- Covered lines do the same as what is written for them.
-use Rattle.std.proofs.Common.{◌≡◌, ◌∙◌, refl, sym, ap, subst, ℕ, true, ◌&&◌, Option, List, [], ◌∷◌, true≢false}
-use Rattle.std.specs.List.{list_all}
+use Rattle.std.proofs.Common.{◌≡◌, ◌∙◌, refl, sym, ap, subst, ℕ, Bool, true, ◌&&◌, Option, Some, List, [], ◌∷◌, true≢false, false, not}
+use Rattle.std.specs.List.{list_all, Contains}
+use Rattle.std.proofs.lemmas.List.Elements.{Contains-push}
 use Rattle.vb_tree.specs.BoundTree.{Ty}
+use Rattle.vb_tree.specs.declared.declared.ProcId.{ProcId}
 use Rattle.vb_tree.specs.declared.declared.VarId.{VarId}
+use Rattle.vb_tree.specs.declared.form_parts.Label6.{Label6}
 use Rattle.vb_tree.specs.Tree.{Form}
 use Rattle.vb_tree.specs.Tree as source_form
 use Rattle.bound_tree.specs.Labels.{Label, labels}
-use Rattle.bound_tree.specs.Tree.{Expr, typed, Term, variable}
+use Rattle.bound_tree.specs.Tree.{Expr, Line, typed, Term, variable, library, call, no_object, of_object, Passed}
 use Rattle.bound_facts.proofs.Chains.{both_true}
+use Rattle.bound_facts.specs.Effects.{is_outside}
+use Rattle.bound_facts.specs.Node.{root}
+use Rattle.bound_facts.specs.Parts.{stores}
 use Rattle.net_tree.specs.Tree as net
-use Rattle.run_base.specs.Frames.{to_line, at_handler}
-use Rattle.run_base.specs.Machines.{go, handled}
+use Rattle.run_base.specs.Frames.{Kept, to_line, at_handler, keeping}
+use Rattle.run_base.specs.Machines.{go, handled, nth_line}
 use Rattle.run_base.specs.Outcomes.{Outcome, gives, then}
 use Rattle.written_trees.specs.Bodies.{inside_procedure}
 use Rattle.written_trees.specs.Conversions.{one, support_call}
-use Rattle.written_trees.specs.Exprs.{exp_of}
-use Rattle.written_trees.specs.Lines.{assign_line, items_exp, print_name, line_of}
-use Rattle.written_trees.specs.Names.{Scope}
+use Rattle.written_trees.specs.Exprs.{exp_of, has_none, passed_of, reads_itself}
+use Rattle.written_trees.specs.Lines.{assign_line, first_exp, items_exp, jump, print_name, line_of, call_line, as_call}
+use Rattle.written_trees.specs.Names.{Scope, variable_path, procedure_path}
+use Rattle.written_trees.specs.Arguments.{is_property}
+use Rattle.written_trees.specs.Exprs as written
 use Rattle.vb6_run.specs.Expressions as source
-use Rattle.vb6_run.specs.Forms as source_lines
+use Rattle.vb6_run.specs.Forms as source_forms
 use Rattle.vb6_run.specs.Forms.{SourceLine}
-use Rattle.vb6_run.specs.Lines.{goes_on, let_to, items_text, print}
+use Rattle.vb6_run.specs.Lines.{goes_if, goes_on, let_to, line_of_label, items_text, print, when_done, with_one}
+use Rattle.vb6_run.specs.Lines as source_lines
 use Rattle.vb6_run.specs.Programs as source_program
-use Rattle.vb6_run.specs.Store.{Memory, SourceCalls, SourceFrame}
+use Rattle.vb6_run.specs.Store.{Address, Memory, SourceCalls, SourceFrame}
+use Rattle.vb6_run.specs.Values.{Value}
+use Rattle.net_run.specs.Blocks.{condition}
 use Rattle.net_run.specs.Expressions as target
 use Rattle.net_run.specs.Lines as target_lines
-use Rattle.net_run.specs.Lines.{NetFrame, NetLine, NetMachine, scope_of, assignment}
+use Rattle.net_run.specs.Lines.{NetFrame, NetLine, NetMachine, scope_of, assignment, at_some, back_if, back_unless, if_fails, if_holds}
 use Rattle.net_run.specs.Making.{Jobs}
 use Rattle.net_run.specs.Members.{Code}
 use Rattle.net_run.specs.Names as net_names
 use Rattle.net_run.specs.Program as target_program
 use Rattle.net_run.specs.Store as net_store
+use Rattle.net_run.specs.Values as net_value
 use Rattle.run_matches.specs.Upgrades.{Upgrade, runnable_of}
 use Rattle.run_matches.specs.Maps.{World}
 use Rattle.run_matches.specs.Match.{MemoryMatch}
 use Rattle.run_matches.specs.Pledges.{Pledge, Later}
+use Rattle.run_matches.specs.Addresses.{KeptMatch}
 use Rattle.run_matches.specs.Agreeing.{Agrees}
 use Rattle.run_matches.specs.Formed.{is_formed}
-use Rattle.run_matches.specs.Covered.{Uses, is_variable_in, covers_type, covers_use, covers_expr, covers_store, covers_form}
-use Rattle.run_matches.specs.Frames.{FrameMatch, NextMatch, OwnsAll, is_own_of, frame_pledge}
-use Rattle.run_matches.specs.Runs.{line_result}
+use Rattle.run_matches.specs.Covered.{Uses, is_variable_in, covers_type, covers_use, covers_expr, covers_condition, covers_store, covers_form, covers_part, head_line, jump_of, covers_call, covers_called}
+use Rattle.run_matches.specs.Frames.{FrameMatch, KeptBy, NextMatch, OwnsAll, is_own_of, frame_pledge, lines_of}
+use Rattle.run_matches.specs.Runs.{line_result, CallsAgree}
 use Rattle.run_matches.specs.Sites.{site_lines}
-use Rattle.run_statements.specs.Frames.{ExpressionsAgree, ScalarsAreWritten, IsOpen, IsReadable, AnyUnits, context_of}
+use Rattle.run_statements.specs.Frames.{ExpressionsAgree, ScalarsAreRead, ScalarsAreWritten, IsOpen, IsReadable, AnyUnits, context_of, ArePlaced, AllCalled, AnyParts, CallsAreMade, CanCall}
 use Rattle.run_statements.specs.Kept.{LinesAgree}
-use Rattle.run_statements.specs.Written.{site_scope}
+use Rattle.run_statements.specs.Written.{Passes, site_scope}
 use Rattle.agreeing_laws.specs.Beside.{with_steps}
 use Rattle.agreeing_laws.proofs.Agreeing.{agrees_gives, agrees_weaker, then_agrees}
 use Rattle.agreeing_laws.proofs.Lasting.{later_now, later_then}
 use Rattle.agreeing_laws.proofs.Machines.{stepped_agrees, handled_agrees}
 use Rattle.row_laws.proofs.Composing.{then_gives}
 use Rattle.line_laws.specs.Lasting.{SteadyFrame, SteadyNext, SteadyLinesAgree}
-use Rattle.line_laws.proofs.FrameLater.{frame_later, frame_placed}
+use Rattle.line_laws.proofs.Bounds.{kept_later, some_is}
+use Rattle.line_laws.proofs.Choices.{case_agrees, select_agrees}
+use Rattle.line_laws.proofs.Conditions.{BothLead, condition_agrees}
+use Rattle.line_laws.proofs.Counting.{for_agrees}
+use Rattle.line_laws.proofs.FrameLater.{frame_keeping, frame_later, frame_placed, heads_keeping, IsNoAddress, KeptHere, Keeps}
+use Rattle.line_laws.proofs.Jumps.{exit_agrees, leads}
+use Rattle.line_laws.proofs.Boxes.{AnyShown, AgreesAsCall, box_agrees}
+use Rattle.line_laws.proofs.Called.{AllIn, line_called}
 use Rattle.line_laws.proofs.Owning.{owns_now}
 use Rattle.line_laws.proofs.Prints.{AnyAddress, print_agrees}
+use Rattle.line_laws.proofs.Rounds.{next_agrees}
 use Rattle.line_laws.proofs.Stores.{assignment_agrees, line_is}
-use Rattle.line_laws.proofs.Uses.{all_good, good, is_good, own_use}
+use Rattle.line_laws.proofs.Uses.{all_good, good, is_good}
 
 -- ---- frames behind a line
 
@@ -79,6 +100,19 @@ module _ (U : Upgrade) (K : Pledge) (p : ℕ) (f : SourceFrame) (g : NetFrame) (
       owns = record { variables = owns.variables; heads = owns.heads };
     }
 
+    -- and with what the line keeps
+    pub keeping_at : (x : Kept Value Address) (y : Kept net_value.Value net_store.Address) → IsNoAddress x → KeptHere U p f x y
+        → ((exact : Bool) → KeptMatch U K w1 exact x y) → (n m : ℕ) → m ≡ n → SteadyNext U K p f.me w1 (keeping x n f) (keeping y m g)
+    keeping_at x y no_address here kept n m e = record {
+      same_object = refl;
+      frames = record {
+        match = λ w2 later.
+            frame_keeping U K w2 p f g x y (λ exact. kept_later U K w1 w2 l.match later exact x y (kept exact)) no_address here (at w2 later) n m e;
+        shapes = F.shapes;
+      };
+      owns = heads_keeping U K w1 p f g x y kept no_address here (at w1 (later_now U K w1 l.match)) n owns;
+    }
+
     -- at a handler of an error
     pub handler_at : (n : ℕ) → SteadyNext U K p f.me w1 (at_handler n f) (at_handler n g)
     handler_at n = record {
@@ -92,63 +126,149 @@ module _ (U : Upgrade) (K : Pledge) (p : ℕ) (f : SourceFrame) (g : NetFrame) (
 
 -- ---- forms
 
-module _ (U : Upgrade) (expressions : ExpressionsAgree U) (scalars : ScalarsAreWritten U) (K : Pledge) (p q : ℕ) (f : SourceFrame) (g : NetFrame) (l : SourceLine) (k : NetLine) (c : Code) (T : Scope)
+abbrev AnyDone : World → source.Parts → Unit {0} → Type 0
+AnyDone w x u = Unit {0}
+
+-- a call of a procedure that is no part of a property is written as one
+call_is : (U : Upgrade) (T : Scope) → T.declarations ≡ U.program.declarations → (ty : Ty) (q : ProcId) (qualified : Bool) (args : Passed)
+    → is_property U.program.declarations q.0 ≡ false
+    → as_call (exp_of T (typed ty (call q qualified no_object args))) ≡ net.call (net.path (procedure_path T qualified q.0)) (passed_of T q.0 0 args)
+call_is U T declared ty q qualified args h =
+    ap (λ b. as_call (written.called (b && (has_none args && not (reads_itself T q.0 qualified no_object))) (net.path (procedure_path T qualified q.0)) (passed_of T q.0 0 args)))
+    (ap (λ D. is_property D q.0) declared ∙ h)
+
+not_outside : (b : Bool) → not b ≡ false → b ≡ true
+not_outside true e = refl
+not_outside false e = absurd (true≢false e)
+
+module _ (U : Upgrade) (expressions : ExpressionsAgree U) (calls : CallsAreMade U) (reads : ScalarsAreRead U) (scalars : ScalarsAreWritten U) (K : Pledge) (p q : ℕ) (f : SourceFrame) (g : NetFrame) (l : SourceLine) (k : NetLine) (c : Code) (T : Scope)
     (declared : T.declarations ≡ U.program.declarations) (oracle : SourceCalls) (machine : NetMachine) (net_oracle : Jobs)
     (is_open : IsOpen (scope_of U.written c g k)) (uses : Uses) (readable : (v : VarId) → uses v ≡ true → IsReadable U v.0)
-    (own : (v : VarId) → uses v ≡ true → is_own_of U p v.0 ≡ true) (R : World → SourceFrame → NetFrame → Type 0) (w : World) (h : MemoryMatch U w)
-    (F : SteadyFrame U K w p f g) (owns : OwnsAll U K p f)
-    (next : (w1 : World) → Later U K w w1 → R w1 (to_line l.aims.after f) (to_line k.aims.after g)) where
+    (placed : ArePlaced U p (scope_of U.written c g k) T uses) (agree : CallsAgree U (Passes U) oracle net_oracle)
+    (R : World → SourceFrame → NetFrame → Type 0) (w : World) (h : MemoryMatch U w)
+    (F : SteadyFrame U K w p f g) (owns : OwnsAll U K p f) (aims : k.aims ≡ l.aims)
+    (next : (n m : ℕ) → m ≡ n → (w1 : World) → Later U K w w1 → R w1 (to_line n f) (to_line m g)) where
   abbrev C : source.Context
   C = context_of U oracle p f l
 
   abbrev S : net_names.Scope
   S = scope_of U.written c g k
 
+  abbrev Can : Expr → Type 0
+  Can e = AllCalled (CanCall U K (scope_of U.written c g k) T) e
+
   -- what a written line does
   abbrev does : net.Line → Outcome net_store.Memory NetFrame
   does x = target_lines.form_does machine net_oracle q c S g k x w.net
 
+  after_same : k.aims.after ≡ l.aims.after
+  after_same = ap (λ a. a.after) aims
+
   -- both go on behind the line
+  behind : (w1 : World) → Later U K w w1 → Agrees U K w1 R (goes_on C w1.src) (gives [] (to_line k.aims.after g) w1.net)
+  behind w1 later = agrees_gives U K w1 R (to_line l.aims.after f) (to_line k.aims.after g) later.match (next l.aims.after k.aims.after after_same w1 later)
+
+  behind_now : Agrees U K w R (goes_on C w.src) (gives [] (to_line k.aims.after g) w.net)
+  behind_now = behind w (later_now U K w h)
+
+  -- or to a line, where there is one
+  lead : (n m : Option ℕ) → m ≡ n → (w1 : World) → Later U K w w1 → Agrees U K w1 R (goes_if C n w1.src) (at_some g m w1.net)
+  lead = leads U K R C g k aims w h next
+
+  otherwise : (w1 : World) → Later U K w w1 → Agrees U K w1 R (goes_if C l.aims.otherwise w1.src) (at_some g k.aims.otherwise w1.net)
+  otherwise = lead l.aims.otherwise k.aims.otherwise (ap (λ a. a.otherwise) aims)
+
+  back : (w1 : World) → Later U K w w1 → Agrees U K w1 R (goes_if C l.aims.back w1.src) (at_some g k.aims.back w1.net)
+  back = lead l.aims.back k.aims.back (ap (λ a. a.back) aims)
+
+  -- both go on when something is done
   goes : {A B : Type 0} (V : World → A → B → Type 0) (r : Outcome Memory A) (r' : Outcome net_store.Memory B) → Agrees U K w V r r'
       → Agrees U K w R (then r (λ x s. goes_on C s)) (then r' (λ x t. gives [] (to_line k.aims.after g) t))
   goes V r r' x =
-      then_agrees U K w V R r r' (λ x s. goes_on C s) (λ x t. gives [] (to_line k.aims.after g) t) h x
-      (λ a b w1 m later. agrees_gives U K w1 R (to_line l.aims.after f) (to_line k.aims.after g) later.match (next w1 later))
+      then_agrees U K w V R r r' (λ x s. goes_on C s) (λ x t. gives [] (to_line k.aims.after g) t) h x (λ a b w1 m later. behind w1 later)
 
-  stored : (ty : Ty) (t : Term) (e : Expr) → is_variable_in t ≡ true → covers_expr uses (typed ty t) ≡ true → is_good uses e ≡ true
+  -- a condition with the lines where it holds and where it doesn't
+  tested : (m n : Option ℕ) (go : Bool → net_store.Memory → Outcome net_store.Memory NetFrame) → ((w1 : World) → Later U K w w1 → BothLead U K R C m n go w1)
+      → (es : List Expr) → AllIn Can es → covers_condition uses es ≡ true → list_all is_formed es ≡ true
+      → Agrees U K w R (source_lines.condition C m n es w.src) (then (condition S net_oracle (first_exp T es) w.net) go)
+  tested m n go both [] can covers formed = absurd (true≢false (sym covers))
+  tested m n go both (e ∷ []) can covers formed =
+      condition_agrees U expressions K p f g l k c T declared oracle net_oracle is_open uses readable placed agree R w h (F.match w (later_now U K w h)) m n go both e can.0
+      (good uses e covers (both_true (is_formed e) true formed).0)
+  tested m n go both (e ∷ d ∷ es) can covers formed = absurd (true≢false (sym covers))
+
+  -- a steady procedure stores to its own variables alone
+  abbrev IsOwnTarget : Expr → Type 0
+  IsOwnTarget e = K.steady → is_outside U.program.declarations.vars p (root e) ≡ false
+
+  stored : (ty : Ty) (t : Term) (e : Expr) → Can e → is_variable_in t ≡ true → covers_expr uses (typed ty t) ≡ true → is_good uses e ≡ true → IsOwnTarget (typed ty t)
       → Agrees U K w R (then (then (source.value_of C e w.src) (let_to C (typed ty t))) (λ x s. goes_on C s)) (does (assign_line T (typed ty t ∷ e ∷ [])))
-  stored ty (variable v qualified) e is to_covers covers =
+  stored ty (variable v qualified) e can is to_covers covers own =
       let parts : (covers_type ty ≡ true) × (uses v ≡ true) = both_true (covers_type ty) (uses v) to_covers in
       subst (λ x. Agrees U K w R (then (then (source.value_of C e w.src) (let_to C (typed ty (variable v qualified)))) (λ x s. goes_on C s)) (does x))
       (sym (line_is U T declared ty v qualified (readable v parts.1) e parts.0))
       (goes AnyUnits (then (source.value_of C e w.src) (let_to C (typed ty (variable v qualified))))
-      (assignment S net_oracle (net.path ((readable v parts.1).variable.name ∷ [])) (exp_of T e) w.net)
-      (assignment_agrees U expressions scalars K p f g l k c T declared oracle net_oracle is_open uses readable own F.shapes w h
-      (F.match w (later_now U K w h)) owns ty v qualified parts.1 e covers))
-  stored ty _ e is to_covers covers = absurd (true≢false (sym is))
+      (assignment S net_oracle (net.path (variable_path T qualified v.0)) (exp_of T e) w.net)
+      (assignment_agrees U expressions scalars K p f g l k c T declared oracle net_oracle is_open uses readable placed agree F.shapes w h
+      (F.match w (later_now U K w h)) owns ty v qualified parts.1 (λ steady. not_outside (is_own_of U p v.0) (own steady)) e can covers))
+  stored ty _ e can is to_covers covers own = absurd (true≢false (sym is))
 
-  assigned : (target value : Expr) → covers_store uses (target ∷ value ∷ []) ≡ true → is_formed value ≡ true
+  assigned : (target value : Expr) → Can value → covers_store uses (target ∷ value ∷ []) ≡ true → is_formed value ≡ true → IsOwnTarget target
       → Agrees U K w R (then (then (source.value_of C value w.src) (let_to C target)) (λ x s. goes_on C s)) (does (assign_line T (target ∷ value ∷ [])))
-  assigned (typed ty t) e covers formed =
+  assigned (typed ty t) e can covers formed own =
       let first : (is_variable_in t ≡ true) × ((covers_expr uses (typed ty t) && covers_expr uses e) ≡ true) =
       both_true (is_variable_in t) (covers_expr uses (typed ty t) && covers_expr uses e) covers in
       let second : (covers_expr uses (typed ty t) ≡ true) × (covers_expr uses e ≡ true) = both_true (covers_expr uses (typed ty t)) (covers_expr uses e) first.1 in
-      stored ty t e first.0 second.0 (good uses e second.1 formed)
+      stored ty t e can first.0 second.0 (good uses e second.1 formed) own
 
-  pub form_agrees : (ls : List (Option Label)) (form : Form) (es : List Expr) → covers_form uses form es ≡ true → list_all is_formed es ≡ true
-      → Agrees U K w R (source_lines.form_does C form es w.src) (does (line_of T ls form es))
-  form_agrees ls (source_form.assign to value) [] covers formed = absurd (true≢false (sym covers))
-  form_agrees ls (source_form.assign to value) (x ∷ []) covers formed = absurd (true≢false (sym covers))
-  form_agrees ls (source_form.assign to value) (x ∷ y ∷ []) covers formed =
+  -- a call as a line
+  called_line : (e : Expr) → Can e → covers_called uses e ≡ true → is_formed e ≡ true
+      → Agrees U K w R (then (source.parts_of C e w.src) (λ x s. goes_on C s)) (does (as_call (exp_of T e)))
+  called_line (typed ty (call id qualified no_object args)) can covers formed =
+      let t = call id qualified no_object args in
+      let r = source.term_parts C ty t w.src in
+      let r' = target.address_of S net_oracle (net.call_of (net.path (procedure_path T qualified id.0)) (passed_of T id.0 0 args)) w.net in
+      let end = does (net.call (net.path (procedure_path T qualified id.0)) (passed_of T id.0 0 args)) in
+      subst (λ x. Agrees U K w R (then (source.parts_of C (typed ty t) w.src) (λ x s. goes_on C s)) (does x)) (sym (call_is U T declared ty id qualified args can.0.plain))
+      (subst (λ x. Agrees U K w R (then x (λ x s. goes_on C s)) end) (sym (then_gives r))
+      (goes AnyDone r (then r' (λ a t. gives [] tt t))
+      (subst (λ x. Agrees U K w AnyDone x (then r' (λ a t. gives [] tt t))) (then_gives r)
+      (then_agrees U K w AnyParts AnyDone r r' (λ x s. gives [] x s) (λ a t. gives [] tt t) h
+      (calls K w p f g oracle net_oracle l k c T uses ty id qualified args h (F.match w (later_now U K w h)) declared is_open readable placed agree can covers formed)
+      (λ x a w1 m later. agrees_gives U K w1 AnyDone x tt later.match tt)))))
+  called_line (typed ty (call id qualified (of_object d) args)) can covers formed = absurd (true≢false (sym covers))
+  called_line (typed ty (library function args)) can covers formed =
+      let x : AgreesAsCall U K w S net_oracle (source.parts_of C (typed ty (library function args)) w.src) (exp_of T (typed ty (library function args))) =
+      box_agrees U expressions K p f g l k c T declared oracle net_oracle is_open uses readable placed agree w h (F.match w (later_now U K w h)) ty
+      (library function args) can covers formed in
+      subst (λ z. Agrees U K w R (then (source.parts_of C (typed ty (library function args)) w.src) (λ x s. goes_on C s)) (does z)) (sym x.is)
+      (goes AnyShown (source.parts_of C (typed ty (library function args)) w.src)
+      (then (target.address_of S net_oracle (net.call_of x.callee x.args) w.net) (λ a t. gives [] tt t)) x.agrees)
+  called_line (typed ty _) can covers formed = absurd (true≢false (sym covers))
+
+  called : (es : List Expr) → AllIn Can es → covers_call uses es ≡ true → list_all is_formed es ≡ true
+      → Agrees U K w R (with_one es (λ e w. when_done C (source.parts_of C e w)) w.src) (does (call_line T es))
+  called [] can covers formed = absurd (true≢false (sym covers))
+  called (e ∷ []) can covers formed = called_line e can.0 covers (both_true (is_formed e) true formed).0
+  called (e ∷ d ∷ es) can covers formed = absurd (true≢false (sym covers))
+
+  pub form_agrees : (ls : List (Option Label)) (form : Form) (es : List Expr) → AllIn Can es → covers_form uses form es ≡ true → list_all is_formed es ≡ true
+      → ((a : Label6) → jump_of form ≡ Some a → target_lines.target_of c (jump ls a) ≡ line_of_label C a)
+      → ((e : Expr) → Contains (stores form es) e → IsOwnTarget e) → Keeps U K p f g R w form es
+      → covers_part U.program p form es (head_line (lines_of U p) l.aims.own) ≡ true
+      → Agrees U K w R (source_forms.form_does C form es w.src) (does (line_of T ls form es))
+  form_agrees ls (source_form.assign to value) [] can covers formed found mine keep stands = absurd (true≢false (sym covers))
+  form_agrees ls (source_form.assign to value) (x ∷ []) can covers formed found mine keep stands = absurd (true≢false (sym covers))
+  form_agrees ls (source_form.assign to value) (x ∷ y ∷ []) can covers formed found mine keep stands =
       let first : (is_formed x ≡ true) × (list_all is_formed (y ∷ []) ≡ true) = both_true (is_formed x) (list_all is_formed (y ∷ [])) formed in
-      assigned x y covers (both_true (is_formed y) true first.1).0
-  form_agrees ls (source_form.assign to value) (x ∷ y ∷ z ∷ es) covers formed = absurd (true≢false (sym covers))
-  form_agrees ls (source_form.debug_print items ended) es covers formed =
+      assigned x y can.1.0 covers (both_true (is_formed y) true first.1).0 (mine x (Contains-push [] x))
+  form_agrees ls (source_form.assign to value) (x ∷ y ∷ z ∷ es) can covers formed found mine keep stands = absurd (true≢false (sym covers))
+  form_agrees ls (source_form.debug_print items ended) es can covers formed found mine keep stands =
       goes AnyUnits (then (items_text C es w.src) (print ended))
       (then (target.address_of S net_oracle (support_call (print_name ended) (one (items_exp T es))) w.net) (λ a t. gives [] tt t))
       (put_agrees (then (items_text C es w.src) (print ended))
       (target.address_of S net_oracle (support_call (print_name ended) (one (items_exp T es))) w.net)
-      (print_agrees U expressions K p f g l k c T declared oracle net_oracle is_open uses readable own w h F.match ended es (all_good uses es covers formed)))
+      (print_agrees U expressions K p f g l k c T declared oracle net_oracle is_open uses readable placed agree w h F.match ended es can (all_good uses es covers formed)))
     where
       put_agrees : (r : Outcome Memory Unit) (r' : Outcome net_store.Memory net_store.Address) → Agrees U K w AnyAddress r r'
           → Agrees U K w AnyUnits r (then r' (λ a t. gives [] tt t))
@@ -156,13 +276,58 @@ module _ (U : Upgrade) (expressions : ExpressionsAgree U) (scalars : ScalarsAreW
           subst (λ z. Agrees U K w AnyUnits z (then r' (λ a t. gives [] tt t))) (then_gives r)
           (then_agrees U K w AnyAddress AnyUnits r r' (λ u s. gives [] u s) (λ a t. gives [] tt t) h x
           (λ u a w1 m later. agrees_gives U K w1 AnyUnits u tt later.match tt))
-  form_agrees ls _ es covers formed = absurd (true≢false (sym covers))
+  form_agrees ls (source_form.if_head e) es can covers formed found mine keep stands =
+      tested (Some l.aims.after) l.aims.otherwise (if_holds g k) (λ w1 x. (behind w1 x, otherwise w1 x)) es can covers formed
+  form_agrees ls (source_form.line_if e) es can covers formed found mine keep stands =
+      tested (Some l.aims.after) l.aims.otherwise (if_holds g k) (λ w1 x. (behind w1 x, otherwise w1 x)) es can covers formed
+  form_agrees ls (source_form.else_if e) es can covers formed found mine keep stands =
+      tested (Some l.aims.after) l.aims.otherwise (if_holds g k) (λ w1 x. (behind w1 x, otherwise w1 x)) es can covers formed
+  form_agrees ls source_form.else_line es can covers formed found mine keep stands = behind_now
+  form_agrees ls source_form.end_if es can covers formed found mine keep stands = behind_now
+  form_agrees ls (source_form.select e) [] can covers formed found mine keep stands = absurd (true≢false (sym covers))
+  form_agrees ls (source_form.select e) (x ∷ []) can covers formed found mine keep stands =
+      select_agrees U expressions K p f g l k c T declared oracle net_oracle is_open uses readable placed agree R w h (F.match w (later_now U K w h)) e x can.0
+      (good uses x covers (both_true (is_formed x) true formed).0) keep after_same
+  form_agrees ls (source_form.select e) (x ∷ y ∷ es) can covers formed found mine keep stands = absurd (true≢false (sym covers))
+  form_agrees ls (source_form.case_line items) es can covers formed found mine keep stands =
+      case_agrees U expressions K p f g l k c T declared oracle net_oracle is_open uses readable placed agree R w h F.match items es can covers formed aims
+      (λ w1 x. (behind w1 x, otherwise w1 x)) stands
+  form_agrees ls source_form.case_else es can covers formed found mine keep stands = behind_now
+  form_agrees ls source_form.end_select es can covers formed found mine keep stands = behind_now
+  form_agrees ls (source_form.for_head head first last pace) [] can covers formed found mine keep stands = absurd (true≢false (sym covers))
+  form_agrees ls (source_form.for_head head first last pace) (e ∷ []) can covers formed found mine keep stands = absurd (true≢false (sym covers))
+  form_agrees ls (source_form.for_head head first last pace) (e ∷ start ∷ []) can covers formed found mine keep stands = absurd (true≢false (sym covers))
+  form_agrees ls (source_form.for_head head first last pace) (e ∷ start ∷ limit ∷ steps) can covers formed found mine keep stands =
+      for_agrees U expressions scalars K p f g l k c T declared oracle net_oracle is_open uses readable placed agree R w h F.match owns aims head first last pace e start
+      limit steps can.1 covers formed keep stands
+  form_agrees ls (source_form.next name) es can covers formed found mine keep stands =
+      next_agrees U reads scalars K p f g l k oracle R w h F.match owns aims (λ w1 x. (back w1 x, behind w1 x)) name es stands
+  form_agrees ls source_form.do_head es can covers formed found mine keep stands = behind_now
+  form_agrees ls (source_form.do_while e) es can covers formed found mine keep stands =
+      tested (Some l.aims.after) l.aims.otherwise (if_holds g k) (λ w1 x. (behind w1 x, otherwise w1 x)) es can covers formed
+  form_agrees ls (source_form.do_until e) es can covers formed found mine keep stands =
+      tested l.aims.otherwise (Some l.aims.after) (if_fails g k) (λ w1 x. (otherwise w1 x, behind w1 x)) es can covers formed
+  form_agrees ls source_form.loop es can covers formed found mine keep stands = back w (later_now U K w h)
+  form_agrees ls (source_form.loop_while e) es can covers formed found mine keep stands =
+      tested l.aims.back (Some l.aims.after) (back_if g k) (λ w1 x. (back w1 x, behind w1 x)) es can covers formed
+  form_agrees ls (source_form.loop_until e) es can covers formed found mine keep stands =
+      tested (Some l.aims.after) l.aims.back (back_unless g k) (λ w1 x. (behind w1 x, back w1 x)) es can covers formed
+  form_agrees ls (source_form.while_head e) es can covers formed found mine keep stands =
+      tested (Some l.aims.after) l.aims.otherwise (if_holds g k) (λ w1 x. (behind w1 x, otherwise w1 x)) es can covers formed
+  form_agrees ls source_form.wend es can covers formed found mine keep stands = back w (later_now U K w h)
+  form_agrees ls (source_form.goto a) es can covers formed found mine keep stands =
+      lead (line_of_label C a) (target_lines.target_of c (jump ls a)) (found a refl) w (later_now U K w h)
+  form_agrees ls (source_form.label a) es can covers formed found mine keep stands = behind_now
+  form_agrees ls (source_form.exit kind) es can covers formed found mine keep stands = exit_agrees U K R C g k aims w h next kind
+  form_agrees ls (source_form.call callee) es can covers formed found mine keep stands = called es can covers formed
+  form_agrees ls (source_form.invoke callee args) es can covers formed found mine keep stands = called es can covers formed
+  form_agrees ls _ es can covers formed found mine keep stands = absurd (true≢false (sym covers))
 
 -- ---- lines
 
 -- A covered line does the same as what is written for it, in frames that go on to match.
-pub steady_lines_agree : (U : Upgrade) → ExpressionsAgree U → ScalarsAreWritten U → SteadyLinesAgree U
-steady_lines_agree U expressions scalars p s written number l c L code opens readable covers w f g turns at h F =
+pub steady_lines_agree : (U : Upgrade) → ExpressionsAgree U → CallsAreMade U → ScalarsAreRead U → ScalarsAreWritten U → SteadyLinesAgree U
+steady_lines_agree U expressions calls reads scalars p s written number turns l c L code opens readable placed own agree can covers stands w f g at h F =
     let K : Pledge = frame_pledge U p w f in
     let owns : OwnsAll U K p f = owns_now U p f K w w g (F.match w (later_now U K w h)) in
     let R : World → SourceFrame → NetFrame → Type 0 = SteadyNext U K p f.me in
@@ -181,9 +346,14 @@ steady_lines_agree U expressions scalars p s written number l c L code opens rea
     let w1 : World = with_steps w j in
     let F1 : SteadyFrame U K w1 p f g = steady_later U K p f g w h F w1 later in
     let now : FrameMatch U K w1 p f g = F.match w1 later in
-    let next : (w2 : World) → Later U K w1 w2 → R w2 (to_line l.aims.after f) (to_line L.line.aims.after g) =
-    λ w2 more. next_at U K p f g w1 later.match F1 owns w2 more l.aims.after L.line.aims.after after in
-    handled_agrees U (runnable_of U) U.written K w1 R f g l L.line (λ e. L.tests ∙ e) next
+    let next : (n m : ℕ) → m ≡ n → (w2 : World) → Later U K w1 w2 → R w2 (to_line n f) (to_line m g) =
+    λ n m e w2 more. next_at U K p f g w1 later.match F1 owns w2 more n m e in
+    let keep : Keeps U K p f g R w1 l.form.source.form l.form.bindings.exprs =
+    λ x y no_address by n m e w2 more kept.
+    keeping_at U K p f g w1 later.match F1 owns w2 more x y no_address
+    (λ m is. subst (λ (z : Line). KeptBy f.vars z.source.form z.bindings.exprs x y)
+    (some_is l.form m (sym stands.is_there ∙ ap (nth_line (lines_of U p)) (sym at) ∙ is)) by) kept n m e in
+    handled_agrees U (runnable_of U) U.written K w1 R f g l L.line (λ e. L.tests ∙ e) (next l.aims.after L.line.aims.after after)
     (λ n w2 more. handler_at U K p f g w1 later.match F1 owns w2 more n) now.active now.handler
     (source_program.line_does (runnable_of U) oracle p f l w1.src)
     (target_lines.line_does U.written (target_program.frames_of U.written) net_oracle written g L.line w1.net)
@@ -191,9 +361,12 @@ steady_lines_agree U expressions scalars p s written number l c L code opens rea
     (target_lines.line_in U.written (target_program.frames_of U.written) net_oracle written g L.line o w1.net)) (sym code)
     (subst (λ x. Agrees U K w1 R (source_program.line_does (runnable_of U) oracle p f l w1.src)
     (target_lines.form_does (target_program.frames_of U.written) net_oracle written c (scope_of U.written c g L.line) g L.line x w1.net)) (sym L.form)
-    (form_agrees U expressions scalars K p written f g l L.line c T refl oracle (target_program.frames_of U.written) net_oracle (opens g L.line now.names)
-    (covers_use U.program p l.form.bindings.mentions) readable (own_use U p l.form.bindings.mentions) R w1 later.match F1 owns next
-    (labels (site_lines s)) l.form.source.form l.form.bindings.exprs both.0 both.1))))
+    (form_agrees U expressions calls reads scalars K p written f g l L.line c T refl oracle (target_program.frames_of U.written) net_oracle (opens g L.line now.names)
+    (covers_use U.program p l.form.bindings.mentions) readable (placed g L.line now.names) agree R w1 later.match F1 owns L.aims next
+    (labels (site_lines s)) l.form.source.form l.form.bindings.exprs
+    (line_called (CanCall U K (scope_of U.written c g L.line) T) U.program.declarations p (covers_use U.program p l.form.bindings.mentions) l.form both.0
+    (λ i m. can i m w f g L.line now.names))
+    both.0 both.1 stands.label (λ e m steady. own steady e m) keep stands.in_block))))
 
 -- ---- all frames that match go on to match
 
@@ -204,12 +377,13 @@ steady_now U K w p f g h F = record {
   shapes = λ v a e o. let x = F.own v a e o in record { place = x.place; stands = x.stands };
 }
 
-pub lines_agree : (U : Upgrade) → ExpressionsAgree U → ScalarsAreWritten U → LinesAgree U
-lines_agree U expressions scalars p s written number l c L code opens readable covers w f g turns at h F =
+pub lines_agree : (U : Upgrade) → ExpressionsAgree U → CallsAreMade U → ScalarsAreRead U → ScalarsAreWritten U → LinesAgree U
+lines_agree U expressions calls reads scalars p s written number turns l c L code opens readable placed own agree can covers stands w f g at h F =
     let K : Pledge = frame_pledge U p w f in
     agrees_weaker U K w (SteadyNext U K p f.me) (NextMatch U K p f.me)
     (line_result (source_program.machine_of (runnable_of U)) turns p f l w.src)
     (line_result (target_program.machine_of U.written) turns written g L.line w.net)
     (λ w1 f1 g1 later x.
     record { same_object = x.same_object; frames = x.frames.match w1 (later_now U K w1 later.match); owns = x.owns })
-    (steady_lines_agree U expressions scalars p s written number l c L code opens readable covers w f g turns at h (steady_now U K w p f g h F))
+    (steady_lines_agree U expressions calls reads scalars p s written number turns l c L code opens readable placed own agree can covers stands w f g at h
+    (steady_now U K w p f g h F))

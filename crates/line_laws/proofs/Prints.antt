@@ -54,9 +54,12 @@ use Rattle.run_matches.specs.Pledges.{Pledge}
 use Rattle.run_matches.specs.Agreeing.{Agrees}
 use Rattle.run_matches.specs.Covered.{Uses, covers_expr}
 use Rattle.run_matches.specs.Frames.{FrameMatch, is_own_of}
-use Rattle.run_statements.specs.Frames.{ExpressionsAgree, IsOpen, IsReadable, ScalarMatch, context_of}
+use Rattle.run_statements.specs.Frames.{ExpressionsAgree, IsOpen, IsReadable, ScalarMatch, context_of, ArePlaced, AllCalled, CanCall}
+use Rattle.run_matches.specs.Runs.{CallsAgree}
+use Rattle.run_statements.specs.Written.{Passes}
 use Rattle.agreeing_laws.proofs.Agreeing.{agrees_gives, agrees_raises, agrees_outside, left_alone, then_agrees}
 use Rattle.agreeing_laws.proofs.Lasting.{later_now}
+use Rattle.line_laws.proofs.Called.{AllIn}
 use Rattle.line_laws.proofs.Uses.{good_parts, is_good}
 use Rattle.line_laws.specs.Lasting.{GoOnMatching}
 
@@ -133,17 +136,21 @@ no_more r = ap (λ k. then r k) (λ i s w. gives [] (append-nil s i) w) ∙ then
 
 module _ (U : Upgrade) (expressions : ExpressionsAgree U) (K : Pledge) (p : ℕ) (f : SourceFrame) (g : NetFrame) (l : SourceLine) (k : NetLine) (c : Code) (T : Scope) (declared : T.declarations ≡ U.program.declarations)
     (oracle : SourceCalls) (net_oracle : Jobs) (is_open : IsOpen (scope_of U.written c g k)) (uses : Uses)
-    (readable : (v : VarId) → uses v ≡ true → IsReadable U v.0) (own : (v : VarId) → uses v ≡ true → is_own_of U p v.0 ≡ true) where
+    (readable : (v : VarId) → uses v ≡ true → IsReadable U v.0) (placed : ArePlaced U p (scope_of U.written c g k) T uses)
+    (agree : CallsAgree U (Passes U) oracle net_oracle) where
   abbrev C : source.Context
   C = context_of U oracle p f l
 
   abbrev S : net_names.Scope
   S = scope_of U.written c g k
 
+  abbrev Can : Expr → Type 0
+  Can e = AllCalled (CanCall U K (scope_of U.written c g k) T) e
+
   -- the text of an item
-  item_agrees : (w : World) → MemoryMatch U w → FrameMatch U K w p f g → (e : Expr) → is_good uses e ≡ true
+  item_agrees : (w : World) → MemoryMatch U w → FrameMatch U K w p f g → (e : Expr) → Can e → is_good uses e ≡ true
       → Agrees U K w TextMatch (item_text C e w.src) (target.value_of S net_oracle (printed_item T e) w.net)
-  item_agrees w h F e covers =
+  item_agrees w h F e can covers =
       let row : RowOfOne S net_oracle Any (printed_item T e) (exp_of T e) (printed_row (type_at e)) =
       item_is_row (type_at e) S net_oracle is_open.support (exp_of T e) in
       let text : Value → Memory → Outcome Memory (List ℕ) = λ x s. then (scalar_of x s) (λ z s. answered (print_text z) s) in
@@ -152,7 +159,7 @@ module _ (U : Upgrade) (expressions : ExpressionsAgree U) (K : Pledge) (p : ℕ)
       ∙ then_assoc (source.value_of C e w.src) scalar_of (λ z s. answered (print_text z) s)))
       (subst (λ r. Agrees U K w TextMatch (then (source.value_of C e w.src) text) r) (sym (row.is w.net))
       (then_agrees U K w (ScalarMatch U (type_at e)) TextMatch (source.value_of C e w.src) (target.value_of S net_oracle (exp_of T e) w.net) text row.behind h
-      (expressions K w p f g oracle net_oracle l k c T uses e h F declared is_open readable own (good_parts uses e covers).0 (good_parts uses e covers).1)
+      (expressions K w p f g oracle net_oracle l k c T uses e h F declared is_open readable placed agree can (good_parts uses e covers).0 (good_parts uses e covers).1)
       (λ x y w1 m later. taken row.behind row.on_single x y w1 later.match m.0 m.1 m.2)))
     where
       matched : (behind : net_value.Value → net_store.Memory → Outcome net_store.Memory net_value.Value)
@@ -174,11 +181,11 @@ module _ (U : Upgrade) (expressions : ExpressionsAgree U) (K : Pledge) (p : ℕ)
           (matched behind on_single w1 h1 (type_at e) refl z y m))
 
   -- an item behind a text
-  next_agrees : (w : World) → MemoryMatch U w → GoOnMatching U K p f g w → (a : net.Exp) (r : Outcome Memory (List ℕ)) (e : Expr) → is_good uses e ≡ true
+  next_agrees : (w : World) → MemoryMatch U w → GoOnMatching U K p f g w → (a : net.Exp) (r : Outcome Memory (List ℕ)) (e : Expr) → Can e → is_good uses e ≡ true
       → Agrees U K w TextMatch r (target.value_of S net_oracle a w.net)
       → Agrees U K w TextMatch (then r (λ s m. then (item_text C e m) (λ t m. gives [] (s ++ t) m)))
       (target.value_of S net_oracle (net.binary op.Concat a (printed_item T e)) w.net)
-  next_agrees w h F a r e covers first =
+  next_agrees w h F a r e can covers first =
       let second : net_value.Value → net_store.Memory → Outcome net_store.Memory net_value.Value =
       λ u t. then (target.value_of S net_oracle (printed_item T e) t) (on_values (operate_net (Bin op.Concat)) u) in
       subst (λ z. Agrees U K w TextMatch (then r (λ s m. then (item_text C e m) (λ t m. gives [] (s ++ t) m))) z)
@@ -187,54 +194,54 @@ module _ (U : Upgrade) (expressions : ExpressionsAgree U) (K : Pledge) (p : ℕ)
       (λ s u w1 x later.
       then_agrees U K w1 TextMatch TextMatch (item_text C e w1.src) (target.value_of S net_oracle (printed_item T e) w1.net) (λ t m. gives [] (s ++ t) m)
       (on_values (operate_net (Bin op.Concat)) u) later.match
-      (item_agrees w1 later.match (F w1 later) e covers)
+      (item_agrees w1 later.match (F w1 later) e can covers)
       (λ t v w2 y last.
       subst (λ b. Agrees U K w2 TextMatch (gives [] (s ++ t) w2.src) (on_values (operate_net (Bin op.Concat)) b v w2.net)) (sym x.1)
       (subst (λ b. Agrees U K w2 TextMatch (gives [] (s ++ t) w2.src) (on_values (operate_net (Bin op.Concat)) (single x.0) b w2.net)) (sym y.1)
       (subst (λ o. Agrees U K w2 TextMatch (gives [] (s ++ t) w2.src) o) (sym (joined_texts s t x.0 y.0 w2.net x.2 y.2))
       (agrees_gives U K w2 TextMatch (s ++ t) (single (n.Str (s ++ t))) last.match (n.Str (s ++ t), refl, refl)))))))
 
-  more_agree : (w : World) → MemoryMatch U w → GoOnMatching U K p f g w → (es : List Expr) → list_all (is_good uses) es ≡ true → (a : net.Exp)
+  more_agree : (w : World) → MemoryMatch U w → GoOnMatching U K p f g w → (es : List Expr) → AllIn Can es → list_all (is_good uses) es ≡ true → (a : net.Exp)
       (r : Outcome Memory (List ℕ)) → Agrees U K w TextMatch r (target.value_of S net_oracle a w.net)
       → Agrees U K w TextMatch (then r (λ s m. then (items_text C es m) (λ t m. gives [] (s ++ t) m)))
       (target.value_of S net_oracle (joined_items T a es) w.net)
-  more_agree w h F [] covers a r first =
+  more_agree w h F [] can covers a r first =
       subst (λ z. Agrees U K w TextMatch z (target.value_of S net_oracle a w.net)) (sym (no_more r)) first
-  more_agree w h F (e ∷ es) covers a r first =
+  more_agree w h F (e ∷ es) can covers a r first =
       let both : (is_good uses e ≡ true) × (list_all (is_good uses) es ≡ true) = both_true (is_good uses e) (list_all (is_good uses) es) covers in
       subst (λ z. Agrees U K w TextMatch z (target.value_of S net_oracle (joined_items T (net.binary op.Concat a (printed_item T e)) es) w.net))
       (regrouped r (item_text C e) (items_text C es))
-      (more_agree w h F es both.1 (net.binary op.Concat a (printed_item T e)) (then r (λ s m. then (item_text C e m) (λ t m. gives [] (s ++ t) m)))
-      (next_agrees w h F a r e both.0 first))
+      (more_agree w h F es can.1 both.1 (net.binary op.Concat a (printed_item T e)) (then r (λ s m. then (item_text C e m) (λ t m. gives [] (s ++ t) m)))
+      (next_agrees w h F a r e can.0 both.0 first))
 
   -- the texts of all items, one behind another
-  items_agree : (w : World) → MemoryMatch U w → GoOnMatching U K p f g w → (es : List Expr) → list_all (is_good uses) es ≡ true
+  items_agree : (w : World) → MemoryMatch U w → GoOnMatching U K p f g w → (es : List Expr) → AllIn Can es → list_all (is_good uses) es ≡ true
       → Agrees U K w TextMatch (items_text C es w.src) (target.value_of S net_oracle (items_exp T es) w.net)
-  items_agree w h F [] covers = agrees_gives U K w TextMatch [] (single (n.Str [])) h (n.Str [], refl, refl)
-  items_agree w h F (e ∷ es) covers =
+  items_agree w h F [] can covers = agrees_gives U K w TextMatch [] (single (n.Str [])) h (n.Str [], refl, refl)
+  items_agree w h F (e ∷ es) can covers =
       let both : (is_good uses e ≡ true) × (list_all (is_good uses) es ≡ true) = both_true (is_good uses e) (list_all (is_good uses) es) covers in
-      more_agree w h F es both.1 (printed_item T e) (item_text C e w.src) (item_agrees w h (F w (later_now U K w h)) e both.0)
+      more_agree w h F es can.1 both.1 (printed_item T e) (item_text C e w.src) (item_agrees w h (F w (later_now U K w h)) e can.0 both.0)
 
-  units_agree : (w : World) → MemoryMatch U w → GoOnMatching U K p f g w → (es : List Expr) → list_all (is_good uses) es ≡ true
+  units_agree : (w : World) → MemoryMatch U w → GoOnMatching U K p f g w → (es : List Expr) → AllIn Can es → list_all (is_good uses) es ≡ true
       → Agrees U K w SameUnits (items_text C es w.src) (then (target.value_of S net_oracle (items_exp T es) w.net) text_in)
-  units_agree w h F es covers =
+  units_agree w h F es can covers =
       subst (λ r. Agrees U K w SameUnits r (then (target.value_of S net_oracle (items_exp T es) w.net) text_in)) (then_gives (items_text C es w.src))
       (then_agrees U K w TextMatch SameUnits (items_text C es w.src) (target.value_of S net_oracle (items_exp T es) w.net) (λ s m. gives [] s m) text_in h
-      (items_agree w h F es covers)
+      (items_agree w h F es can covers)
       (λ s v w1 x later.
       subst (λ b. Agrees U K w1 SameUnits (gives [] s w1.src) (text_in b w1.net)) (sym x.1)
       (subst (λ o. Agrees U K w1 SameUnits (gives [] s w1.src) o) (sym (units_of s x.0 w1.net x.2)) (agrees_gives U K w1 SameUnits s s later.match refl))))
 
   -- the line puts out its text
-  pub print_agrees : (w : World) → MemoryMatch U w → GoOnMatching U K p f g w → (ended : Bool) (es : List Expr) → list_all (is_good uses) es ≡ true
+  pub print_agrees : (w : World) → MemoryMatch U w → GoOnMatching U K p f g w → (ended : Bool) (es : List Expr) → AllIn Can es → list_all (is_good uses) es ≡ true
       → Agrees U K w AnyAddress (then (items_text C es w.src) (print ended))
       (target.address_of S net_oracle (support_call (print_name ended) (one (items_exp T es))) w.net)
-  print_agrees w h F ended es covers =
+  print_agrees w h F ended es can covers =
       let puts : List ℕ → net_store.Memory → Outcome net_store.Memory net_store.Address = λ s t. gives (print_output ended s ∷ []) nowhere t in
       subst (λ r. Agrees U K w AnyAddress (then (items_text C es w.src) (print ended)) r)
       (sym (print_puts S net_oracle is_open.support ended (items_exp T es) w.net))
       (then_agrees U K w SameUnits AnyAddress (items_text C es w.src) (then (target.value_of S net_oracle (items_exp T es) w.net) text_in) (print ended) puts h
-      (units_agree w h F es covers)
+      (units_agree w h F es can covers)
       (λ s t w1 x later.
       subst (λ u. Agrees U K w1 AnyAddress (print ended s w1.src) (puts u w1.net)) (sym x)
       (put U K w1 later.match ended s (nat_lt (length s) (2 ^ 31)))))

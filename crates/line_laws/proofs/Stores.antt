@@ -1,5 +1,5 @@
 -- An assignment to a variable does the same as what is written for it.
-use Rattle.std.proofs.Common.{◌≡◌, ◌∙◌, refl, sym, ap, subst, ℕ, Bool, true, false, not, ◌&&◌, nat_eq, Option, Some, None, List, [], ◌∷◌, true≢false}
+use Rattle.std.proofs.Common.{◌≡◌, ◌∙◌, refl, sym, ap, subst, ℕ, Bool, true, false, not, ◌&&◌, nat_eq, Option, Some, None, List, [], true≢false, inl, inr}
 use Rattle.std.specs.Map.{lookup}
 use Rattle.vb_tree.specs.BoundTree as types
 use Rattle.vb_tree.specs.BoundTree.{Ty}
@@ -13,11 +13,12 @@ use Rattle.net_tree.specs.Tree as net
 use Rattle.run_base.specs.Outcomes.{Outcome, gives, outside, then, some_of}
 use Rattle.run_base.specs.Positions.{Position, whole, made}
 use Rattle.written_trees.specs.Exprs.{exp_of}
-use Rattle.written_trees.specs.Names.{Scope}
+use Rattle.written_trees.specs.Names.{Scope, variable_path}
 use Rattle.written_trees.specs.Puts.{formed, target_rank, put_type, store_by, store_line}
 use Rattle.vb6_run.specs.Expressions as source
 use Rattle.vb6_run.specs.Forms.{SourceLine}
 use Rattle.vb6_run.specs.Lines.{let_to, store_at}
+use Rattle.vb6_run.specs.Runnables.{variable_address}
 use Rattle.vb6_run.specs.Shapes.{simple, variable_shape}
 use Rattle.vb6_run.specs.Store.{Address, root, Locked, Memory, SourceCalls, SourceFrame, store, write}
 use Rattle.vb6_run.specs.Values.{scalar, is_typed, if_of_shape, kept_as}
@@ -37,13 +38,16 @@ use Rattle.run_matches.specs.Pledges.{Pledge, Later}
 use Rattle.run_matches.specs.Addresses.{Same}
 use Rattle.run_matches.specs.Agreeing.{Agrees}
 use Rattle.run_matches.specs.Covered.{Uses, covers_type, covers_expr}
-use Rattle.run_matches.specs.Frames.{FrameMatch, OwnsAll, SameVariable, IsInPlace, IsOwnAddress, is_own_of}
-use Rattle.run_statements.specs.Frames.{ExpressionsAgree, ScalarsAreWritten, IsOpen, IsReadable, ScalarMatch, AnyUnits, context_of}
+use Rattle.run_matches.specs.Frames.{FrameMatch, OwnsAll, SameVariable, is_own_of, IsInPlace, IsOwnAddress}
+use Rattle.run_statements.specs.Frames.{ExpressionsAgree, ScalarsAreWritten, IsOpen, IsReadable, IsShared, IsPlaced, ArePlaced, IsTarget, MayChange, ScalarMatch, AnyUnits, context_of, AllCalled, CanCall}
+use Rattle.run_matches.specs.Runs.{CallsAgree}
+use Rattle.run_statements.specs.Written.{Passes}
 use Rattle.agreeing_laws.proofs.Agreeing.{agrees_outside, left_alone, right_alone, then_agrees}
 use Rattle.agreeing_laws.proofs.Moves.{address_later}
 use Rattle.line_laws.specs.Lasting.{OwnShape}
 use Rattle.line_laws.proofs.Bounds.{exactly}
-use Rattle.line_laws.proofs.Uses.{good_parts, is_good, type_covered, address_found, path_is, name_reached, variable_reached, is_loud, name_is, scalar_type, shape_is}
+use Rattle.line_laws.proofs.Uses.{good_parts, is_good, type_covered, address_found, address_is, own_path, path_is, name_reached, variable_reached, variable_named, is_loud, name_is, scalar_type, shape_is}
+use Rattle.line_laws.proofs.Shared.{SharedPlace, shared_place, not_own}
 
 -- ---- types
 
@@ -71,7 +75,7 @@ same_text : (t : Ty) → is_same_type types.str t ≡ true → t ≡ types.str
 same_text types.str e = refl
 same_text _ e = absurd (true≢false (sym e))
 
-same_type : (s t : Ty) → covers_type s ≡ true → is_same_type s t ≡ true → t ≡ s
+pub same_type : (s t : Ty) → covers_type s ≡ true → is_same_type s t ≡ true → t ≡ s
 same_type types.boolean t c e = same_boolean t e
 same_type types.byte t c e = same_byte t e
 same_type types.integer t c e = same_integer t e
@@ -90,7 +94,7 @@ kept_scalar types.currency t z c = refl
 kept_scalar types.str t z c = refl
 kept_scalar _ t z c = absurd (true≢false (sym c))
 
-not_kept : (locked : Locked) (s t : Ty) (z : Value6) (q : Position) (m : Memory) → covers_type s ≡ true → is_same_type s t ≡ false
+pub not_kept : (locked : Locked) (s t : Ty) (z : Value6) (q : Position) (m : Memory) → covers_type s ≡ true → is_same_type s t ≡ false
     → write locked (scalar t z) (root (simple s) q) m ≡ outside []
 not_kept locked s t z q m c e =
     ap (λ o. some_of o (λ x w. store locked x q w) m) (kept_scalar s t z c ∙ ap (λ b. if_of_shape (b && is_typed t z) (scalar t z)) e)
@@ -110,9 +114,9 @@ store_alone : (o : Option (List ℕ)) (t a : net.Exp) → store_by false o t a �
 store_alone None t a = refl
 store_alone (Some ty) t a = refl
 
--- for a variable it is an assignment to its name
+-- for a variable it is an assignment to its path
 pub line_is : (U : Upgrade) (T : Scope) → T.declarations ≡ U.program.declarations → (ty : Ty) (v : VarId) (qualified : Bool) (r : IsReadable U v.0) (e : Expr)
-    → covers_type ty ≡ true → store_line T (typed ty (variable v qualified)) e ≡ net.assign (net.path (r.variable.name ∷ [])) (exp_of T e)
+    → covers_type ty ≡ true → store_line T (typed ty (variable v qualified)) e ≡ net.assign (net.path (variable_path T qualified v.0)) (exp_of T e)
 line_is U T d ty v qualified r e c =
     store_alone (put_type ty) (exp_of T (typed ty (variable v qualified))) (formed T (target_rank T (typed ty (variable v qualified))) ty (exp_of T e))
     ∙ ap (λ a. net.assign (exp_of T (typed ty (variable v qualified))) a) (formed_alone T (target_rank T (typed ty (variable v qualified))) ty (exp_of T e) c)
@@ -123,7 +127,8 @@ line_is U T d ty v qualified r e c =
 module _ (U : Upgrade) (expressions : ExpressionsAgree U) (scalars : ScalarsAreWritten U) (K : Pledge) (p : ℕ) (f : SourceFrame)
     (g : NetFrame) (l : SourceLine) (k : NetLine) (c : Code) (T : Scope) (declared : T.declarations ≡ U.program.declarations) (oracle : SourceCalls)
     (net_oracle : Jobs) (is_open : IsOpen (scope_of U.written c g k)) (uses : Uses) (readable : (v : VarId) → uses v ≡ true → IsReadable U v.0)
-    (own : (v : VarId) → uses v ≡ true → is_own_of U p v.0 ≡ true)
+    (placed : ArePlaced U p (scope_of U.written c g k) T uses)
+    (agree : CallsAgree U (Passes U) oracle net_oracle)
     (shapes : (v : ℕ) (a : Address) → lookup (nat_eq v) f.vars ≡ Some a → is_own_of U p v ≡ true → OwnShape U v a) where
   abbrev C : source.Context
   C = context_of U oracle p f l
@@ -132,7 +137,8 @@ module _ (U : Upgrade) (expressions : ExpressionsAgree U) (scalars : ScalarsAreW
   S = scope_of U.written c g k
 
   module _ (w : World) (h : MemoryMatch U w) (F : FrameMatch U K w p f g) (owns : OwnsAll U K p f) (ty : Ty) (v : VarId) (qualified : Bool)
-      (use_v : uses v ≡ true) (e : Expr) (well : is_good uses e ≡ true) where
+      (use_v : uses v ≡ true) (inward : K.steady → is_own_of U p v.0 ≡ true) (e : Expr) (can : AllCalled (CanCall U K (scope_of U.written c g k) T) e)
+      (well : is_good uses e ≡ true) where
     covers : covers_expr uses e ≡ true
     covers = (good_parts uses e well).0
 
@@ -143,7 +149,7 @@ module _ (U : Upgrade) (expressions : ExpressionsAgree U) (scalars : ScalarsAreW
     readable_v = readable v use_v
 
     abbrev target_e : net.Exp
-    target_e = net.path ((readable v use_v).variable.name ∷ [])
+    target_e = net.path (variable_path T qualified v.0)
 
     -- a value that is stored behind its evaluation
     abbrev IsStored : Reached → World → Type 0
@@ -159,19 +165,23 @@ module _ (U : Upgrade) (expressions : ExpressionsAgree U) (scalars : ScalarsAreW
         subst (λ z. Agrees U K w AnyUnits (then (source.value_of C e w.src) (let_to C to)) (then z rest)) (sym at)
         (right_alone U K w AnyUnits (then (source.value_of C e w.src) (let_to C to)) (rest r w.net)
         (then_agrees U K w (ScalarMatch U (type_at e)) AnyUnits (source.value_of C e w.src) (target.value_of S net_oracle (exp_of T e) w.net) (let_to C to)
-        (λ x t. assigned S net_oracle r x t) h (expressions K w p f g oracle net_oracle l k c T uses e h F declared is_open readable own covers (good_parts uses e well).1)
+        (λ x t. assigned S net_oracle r x t) h
+        (expressions K w p f g oracle net_oracle l k c T uses e h F declared is_open readable placed agree can covers (good_parts uses e well).1)
         (λ x y w1 m later.
         subst (λ a. Agrees U K w1 AnyUnits (let_to C to a w1.src) (assigned S net_oracle r y w1.net)) (sym m.1) (go w1 later m.0 y m.2))))
 
+    abbrev source_address : Option Address
+    source_address = variable_address U.program.declarations f v.0
+
     -- where the frame lacks the variable, the source is outside
-    missing : (r : Reached) (w1 : World) → lookup (nat_eq v.0) f.vars ≡ None → IsStored r w1
+    missing : (r : Reached) (w1 : World) → source_address ≡ None → IsStored r w1
     missing r w1 none z y m =
         subst (λ a. Agrees U K w1 AnyUnits (then a (store_at C to (scalar (type_at e) z))) (assigned S net_oracle r y w1.net))
         (sym (address_found U C refl ty v qualified readable_v w1.src ∙ ap (λ o. some_of o (λ a s. gives [] a s) w1.src) none))
         (agrees_outside U K w1 AnyUnits (assigned S net_oracle r y w1.net))
 
     written : (a : Address) (b : net_store.Address) (q : Position) (w1 : World) → MemoryMatch U w1 → Same U K w1 a b → a ≡ root (simple readable_v.variable.ty) q
-        → IsInPlace a → IsOwnAddress K a → (z : Value6) (y : net_value.Value) → LikeV U w1 (scalar (type_at e) z) y → (b0 : Bool)
+        → IsTarget U a → MayChange K a → (z : Value6) (y : net_value.Value) → LikeV U w1 (scalar (type_at e) z) y → (b0 : Bool)
         → is_same_type readable_v.variable.ty (type_at e) ≡ b0
         → Agrees U K w1 AnyUnits (write f.env (scalar (type_at e) z) a w1.src) (net_store.written b y w1.net)
     written a b q w1 h1 same stands i o z y m true t =
@@ -183,8 +193,8 @@ module _ (U : Upgrade) (expressions : ExpressionsAgree U) (scalars : ScalarsAreW
         ∙ not_kept f.env readable_v.variable.ty (type_at e) z q w1.src (scalar_type U v.0 readable_v) t))
         (agrees_outside U K w1 AnyUnits (net_store.written b y w1.net))
 
-    stored : (a : Address) (b : net_store.Address) (q : Position) → lookup (nat_eq v.0) f.vars ≡ Some a → Same U K w a b
-        → a ≡ root (simple readable_v.variable.ty) q → IsInPlace a → IsOwnAddress K a → (w1 : World) → Later U K w w1 → IsStored (at_place b) w1
+    stored : (a : Address) (b : net_store.Address) (q : Position) → source_address ≡ Some a → Same U K w a b
+        → a ≡ root (simple readable_v.variable.ty) q → IsTarget U a → MayChange K a → (w1 : World) → Later U K w w1 → IsStored (at_place b) w1
     stored a b q found same stands i o w1 later z y m =
         subst (λ x. Agrees U K w1 AnyUnits (then x (store_at C to (scalar (type_at e) z))) (assigned S net_oracle (at_place b) y w1.net))
         (sym (address_found U C refl ty v qualified readable_v w1.src ∙ ap (λ d. some_of d (λ a s. gives [] a s) w1.src) found))
@@ -192,22 +202,44 @@ module _ (U : Upgrade) (expressions : ExpressionsAgree U) (scalars : ScalarsAreW
         (right_alone U K w1 AnyUnits (write f.env (scalar (type_at e) z) a w1.src) (net_store.written b y w1.net)
         (written a b q w1 later.match (address_later U K w w1 a b later same) stands i o z y m (is_same_type readable_v.variable.ty (type_at e)) refl)))
 
-    assigned_by : (o : Option Address) → lookup (nat_eq v.0) f.vars ≡ o
-        → Agrees U K w AnyUnits (then (source.value_of C e w.src) (let_to C to)) (assignment S net_oracle target_e (exp_of T e) w.net)
-    assigned_by None none =
+    abbrev Goal : Type 0
+    Goal = Agrees U K w AnyUnits (then (source.value_of C e w.src) (let_to C to)) (assignment S net_oracle target_e (exp_of T e) w.net)
+
+    -- to a variable that is found on both sides
+    stored_there : (a : Address) (b : net_store.Address) (q : Position) → source_address ≡ Some a
+        → net_names.path_start S false (variable_path T qualified v.0) ≡ net_names.starts (at_place b) [] → Same U K w a b
+        → a ≡ root (simple readable_v.variable.ty) q → IsTarget U a → MayChange K a → Goal
+    stored_there a b q found leads same stands i o =
+        evaluated (at_place b) (variable_reached S net_oracle (variable_path T qualified v.0) b w.net leads) (stored a b q found same stands i o)
+
+    own_by : is_own_of U p v.0 ≡ true → (o : Option Address) → lookup (nat_eq v.0) f.vars ≡ o → Goal
+    own_by own None none =
         let x = name_reached S net_oracle readable_v.variable.name w.net in
-        evaluated x.0 x.1 (λ w1 later. missing x.0 w1 none)
-    assigned_by (Some a) found =
+        evaluated x.0 (ap (λ names. target.reach S net_oracle false (net.path names) w.net) (own_path U v.0 readable_v p own T declared qualified) ∙ x.1)
+        (λ w1 later. missing x.0 w1 (address_is U v.0 readable_v p own f ∙ none))
+    own_by own (Some a) found =
         let s : SameVariable U K w v.0 a g = F.vars v.0 a found readable_v.sound in
-        let place : OwnShape U v.0 a = shapes v.0 a found (own v use_v) in
+        let place : OwnShape U v.0 a = shapes v.0 a found own in
         let same : Same U K w a s.address = exactly U K w (not (is_quiet U.program.declarations U.known v.0)) a s.address (is_loud U v.0 readable_v) s.bound in
         let stands : a ≡ root (simple readable_v.variable.ty) (whole (made place.place)) =
         place.stands ∙ ap (λ d. root d (whole (made place.place))) (shape_is U v.0 readable_v) in
-        evaluated (at_place s.address)
-        (variable_reached S net_oracle readable_v.variable.name s.address w.net (ap (λ n. net_names.var_in g.vars n) (sym (name_is U v.0 readable_v)) ∙ s.found))
-        (stored a s.address (whole (made place.place)) found same stands
-        (record { place = place.place; shape = variable_shape U.program.declarations v.0; path = []; stands = place.stands })
-        (owns.variables v.0 a found (own v use_v)))
+        let name : net_names.var_in g.vars readable_v.variable.name ≡ Some s.address =
+        ap (λ n. net_names.var_in g.vars n) (sym (name_is U v.0 readable_v)) ∙ s.found in
+        stored_there a s.address (whole (made place.place)) (address_is U v.0 readable_v p own f ∙ found)
+        (ap (net_names.path_start S false) (own_path U v.0 readable_v p own T declared qualified)
+        ∙ variable_named S net_oracle readable_v.variable.name s.address name) same stands
+        (inl (record { place = place.place; shape = variable_shape U.program.declarations v.0; path = []; stands = place.stands }))
+        (λ steady. owns.variables v.0 a found own)
 
-    pub assignment_agrees : Agrees U K w AnyUnits (then (source.value_of C e w.src) (let_to C to)) (assignment S net_oracle target_e (exp_of T e) w.net)
-    assignment_agrees = assigned_by (lookup (nat_eq v.0) f.vars) refl
+    shared_by : IsShared U S T v.0 → Goal
+    shared_by s =
+        let x : SharedPlace U K w f S T v.0 readable_v s = shared_place U K w f S T v.0 readable_v s in
+        stored_there x.address x.net_address x.position x.found (x.leads qualified) x.same x.stands (inr x.own_key)
+        (λ steady. absurd (not_own U p S T v.0 s (inward steady)))
+
+    placed_by : IsPlaced U p S T v.0 → Goal
+    placed_by (inl own) = own_by own (lookup (nat_eq v.0) f.vars) refl
+    placed_by (inr s) = shared_by s
+
+    pub assignment_agrees : Goal
+    assignment_agrees = placed_by (placed v use_v)

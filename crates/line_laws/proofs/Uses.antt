@@ -1,14 +1,13 @@
 -- What a variable of a covered use leads to on both sides.
-use Rattle.std.proofs.Common.{◌≡◌, ◌∙◌, refl, sym, ap, ℕ, ℤ, Bool, true, false, cond, not, ◌&&◌, nat_eq, Option, Some, None, List, [], ◌∷◌, slice_get, true≢false, eqb-true, eq-eqb}
-use Rattle.std.specs.List.{list_all, list_any}
+use Rattle.std.proofs.Common.{◌≡◌, ◌∙◌, refl, sym, ap, ℕ, ℤ, Bool, true, false, cond, not, ◌&&◌, nat_eq, Option, Some, None, List, [], ◌∷◌, slice_get, true≢false}
+use Rattle.std.specs.List.{list_all}
 use Rattle.std.specs.Map.{lookup}
 use Rattle.vb_tree.specs.BoundTree as types
 use Rattle.vb_tree.specs.BoundTree.{Ty}
 use Rattle.vb_tree.specs.declared.declared.Owner.{Owner}
 use Rattle.vb_tree.specs.declared.declared.Owner.TheVariants as owner
 use Rattle.vb_tree.specs.declared.declared.VarId.{VarId}
-use Rattle.bound_tree.specs.declared.body.Mention.{Mention}
-use Rattle.bound_tree.specs.Tree.{Variable, Declarations, Expr, typed, variable}
+use Rattle.bound_tree.specs.Tree.{Declarations, Expr, typed, variable}
 use Rattle.bound_facts.proofs.Chains.{both_true}
 use Rattle.bound_facts.specs.Effects.{is_own_owner, is_own_variable}
 use Rattle.bound_facts.specs.Facts.{Known, is_quiet_owner, is_quiet_variable, is_quiet}
@@ -17,7 +16,7 @@ use Rattle.net_tree.specs.Tree as net
 use Rattle.net_tree.specs.Tree.{Member, Module}
 use Rattle.run_base.specs.Outcomes.{gives, then, some_of}
 use Rattle.written_trees.specs.Exprs.{exp_of, made_if}
-use Rattle.written_trees.specs.Names.{Scope, alone, owner_path, variable_path_of, variable_name_of}
+use Rattle.written_trees.specs.Names.{Scope, alone, owner_path, variable_path, variable_path_of, variable_name_of}
 use Rattle.vb6_run.specs.Expressions as source
 use Rattle.vb6_run.specs.Expressions.{Context, at_address, made_for, as_new, finished}
 use Rattle.vb6_run.specs.Runnables.{declarations_of, owned_address, declared_address, variable_address}
@@ -27,12 +26,12 @@ use Rattle.net_run.specs.Expressions.{reach, started}
 use Rattle.net_run.specs.Making.{Jobs}
 use Rattle.net_run.specs.Members.{member_named}
 use Rattle.net_run.specs.Names as net_names
-use Rattle.net_run.specs.Names.{Reached, at_place, not_found, starts, frame_start, member_start, module_start, module_member, member_reached, var_in}
+use Rattle.net_run.specs.Names.{Reached, at_place, not_found, starts, path_start, frame_start, member_start, module_start, module_member, member_reached, var_in}
 use Rattle.net_run.specs.Shapes.{module_named, module_at, members_of}
 use Rattle.net_run.specs.Store as store
 use Rattle.run_matches.specs.Upgrades.{Upgrade, runnable_of}
 use Rattle.run_matches.specs.Formed.{is_formed}
-use Rattle.run_matches.specs.Covered.{Uses, covers_type, covers_owner, covers_variable, covers_some, covers_use, covers_expr, covers_term, belongs_to, is_mention_of}
+use Rattle.run_matches.specs.Covered.{Uses, covers_type, covers_owner, covers_expr, covers_term}
 use Rattle.run_matches.specs.Frames.{is_own_of, name_of}
 use Rattle.run_statements.specs.Frames.{IsReadable}
 
@@ -43,33 +42,24 @@ type_covered uses (typed ty t) h = (both_true (covers_type ty) (covers_term uses
 
 -- ---- owners
 
-own_owner : (p : ℕ) (o : Owner) → belongs_to p o ≡ true → covers_owner o ≡ true → is_own_owner p o ≡ true
-own_owner p (owner.Local q) h c = eq-eqb q.0 p (sym (eqb-true p q.0 h))
-own_owner p _ h c = absurd (true≢false (sym c))
+own_owner : (p : ℕ) (o : Owner) → is_own_owner p o ≡ true → (T : Scope) (qualified : Bool) (name : List ℕ) → owner_path T qualified name o ≡ alone name
+own_owner p (owner.Local q) h T qualified name = refl
+own_owner p (owner.Value q) h T qualified name = refl
+own_owner p (owner.Answer q) h T qualified name = refl
+own_owner p _ h T qualified name = absurd (true≢false (sym h))
 
-own_some : (p : ℕ) (o : Option Variable) → covers_some p o ≡ true → is_own_variable p o ≡ true
-own_some p None h = absurd (true≢false (sym h))
-own_some p (Some x) h =
-    let parts : (belongs_to p x.owner ≡ true) × (covers_variable x ≡ true) = both_true (belongs_to p x.owner) (covers_variable x) h in
-    own_owner p x.owner parts.0 (both_true (covers_owner x.owner) (covers_type x.ty && not x.auto) parts.1).0
-
--- a variable of a covered use is the procedure's own
-pub own_use : (U : Upgrade) (p : ℕ) (mentions : List Mention) (v : VarId) → covers_use U.program p mentions v ≡ true → is_own_of U p v.0 ≡ true
-own_use U p mentions v h =
-    own_some p (slice_get U.program.declarations.vars v.0)
-    (both_true (list_any (is_mention_of v) mentions) (covers_some p (slice_get U.program.declarations.vars v.0)) h).1
+own_address : (D : Declarations) (f : SourceFrame) (v p : ℕ) (o : Owner) → is_own_owner p o ≡ true → owned_address D f v o ≡ lookup (nat_eq v) f.vars
+own_address D f v p (owner.Local q) h = refl
+own_address D f v p (owner.Value q) h = refl
+own_address D f v p (owner.Answer q) h = refl
+own_address D f v p _ h = absurd (true≢false (sym h))
 
 quiet_owner : (F : Known) (o : Owner) → covers_owner o ≡ true → is_quiet_owner F o ≡ false
+quiet_owner F (owner.Module file) c = refl
 quiet_owner F (owner.Local q) c = refl
+quiet_owner F (owner.Value q) c = refl
+quiet_owner F (owner.Answer q) c = refl
 quiet_owner F _ c = absurd (true≢false (sym c))
-
-path_owner : (T : Scope) (qualified : Bool) (name : List ℕ) (o : Owner) → covers_owner o ≡ true → owner_path T qualified name o ≡ alone name
-path_owner T qualified name (owner.Local q) c = refl
-path_owner T qualified name _ c = absurd (true≢false (sym c))
-
-address_owner : (D : Declarations) (f : SourceFrame) (v : ℕ) (o : Owner) → covers_owner o ≡ true → owned_address D f v o ≡ lookup (nat_eq v) f.vars
-address_owner D f v (owner.Local q) c = refl
-address_owner D f v _ c = absurd (true≢false (sym c))
 
 simple_type : (users : ℕ → Shape) (bounds : List (ℤ × ℤ)) (ty : Ty) → covers_type ty ≡ true → shape_by users bounds ty ≡ simple ty
 simple_type users bounds types.boolean c = refl
@@ -112,9 +102,20 @@ module _ (U : Upgrade) (v : ℕ) (r : IsReadable U v) where
   pub name_is : name_of U v ≡ r.variable.name
   name_is = ap variable_name_of r.is_variable
 
-  -- its address in the source's frame
-  address_is : (f : SourceFrame) → variable_address D f v ≡ lookup (nat_eq v) f.vars
-  address_is f = ap (declared_address D f v) r.is_variable ∙ address_owner D f v r.variable.owner covered.0
+  -- where it is the procedure's own
+
+  own_is : (p : ℕ) → is_own_of U p v ≡ true → is_own_owner p r.variable.owner ≡ true
+  own_is p h = sym (ap (is_own_variable p) r.is_variable) ∙ h
+
+  -- its address is in the source's frame
+  pub address_is : (p : ℕ) → is_own_of U p v ≡ true → (f : SourceFrame) → variable_address D f v ≡ lookup (nat_eq v) f.vars
+  address_is p own f = ap (declared_address D f v) r.is_variable ∙ own_address D f v p r.variable.owner (own_is p own)
+
+  -- its path is its name
+  pub own_path : (p : ℕ) → is_own_of U p v ≡ true → (T : Scope) → T.declarations ≡ D → (qualified : Bool) → variable_path T qualified v ≡ r.variable.name ∷ []
+  own_path p own T e qualified =
+      ap (λ (E : Declarations). variable_path_of T qualified (slice_get E.vars v)) e ∙ ap (variable_path_of T qualified) r.is_variable
+      ∙ own_owner p r.variable.owner (own_is p own) T qualified r.variable.name
 
 address_by : (C : Context) (o : Option Address) (m : Option ℕ) → m ≡ None → (s : Memory)
     → then (then (some_of o (λ a w. gives [] (at_address a) w) s) (made_for C m)) finished ≡ some_of o (λ a w. gives [] a w) s
@@ -123,23 +124,22 @@ address_by C (Some a) m e s = ap (λ z. then (then (gives [] (at_address a) s) (
 
 -- the target of an assignment in the source
 pub address_found : (U : Upgrade) (C : Context) → C.runnable ≡ runnable_of U → (ty : Ty) (v : VarId) (qualified : Bool) (r : IsReadable U v.0) (s : Memory)
-    → source.address_of C (typed ty (variable v qualified)) s ≡ some_of (lookup (nat_eq v.0) C.frame.vars) (λ a w. gives [] a w) s
+    → source.address_of C (typed ty (variable v qualified)) s
+    ≡ some_of (variable_address U.program.declarations C.frame v.0) (λ a w. gives [] a w) s
 address_found U C e ty v qualified r s =
     ap (λ o. then (then (some_of o (λ a w. gives [] (at_address a) w) s) (as_new C (variable v qualified))) finished)
-    (ap (λ R. variable_address (declarations_of R) C.frame v.0) e ∙ address_is U v.0 r C.frame)
-    ∙ address_by C (lookup (nat_eq v.0) C.frame.vars) (auto_class (slice_get (declarations_of C.runnable).vars v.0))
+    (ap (λ R. variable_address (declarations_of R) C.frame v.0) e)
+    ∙ address_by C (variable_address U.program.declarations C.frame v.0) (auto_class (slice_get (declarations_of C.runnable).vars v.0))
     (ap (λ R. auto_class (slice_get (declarations_of R).vars v.0)) e ∙ no_auto U v.0 r) s
 
 -- ---- what is written for it
 
--- its name alone
+-- its path alone
 pub path_is : (U : Upgrade) (T : Scope) → T.declarations ≡ U.program.declarations → (ty : Ty) (v : VarId) (qualified : Bool) (r : IsReadable U v.0)
-    → exp_of T (typed ty (variable v qualified)) ≡ net.path (r.variable.name ∷ [])
+    → exp_of T (typed ty (variable v qualified)) ≡ net.path (variable_path T qualified v.0)
 path_is U T e ty v qualified r =
-    let slot : slice_get T.declarations.vars v.0 ≡ slice_get U.program.declarations.vars v.0 = ap (λ d. slice_get d.vars v.0) e in
-    ap (λ o. made_if T.declarations (auto_class (slice_get T.declarations.vars v.0)) (net.path (variable_path_of T qualified o))) (slot ∙ r.is_variable)
-    ∙ ap (λ m. made_if T.declarations m (net.path (owner_path T qualified r.variable.name r.variable.owner))) (ap auto_class slot ∙ no_auto U v.0 r)
-    ∙ ap net.path (path_owner T qualified r.variable.name r.variable.owner (covered U v.0 r).0)
+    ap (λ m. made_if T.declarations m (net.path (variable_path T qualified v.0)))
+    (ap (λ (d : Declarations). auto_class (slice_get d.vars v.0)) e ∙ no_auto U v.0 r)
 
 module _ (S : net_names.Scope) (oracle : Jobs) where
   class_alone : (home : ℕ) (b : Bool) → module_member S home b [] ≡ starts not_found []
@@ -164,10 +164,14 @@ module _ (S : net_names.Scope) (oracle : Jobs) where
       let x = start_alone name (var_in S.vars name) in
       (x.0, ap (λ z. started S oracle z t) x.1)
 
+  -- a path that leads to a variable
+  pub variable_reached : (names : List (List ℕ)) (a : store.Address) (t : store.Memory) → path_start S false names ≡ starts (at_place a) []
+      → reach S oracle false (net.path names) t ≡ gives [] (at_place a) t
+  variable_reached names a t e = ap (λ z. started S oracle z t) e
+
   -- a variable of the frame
-  pub variable_reached : (name : List ℕ) (a : store.Address) (t : store.Memory) → var_in S.vars name ≡ Some a
-      → reach S oracle false (net.path (name ∷ [])) t ≡ gives [] (at_place a) t
-  variable_reached name a t e = ap (λ o. started S oracle (frame_start S name [] o) t) e
+  pub variable_named : (name : List ℕ) (a : store.Address) → var_in S.vars name ≡ Some a → path_start S false (name ∷ []) ≡ starts (at_place a) []
+  variable_named name a e = ap (λ o. frame_start S name [] o) e
 
 -- ---- covered and well formed
 

@@ -1,30 +1,30 @@
 -- Frames that go on to match at later worlds, and lines in them.
-use Rattle.std.specs.Prelude.{◌≡◌, ℕ, ◌<◌, true, nat_eq, Option, Some}
+use Rattle.std.specs.Prelude.{◌≡◌, ℕ, true, nat_eq, Option, Some, ◌<◌}
 use Rattle.std.specs.Map.{lookup}
 use Rattle.vb_tree.specs.declared.declared.VarId.{VarId}
-use Rattle.run_base.specs.Positions.{Position, made, whole}
+use Rattle.run_base.specs.Positions.{made, whole, Position}
+use Rattle.std.specs.List.{Contains}
+use Rattle.bound_facts.specs.Calls.{line_calls}
+use Rattle.run_base.specs.Machines.{go}
 use Rattle.vb6_run.specs.Shapes.{variable_shape}
 use Rattle.vb6_run.specs.Forms.{SourceLine}
 use Rattle.vb6_run.specs.Programs as source
-use Rattle.vb6_run.specs.Store.{Address, root, SourceFrame, held_at}
-use Rattle.vb6_run.specs.Values.{Value}
+use Rattle.vb6_run.specs.Store.{Address, root, SourceFrame}
 use Rattle.net_run.specs.Lines.{NetFrame, NetLine, scope_of}
 use Rattle.net_run.specs.Members.{Code, code_at}
 use Rattle.net_run.specs.Program as target
-use Rattle.net_run.specs.Store as net
 use Rattle.run_matches.specs.Upgrades.{Upgrade, code_of, runnable_of}
-use Rattle.run_matches.specs.Maps.{World, Below, IsMade, mark}
-use Rattle.run_matches.specs.Likeness.{LikeV, ShapedAs}
+use Rattle.run_matches.specs.Maps.{World}
 use Rattle.run_matches.specs.Match.{MemoryMatch}
 use Rattle.run_matches.specs.Pledges.{Pledge, Later}
-use Rattle.run_matches.specs.Addresses.{Mirrors, position_of}
 use Rattle.run_matches.specs.Agreeing.{Agrees}
 use Rattle.run_matches.specs.Covered.{covers_use, covers_line}
-use Rattle.run_matches.specs.Frames.{HasNames, HasPlace, FrameMatch, OwnsAll, is_own_of, frame_pledge}
-use Rattle.run_matches.specs.Runs.{line_result}
+use Rattle.run_matches.specs.Frames.{HasNames, FrameMatch, OwnsAll, is_own_of, frame_pledge, HasPlace}
+use Rattle.run_matches.specs.Runs.{line_result, CallsAgree}
 use Rattle.run_matches.specs.Sites.{Site}
 use Rattle.run_statements.specs.Frames.{IsOpen, IsReadable}
-use Rattle.run_statements.specs.Written.{WrittenLine}
+use Rattle.run_statements.specs.Kept.{LineStands, StoresAreOwn, UsesArePlaced, CanCallFrom}
+use Rattle.run_statements.specs.Written.{WrittenLine, Passes}
 
 -- ---- frames
 
@@ -49,10 +49,10 @@ pub record SteadyNext (U : Upgrade) (K : Pledge) (p : ℕ) (me : Option ℕ) (w 
 
 -- ---- lines
 
--- from such frames at the line of a number, a line of the procedure p and the written line lead to such frames
-abbrev pub SameSteadyLine : Upgrade → (p q number : ℕ) → SourceLine → NetLine → Type 0
-SameSteadyLine U p q number l k =
-    (w : World) (f : SourceFrame) (g : NetFrame) (turns : ℕ) → f.line ≡ number → MemoryMatch U w → SteadyFrame U (frame_pledge U p w f) w p f g
+-- from such frames at the line of a number, a line of the procedure p and the written line lead to such frames, with so many turns for calls
+abbrev pub SameSteadyLine : Upgrade → (p q number turns : ℕ) → SourceLine → NetLine → Type 0
+SameSteadyLine U p q number turns l k =
+    (w : World) (f : SourceFrame) (g : NetFrame) → f.line ≡ number → MemoryMatch U w → SteadyFrame U (frame_pledge U p w f) w p f g
     → Agrees U (frame_pledge U p w f) w (SteadyNext U (frame_pledge U p w f) p f.me)
     (line_result (source.machine_of (runnable_of U)) turns p f l w.src)
     (line_result (target.machine_of U.written) turns q g k w.net)
@@ -60,8 +60,12 @@ SameSteadyLine U p q number l k =
 -- a covered line and what is written for it do the same
 abbrev pub SteadyLinesAgree : Upgrade → Type 0
 SteadyLinesAgree U =
-    (p : ℕ) (s : Site) (written number : ℕ) (l : SourceLine) (c : Code) (L : WrittenLine U p s written number l) → code_at U.written written ≡ Some c
+    (p : ℕ) (s : Site) (written number turns : ℕ) (l : SourceLine) (c : Code) (L : WrittenLine U p s written number l) → code_at U.written written ≡ Some c
     → ((g : NetFrame) (k : NetLine) → HasNames (code_of U p) g → IsOpen (scope_of U.written c g k))
     → ((v : VarId) → covers_use U.program p l.form.bindings.mentions v ≡ true → IsReadable U v.0)
+    → UsesArePlaced U p s c l.form → StoresAreOwn U p l.form
+    → CallsAgree U (Passes U) (go (source.machine_of (runnable_of U)) turns) (go (target.machine_of U.written) turns)
+    → ((q : ℕ) → Contains (line_calls U.program.declarations p l.form) (p, q) → CanCallFrom U p s c q)
     → covers_line U.program p l.form ≡ true
-    → SameSteadyLine U p written number l L.line
+    → LineStands U p s c number l
+    → SameSteadyLine U p written number turns l L.line

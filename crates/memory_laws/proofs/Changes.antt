@@ -1,5 +1,5 @@
 -- What stands at one position changes on both sides, and no array does.
-use Rattle.std.proofs.Common.{◌≡◌, ◌⊎◌, ⊎_elim, refl, sym, subst, ◌∙◌, ℕ, ◌<◌, ◌≤◌, arith}
+use Rattle.std.proofs.Common.{◌≡◌, ⊎_elim, refl, sym, subst, ◌∙◌, ℕ, ◌<◌, ◌≤◌, arith}
 use Rattle.net_meaning.specs.declared.value.ValueN.TheVariants as n
 use Rattle.run_base.specs.Positions.{Position, updated}
 use Rattle.vb6_run.specs.Store.{Held, table}

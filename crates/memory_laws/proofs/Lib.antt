@@ -6,4 +6,5 @@ pub mod Scalars
 pub mod Reading
 pub mod Writing
 pub mod Making
+pub mod Parameters
 pub mod ByPledges

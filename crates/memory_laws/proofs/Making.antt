@@ -71,17 +71,17 @@ covered_shape users bounds types.str c = refl
 covered_shape users bounds _ c = absurd (true≢false (sym c))
 
 module _ (U : Upgrade) where
-  readable_type : (v : ℕ) (r : IsReadable U v) → covers_type r.variable.ty ≡ true
+  pub readable_type : (v : ℕ) (r : IsReadable U v) → covers_type r.variable.ty ≡ true
   readable_type v r =
       (both_true (covers_type r.variable.ty) (not r.variable.auto)
       (both_true (covers_owner r.variable.owner) (covers_type r.variable.ty && not r.variable.auto) r.covers).1).0
 
-  readable_shape : (v : ℕ) (r : IsReadable U v) → variable_shape U.program.declarations v ≡ simple r.variable.ty
+  pub readable_shape : (v : ℕ) (r : IsReadable U v) → variable_shape U.program.declarations v ≡ simple r.variable.ty
   readable_shape v r =
       ap (declared_shape (user_shapes U.program.declarations)) r.is_variable
       ∙ covered_shape (user_shapes U.program.declarations) r.variable.bounds r.variable.ty (readable_type v r)
 
-  made_match : (K : Pledge) (w : World) (v : ℕ) (ty : Ty) (t : TypeName) (z : Value6) (y : ValueN) → variable_shape U.program.declarations v ≡ simple ty
+  pub made_match : (K : Pledge) (w : World) (v : ℕ) (ty : Ty) (t : TypeName) (z : Value6) (y : ValueN) → variable_shape U.program.declarations v ≡ simple ty
       → scalar_word ty ≡ Some t → IsMatched U (scalar_made U K w (Some v) ty z y) (whole (made w.src.next))
       → MadeMatch U K v ty t (scalar_made U K w (Some v) ty z y) (root (simple ty) (whole (made w.src.next)))
       (net.root (shape.scalar t) (whole (made ((with_place w (Some v)).map.places w.src.next))))

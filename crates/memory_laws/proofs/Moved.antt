@@ -74,16 +74,38 @@ module _ (U : Upgrade) (w : World) (h : StoreMatch U w) where
   pub place_goes_alone : (n : ℕ) (path : List ℕ) → IsMatched U w (at (made n) path) → GoesAlone U w (at (made n) path)
   place_goes_alone n path m p x e = from_made n path m p.root p.path x e
 
+-- ---- variables of standard modules
+
+key_there : (o : Option Key) → is_some o ≡ true → o ≡ Some (key_or_none o)
+key_there None e = absurd (true≢false (sym e))
+key_there (Some k) e = refl
+
+module _ (U : Upgrade) (w : World) (v : ℕ) (key : Key) (is : variable_key U v ≡ Some key) (differs : (u : ℕ) → variable_key U u ≡ Some key → v ≡ u) where
+  same_variable : (u : ℕ) → has_key U (Some u) ≡ true → moved_key U (v ∷ []) ≡ moved_key U (u ∷ []) → v ≡ u
+  same_variable u c e = differs u (key_there (variable_key U u) c ∙ ap (λ z. Some z) (sym e ∙ ap key_or_none is))
+
+  from_shared : (path : List ℕ) (k : Key) (rest : List ℕ) → IsMatched U w (at (shared k) rest)
+      → at (shared (moved_key U (v ∷ []))) path ≡ at (shared (moved_key U k)) rest → at (shared (v ∷ [])) path ≡ at (shared k) rest
+  from_shared path (u ∷ []) rest x e =
+      ap (λ z. at (shared (z ∷ [])) path) (same_variable u x.counterpart (ap key_of e)) ∙ ap (λ z. at (shared (u ∷ [])) z) (ap path_of e)
+  from_shared path [] rest x e = absurd (true≢false (sym x.counterpart))
+  from_shared path (u ∷ t ∷ more) rest x e = absurd (true≢false (sym x.counterpart))
+
+  from_key : (path : List ℕ) (r : Root) (rest : List ℕ) → IsMatched U w (at r rest)
+      → at (shared (moved_key U (v ∷ []))) path ≡ at (moved U w.map r) rest → at (shared (v ∷ [])) path ≡ at r rest
+  from_key path (shared k) rest x e = from_shared path k rest x e
+  from_key path (made n) rest x e = absurd (true≢false (sym (ap is_place e)))
+  from_key path (field o k) rest x e = absurd (true≢false (sym (ap is_field e)))
+
+  pub key_goes_alone : GoesAlone U w (at (shared (v ∷ [])) [])
+  key_goes_alone p x e = from_key [] p.root p.path x e
+
 -- ---- where the keys of variables differ, all positions
 
 sound_root : (U : Upgrade) (v : ℕ) (path : List ℕ) → is_sound U v path ≡ true → is_flagged U v ≡ false
 sound_root U v [] e = not_true (is_flagged U v) e
 sound_root U v (k ∷ path) e =
     sound_root U v path (both_true (is_sound U v path) (not (is_flagged_some U (part_variable U v (k ∷ path)))) e).0
-
-key_there : (o : Option Key) → is_some o ≡ true → o ≡ Some (key_or_none o)
-key_there None e = absurd (true≢false (sym e))
-key_there (Some k) e = refl
 
 same_keys : (U : Upgrade) → KeysDiffer U → (k l : Key) (path rest : List ℕ) → has_key U (variable_in k) ≡ true → has_key U (variable_in l) ≡ true
     → is_sound_part U (variable_in k) path ≡ true → is_sound_part U (variable_in l) rest ≡ true → moved_key U k ≡ moved_key U l → k ≡ l

@@ -1,5 +1,5 @@
 -- A scalar is written to a variable on both sides.
-use Rattle.std.proofs.Common.{◌≡◌, refl, sym, subst, ◌∙◌, ℕ, true, cond, Some, []}
+use Rattle.std.proofs.Common.{◌≡◌, refl, sym, subst, ◌∙◌, inl, inr, ℕ, true, cond, Some, [], ◌∷◌}
 use Rattle.up_base.proofs.Tests.{by_test}
 use Rattle.vb_tree.specs.BoundTree.{Ty}
 use Rattle.vb_tree.specs.declared.value.Value6.{Value6}
@@ -8,7 +8,7 @@ use Rattle.net_tree.specs.Types.{TypeName}
 use Rattle.net_meaning.specs.declared.value.ValueN.{ValueN}
 use Rattle.net_meaning.specs.declared.value.ValueN.TheVariants as n
 use Rattle.run_base.specs.Outcomes.{gives, outside, some_of}
-use Rattle.run_base.specs.Positions.{Position, made}
+use Rattle.run_base.specs.Positions.{Position, made, shared}
 use Rattle.vb6_run.specs.Shapes.{Shape, simple, variable_shape}
 use Rattle.vb6_run.specs.Store.{Address, root, Locked, Held, single, table, provided, with_held, put_single, store, write}
 use Rattle.vb6_run.specs.Values.{scalar}
@@ -23,12 +23,12 @@ use Rattle.run_matches.specs.Pledges.{Pledge, Later, IsLasting, IsHeld}
 use Rattle.run_matches.specs.Agreeing.{Agrees}
 use Rattle.run_matches.specs.Covered.{covers_type}
 use Rattle.run_matches.specs.Frames.{HasPlace, IsInPlace, IsOwnAddress}
-use Rattle.run_statements.specs.Frames.{AnyUnits, ScalarsAreWritten}
+use Rattle.run_statements.specs.Frames.{AnyUnits, ScalarsAreWritten, IsTarget, MayChange}
 use Rattle.agreeing_laws.proofs.Agreeing.{agrees_outside}
 use Rattle.memory_laws.specs.Changes.{changed, IsNoTable, GoesAlone}
 use Rattle.memory_laws.specs.Statements.{ScalarsAreWrittenInPlaces}
 use Rattle.memory_laws.proofs.Changes.{changed_later}
-use Rattle.memory_laws.proofs.Moved.{place_goes_alone, root_goes_alone}
+use Rattle.memory_laws.proofs.Moved.{place_goes_alone, key_goes_alone}
 use Rattle.memory_laws.proofs.Positions.{at}
 use Rattle.memory_laws.proofs.Reading.{ScalarImage, scalar_image}
 use Rattle.memory_laws.proofs.Scalars.{scalar_is_no_array, kept_scalar, scalar_of_word, covered_same}
@@ -92,27 +92,31 @@ module _ (U : Upgrade) where
 
   -- where no other position goes to where the variable stands
   image_is_written : (K : Pledge) (w : World) (a : Address) (b : net.Address) (locked : Locked) (ty : Ty) (z : Value6) (y : net_value.Value)
-      → covers_type ty ≡ true → MemoryMatch U w → (i : ScalarImage U w ty a b) → GoesAlone U w i.position → IsOwnAddress K a → LikeV U w (scalar ty z) y
+      → covers_type ty ≡ true → MemoryMatch U w → (i : ScalarImage U w ty a b) → GoesAlone U w i.position → MayChange K a → LikeV U w (scalar ty z) y
       → Agrees U K w AnyUnits (write locked (scalar ty z) a w.src) (net.written b y w.net)
   image_is_written K w a b locked ty z y c h i alone own like =
       subst (λ x. Agrees U K w AnyUnits (write locked (scalar ty z) x w.src) (net.written b y w.net)) (sym i.at_source)
       (subst (λ x. Agrees U K w AnyUnits (write locked (scalar ty z) (root (simple ty) i.position) w.src) (net.written x y w.net)) (sym i.at_target)
       (like_is_written K w locked ty z y i.position i.type_name c h i.is_matched alone
-      (λ l x. subst (λ u. IsOwnAddress K u) i.at_source own i.position refl l.old) i.is_name like))
+      (λ l x. subst (λ u. IsOwnAddress K u) i.at_source (own l.steady) i.position refl l.old) i.is_name like))
 
-  place_alone : (w : World) (ty : Ty) (a : Address) (b : net.Address) → MemoryMatch U w → (i : ScalarImage U w ty a b) → IsInPlace a
+  same_in : (s t : Shape) (q r : Position) → root s q ≡ root t r → q ≡ r
+  same_in s t q r e = cc
+
+  target_alone : (w : World) (ty : Ty) (a : Address) (b : net.Address) → MemoryMatch U w → (i : ScalarImage U w ty a b) → IsTarget U a
       → GoesAlone U w i.position
-  place_alone w ty a b h i p =
+  target_alone w ty a b h i (inl p) =
       let s : i.position ≡ at (made p.place) p.path = same_in (simple ty) p.shape i.position (at (made p.place) p.path) (sym i.at_source ∙ p.stands) in
       subst (λ x. GoesAlone U w x) (sym s) (place_goes_alone U w h.stores p.place p.path (subst (λ x. IsMatched U w x) s i.is_matched))
-    where
-      same_in : (s t : Shape) (q r : Position) → root s q ≡ root t r → q ≡ r
-      same_in s t q r e = cc
+  target_alone w ty a b h i (inr k) =
+      let q : Position = at (shared (k.variable ∷ [])) [] in
+      let s : i.position ≡ q = same_in (simple ty) k.of_shape i.position q (sym i.at_source ∙ k.stands) in
+      subst (λ x. GoesAlone U w x) (sym s) (key_goes_alone U w k.variable k.key k.is_key k.differs)
 
   pub scalars_are_written_in_places : ScalarsAreWrittenInPlaces U
-  scalars_are_written_in_places K w a b locked ty z y c h same stands place own like =
+  scalars_are_written_in_places K w a b locked ty z y c h same stands goes own like =
       let i : ScalarImage U w ty a b = scalar_image U K w ty a b c same stands in
-      image_is_written K w a b locked ty z y c h i (place_alone w ty a b h i place) own like
+      image_is_written K w a b locked ty z y c h i (target_alone w ty a b h i goes) own like
 
   pub scalars_are_written : ScalarsAreWritten U
   scalars_are_written = scalars_are_written_in_places

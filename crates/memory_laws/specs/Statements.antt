@@ -14,13 +14,12 @@ use Rattle.net_run.specs.Values as net_value
 use Rattle.run_matches.specs.Addresses.{Bound, Same}
 use Rattle.run_matches.specs.Agreeing.{Agrees}
 use Rattle.run_matches.specs.Covered.{covers_type}
-use Rattle.run_matches.specs.Frames.{IsInPlace, IsOwnAddress}
 use Rattle.run_matches.specs.Likeness.{LikeV, scalar_word}
 use Rattle.run_matches.specs.Maps.{World}
 use Rattle.run_matches.specs.Match.{MemoryMatch}
 use Rattle.run_matches.specs.Pledges.{Pledge}
 use Rattle.run_matches.specs.Upgrades.{Upgrade, variable_key, is_flagged}
-use Rattle.run_statements.specs.Frames.{ScalarMatch, AnyUnits, IsReadable, MadeMatch}
+use Rattle.run_statements.specs.Frames.{ScalarMatch, AnyUnits, IsReadable, MadeMatch, IsTarget, MayChange}
 
 -- ---- by a pledge
 
@@ -30,12 +29,12 @@ VariablesAreReadBy U K =
     (w : World) (exact : Bool) (a : source.Address) (b : net.Address) (ty : Ty) → covers_type ty ≡ true → MemoryMatch U w → Bound U K w exact a b
     → ((q : Position) × (a ≡ source.root (simple ty) q)) → Agrees U K w (ScalarMatch U ty) (source.read a w.src) (target.read b w.net)
 
--- A scalar is written to a variable that is the procedure's own and stands in a place. A variable of an object would need that those of its
--- class are written with different keys.
+-- A scalar is written to a variable that stands in a place, or to one of a standard module with a key of its own. A variable of an object
+-- would need that those of its class are written with different keys.
 abbrev pub ScalarsAreWrittenBy : Upgrade → Pledge → Type 0
 ScalarsAreWrittenBy U K =
     (w : World) (a : source.Address) (b : net.Address) (locked : source.Locked) (ty : Ty) (z : Value6) (y : net_value.Value) → covers_type ty ≡ true
-    → MemoryMatch U w → Same U K w a b → ((q : Position) × (a ≡ source.root (simple ty) q)) → IsInPlace a → IsOwnAddress K a
+    → MemoryMatch U w → Same U K w a b → ((q : Position) × (a ≡ source.root (simple ty) q)) → IsTarget U a → MayChange K a
     → LikeV U w (scalar ty z) y → Agrees U K w AnyUnits (source.write locked (scalar ty z) a w.src) (net.written b y w.net)
 
 -- a local variable is made

@@ -13,7 +13,7 @@ pub fn variables_are_read()
     ensures { (U : Upgrade) (p : ℕ) (start : World) (f : SourceFrame) → VariablesAreReadBy U (frame_pledge U p start f) }
 {}
 
-/// A law: where values that match are written to a procedure's own variables, the memories go on to match.
+/// A law: where values that match are written to a variable in a place or of a standard module, the memories go on to match.
 pub fn scalars_are_written()
     ensures { (U : Upgrade) (p : ℕ) (start : World) (f : SourceFrame) → ScalarsAreWrittenBy U (frame_pledge U p start f) }
 {}

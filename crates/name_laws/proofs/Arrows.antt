@@ -14,13 +14,13 @@ use Rattle.bound_tree.specs.declared.rule_set.RuleSet.{RuleSet}
 use Rattle.bound_tree.specs.Tree.{Variable, Constant, Declarations, Program, Line}
 use Rattle.bound_facts.specs.Calls.{calls, line_calls}
 use Rattle.bound_facts.specs.Clean.{Point, procedure, variable, constant, user_type, Arrow, to_all, mentioned, created_points, line_arrows, owner_point, lettered_point, variable_arrows, constant_arrows, type_arrows, captured_arrows, procedure_arrows, call_arrow, arrows, Path, stays, goes, set_broken, sets_broken, is_statement, variables_broken, constants_broken, statement_broken, variable_broken, constant_broken, point_broken, IsClean}
-use Rattle.bound_facts.specs.Items.{project_items}
+use Rattle.bound_facts.specs.Items.{items_from, project_items}
 use Rattle.bound_facts.specs.Locks.{user_in}
 use Rattle.bound_facts.specs.Parts.{line_uses}
 use Rattle.written_trees.specs.Facts.{Facts, is_flagged_variable, is_flagged_constant}
 use Rattle.run_matches.specs.CleanLines.{line_points, result_points}
 use Rattle.run_matches.specs.Covered.{belongs_to, is_mention_of}
-use Rattle.name_laws.proofs.Lists.{neither, second_false, same_number, some_same, Among, contains, among_left, among_right, map_among, flat_among}
+use Rattle.name_laws.proofs.Lists.{neither, second_false, same_number, some_same, Among, contains, among_at, among_left, among_right, map_among, flat_among}
 use Rattle.name_laws.proofs.Sets.{unbroken_set}
 
 -- ---- arrows to what a procedure owns
@@ -109,6 +109,28 @@ module _ (P : Program) where
       (subst (λ (n : ℕ). Among (constant_arrows 0 P.declarations.consts) (procedure p, constant n)) (let z : 0 + c ≡ c = omega arith in z)
       (constant_arrow p 0 c P.declarations.consts x e h))))
 
+-- ---- what lines give
+
+items_there : {X : Type 0} (items : ℕ → Line → List X) (i j : ℕ) (bodies : List (List Line)) (lines : List Line) (l : Line) (x : X)
+    → slice_get bodies j ≡ Some lines → Among lines l → Among (items (i + j) l) x → Among (items_from items i bodies) x
+items_there items i j [] lines l x e m h = absurd (cc e)
+items_there items i zero (ls ∷ rest) lines l x e m h =
+    let same : ls ≡ lines = some_same ls lines e in
+    let at : i + 0 ≡ i = omega arith in
+    among_left (flat_map (items i) ls) (items_from items (i + 1) rest) x
+    (flat_among (items i) ls l x (subst (λ ks. Among ks l) (sym same) m) (subst (λ n. Among (items n l) x) at h))
+items_there items i (suc j) (ls ∷ rest) lines l x e m h =
+    let at : i + suc j ≡ i + 1 + j = omega arith in
+    among_right (flat_map (items i) ls) (items_from items (i + 1) rest) x
+    (items_there items (i + 1) j rest lines l x e m (subst (λ n. Among (items n l) x) at h))
+
+-- what a line of a procedure gives is among what all lines give
+pub project_items_there : {X : Type 0} (items : ℕ → Line → List X) (bodies : List (List Line)) (p : ℕ) (lines : List Line) (l : Line) (x : X)
+    → slice_get bodies p ≡ Some lines → Among lines l → Among (items p l) x → Among (project_items items bodies) x
+project_items_there items bodies p lines l x e m h =
+    let at : p ≡ 0 + p = omega arith in
+    items_there items 0 p bodies lines l x e m (subst (λ n. Among (items n l) x) at h)
+
 -- ---- what is unbroken
 
 same_statement : (q : Place) (n : ℕ) → is_statement q n q n ≡ true
@@ -177,16 +199,37 @@ mention_point D v (mention.Type t) h = absurd (cc h)
 mention_point D v (mention.Proc q) h = absurd (cc h)
 mention_point D v (mention.Class c) h = absurd (cc h)
 
--- a variable that a line mentions is among its points
-pub mention_is_point : (D : Declarations) (p : ℕ) (l : Line) (v : VarId) (m : Mention) → Among l.bindings.mentions m → is_mention_of v m ≡ true
-    → Contains (line_points D p l) (variable v.0)
-mention_is_point D p l v m a h =
+-- an arrow leads from a procedure to a variable that one of its lines mentions
+pub mention_arrow : (D : Declarations) (p : ℕ) (l : Line) (v : VarId) (m : Mention) → Among l.bindings.mentions m → is_mention_of v m ≡ true
+    → Among (line_arrows D p l) (procedure p, variable v.0)
+mention_arrow D p l v m a h =
     let points = flat_map (mentioned D) l.bindings.mentions ++ flat_map (created_points D) (line_uses l) in
     let point : Among points (variable v.0) =
     among_left (flat_map (mentioned D) l.bindings.mentions) (flat_map (created_points D) (line_uses l)) (variable v.0)
     (flat_among (mentioned D) l.bindings.mentions m (variable v.0) a (mention_point D v m h)) in
     let from : Point → Arrow = λ q. (procedure p, q) in
-    let arrow : Among (line_arrows D p l) (procedure p, variable v.0) = map_among from points (variable v.0) point in
+    map_among from points (variable v.0) point
+
+-- a variable that a line mentions is among its points
+pub mention_is_point : (D : Declarations) (p : ℕ) (l : Line) (v : VarId) (m : Mention) → Among l.bindings.mentions m → is_mention_of v m ≡ true
+    → Contains (line_points D p l) (variable v.0)
+mention_is_point D p l v m a h =
     contains (line_points D p l) (variable v.0)
     (among_left (map (λ (a : Arrow). a.1) (line_arrows D p l)) (map (λ (c : ℕ × ℕ). procedure c.1) (line_calls D p l) ++ result_points D p l.source.form)
-    (variable v.0) (map_among (λ (a : Arrow). a.1) (line_arrows D p l) (procedure p, variable v.0) arrow))
+    (variable v.0) (map_among (λ (a : Arrow). a.1) (line_arrows D p l) (procedure p, variable v.0) (mention_arrow D p l v m a h)))
+
+-- and what it leads to breaks no rule, where the procedure is clean
+pub mentioned_by_clean : (P : Program) (M : Marks) (p k : ℕ) (lines : List Line) (l : Line) (v : VarId) (m : Mention) → IsClean P M p
+    → slice_get P.bodies p ≡ Some lines → slice_get lines k ≡ Some l → Among l.bindings.mentions m → is_mention_of v m ≡ true
+    → point_broken P.declarations M (variable v.0) ≡ false
+mentioned_by_clean P M p k lines l v m clean e f a h =
+    let arrow : Arrow = (procedure p, variable v.0) in
+    let first = map call_arrow (calls P) in
+    let second = project_items (line_arrows P.declarations) P.bodies in
+    let there : Among second arrow =
+    project_items_there (line_arrows P.declarations) P.bodies p lines l arrow e (among_at lines k l f) (mention_arrow P.declarations p l v m a h) in
+    clean (variable v.0)
+    (one_arrow P (procedure p) (variable v.0)
+    (owned_is_arrow P arrow
+    (among_left (before P ++ variable_arrows 0 P.declarations.vars) (constant_arrows 0 P.declarations.consts) arrow
+    (among_left (before P) (variable_arrows 0 P.declarations.vars) arrow (among_right first second arrow there)))))

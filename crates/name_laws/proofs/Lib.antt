@@ -1,5 +1,8 @@
 pub mod Lists
 pub mod Names
+pub mod Counting
+pub mod Codes
+pub mod MemberNames
 pub mod WrittenMembers
 pub mod Declared
 pub mod Open
@@ -8,6 +11,18 @@ pub mod Arrows
 pub mod Owned
 pub mod Numbers
 pub mod Prologues
+pub mod FrameNames
+pub mod Found
 pub mod Owns
 pub mod Uses
 pub mod Lines
+pub mod OwnsKept
+pub mod Others
+pub mod Looked
+pub mod Framed
+pub mod Led
+pub mod Reached
+pub mod Words
+pub mod Shared
+pub mod Placed
+pub mod Outward

@@ -32,6 +32,9 @@ no_support n h = (none_of (is_same_name n (codes "UpgradeSupport")) (is_same_nam
 pub no_library : IsNoFree (codes "Microsoft")
 no_library n h = (none_of (is_same_name n (codes "UpgradeSupport")) (is_same_name n (codes "System")) (is_same_name n (codes "Microsoft")) h).2
 
+pub no_mathematics : IsNoFree (codes "System")
+no_mathematics n h = (none_of (is_same_name n (codes "UpgradeSupport")) (is_same_name n (codes "System")) (is_same_name n (codes "Microsoft")) h).1
+
 -- ---- declarations
 
 pub record HasFreeNames (D : Declarations) : Type 0 where

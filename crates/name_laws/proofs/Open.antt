@@ -22,7 +22,7 @@ use Rattle.run_statements.specs.Kept.{NamesAreOpen}
 use Rattle.run_statements.specs.Written.{IsWritten, site_scope}
 use Rattle.name_laws.specs.Free.{is_free_head, is_free_member, has_free_members, is_free_code}
 use Rattle.name_laws.proofs.Lists.{both_true, all_at}
-use Rattle.name_laws.proofs.Names.{IsNoFree, no_support, no_library, free_names}
+use Rattle.name_laws.proofs.Names.{IsNoFree, no_support, no_library, no_mathematics, free_names}
 use Rattle.name_laws.proofs.WrittenMembers.{modules_free, module_names_free}
 use Rattle.name_laws.proofs.Declared.{codes_free, procedure_names_free}
 
@@ -104,4 +104,5 @@ names_are_open U I p s x W g k covers names =
     record {
       support = free_scope (scope_of U.written W.code g k) support_name no_support vars members modules;
       texts = free_scope (scope_of U.written W.code g k) (codes "Microsoft") no_library vars members modules;
+      math = free_scope (scope_of U.written W.code g k) (codes "System") no_mathematics vars members modules;
     }

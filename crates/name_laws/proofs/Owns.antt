@@ -9,25 +9,23 @@ use Rattle.vb_tree.specs.Blocks.{is_code}
 use Rattle.vb_tree.specs.declared.declared.Owner.{Owner}
 use Rattle.vb_tree.specs.declared.declared.Owner.TheVariants as owner
 use Rattle.vb_tree.specs.declared.value.Value6.{Value6}
-use Rattle.bound_tree.specs.Tree.{Variable, Constant, Procedure, Declarations, Program}
+use Rattle.bound_tree.specs.Tree.{Variable, Constant, Declarations, Program}
 use Rattle.bound_facts.specs.Clean.{variable, point_broken, IsClean}
-use Rattle.net_tree.specs.Tree as net
-use Rattle.written_trees.specs.Bodies.{inside_procedure, code_at}
+use Rattle.written_trees.specs.Bodies.{inside_procedure}
 use Rattle.written_trees.specs.Facts.{is_flagged_variable, is_flagged_constant}
 use Rattle.written_trees.specs.Names.{Scope}
-use Rattle.written_trees.specs.Prologues.{declares, code_sets, constant_dim_by, constant_dim, prologue}
+use Rattle.written_trees.specs.Prologues.{declares, constant_dim_by, constant_dim}
 use Rattle.vb6_run.specs.Programs.{is_local_of, owned_from}
-use Rattle.run_matches.specs.Covered.{covers_type, covers_owner, covers_variable, belongs_to, covers_head, covers_variables, covers_body, covers_names, are_different, covers_own, covers_owns, covers_site, covers_procedure}
+use Rattle.run_matches.specs.Covered.{covers_type, covers_owner, covers_variable, belongs_to, covers_head, covers_variables, covers_body, covers_names, are_different, covers_all_calls, covers_own, covers_owns, covers_site, covers_procedure}
+use Rattle.run_matches.specs.Callees.{frame_owns}
 use Rattle.run_matches.specs.Sites.{Site, site_of, site_lines, first_statement, Own, own_variable, own_constant, own_name, owns_from, owns_of, variable_numbers}
 use Rattle.run_matches.specs.Upgrades.{Upgrade, is_unknown, type_of_some, type_of}
 use Rattle.run_statements.specs.Frames.{IsReadable}
-use Rattle.run_statements.specs.Kept.{own_dim, IsConstantDim, OwnsAreKept}
-use Rattle.run_statements.specs.Written.{IsWritten, WrittenProcedure, site_scope}
-use Rattle.name_laws.proofs.Lists.{both_true, none_of_both, Among, among, among_append, all_among, all_at, same_numbers}
+use Rattle.run_statements.specs.Kept.{IsConstantDim}
+use Rattle.run_statements.specs.Written.{site_scope}
+use Rattle.name_laws.proofs.Lists.{both_true, none_of_both, Among, among_append, all_among, all_at, same_numbers}
 use Rattle.name_laws.proofs.Arrows.{variable_unbroken, constant_unbroken, variable_unflagged, constant_unflagged}
 use Rattle.name_laws.proofs.Owned.{IsOwn, lines_own, number_among, owned_is}
-use Rattle.name_laws.proofs.Numbers.{site_procedure}
-use Rattle.name_laws.proofs.Prologues.{prologue_is}
 
 -- ---- what can be read
 
@@ -46,6 +44,9 @@ type_known types.variant h = absurd (cc h)
 type_known (types.array e rank) h = absurd (cc h)
 type_known types.nothing h = absurd (cc h)
 type_known types.unknown h = absurd (cc h)
+
+pub covered_type : (x : Variable) → covers_variable x ≡ true → covers_type x.ty ≡ true
+covered_type x h = (both_true (covers_type x.ty) (not x.auto) (both_true (covers_owner x.owner) (covers_type x.ty && not x.auto) h).1).0
 
 -- a covered variable whose statement breaks no rule
 pub readable : (U : Upgrade) (v : ℕ) (x : Variable) → slice_get U.program.declarations.vars v ≡ Some x → covers_variable x ≡ true
@@ -73,16 +74,18 @@ pub covered_parts : (P : Program) (p : ℕ) (s : Site) → site_of P.declaration
 covered_parts P p s e h =
     let D = P.declarations in
     let os = owns_of D s in
-    let a = both_true (covers_names D) (covers_head P (slice_get D.procs p)
-    && (covers_site D p (site_of D p) && (covers_variables P p && covers_body P p (slice_get P.bodies p)))) h in
-    let b = both_true (covers_head P (slice_get D.procs p)) (covers_site D p (site_of D p) && (covers_variables P p && covers_body P p (slice_get P.bodies p))) a.1 in
+    let whole = both_true (covers_all_calls P p (slice_get P.bodies p)) (covers_names D && (covers_head P p (slice_get D.procs p)
+    && (covers_site D p (site_of D p) && (covers_variables P p && covers_body P p (slice_get P.bodies p))))) h in
+    let a = both_true (covers_names D) (covers_head P p (slice_get D.procs p)
+    && (covers_site D p (site_of D p) && (covers_variables P p && covers_body P p (slice_get P.bodies p)))) whole.1 in
+    let b = both_true (covers_head P p (slice_get D.procs p)) (covers_site D p (site_of D p) && (covers_variables P p && covers_body P p (slice_get P.bodies p))) a.1 in
     let c = both_true (covers_site D p (site_of D p)) (covers_variables P p && covers_body P p (slice_get P.bodies p)) b.1 in
     let d = both_true (covers_variables P p) (covers_body P p (slice_get P.bodies p)) c.1 in
     let site : covers_site D p (Some s) ≡ true = sym (ap (covers_site D p) e) ∙ c.0 in
-    let f = both_true (not s.source_module.class) (covers_owns D p os) site in
-    let g = both_true (pointwise nat_eq (variable_numbers os) (owned_from (is_local_of p) 0 D.vars)) (list_all (covers_own p) os && are_different (map own_name os)) f.1 in
-    let i = both_true (list_all (covers_own p) os) (are_different (map own_name os)) g.1 in
-    record { numbers = g.0; owns = i.0; vars = d.0; body = d.1 }
+    let names = are_different (map own_name (frame_owns D (slice_get D.procs p) s)) in
+    let f = both_true (covers_owns D p os) names (both_true (not s.source_module.class) (covers_owns D p os && names) site).1 in
+    let g = both_true (pointwise nat_eq (variable_numbers os) (owned_from (is_local_of p) 0 D.vars)) (list_all (covers_own p) os) f.0 in
+    record { numbers = g.0; owns = g.1; vars = d.0; body = d.1 }
 
 local_belongs : (p : ℕ) (o : Owner) → is_local_of p o ≡ true → belongs_to p o ≡ true
 local_belongs p (owner.Module file) h = absurd (cc h)
@@ -136,35 +139,8 @@ constant_kept S x true o h e = absurd (cc h)
 constant_kept S x false None h e = absurd (cc e)
 constant_kept S x false (Some v) h e = tt
 
-own_constant_dim : (U : Upgrade) (p : ℕ) (s : Site) → Covers U.program p s → IsClean U.program U.facts.marks p → (c : ℕ) (y : Constant)
+pub own_constant_dim : (U : Upgrade) (p : ℕ) (s : Site) → Covers U.program p s → IsClean U.program U.facts.marks p → (c : ℕ) (y : Constant)
     → Among (owns_of U.program.declarations s) (own_constant c y) → IsConstantDim (constant_dim (inside_procedure (site_scope U s) p) (c, y))
 own_constant_dim U p s C clean c y h =
     let own = both_true (belongs_to p y.owner) (is_some y.value) (all_among (covers_own p) (owns_of U.program.declarations s) (own_constant c y) C.owns h) in
     constant_kept (inside_procedure (site_scope U s) p) y (is_flagged_constant U.facts c) y.value (own_unflagged U p s C clean c y h) own.1
-
--- ---- the law
-
-prologue_kept : (U : Upgrade) (p : ℕ) (s : Site) (x : Procedure) (W : WrittenProcedure U p s x) → s.placed.at.procedure ≡ p
-    → covers_body U.program p (slice_get U.program.bodies p) ≡ true
-    → W.code.procedure.prologue ≡ map (own_dim (inside_procedure (site_scope U s) p)) (owns_of U.program.declarations s)
-prologue_kept U p s x W e h =
-    let S = site_scope U s in
-    let n = first_statement s in
-    let written : W.code.procedure.prologue
-    ≡ prologue (inside_procedure S s.placed.at.procedure) n (site_lines s) (code_at U.program S n s.placed.at.procedure (site_lines s)) =
-    ap (λ (t : net.Procedure). t.prologue) W.is_written in
-    let placed : prologue (inside_procedure S s.placed.at.procedure) n (site_lines s) (code_at U.program S n s.placed.at.procedure (site_lines s))
-    ≡ prologue (inside_procedure S p) n (site_lines s) (code_at U.program S n p (site_lines s)) =
-    ap (λ (q : ℕ). prologue (inside_procedure S q) n (site_lines s) (code_at U.program S n q (site_lines s))) e in
-    written ∙ placed ∙ prologue_is U.program (inside_procedure S p) p n (site_lines s) (code_sets S p n 0 (site_lines s)) h
-
-pub owns_are_kept : (U : Upgrade) → IsWritten U → (p : ℕ) (s : Site) (x : Procedure) → site_of U.program.declarations p ≡ Some s
-    → slice_get U.program.declarations.procs p ≡ Some x → (W : WrittenProcedure U p s x) → IsClean U.program U.facts.marks p
-    → covers_procedure U.program p ≡ true → OwnsAreKept U p s x W
-owns_are_kept U I p s x e f W clean h =
-    let C = covered_parts U.program p s e h in
-    record {
-      prologue = prologue_kept U p s x W (site_procedure U.program.declarations p s e) C.body;
-      variables = λ v y m. own_readable U p s C clean v y (among (owns_of U.program.declarations s) (own_variable v y) m);
-      constants = λ c y m. own_constant_dim U p s C clean c y (among (owns_of U.program.declarations s) (own_constant c y) m);
-    }

@@ -11,34 +11,52 @@ use Rattle.vb6_run.specs.Forms.{SourceLine, with_aims, body_of}
 use Rattle.vb6_run.specs.Lines.{source_lines}
 use Rattle.vb6_run.specs.Programs.{machine_of}
 use Rattle.run_matches.specs.CleanLines.{IsCleanLine, lines_at, or_none, line_points}
-use Rattle.run_matches.specs.Covered.{covers_variable, belongs_to, covers_some, is_mention_of, covers_use}
+use Rattle.run_matches.specs.Covered.{covers_variable, is_reached, covers_some, is_mention_of, covers_use}
 use Rattle.run_matches.specs.Upgrades.{Upgrade, runnable_of}
 use Rattle.run_statements.specs.Frames.{IsReadable}
 use Rattle.name_laws.proofs.Lists.{both_true, some_same, any_among}
-use Rattle.name_laws.proofs.Arrows.{variable_unbroken, mention_is_point}
+use Rattle.name_laws.proofs.Arrows.{mentioned_by_clean, mention_is_point}
 use Rattle.name_laws.proofs.Owns.{readable}
 
--- a covered use is of a variable of the procedure
-record CoveredUse (P : Program) (p v : ℕ) : Type 0 where
+-- a covered use is of a variable that is reached
+pub record CoveredUse (P : Program) (p v : ℕ) : Type 0 where
   pub used : Variable
   pub is_used : slice_get P.declarations.vars v ≡ Some used
-  pub owner : belongs_to p used.owner ≡ true
+  pub reached : is_reached P.declarations p v used.name used.owner ≡ true
   pub covers : covers_variable used ≡ true
 
-use_is : (P : Program) (p v : ℕ) → covers_some p (slice_get P.declarations.vars v) ≡ true → CoveredUse P p v
+pub use_is : (P : Program) (p v : ℕ) → covers_some P.declarations p v (slice_get P.declarations.vars v) ≡ true → CoveredUse P p v
 use_is P p v h = by (slice_get P.declarations.vars v) refl h
   where
-    by : (o : Option Variable) → slice_get P.declarations.vars v ≡ o → covers_some p o ≡ true → CoveredUse P p v
+    by : (o : Option Variable) → slice_get P.declarations.vars v ≡ o → covers_some P.declarations p v o ≡ true → CoveredUse P p v
     by None e k = absurd (cc k)
-    by (Some x) e k = let b = both_true (belongs_to p x.owner) (covers_variable x) k in record { used = x; is_used = e; owner = b.0; covers = b.1 }
+    by (Some x) e k =
+        let b = both_true (is_reached P.declarations p v x.name x.owner) (covers_variable x) k in
+        record { used = x; is_used = e; reached = b.0; covers = b.1 }
+
+-- the lines of the procedure with a line
+pub record HasLine (P : Program) (p k : ℕ) (l : Line) : Type 0 where
+  pub lines : List Line
+  pub are_lines : slice_get P.bodies p ≡ Some lines
+  pub is_line : slice_get lines k ≡ Some l
+
+pub has_line : (P : Program) (p k : ℕ) (l : Line) → nth_line (lines_at P p) (suc k) ≡ Some l → HasLine P p k l
+has_line P p k l h = by (slice_get P.bodies p) refl h
+  where
+    by : (o : Option (List Line)) → slice_get P.bodies p ≡ o → slice_get (or_none o) k ≡ Some l → HasLine P p k l
+    by None e f = absurd (cc f)
+    by (Some lines) e f = record { lines = lines; are_lines = e; is_line = f }
 
 -- in a clean procedure
-pub uses_are_readable : (U : Upgrade) (p : ℕ) (l : Line) → IsClean U.program U.facts.marks p → (v : VarId) → covers_use U.program p l.bindings.mentions v ≡ true
-    → IsReadable U v.0
-uses_are_readable U p l clean v h =
-    let b = both_true (list_any (is_mention_of v) l.bindings.mentions) (covers_some p (slice_get U.program.declarations.vars v.0)) h in
-    let used = use_is U.program p v.0 b.1 in
-    readable U v.0 used.used used.is_used used.covers (variable_unbroken U.program U.facts.marks p v.0 used.used clean used.is_used used.owner)
+pub uses_are_readable : (U : Upgrade) (p k : ℕ) (l : Line) → IsClean U.program U.facts.marks p → nth_line (lines_at U.program p) (suc k) ≡ Some l
+    → (v : VarId) → covers_use U.program p l.bindings.mentions v ≡ true → IsReadable U v.0
+uses_are_readable U p k l clean e v h =
+    let b = both_true (list_any (is_mention_of v) l.bindings.mentions) (covers_some U.program.declarations p v.0 (slice_get U.program.declarations.vars v.0)) h in
+    let used : CoveredUse U.program p v.0 = use_is U.program p v.0 b.1 in
+    let at : HasLine U.program p k l = has_line U.program p k l e in
+    let m = any_among (is_mention_of v) l.bindings.mentions b.0 in
+    readable U v.0 used.used used.is_used used.covers
+    (mentioned_by_clean U.program U.facts.marks p k at.lines l v m.0 clean at.are_lines at.is_line m.1 m.2)
 
 -- the line that is clean by itself
 pub clean_line_is : (P : Program) (M : Marks) (p number : ℕ) (l : Line) (C : IsCleanLine P M p number) → nth_line (lines_at P p) number ≡ Some l → C.itself.line ≡ l
@@ -58,7 +76,7 @@ mentioned_unbroken P M p number l v C e h =
 pub line_uses_are_readable : (U : Upgrade) (p number : ℕ) (l : Line) → IsCleanLine U.program U.facts.marks p number → nth_line (lines_at U.program p) number ≡ Some l
     → (v : VarId) → covers_use U.program p l.bindings.mentions v ≡ true → IsReadable U v.0
 line_uses_are_readable U p number l C e v h =
-    let b = both_true (list_any (is_mention_of v) l.bindings.mentions) (covers_some p (slice_get U.program.declarations.vars v.0)) h in
+    let b = both_true (list_any (is_mention_of v) l.bindings.mentions) (covers_some U.program.declarations p v.0 (slice_get U.program.declarations.vars v.0)) h in
     let used = use_is U.program p v.0 b.1 in
     readable U v.0 used.used used.is_used used.covers (mentioned_unbroken U.program U.facts.marks p number l v C e b.0)
 

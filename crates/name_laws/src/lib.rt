@@ -5,5 +5,5 @@ mod laws;
 
 pub use laws::{
     clean_line_is_unreplaced, clean_lines_are_unreplaced, line_uses_are_readable, names_are_open,
-    owns_are_kept, uses_are_readable,
+    owns_are_kept, stores_are_own, uses_are_placed, uses_are_readable,
 };

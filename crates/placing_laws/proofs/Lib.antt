@@ -6,3 +6,4 @@ mod Together
 mod Standing
 pub mod Placing
 pub mod Lines
+pub mod Labels

@@ -88,7 +88,7 @@ none_written S ls k (d ∷ code) zero e = absurd (cc e)
 none_written S ls k (d ∷ code) (suc i) e = none_written S ls (k + replaced_in (d ∷ [])) code i e
 
 -- the rules of lines are the same inside of the procedure
-sets_inside : (S : Scope) (q p n i : ℕ) (ls : List source.Line) → code_sets (inside_procedure S q) p n i ls ≡ code_sets S p n i ls
+pub sets_inside : (S : Scope) (q p n i : ℕ) (ls : List source.Line) → code_sets (inside_procedure S q) p n i ls ≡ code_sets S p n i ls
 sets_inside S q p n i [] = refl
 sets_inside S q p n i (l ∷ ls) =
     ap (λ more. set_if (is_code l.form) (both (line_set S.facts p i) (statement_set S.declarations S.facts S.file n)) ++ more)
@@ -114,7 +114,7 @@ no_line_before (Some lines) = refl
 
 -- ---- a procedure
 
-are_bound : (P : Program) (s : Site) → HasBody P s.placed.at.procedure s → AreBound P s.placed s.body
+pub are_bound : (P : Program) (s : Site) → HasBody P s.placed.at.procedure s → AreBound P s.placed s.body
 are_bound P s b = ap lines_in b.are_lines ∙ b.sources
 
 module _ (P : Program) (S : Scope) (s : Site) (b : HasBody P s.placed.at.procedure s) (head : net.Head) (close : NetClose) (c : Code)

@@ -1,9 +1,9 @@
 //! Which written procedure and which written line stands for one of the source.
 ghost use Rattle.run_matches.specs.Upgrades.{Upgrade};
 ghost use Rattle.run_statements.specs.Written.{IsWritten, ProceduresAreWritten};
-ghost use Rattle.run_statements.specs.Kept.{LinesAreWritten, NoFurtherLines};
+ghost use Rattle.run_statements.specs.Kept.{LabelsAreFound, LinesAreWritten, NoFurtherLines};
 
-use target_laws::{same_aims, same_tests};
+use target_laws::{same_aims, same_labels, same_tests};
 
 /// A law: each procedure that is no part of a property has a number among the written ones, and what is written for it stands there, in
 /// the module that its own is written as.
@@ -24,3 +24,10 @@ pub fn lines_are_written()
 pub fn no_further_lines()
     ensures { (U : Upgrade) → IsWritten U → NoFurtherLines U }
 {}
+
+/// A law: jumps of a procedure find their labels at the same lines, if no line of it is replaced.
+pub fn labels_are_found()
+    ensures { (U : Upgrade) → IsWritten U → LabelsAreFound U }
+{
+    same_labels();
+}

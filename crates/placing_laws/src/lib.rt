@@ -3,4 +3,4 @@
 
 mod laws;
 
-pub use laws::{lines_are_written, no_further_lines, procedures_are_written};
+pub use laws::{labels_are_found, lines_are_written, no_further_lines, procedures_are_written};

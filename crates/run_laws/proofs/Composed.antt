@@ -4,31 +4,67 @@ use Rattle.run_base.specs.Machines.{nth_line}
 use Rattle.run_matches.specs.Addresses.{images}
 use Rattle.run_matches.specs.CleanLines.{or_none}
 use Rattle.target_laws.proofs.Aims.{same_aims}
+use Rattle.target_laws.proofs.Labels.{same_labels}
 use Rattle.target_laws.proofs.Tests.{same_tests}
 use Rattle.run_matches.specs.Upgrades.{Upgrade}
-use Rattle.run_statements.specs.Frames.{ExpressionsAgree}
+use Rattle.run_statements.specs.Frames.{ScalarsAreRead}
 use Rattle.run_statements.specs.Kept.{LinesAgree}
 use Rattle.run_statements.specs.Written.{IsWritten, SameLines, SameRuns}
 use Rattle.placing_laws.proofs.Placing.{procedures_are_written}
+use Rattle.placing_laws.proofs.Labels.{labels_are_found}
 use Rattle.placing_laws.proofs.Lines.{lines_are_written, no_further_lines}
 use Rattle.name_laws.proofs.Open.{names_are_open}
-use Rattle.name_laws.proofs.Owns.{owns_are_kept}
+use Rattle.name_laws.proofs.OwnsKept.{owns_are_kept}
+use Rattle.name_laws.proofs.Arrows.{variable_unbroken}
+use Rattle.name_laws.proofs.Found.{callees_are_found}
+use Rattle.name_laws.proofs.Owns.{readable}
 use Rattle.name_laws.proofs.Lines.{clean_lines_are_unreplaced, clean_line_is_unreplaced}
+use Rattle.name_laws.proofs.Outward.{stores_are_own}
+use Rattle.name_laws.proofs.Placed.{uses_are_placed}
 use Rattle.name_laws.proofs.Uses.{uses_are_readable, line_uses_are_readable}
 use Rattle.memory_laws.proofs.Reading.{variables_are_read}
 use Rattle.memory_laws.proofs.Writing.{scalars_are_written}
 use Rattle.memory_laws.proofs.Making.{locals_are_made}
-use Rattle.expression_laws.proofs.Expressions.{expressions_agree}
+use Rattle.memory_laws.proofs.Parameters.{values_are_made}
+use Rattle.expression_laws.specs.Statements.{VariablesAreRead}
+use Rattle.expression_laws.proofs.Expressions.{calls_are_made, expressions_agree}
 use Rattle.line_laws.proofs.Lines.{lines_agree}
 use Rattle.run_laws.specs.Premises.{LinePremises, RunPremises}
 use Rattle.run_laws.proofs.Lines as by_itself
-use Rattle.run_laws.proofs.Runs.{made_in_calls}
+use Rattle.run_matches.specs.Runs.{call_pledge}
+use Rattle.run_laws.proofs.Runs.{made_in_calls, made_with_in_calls}
 use Rattle.run_laws.proofs.Runs as whole
+
+scalars_are_read : (U : Upgrade) → ScalarsAreRead U
+scalars_are_read U K w a b ty covers h same at = variables_are_read U K w true a b ty covers h (images true a b same) at
+
+variables_read : (U : Upgrade) → VariablesAreRead U
+variables_read U K w ty a b covers h same at = scalars_are_read U K w a b ty covers h same at
 
 lines_do : (U : Upgrade) → LinesAgree U
 lines_do U =
-    lines_agree U (expressions_agree U (λ K w ty a b covers h same at. variables_are_read U K w true a b ty covers h (images true a b same) at))
-    (scalars_are_written U)
+    lines_agree U (expressions_agree U (variables_read U)) (calls_are_made U (variables_read U)) (scalars_are_read U) (scalars_are_written U)
+
+run_premises : (U : Upgrade) → IsWritten U → RunPremises U
+run_premises U w = record {
+  procedures = procedures_are_written U w;
+  lines = lines_are_written same_aims same_tests U w;
+  no_further = no_further_lines U w;
+  labels = labels_are_found same_labels U w;
+  names = names_are_open U w;
+  agree = lines_do U;
+  owns = owns_are_kept U w;
+  unreplaced = clean_lines_are_unreplaced U w;
+  readable = λ p s x site is W clean covered k line here v e. uses_are_readable U p k line clean here v e;
+  placed = uses_are_placed U w;
+  stores = stores_are_own U w;
+  owned = λ p v x clean e owned covers. readable U v x e covers (variable_unbroken U.program U.facts.marks p v x clean e owned);
+  known = w.known;
+  found = callees_are_found U w;
+  made = made_in_calls U (locals_are_made U);
+  made_with = made_with_in_calls U (values_are_made U);
+  read = λ p base me xs ys. variables_read U (call_pledge U p base me xs ys);
+}
 
 line_premises : (U : Upgrade) → IsWritten U → LinePremises U
 line_premises U w = record {
@@ -38,19 +74,11 @@ line_premises U w = record {
   agree = lines_do U;
   unreplaced = λ p k s site clean covered. clean_line_is_unreplaced U w p s k site clean covered;
   readable = λ p k clean covered v e. line_uses_are_readable U p (suc k) covered.line clean (ap (λ o. nth_line (or_none o) (suc k)) covered.are_lines ∙ covered.is_line) v e;
-}
-
-run_premises : (U : Upgrade) → IsWritten U → RunPremises U
-run_premises U w = record {
-  procedures = procedures_are_written U w;
-  lines = lines_are_written same_aims same_tests U w;
-  no_further = no_further_lines U w;
-  names = names_are_open U w;
-  agree = lines_do U;
-  owns = owns_are_kept U w;
-  unreplaced = clean_lines_are_unreplaced U w;
-  readable = λ p s x site is W clean covered k line here v e. uses_are_readable U p line clean v e;
-  made = made_in_calls U (locals_are_made U);
+  known = w.known;
+  placed = uses_are_placed U w;
+  stores = stores_are_own U w;
+  found = callees_are_found U w;
+  calls = whole.calls_agree U (run_premises U w);
 }
 
 -- clean procedures that are covered run the same

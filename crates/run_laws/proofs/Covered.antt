@@ -1,28 +1,31 @@
 -- What the tests of covered procedures and lines say.
-use Rattle.std.proofs.Common.{◌≡◌, refl, sym, ap, ◌∙◌, ℕ, zero, suc, Bool, true, false, cond, not, ◌&&◌, nat_eq, true≢false, Option, Some, None, option_map, List, [], ◌∷◌, map, eq-eqb, eqb-true}
-use Rattle.std.specs.Prelude.{slice_get, is_some}
+use Rattle.std.proofs.Common.{◌≡◌, refl, sym, ap, subst, ◌∙◌, ℕ, zero, suc, Bool, true, false, cond, not, ◌&&◌, nat_eq, true≢false, Option, Some, None, option_map, List, [], ◌∷◌, map, eq-eqb, eqb-true}
+use Rattle.std.specs.Prelude.{slice_get}
 use Rattle.std.specs.Cmp.Lexicographic.{pointwise}
 use Rattle.std.specs.List.{list_all}
 use Rattle.up_base.proofs.Lists.{all_first, all_rest, all_leads}
-use Rattle.up_base.proofs.Tests.{both_true, not_true}
+use Rattle.up_base.proofs.Tests.{both_true}
 use Rattle.up_base.specs.Names.{is_same_name, lower_case}
 use Rattle.vb_tree.specs.declared.declared.Owner.{Owner}
 use Rattle.vb_tree.specs.declared.declared.Owner.TheVariants as owner
 use Rattle.vb_tree.specs.declared.declared.ProcKind.{ProcKind}
 use Rattle.vb_tree.specs.declared.declared.ProcKind.TheVariants as kind
 use Rattle.vb_tree.specs.declared.declared.VarId.{VarId}
+use Rattle.vb_tree.specs.declared.form_parts.Label6.{Label6}
 use Rattle.vb_tree.specs.Tree.{Form}
 use Rattle.vb_tree.specs.Tree as source
+use Rattle.bound_tree.specs.Labels.{label_of}
 use Rattle.bound_tree.specs.Targets.{Aims, aims_at, aims_from, step_of, steps, Step}
 use Rattle.bound_tree.specs.Tree.{Expr, Line, Procedure, Program, Variable, Declarations}
 use Rattle.run_base.specs.Machines.{nth_line}
 use Rattle.vb6_run.specs.Forms.{SourceLine, body_of, tests_in, with_aims}
 use Rattle.vb6_run.specs.Lines.{source_lines}
-use Rattle.vb6_run.specs.Programs.{is_static_of, is_local_of, owned_from}
+use Rattle.vb6_run.specs.Programs.{answer_in, is_static_of, is_local_of, owned_from}
 use Rattle.vb6_run.specs.Runnables.{is_class_file}
 use Rattle.written_trees.specs.Arguments.{is_property_kind}
 use Rattle.run_matches.specs.Formed.{is_formed}
-use Rattle.run_matches.specs.Covered.{Uses, belongs_to, covers_body, covers_form, covers_head, covers_kind, covers_line, covers_names, covers_owner, covers_owns, covers_procedure, covers_site, covers_type, covers_use, covers_variable, covers_variables, has_no_parameters, is_plain, is_plain_kind, keeps_blocks, keeps_blocks_in, are_different, covers_own}
+use Rattle.run_matches.specs.Covered.{Uses, belongs_to, covers_body, covers_form, covers_head, covers_in_block, covers_kind, covers_label, covers_line, covers_names, covers_owner, covers_owns, covers_procedure, covers_site, covers_type, covers_use, covers_variable, covers_variables, has_sound_label, has_sound_label_in, is_plain, is_plain_kind, jump_of, keeps_blocks, keeps_blocks_in, are_different, covers_own, covers_all_calls, covers_calls, covers_parameter, covers_result, has_result, is_answer_of, is_value_of}
+use Rattle.run_matches.specs.Callees.{frame_owns}
 use Rattle.run_matches.specs.Frames.{is_exact_head, is_own_head, is_own_line, is_quiet_head, is_static_in}
 use Rattle.run_matches.specs.Sites.{Site, own_name, owns_of, site_of, variable_numbers}
 use Rattle.run_matches.specs.Upgrades.{Upgrade}
@@ -65,54 +68,55 @@ same_name name = same_units (lower_case name)
 
 -- ---- procedures
 
-record Head (o : Option Procedure) : Type 0 where
+record Head (P : Program) (p : ℕ) (o : Option Procedure) : Type 0 where
   procedure : Procedure
   is_procedure : o ≡ Some procedure
   kind : covers_kind procedure.kind ≡ true
-  params : procedure.params ≡ []
-  answer : procedure.answer ≡ None
+  params : list_all (covers_parameter P.declarations p) procedure.params ≡ true
+  result : has_result P.declarations p procedure procedure.kind ≡ true
 
-no_parameters : (vs : List VarId) → has_no_parameters vs ≡ true → vs ≡ []
-no_parameters [] h = refl
-no_parameters (v ∷ vs) h = absurd (true≢false (sym h))
-
-no_answer : (o : Option VarId) → is_some o ≡ false → o ≡ None
-no_answer None h = refl
-no_answer (Some v) h = absurd (true≢false h)
-
-head_parts : (P : Program) (o : Option Procedure) → covers_head P o ≡ true → Head o
-head_parts P None h = absurd (true≢false (sym h))
-head_parts P (Some x) h =
-    let outer = not (is_class_file P.declarations x.module_number) in
-    let a = both_true (covers_kind x.kind) (has_no_parameters x.params && (not (is_some x.answer) && outer)) h in
-    let b = both_true (has_no_parameters x.params) (not (is_some x.answer) && outer) a.1 in
-    let c = both_true (not (is_some x.answer)) outer b.1 in
+head_parts : (P : Program) (p : ℕ) (o : Option Procedure) → covers_head P p o ≡ true → Head P p o
+head_parts P p None h = absurd (true≢false (sym h))
+head_parts P p (Some x) h =
+    let D : Declarations = P.declarations in
+    let outer = not (is_class_file D x.module_number) in
+    let numbers = pointwise nat_eq (map (λ (v : VarId). v.0) x.params) (owned_from (is_value_of p) 0 D.vars)
+    && pointwise nat_eq (answer_in x.answer) (owned_from (is_answer_of p) 0 D.vars) in
+    let a = both_true (covers_kind x.kind) (list_all (covers_parameter D p) x.params && (covers_result D p x && outer)) h in
+    let b = both_true (list_all (covers_parameter D p) x.params) (covers_result D p x && outer) a.1 in
+    let c = both_true (covers_result D p x) outer b.1 in
     record {
       procedure = x;
       is_procedure = refl;
       kind = a.0;
-      params = no_parameters x.params b.0;
-      answer = no_answer x.answer (not_true (is_some x.answer) c.0);
+      params = b.0;
+      result = (both_true (has_result D p x x.kind) numbers c.0).0;
     }
 
 record Stands (D : Declarations) (p : ℕ) (o : Option Site) : Type 0 where
   site : Site
   is_site : o ≡ Some site
   owns : covers_owns D p (owns_of D site) ≡ true
+  different : are_different (map own_name (frame_owns D (slice_get D.procs p) site)) ≡ true
 
 site_parts : (D : Declarations) (p : ℕ) (o : Option Site) → covers_site D p o ≡ true → Stands D p o
 site_parts D p None h = absurd (true≢false (sym h))
 site_parts D p (Some s) h =
-    record { site = s; is_site = refl; owns = (both_true (not s.source_module.class) (covers_owns D p (owns_of D s)) h).1 }
+    let names = are_different (map own_name (frame_owns D (slice_get D.procs p) s)) in
+    let both = both_true (covers_owns D p (owns_of D s)) names (both_true (not s.source_module.class) (covers_owns D p (owns_of D s) && names) h).1 in
+    record { site = s; is_site = refl; owns = both.0; different = both.1 }
 
 record Body (P : Program) (p : ℕ) (o : Option (List Line)) : Type 0 where
   lines : List Line
   are_lines : o ≡ Some lines
   covers : list_all (covers_line P p) lines ≡ true
+  in_blocks : list_all (covers_in_block P p lines) (body_of lines) ≡ true
 
 body_parts : (P : Program) (p : ℕ) (o : Option (List Line)) → covers_body P p o ≡ true → Body P p o
 body_parts P p None h = absurd (true≢false (sym h))
-body_parts P p (Some lines) h = record { lines = lines; are_lines = refl; covers = h }
+body_parts P p (Some lines) h =
+    let both = both_true (list_all (covers_line P p) lines) (list_all (covers_in_block P p lines) (body_of lines)) h in
+    record { lines = lines; are_lines = refl; covers = both.0; in_blocks = both.1 }
 
 -- what is known of a covered procedure
 pub record CoveredProcedure (P : Program) (p : ℕ) : Type 0 where
@@ -120,49 +124,58 @@ pub record CoveredProcedure (P : Program) (p : ℕ) : Type 0 where
   pub procedure : Procedure
   pub is_procedure : slice_get P.declarations.procs p ≡ Some procedure
   pub kind : covers_kind procedure.kind ≡ true
-  pub params : procedure.params ≡ []
-  pub answer : procedure.answer ≡ None
+  pub params : list_all (covers_parameter P.declarations p) procedure.params ≡ true
+  pub result : has_result P.declarations p procedure procedure.kind ≡ true
   pub site : Site
   pub is_site : site_of P.declarations p ≡ Some site
   pub numbers : variable_numbers (owns_of P.declarations site) ≡ owned_from (is_local_of p) 0 P.declarations.vars
-  pub different : are_different (map own_name (owns_of P.declarations site)) ≡ true
+  pub different : are_different (map own_name (frame_owns P.declarations (Some procedure) site)) ≡ true
   pub variables : covers_variables P p ≡ true
   pub lines : List Line
   pub are_lines : slice_get P.bodies p ≡ Some lines
   pub covers : list_all (covers_line P p) lines ≡ true
+  pub in_blocks : list_all (covers_in_block P p lines) (body_of lines) ≡ true
+  pub calls : list_all (covers_calls P p) lines ≡ true
+
+called_all : (P : Program) (p : ℕ) (o : Option (List Line)) (lines : List Line) → covers_all_calls P p o ≡ true → o ≡ Some lines
+    → list_all (covers_calls P p) lines ≡ true
+called_all P p None lines h e = absurd (true≢false (sym h))
+called_all P p (Some ls) lines h e = subst (λ xs. list_all (covers_calls P p) xs ≡ true) (some_is e) h
 
 pub covered_parts : (P : Program) (p : ℕ) → covers_procedure P p ≡ true → CoveredProcedure P p
 covered_parts P p h =
     let D : Declarations = P.declarations in
-    let head = covers_head P (slice_get D.procs p) in
+    let head = covers_head P p (slice_get D.procs p) in
     let at = covers_site D p (site_of D p) in
     let body = covers_body P p (slice_get P.bodies p) in
-    let a = both_true (covers_names D) (head && (at && (covers_variables P p && body))) h in
+    let whole = both_true (covers_all_calls P p (slice_get P.bodies p)) (covers_names D && (head && (at && (covers_variables P p && body)))) h in
+    let a = both_true (covers_names D) (head && (at && (covers_variables P p && body))) whole.1 in
     let b = both_true head (at && (covers_variables P p && body)) a.1 in
     let c = both_true at (covers_variables P p && body) b.1 in
     let d = both_true (covers_variables P p) body c.1 in
-    let x : Head (slice_get D.procs p) = head_parts P (slice_get D.procs p) b.0 in
+    let x : Head P p (slice_get D.procs p) = head_parts P p (slice_get D.procs p) b.0 in
     let s : Stands D p (site_of D p) = site_parts D p (site_of D p) c.0 in
     let y : Body P p (slice_get P.bodies p) = body_parts P p (slice_get P.bodies p) d.1 in
     let os = owns_of D s.site in
     let m = both_true (pointwise nat_eq (variable_numbers os) (owned_from (is_local_of p) 0 D.vars))
-    (list_all (covers_own p) os && are_different (map own_name os)) s.owns in
-    let n = both_true (list_all (covers_own p) os) (are_different (map own_name os)) m.1 in
+    (list_all (covers_own p) os) s.owns in
     record {
       names = a.0;
       procedure = x.procedure;
       is_procedure = x.is_procedure;
       kind = x.kind;
       params = x.params;
-      answer = x.answer;
+      result = x.result;
       site = s.site;
       is_site = s.is_site;
       numbers = same_numbers (variable_numbers os) (owned_from (is_local_of p) 0 D.vars) m.0;
-      different = n.1;
+      different = subst (λ o. are_different (map own_name (frame_owns D o s.site)) ≡ true) x.is_procedure s.different;
       variables = d.0;
       lines = y.lines;
       are_lines = y.are_lines;
       covers = y.covers;
+      in_blocks = y.in_blocks;
+      calls = called_all P p (slice_get P.bodies p) y.lines whole.0 y.are_lines;
     }
 
 pub no_property : (k : ProcKind) → covers_kind k ≡ true → is_property_kind k ≡ false
@@ -214,6 +227,12 @@ no_statics p k (x ∷ xs) h =
     (static_not p x.owner (covers_type x.ty && not x.auto) (all_first (own_covered p) x xs h))
     ∙ no_statics p (suc k) xs (all_rest (own_covered p) x xs h)
 
+-- what the procedure owns is covered
+pub own_covered_at : (P : Program) (p v : ℕ) (x : Variable) → covers_variables P p ≡ true → slice_get P.declarations.vars v ≡ Some x
+    → belongs_to p x.owner ≡ true → covers_variable x ≡ true
+own_covered_at P p v x h e owned =
+    sym (ap (λ b. cond b (covers_variable x) true) owned) ∙ all_at (own_covered p) P.declarations.vars v x h e
+
 pub no_static : (P : Program) (p v : ℕ) → covers_variables P p ≡ true → is_static_in p (slice_get P.declarations.vars v) ≡ false
 no_static P p v h = by (slice_get P.declarations.vars v) refl
   where
@@ -229,13 +248,35 @@ form_covered P p l h =
     (both_true (covers_form (covers_use P p l.bindings.mentions) l.source.form l.bindings.exprs) (list_all is_formed l.bindings.exprs) h).0
 
 form_keeps_blocks : (uses : Uses) (f : Form) (es : List Expr) → covers_form uses f es ≡ true → keeps_blocks_in f es ≡ true
-form_keeps_blocks uses (source.for_head counter start limit step) es h = absurd (true≢false (sym h))
+form_keeps_blocks uses (source.for_head counter start limit step) [] h = absurd (true≢false (sym h))
+form_keeps_blocks uses (source.for_head counter start limit step) (e ∷ []) h = absurd (true≢false (sym h))
+form_keeps_blocks uses (source.for_head counter start limit step) (e ∷ x ∷ []) h = absurd (true≢false (sym h))
+form_keeps_blocks uses (source.for_head counter start limit step) (e ∷ x ∷ y ∷ es) h = refl
 form_keeps_blocks uses (source.for_each name suffix e) es h = absurd (true≢false (sym h))
 form_keeps_blocks uses _ es h = refl
 
 pub blocks_are_kept : (P : Program) (p : ℕ) (lines : List Line) → list_all (covers_line P p) lines ≡ true → list_all keeps_blocks lines ≡ true
 blocks_are_kept P p lines h =
     all_leads (covers_line P p) keeps_blocks (λ l e. form_keeps_blocks (covers_use P p l.bindings.mentions) l.source.form l.bindings.exprs (form_covered P p l e)) lines h
+
+-- labels that can be written
+form_has_sound_label : (uses : Uses) (f : Form) (es : List Expr) → covers_form uses f es ≡ true → has_sound_label_in f ≡ true
+form_has_sound_label uses (source.label a) es h = h
+form_has_sound_label uses _ es h = refl
+
+pub labels_are_sound : (P : Program) (p : ℕ) (lines : List Line) → list_all (covers_line P p) lines ≡ true → list_all has_sound_label lines ≡ true
+labels_are_sound P p lines h =
+    all_leads (covers_line P p) has_sound_label
+    (λ l e. form_has_sound_label (covers_use P p l.bindings.mentions) l.source.form l.bindings.exprs (form_covered P p l e)) lines h
+
+form_jumps_soundly : (uses : Uses) (f : Form) (es : List Expr) (a : Label6) → covers_form uses f es ≡ true → jump_of f ≡ Some a → covers_label (label_of a) ≡ true
+form_jumps_soundly uses (source.goto b) es a h e = ap (λ c. covers_label (label_of c)) (sym (some_is e)) ∙ h
+form_jumps_soundly uses (source.on_error_goto b) es a h e = absurd (true≢false (sym h))
+form_jumps_soundly uses (source.resume_at b) es a h e = absurd (true≢false (sym h))
+form_jumps_soundly uses _ es a h e = absurd (not_none e)
+
+pub jumps_soundly : (P : Program) (p : ℕ) (l : Line) (a : Label6) → covers_line P p l ≡ true → jump_of l.source.form ≡ Some a → covers_label (label_of a) ≡ true
+jumps_soundly P p l a h e = form_jumps_soundly (covers_use P p l.bindings.mentions) l.source.form l.bindings.exprs a (form_covered P p l h) e
 
 -- covered lines have no With
 no_own_head : (U : Upgrade) (p : ℕ) (uses : Uses) (f : Form) (es : List Expr) → covers_form uses f es ≡ true → is_own_head U p f es ≡ false

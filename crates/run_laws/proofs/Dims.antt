@@ -33,14 +33,14 @@ use Rattle.run_statements.specs.Kept.{IsConstantDim, own_dim}
 -- ---- types
 
 -- a type is written by a word, and its variables begin with what the word says
-record WordOf (ty : Ty) : Type 0 where
-  word : TypeName
-  is_word : scalar_word ty ≡ Some word
-  written : (D : Declarations) (file : ℕ) (qualified : Bool) (rank : ℕ) → type_with D file qualified rank ty ≡ word
-  plain : (S : Scope) (v : ℕ) (x : Variable) → initial S v x ty ≡ None
-  shaped : (N : net_tree.Project) (home : ℕ) → shape.shape_of N home word ≡ shape.scalar word
+pub record WordOf (ty : Ty) : Type 0 where
+  pub word : TypeName
+  pub is_word : scalar_word ty ≡ Some word
+  pub written : (D : Declarations) (file : ℕ) (qualified : Bool) (rank : ℕ) → type_with D file qualified rank ty ≡ word
+  pub plain : (S : Scope) (v : ℕ) (x : Variable) → initial S v x ty ≡ None
+  pub shaped : (N : net_tree.Project) (home : ℕ) → shape.shape_of N home word ≡ shape.scalar word
 
-word_of : (ty : Ty) → covers_type ty ≡ true → WordOf ty
+pub word_of : (ty : Ty) → covers_type ty ≡ true → WordOf ty
 word_of types.boolean h =
     record { word = words.boolean; is_word = refl; written = λ D f q r. refl; plain = λ S v x. refl; shaped = λ N home. refl }
 word_of types.byte h =
@@ -121,22 +121,3 @@ constant_made U S c d x h = by (sound_value S.facts (d, x)) refl h
       address = declared_constant U.written c.home (written_constant S x z);
       is_made = λ me i w. ap (λ o. dim_made U.written c me i (constant_dim_by S x o) w) e;
     }
-
--- ---- names
-
-name_by : (b c : Bool) (x y : net_tree.Variable) (name : List ℕ) → x.name ≡ name → y.name ≡ name
-    → dim_name (cond b (net_tree.static_local (cond c x y)) (net_tree.local (cond c x y))) ≡ name
-name_by true true x y name d e = d
-name_by true false x y name d e = e
-name_by false true x y name d e = d
-name_by false false x y name d e = e
-
-constant_name : (S : Scope) (x : Constant) (o : Option Value6) → dim_name (constant_dim_by S x o) ≡ x.name
-constant_name S x None = refl
-constant_name S x (Some z) = refl
-
--- a declaration is written under its name
-pub own_dim_name : (S : Scope) (o : Own) → dim_name (own_dim S o) ≡ own_name o
-own_dim_name S (own_variable v x) =
-    name_by (is_static x.owner) (is_flagged_variable S.facts v) (object_variable x.name) (typed_variable S v x) x.name refl refl
-own_dim_name S (own_constant c x) = constant_name S x (sound_value S.facts (c, x))

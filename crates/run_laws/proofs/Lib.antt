@@ -3,9 +3,15 @@ pub mod Keeping
 pub mod Dims
 pub mod Locals
 pub mod Owns
+pub mod Names
+pub mod Heads
+pub mod Parameters
 pub mod Entries
 pub mod Pledged
+pub mod Reaching
+pub mod Callees
 pub mod Turns
 pub mod Lines
+pub mod Results
 pub mod Runs
 pub mod Composed

@@ -1,27 +1,29 @@
 -- What is written for a line of a procedure does the same.
 use Rattle.std.proofs.Common.{◌≡◌, sym, ap, subst, ◌∙◌, ℕ, zero, suc, true, Option, Some, option_map, List}
 use Rattle.std.specs.Prelude.{slice_get}
-use Rattle.std.specs.List.{list_all}
+use Rattle.std.specs.List.{Contains, list_all}
 use Rattle.std.proofs.lemmas.Option.{slice_get-map}
 use Rattle.vb_tree.specs.declared.declared.VarId.{VarId}
 use Rattle.bound_tree.specs.Tree.{Line, Procedure}
-use Rattle.run_base.specs.Machines.{line_at, line_in, nth_line}
+use Rattle.bound_facts.specs.Calls.{line_calls}
+use Rattle.run_base.specs.Machines.{go, line_at, line_in, nth_line}
 use Rattle.vb6_run.specs.Forms.{SourceLine, body_of}
 use Rattle.vb6_run.specs.Programs as source
 use Rattle.net_run.specs.Lines.{NetFrame, NetLine, scope_of}
 use Rattle.net_run.specs.Program as target
-use Rattle.run_matches.specs.CleanLines.{IsCleanLine}
-use Rattle.run_matches.specs.Covered.{IsCoveredLine, covers_line, covers_names, covers_use, keeps_blocks}
-use Rattle.run_matches.specs.Frames.{HasNames}
-use Rattle.run_matches.specs.Runs.{LineDoesTheSame, SameLine}
+use Rattle.run_matches.specs.CleanLines.{IsCleanLine, or_none, lines_at}
+use Rattle.run_matches.specs.Covered.{IsCoveredLine, covers_in_block, covers_line, covers_names, covers_use, jump_of, keeps_blocks}
+use Rattle.run_matches.specs.Frames.{HasNames, lines_of}
+use Rattle.run_matches.specs.Runs.{LineDoesTheSame, SameLine, CallsAgree}
 use Rattle.run_matches.specs.Sites.{Site, site_of}
 use Rattle.run_matches.specs.Upgrades.{Upgrade, code_of, runnable_of}
 use Rattle.run_statements.specs.Frames.{IsOpen, IsReadable}
-use Rattle.run_statements.specs.Kept.{IsUnreplaced, LinesAgree, LinesAreWritten, NamesAreOpen}
-use Rattle.run_statements.specs.Written.{SameLines, WrittenLine, WrittenProcedure}
+use Rattle.run_statements.specs.Kept.{IsUnreplaced, LineStands, LinesAgree, LinesAreWritten, NamesAreOpen, StoresAreOwn, UsesArePlaced, CanCallFrom, SameLineIn}
+use Rattle.run_statements.specs.Written.{SameLines, WrittenLine, WrittenProcedure, Passes}
 use Rattle.run_laws.specs.Premises.{LinePremises}
 use Rattle.run_laws.proofs.Covered.{PlainProcedure, bound_line, not_none, plain_parts, some_is}
-use Rattle.run_laws.proofs.Entries.{code_is}
+use Rattle.run_laws.proofs.Callees.{callee_covered, called_clean, can_call}
+use Rattle.run_laws.proofs.Names.{code_is}
 
 -- the bound lines of a procedure, as its lines
 pub body_is : (U : Upgrade) (p : ℕ) (lines : List Line) → slice_get U.program.bodies p ≡ Some lines
@@ -36,7 +38,9 @@ line_is U p lines n e = ap (λ z. line_in z n) (body_is U p lines e)
 pub record LineSame (U : Upgrade) (p q n : ℕ) (l : SourceLine) : Type 0 where
   pub line : NetLine
   pub is_line : line_at (target.machine_of U.written) q n ≡ Some line
-  pub same : SameLine U p q n l line
+  pub same :
+      (turns : ℕ) → CallsAgree U (Passes U) (go (source.machine_of (runnable_of U)) turns) (go (target.machine_of U.written) turns)
+      → SameLineIn U p q n turns l line
 
 module _ (U : Upgrade) (lines_written : LinesAreWritten U) (names_open : NamesAreOpen U) (lines_agree : LinesAgree U)
     (p : ℕ) (s : Site) (x : Procedure) (stands : site_of U.program.declarations p ≡ Some s) (W : WrittenProcedure U p s x) (lines : List Line) (are : slice_get U.program.bodies p ≡ Some lines) where
@@ -48,30 +52,54 @@ module _ (U : Upgrade) (lines_written : LinesAreWritten U) (names_open : NamesAr
 
   pub line_same : (k : ℕ) (l : SourceLine) → line_at (source.machine_of (runnable_of U)) p (suc k) ≡ Some l → list_all keeps_blocks lines ≡ true
       → IsUnreplaced U p s k → covers_names U.program.declarations ≡ true → covers_line U.program p l.form ≡ true
-      → ((v : VarId) → covers_use U.program p l.form.bindings.mentions v ≡ true → IsReadable U v.0) → LineSame U p W.number (suc k) l
-  line_same k l e blocks unreplaced names covers readable =
+      → ((v : VarId) → covers_use U.program p l.form.bindings.mentions v ≡ true → IsReadable U v.0) → UsesArePlaced U p s W.code l.form → StoresAreOwn U p l.form
+      → ((q : ℕ) → Contains (line_calls U.program.declarations p l.form) (p, q) → CanCallFrom U p s W.code q) → LineStands U p s W.code (suc k) l
+      → LineSame U p W.number (suc k) l
+  line_same k l e blocks unreplaced names covers readable placed own can there =
       let L : WrittenLine U p s W.number (suc k) l = lines_written p s x stands W k l e (blocks_in blocks) unreplaced in
       record {
         line = L.line;
         is_line = L.is_line;
-        same = lines_agree p s W.number (suc k) l W.code L W.is_code (names_in names) readable covers;
+        same = λ turns calls.
+            lines_agree p s W.number (suc k) turns l W.code L W.is_code (names_in names) readable placed own calls can covers there;
       }
 
 -- ---- lines by themselves
 
 module _ (U : Upgrade) (h : LinePremises U) where
+  -- what the line calls passes
+  can_call_from : (p k : ℕ) (clean : IsCleanLine U.program U.facts.marks p (suc k)) (c : IsCoveredLine U.program p (suc k))
+      (x : PlainProcedure (slice_get U.program.declarations.procs p)) (W : WrittenProcedure U p c.site x.procedure) (q : ℕ)
+      → Contains (line_calls U.program.declarations p c.line) (p, q) → CanCallFrom U p c.site W.code q
+  can_call_from p k clean c x W q call =
+      can_call U h.known h.procedures h.found p q c.site x.procedure c.is_site x.is_procedure x.kind W c.line
+      (record { lines = c.lines; are_lines = c.are_lines; place = k; stands = c.is_line }) call (callee_covered U p q c.line c.calls call)
+      (called_clean U p (suc k) c.line clean (ap (λ o. nth_line (or_none o) (suc k)) c.are_lines ∙ c.is_line) q call, c.entered q call)
+
   one_line : (p k : ℕ) → IsCleanLine U.program U.facts.marks p (suc k) → IsCoveredLine U.program p (suc k) → LineDoesTheSame U p (suc k)
   one_line p k clean c =
       let x : PlainProcedure (slice_get U.program.declarations.procs p) = plain_parts (slice_get U.program.declarations.procs p) c.plain in
       let W : WrittenProcedure U p c.site x.procedure = h.procedures p c.site x.procedure c.is_site x.is_procedure x.kind in
       let found = bound_line c.lines k c.line c.is_line in
       let l : SourceLine = found.0 in
+      let lines_are : lines_of U p ≡ c.lines = ap or_none c.are_lines in
       let form : l.form ≡ c.line = found.2 in
       let is : line_at (source.machine_of (runnable_of U)) p (suc k) ≡ Some l = line_is U p c.lines (suc k) c.are_lines ∙ found.1 in
+      let covers : covers_line U.program p l.form ≡ true = subst (λ m. covers_line U.program p m ≡ true) (sym form) c.covers in
+      let readable : (v : VarId) → covers_use U.program p l.form.bindings.mentions v ≡ true → IsReadable U v.0 =
+      λ v e. h.readable p k clean c v (subst (λ (m : Line). covers_use U.program p m.bindings.mentions v ≡ true) form e) in
+      let here : nth_line (lines_at U.program p) (suc k) ≡ Some l.form =
+      ap (λ o. nth_line (or_none o) (suc k)) c.are_lines ∙ c.is_line ∙ ap {B = Option Line} (λ m. Some m) (sym form) in
       let z : LineSame U p W.number (suc k) l =
       line_same U h.lines h.names h.agree p c.site x.procedure c.is_site W c.lines c.are_lines k l is c.blocks
-      (h.unreplaced p k c.site c.is_site clean c) c.names (subst (λ m. covers_line U.program p m ≡ true) (sym form) c.covers)
-      (λ v e. h.readable p k clean c v (subst (λ (m : Line). covers_use U.program p m.bindings.mentions v ≡ true) form e)) in
+      (h.unreplaced p k c.site c.is_site clean c) c.names covers readable
+      (h.placed p c.site x.procedure c.is_site x.is_procedure W l.form readable) (h.stores p x.procedure x.is_procedure k l.form here covers)
+      (λ q call. can_call_from p k clean c x W q (subst (λ (m : Line). Contains (line_calls U.program.declarations p m) (p, q)) form call))
+      (record {
+        is_there = here;
+        in_block = subst (λ ls. covers_in_block U.program p ls l ≡ true) (sym lines_are) (c.stands l found.1);
+        label = λ a e. absurd (not_none (sym (ap (λ (m : Line). jump_of m.source.form) form ∙ c.stays) ∙ e));
+      }) in
       record {
         written = W.number;
         is_written = W.is_number;
@@ -79,7 +107,7 @@ module _ (U : Upgrade) (h : LinePremises U) where
         is_line = is;
         written_line = z.line;
         is_written_line = z.is_line;
-        same = z.same;
+        same = λ w f g turns at m F. z.same turns (h.calls turns) w f g at m F;
       }
 
   pub same_lines : SameLines U U.facts.marks

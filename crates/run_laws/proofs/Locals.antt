@@ -1,5 +1,6 @@
 -- The variables of a procedure are made on both sides, in the order of their declarations.
-use Rattle.std.proofs.Common.{◌≡◌, ◌⊎◌, inl, inr, refl, sym, ap, subst, ◌∙◌, ℕ, suc, ◌<◌, ◌≤◌, Bool, true, false, cond, not, ◌&&◌, nat_eq, true≢false, Option, Some, None, List, [], ◌∷◌, map, arith, append-nil, eqb-true}
+use Rattle.std.proofs.Common.{◌≡◌, ◌++◌, ◌⊎◌, inl, inr, refl, sym, ap, subst, ◌∙◌, ℕ, zero, suc, ◌+◌, ◌<◌, ◌≤◌, Bool, true, false, cond, not, ◌&&◌, nat_eq, true≢false, Option, Some, None, List, [], ◌∷◌, map, arith, append-nil, eq-eqb, eqb-true}
+use Rattle.std.specs.Prelude.{◌||◌, slice_get}
 use Rattle.std.specs.List.{list_any}
 use Rattle.std.specs.Map.{lookup}
 use Rattle.up_base.proofs.Tests.{both_true, either, neither, not_true}
@@ -7,7 +8,7 @@ use Rattle.up_base.specs.Names.{is_same_name}
 use Rattle.bound_tree.specs.Tree.{Declarations, Variable}
 use Rattle.run_base.specs.Outcomes.{Outcome, gives, raises, spent, outside, then}
 use Rattle.run_base.specs.Positions.{Position, Root, made, shared, field, whole}
-use Rattle.vb6_run.specs.Programs.{made_each}
+use Rattle.vb6_run.specs.Programs.{is_local_of, made_each, owned_from}
 use Rattle.vb6_run.specs.Shapes.{Shape, variable_shape}
 use Rattle.vb6_run.specs.Store.{Address, Memory, constant, item, laid, make, provided, root}
 use Rattle.vb6_run.specs.Values.{is_makeable}
@@ -20,7 +21,7 @@ use Rattle.net_tree.specs.Types.{TypeName}
 use Rattle.written_trees.specs.Names.{Scope}
 use Rattle.run_matches.specs.Addresses.{Same, same_item, same_root, position_of}
 use Rattle.run_matches.specs.Agreeing.{Agrees}
-use Rattle.run_matches.specs.Covered.{are_different, is_named_in}
+use Rattle.run_matches.specs.Covered.{are_different, is_local_in, is_named_in}
 use Rattle.run_matches.specs.Frames.{IsOwnAddress, is_own_of, is_place, stands_in}
 use Rattle.run_matches.specs.Maps.{Below, IsMade, World, mark}
 use Rattle.run_matches.specs.Match.{MemoryMatch}
@@ -69,14 +70,14 @@ stands_new K n (item e q j path) h own old = own q refl (subst (λ r. IsOld K r)
 stands_new K n (constant x) h own old = absurd (true≢false (sym h))
 
 -- a place that was made since the mark is no old one
-new_place : (K : Pledge) (w : World) (a : Address) (s : Shape) → Below K.base (mark w.src) → a ≡ root s (whole (made w.src.next)) → IsOwnAddress K a
+pub new_place : (K : Pledge) (w : World) (a : Address) (s : Shape) → Below K.base (mark w.src) → a ≡ root s (whole (made w.src.next)) → IsOwnAddress K a
 new_place K w a s low e q is old =
     not_less K.base.places w.src.next low.places
     (subst (λ (z : Position). IsOld K z.root) (sym (position_is a s (whole (made w.src.next)) q e is)) old).is_made
 
 -- ---- what a new variable is at a later world
 
-local_later : (U : Upgrade) (K : Pledge) (w0 w1 : World) (v : ℕ) (a : Address) (b : net.Address) → Later U K w0 w1 → LocalMatch U K w0 v a b
+pub local_later : (U : Upgrade) (K : Pledge) (w0 w1 : World) (v : ℕ) (a : Address) (b : net.Address) → Later U K w0 w1 → LocalMatch U K w0 v a b
     → LocalMatch U K w1 v a b
 local_later U K w0 w1 v a b l m = record {
   place = record {
@@ -88,6 +89,33 @@ local_later U K w0 w1 v a b l m = record {
   same = address_later U K w0 w1 a b l m.same;
   own = m.own;
 }
+
+-- ---- the numbers of local variables
+
+or_more : (a b : Bool) → b ≡ true → a || b ≡ true
+or_more true b h = refl
+or_more false b h = h
+
+pub local_listed : (p v k i : ℕ) (xs : List Variable) → is_local_in p (slice_get xs i) ≡ true → v ≡ k + i
+    → list_any (nat_eq v) (owned_from (is_local_of p) k xs) ≡ true
+local_listed p v k i [] h e = absurd (true≢false (sym h))
+local_listed p v k zero (x ∷ xs) h e =
+    let here : v ≡ k = omega (arith, e) in
+    ap (λ t. list_any (nat_eq v) (cond t (k ∷ owned_from (is_local_of p) (suc k) xs) (owned_from (is_local_of p) (suc k) xs))) h
+    ∙ ap (λ t. t || list_any (nat_eq v) (owned_from (is_local_of p) (suc k) xs)) (eq-eqb v k here)
+local_listed p v k (suc i) (x ∷ xs) h e = by (is_local_of p x.owner) (local_listed p v (suc k) i xs h (omega (arith, e)))
+  where
+    by : (t : Bool) → list_any (nat_eq v) (owned_from (is_local_of p) (suc k) xs) ≡ true
+        → list_any (nat_eq v) (cond t (k ∷ owned_from (is_local_of p) (suc k) xs) (owned_from (is_local_of p) (suc k) xs)) ≡ true
+    by true more = or_more (nat_eq v k) (list_any (nat_eq v) (owned_from (is_local_of p) (suc k) xs)) more
+    by false more = more
+
+-- and so it is behind others
+pub listed_behind : (v : ℕ) (os more : List Own) → list_any (nat_eq v) (variable_numbers more) ≡ true
+    → list_any (nat_eq v) (variable_numbers (os ++ more)) ≡ true
+listed_behind v [] more h = h
+listed_behind v (own_variable u x ∷ os) more h = or_more (nat_eq v u) (list_any (nat_eq v) (variable_numbers (os ++ more))) (listed_behind v os more h)
+listed_behind v (own_constant c x ∷ os) more h = listed_behind v os more h
 
 -- ---- finding a variable
 
@@ -144,6 +172,19 @@ module _ (U : Upgrade) (S : Scope) (K : Pledge) (w : World) where
       found_behind (own_constant c x) b v a os ys name (first_differs (own_constant c x) os different).0
       (local_found os xs ys rest sound.1 (first_differs (own_constant c x) os different).1 v a e)
 
+  -- each variable is there
+  pub local_there : (os : List Own) (xs : List (ℕ × Address)) (ys : List (List ℕ × net.Address)) → LocalsMatch U K w os xs ys → (v : ℕ)
+      → list_any (nat_eq v) (variable_numbers os) ≡ true → (a : Address) × (lookup (nat_eq v) xs ≡ Some a)
+  local_there _ _ _ no_locals v h = absurd (true≢false (sym h))
+  local_there _ _ _ (next_variable u x a b os xs ys name m rest) v h = by (nat_eq v u) h (local_there os xs ys rest v)
+    where
+      by : (t : Bool) → t || list_any (nat_eq v) (variable_numbers os) ≡ true
+          → (list_any (nat_eq v) (variable_numbers os) ≡ true → (a : Address) × (lookup (nat_eq v) xs ≡ Some a))
+          → (d : Address) × (cond t (Some a) (lookup (nat_eq v) xs) ≡ Some d)
+      by true e more = (a, refl)
+      by false e more = more e
+  local_there _ _ _ (next_constant c x b os xs ys name rest) v h = local_there os xs ys rest v h
+
   -- the target has all names
   pub local_names : (os : List Own) (xs : List (ℕ × Address)) (ys : List (List ℕ × net.Address)) → LocalsMatch U K w os xs ys
       → map (λ (y : List ℕ × net.Address). y.0) ys ≡ map own_name os
@@ -183,7 +224,7 @@ abbrev lay_by : Bool → Shape → Position → Memory → Outcome Memory Unit
 lay_by b s q w = provided b (λ v. gives [] tt (laid s q v)) w
 
 -- the source makes the next place
-makes_next : (s : Shape) (w : Memory) → Yields (λ (a : Address) (u : Memory). a ≡ root s (whole (made w.next))) (make s w)
+pub makes_next : (s : Shape) (w : Memory) → Yields (λ (a : Address) (u : Memory). a ≡ root s (whole (made w.next))) (make s w)
 makes_next s w = by (is_makeable s)
   where
     by : (b : Bool) → Yields (λ (a : Address) (u : Memory). a ≡ root s (whole (made w.next)))
@@ -192,7 +233,7 @@ makes_next s w = by (is_makeable s)
     by false = tt
 
 -- the target goes on with a function of what it gives
-then_gives : {A B C : Type 0} (U : Upgrade) (K : Pledge) (w : World) (R : World → A → B → Type 0) (S : World → A → C → Type 0) (f : B → C)
+pub then_gives : {A B C : Type 0} (U : Upgrade) (K : Pledge) (w : World) (R : World → A → B → Type 0) (S : World → A → C → Type 0) (f : B → C)
     (r : Outcome Memory A) (r' : Outcome net.Memory B) → ((u : World) (a : A) (b : B) → R u a b → S u a (f b)) → Agrees U K w R r r'
     → Agrees U K w S r (then r' (λ b t. gives [] (f b) t))
 then_gives U K w R S f (gives o a s) (gives q b t) g h = (append-nil q ∙ h.0, h.1, g (record { map = h.1; src = s; net = t }) a b h.2, h.3)

@@ -11,7 +11,7 @@ use Rattle.bound_facts.specs.Facts.{is_quiet}
 use Rattle.run_base.specs.Frames.{Kept}
 use Rattle.run_base.specs.Machines.{nth_line}
 use Rattle.run_base.specs.Positions.{Position, Root, made, shared, field}
-use Rattle.vb6_run.specs.Store.{Address, Locked, SourceFrame}
+use Rattle.vb6_run.specs.Store.{Address, Locked, SourceFrame, SourceGiven}
 use Rattle.vb6_run.specs.Values.{Value}
 use Rattle.net_run.specs.Lines.{NetFrame}
 use Rattle.net_run.specs.Store as net
@@ -20,7 +20,7 @@ use Rattle.run_matches.specs.Addresses.{AllLocked, Bound, KeptMatch, LockOk, Sam
 use Rattle.run_matches.specs.Covered.{covers_line}
 use Rattle.run_matches.specs.Frames.{FrameMatch, NextMatch, SameVariable, frame_pledge, is_exact_head, is_kept_from, is_kept_in, is_own_of, is_own_place, lines_of, stands_in}
 use Rattle.run_matches.specs.Maps.{Below, Mark, World, mark}
-use Rattle.run_matches.specs.Pledges.{IsOld, Pledge, is_own, is_that_object, own_object}
+use Rattle.run_matches.specs.Pledges.{IsOld, NetGiven, Pledge, is_own, is_that_object, own_object}
 use Rattle.run_matches.specs.Runs.{call_pledge}
 use Rattle.run_matches.specs.Upgrades.{Upgrade, is_flagged}
 use Rattle.agreeing_laws.specs.Promises.{Weaker}
@@ -71,6 +71,8 @@ module _ (U : Upgrade) (K L : Pledge) (w : World) (keeps : (ty : Ty) → K.keeps
     own = m.own;
     own_heads = m.own_heads;
     kept = λ h. kept_with (is_exact_head U (nth_line (lines_of U p) h)) (f.kept h) (g.kept h) (heads h) (m.kept h);
+    covered_heads = m.covered_heads;
+    has_locals = m.has_locals;
     locks = locks_with f.env m.locks;
     low = low;
   }
@@ -94,13 +96,13 @@ no_own_kept U P p f n h (l ∷ ls) c e =
     no_own_kept U P p f n (suc h) ls (all_rest (covers_line P p) l ls c)
     (sym (ap (λ b. (b && is_kept_in n (f.kept h)) || is_kept_from U p f n (suc h) ls) (no_own_line U P p l (all_first (covers_line P p) l ls c))) ∙ e)
 
-module _ (U : Upgrade) (p : ℕ) (base : Mark) (me : Option ℕ) (w : World) (f : SourceFrame) (g : NetFrame)
-    (lines : list_all (covers_line U.program p) (lines_of U p) ≡ true) (r : RunMatch U (call_pledge U p base me [] []) p me w f g) where
+module _ (U : Upgrade) (p : ℕ) (base : Mark) (me : Option ℕ) (xs : List SourceGiven) (ys : List NetGiven) (w : World) (f : SourceFrame) (g : NetFrame)
+    (lines : list_all (covers_line U.program p) (lines_of U p) ≡ true) (r : RunMatch U (call_pledge U p base me xs ys) p me w f g) where
   -- what was there before the call is no more the line's own than the call's
-  old_in_line : (q : Root) → IsOld (call_pledge U p base me [] []) q → IsOld (frame_pledge U p w f) q
+  old_in_line : (q : Root) → IsOld (call_pledge U p base me xs ys) q → IsOld (frame_pledge U p w f) q
   old_in_line q old = record { is_made = made_more base (mark w.src) r.next.frames.low q old.is_made; foreign = by q old }
     where
-      by : (z : Root) → IsOld (call_pledge U p base me [] []) z → is_own (frame_pledge U p w f).own z ≡ false
+      by : (z : Root) → IsOld (call_pledge U p base me xs ys) z → is_own (frame_pledge U p w f).own z ≡ false
       by (shared k) o = refl
       by (made n) o =
           false_from_ne_true (is_own_place U p f n)
@@ -111,22 +113,22 @@ module _ (U : Upgrade) (p : ℕ) (base : Mark) (me : Option ℕ) (w : World) (f 
           ours (inr h) = no_own_kept U U.program p f n 1 (lines_of U p) lines h
       by (field z k) o = ap (λ m. is_that_object (own_object U p m) z) r.next.same_object ∙ o.foreign
 
-  pub call_is_weaker : Weaker w (call_pledge U p base me [] []) (frame_pledge U p w f)
+  pub call_is_weaker : Weaker w (call_pledge U p base me xs ys) (frame_pledge U p w f)
   call_is_weaker = record { keeps = λ ty x. x; steady = λ x. x; old = λ q m s o. old_in_line q o; takes = λ k lt x. absurd x }
 
   pub frame_in_line : ((h : ℕ) → is_exact_head U (nth_line (lines_of U p) h) ≡ true) → FrameMatch U (frame_pledge U p w f) w p f g
   frame_in_line heads =
-      frame_with U (call_pledge U p base me [] []) (frame_pledge U p w f) w (λ ty x. x) p f g (below_self (mark w.src)) r.exact heads r.next.frames
+      frame_with U (call_pledge U p base me xs ys) (frame_pledge U p w f) w (λ ty x. x) p f g (below_self (mark w.src)) r.exact heads r.next.frames
 
   -- the frame that a line leads to is one of the call
   pub frame_goes_on : ((h : ℕ) → is_exact_head U (nth_line (lines_of U p) h) ≡ true) → (u : World) (f2 : SourceFrame) (g2 : NetFrame)
       → Below (mark w.src) (mark u.src) → f2.vars ≡ f.vars → NextMatch U (frame_pledge U p w f) p f.me u f2 g2
-      → RunMatch U (call_pledge U p base me [] []) p me u f2 g2
+      → RunMatch U (call_pledge U p base me xs ys) p me u f2 g2
   frame_goes_on heads u f2 g2 grows same m = record {
     next = record {
       same_object = m.same_object ∙ r.next.same_object;
       frames =
-          frame_with U (frame_pledge U p w f) (call_pledge U p base me [] []) u (λ ty x. x) p f2 g2
+          frame_with U (frame_pledge U p w f) (call_pledge U p base me xs ys) u (λ ty x. x) p f2 g2
           (below_then base (mark w.src) (mark u.src) r.next.frames.low grows) exact heads m.frames;
       owns = record {
         variables = λ v a e is q at old. m.owns.variables v a e is q at (old_in_line q.root old);

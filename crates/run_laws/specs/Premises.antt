@@ -1,29 +1,33 @@
 -- What the laws on runs need of declarations, names, memories and lines.
-use Rattle.std.specs.Prelude.{◌≡◌, ℕ, suc, true, Option, Some, None, [], slice_get}
+use Rattle.std.specs.Prelude.{◌≡◌, ℕ, suc, true, Option, Some, [], slice_get, None, List}
 use Rattle.vb_tree.specs.declared.declared.VarId.{VarId}
-use Rattle.bound_tree.specs.Tree.{Line, Procedure}
+use Rattle.bound_tree.specs.Tree.{Line, Procedure, Variable}
 use Rattle.bound_facts.specs.Clean.{IsClean}
-use Rattle.run_base.specs.Machines.{line_at, nth_line}
+use Rattle.run_base.specs.Machines.{nth_line, go, line_at}
+use Rattle.bound_facts.specs.Facts.{AreFacts}
 use Rattle.net_tree.specs.Types.{TypeName}
-use Rattle.vb6_run.specs.Programs as source
 use Rattle.vb6_run.specs.Shapes.{variable_shape}
-use Rattle.vb6_run.specs.Store.{make}
+use Rattle.vb6_run.specs.Store.{make, SourceGiven, make_with}
+use Rattle.vb6_run.specs.Values.{Value}
+use Rattle.vb6_run.specs.Programs as source
 use Rattle.net_run.specs.Program as target
 use Rattle.net_run.specs.Shapes as shape
 use Rattle.net_run.specs.Store as net
+use Rattle.net_run.specs.Values as net_value
 use Rattle.run_matches.specs.Agreeing.{Agrees}
 use Rattle.run_matches.specs.CleanLines.{IsCleanLine, lines_at}
-use Rattle.run_matches.specs.Covered.{IsCoveredLine, covers_procedure, covers_use}
-use Rattle.run_matches.specs.Likeness.{scalar_word}
+use Rattle.run_matches.specs.Covered.{IsCoveredLine, covers_line, covers_procedure, covers_use, belongs_to, covers_variable}
+use Rattle.run_matches.specs.Likeness.{scalar_word, LikeV}
 use Rattle.run_matches.specs.Maps.{Mark, World}
 use Rattle.run_matches.specs.Match.{MemoryMatch}
-use Rattle.run_matches.specs.Pledges.{Pledge}
-use Rattle.run_matches.specs.Runs.{call_pledge}
+use Rattle.run_matches.specs.Pledges.{Later, NetGiven, Pledge}
+use Rattle.run_matches.specs.Runs.{CallsAgree, call_pledge}
 use Rattle.run_matches.specs.Sites.{Site, site_of}
 use Rattle.run_matches.specs.Upgrades.{Upgrade, runnable_of}
 use Rattle.run_statements.specs.Frames.{IsReadable, MadeMatch}
-use Rattle.run_statements.specs.Kept.{IsUnreplaced, LinesAgree, LinesAreWritten, NamesAreOpen, OwnsAreKept, NoFurtherLines}
-use Rattle.run_statements.specs.Written.{ProceduresAreWritten, WrittenProcedure}
+use Rattle.run_statements.specs.Kept.{IsUnreplaced, LabelsAreFound, LinesAgree, LinesAreWritten, NamesAreOpen, OwnsAreKept, NoFurtherLines, StoresAreOwn, UsesArePlaced, CalleesAreFound}
+use Rattle.run_statements.specs.Written.{ProceduresAreWritten, WrittenProcedure, Passes}
+use Rattle.expression_laws.specs.Statements.{VariablesAreReadBy}
 
 -- ---- clean procedures that are covered
 
@@ -45,7 +49,26 @@ CleanUsesAreReadable U =
     → (k : ℕ) (l : Line) → nth_line (lines_at U.program p) (suc k) ≡ Some l
     → (v : VarId) → covers_use U.program p l.bindings.mentions v ≡ true → IsReadable U v.0
 
--- a local variable is made on both sides, under a pledge and under those of calls without arguments
+-- what is written for the variables that a line uses leads to what stands for them
+abbrev pub CoveredUsesArePlaced : Upgrade → Type 0
+CoveredUsesArePlaced U =
+    (p : ℕ) (s : Site) (x : Procedure) → site_of U.program.declarations p ≡ Some s → slice_get U.program.declarations.procs p ≡ Some x
+    → (W : WrittenProcedure U p s x) (l : Line)
+    → ((v : VarId) → covers_use U.program p l.bindings.mentions v ≡ true → IsReadable U v.0) → UsesArePlaced U p s W.code l
+
+-- a covered line of a steady procedure stores to what is its own
+abbrev pub CoveredStoresAreOwn : Upgrade → Type 0
+CoveredStoresAreOwn U =
+    (p : ℕ) (x : Procedure) → slice_get U.program.declarations.procs p ≡ Some x → (k : ℕ) (l : Line)
+    → nth_line (lines_at U.program p) (suc k) ≡ Some l → covers_line U.program p l ≡ true → StoresAreOwn U p l
+
+-- what a clean procedure owns can be read where it is covered
+abbrev pub OwnedAreReadable : Upgrade → Type 0
+OwnedAreReadable U =
+    (p v : ℕ) (x : Variable) → IsClean U.program U.facts.marks p → slice_get U.program.declarations.vars v ≡ Some x → belongs_to p x.owner ≡ true
+    → covers_variable x ≡ true → IsReadable U v
+
+-- a local variable is made on both sides, under a pledge and under those of calls
 abbrev pub LocalsAreMadeBy : Upgrade → Pledge → Type 0
 LocalsAreMadeBy U K =
     (w : World) (v : ℕ) (r : IsReadable U v) (t : TypeName) → scalar_word r.variable.ty ≡ Some t → MemoryMatch U w
@@ -54,7 +77,26 @@ LocalsAreMadeBy U K =
     (net.made_with (shape.scalar t) (shape.default_of (shape.scalar t)) w.net)
 
 abbrev pub LocalsAreMadeInCalls : Upgrade → Type 0
-LocalsAreMadeInCalls U = (p : ℕ) (base : Mark) (me : Option ℕ) → LocalsAreMadeBy U (call_pledge U p base me [] [])
+LocalsAreMadeInCalls U =
+    (p : ℕ) (base : Mark) (me : Option ℕ) (xs : List SourceGiven) (ys : List NetGiven) → LocalsAreMadeBy U (call_pledge U p base me xs ys)
+
+-- so is a parameter with a value that matched
+abbrev pub ValuesAreMadeBy : Upgrade → Pledge → Type 0
+ValuesAreMadeBy U K =
+    (w0 w : World) (v : ℕ) (r : IsReadable U v) (t : TypeName) (x : Value) (y : net_value.Value) → scalar_word r.variable.ty ≡ Some t
+    → Later U K w0 w → LikeV U w0 x y
+    → Agrees U K w (MadeMatch U K v r.variable.ty t)
+    (make_with (variable_shape U.program.declarations v) x w.src)
+    (net.made_with (shape.scalar t) y w.net)
+
+abbrev pub ValuesAreMadeInCalls : Upgrade → Type 0
+ValuesAreMadeInCalls U =
+    (p : ℕ) (base : Mark) (me : Option ℕ) (xs : List SourceGiven) (ys : List NetGiven) → ValuesAreMadeBy U (call_pledge U p base me xs ys)
+
+-- a result variable is read on both sides
+abbrev pub ResultsAreRead : Upgrade → Type 0
+ResultsAreRead U =
+    (p : ℕ) (base : Mark) (me : Option ℕ) (xs : List SourceGiven) (ys : List NetGiven) → VariablesAreReadBy U (call_pledge U p base me xs ys)
 
 -- ---- lines by themselves
 
@@ -78,15 +120,28 @@ pub record LinePremises (U : Upgrade) : Type 0 where
   pub agree : LinesAgree U
   pub unreplaced : CleanLinesAreUnreplaced U
   pub readable : LineUsesAreReadable U
+  pub placed : CoveredUsesArePlaced U
+  pub stores : CoveredStoresAreOwn U
+  pub known : AreFacts U.program U.known
+  pub found : CalleesAreFound U
+  pub calls : (n : ℕ) → CallsAgree U (Passes U) (go (source.machine_of (runnable_of U)) n) (go (target.machine_of U.written) n)
 
 -- what runs need
 pub record RunPremises (U : Upgrade) : Type 0 where
   pub procedures : ProceduresAreWritten U
   pub lines : LinesAreWritten U
   pub no_further : NoFurtherLines U
+  pub labels : LabelsAreFound U
   pub names : NamesAreOpen U
   pub agree : LinesAgree U
   pub owns : OwnsOfClean U
   pub unreplaced : CleanAreUnreplaced U
   pub readable : CleanUsesAreReadable U
+  pub placed : CoveredUsesArePlaced U
+  pub stores : CoveredStoresAreOwn U
+  pub owned : OwnedAreReadable U
+  pub known : AreFacts U.program U.known
+  pub found : CalleesAreFound U
   pub made : LocalsAreMadeInCalls U
+  pub made_with : ValuesAreMadeInCalls U
+  pub read : ResultsAreRead U

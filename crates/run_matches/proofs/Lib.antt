@@ -2,4 +2,8 @@ pub mod Lasting
 pub mod Samples
 pub mod UpgradeExamples
 pub mod Examples
+pub mod CallSamples
 pub mod StoreExamples
+mod CoveredExamples
+mod LibraryExamples
+pub mod SharedExamples

@@ -1,5 +1,5 @@
 -- A small program with what is written for it, on which the relation is tried.
-use Rattle.std.proofs.Common.{ℕ, pos, true, false, List, [], ◌∷◌, codes, Option, Some, None}
+use Rattle.std.proofs.Common.{ℕ, pos, true, false, List, [], ◌∷◌, map, codes, Option, Some, None}
 use Rattle.up_base.specs.declared.place.Place.{Place}
 use Rattle.vb_tree.specs.BoundTree.{Ty, integer, long, currency, nothing}
 use Rattle.vb_tree.specs.declared.declared.Owner.{Owner}
@@ -51,16 +51,16 @@ use Rattle.run_matches.specs.Upgrades.{Upgrade}
 --         Static s As Long
 --     End Sub
 
-abbrev at_line : (file : ℕ) → Place
+abbrev pub at_line : (file : ℕ) → Place
 at_line file = record { file = file; line = 1 }
 
-abbrev var_id : ℕ → VarId
+abbrev pub var_id : ℕ → VarId
 var_id n = record { 0 = n }
 
-abbrev proc_id : ℕ → ProcId
+abbrev pub proc_id : ℕ → ProcId
 proc_id n = record { 0 = n }
 
-abbrev declared : List ℕ → (file statement : ℕ) → Owner → Ty → Variable
+abbrev pub declared : List ℕ → (file statement : ℕ) → Owner → Ty → Variable
 declared name file n of ty = record {
   name = name;
   place = at_line file;
@@ -75,17 +75,21 @@ declared name file n of ty = record {
   preset = None;
 }
 
-abbrev pub vars : List Variable
-vars =
+-- the variable c of Main has this type
+abbrev vars_of : (of_c : Ty) → List Variable
+vars_of of_c =
     declared (codes "n") 1 0 (owner.Module 1) long  -- 0
     ∷ declared (codes "w") 1 1 (owner.Value (proc_id 0)) long  -- 1
     ∷ declared (codes "P") 1 3 (owner.Answer (proc_id 1)) long  -- 2
-    ∷ declared (codes "c") 1 6 (owner.Local (proc_id 2)) currency  -- 3
+    ∷ declared (codes "c") 1 6 (owner.Local (proc_id 2)) of_c  -- 3
     ∷ declared (codes "k") 2 0 (owner.Module 2) long  -- 4
     ∷ declared (codes "s") 2 2 (owner.Static (proc_id 3)) long  -- 5
     ∷ []
 
-abbrev procedure : List ℕ → (file : ℕ) → ProcKind → List VarId → Ty → Option VarId → (first : ℕ) → Procedure
+abbrev pub vars : List Variable
+vars = vars_of currency
+
+abbrev pub procedure : List ℕ → (file : ℕ) → ProcKind → List VarId → Ty → Option VarId → (first : ℕ) → Procedure
 procedure name file k params result answer first = record {
   name = name;
   place = at_line file;
@@ -108,26 +112,26 @@ procs =
 
 -- ---- lines
 
-abbrev any : Exp
+abbrev pub any : Exp
 any = source.me
 
-abbrev line : (file : ℕ) → Form → source.Line
+abbrev pub line : (file : ℕ) → Form → source.Line
 line file form = record { place = at_line file; text = []; form = form }
 
-abbrev signature : List ℕ → Signature
+abbrev pub signature : List ℕ → Signature
 signature name = record { visibility = None; name = name; suffix = Absent; params = [] }
 
-abbrev body : (file : ℕ) → List Form → Nodes
+abbrev pub body : (file : ℕ) → List Form → Nodes
 body file [] = no_nodes
 body file (f ∷ fs) = next_node (source.line (line file f)) (body file fs)
 
-abbrev main1 : List Member
-main1 =
+abbrev main1 : (main : List Form) → List Member
+main1 main =
     source.alone (line 1 (source.variables var_word.Public []))
     ∷ source.proc (line 1 (source.let_head (signature (codes "P")))) no_nodes (line 1 source.end_property)
     ∷ source.proc (line 1 (source.get_head (signature (codes "P")) None)) no_nodes (line 1 source.end_property)
     ∷ source.proc (line 1 (source.sub_head (signature (codes "Main"))))
-    (body 1 (source.variables var_word.Dim [] ∷ source.assign any any ∷ source.assign any any ∷ source.debug_print [] false ∷ []))
+    (body 1 (source.variables var_word.Dim [] ∷ main))
     (line 1 source.end_sub)
     ∷ []
 
@@ -137,10 +141,13 @@ node =
     ∷ source.proc (line 2 (source.sub_head (signature (codes "Class_Initialize")))) (body 2 (source.variables var_word.Static [] ∷ [])) (line 2 source.end_sub)
     ∷ []
 
-abbrev the_c : Expr
-the_c = typed currency (variable (var_id 3) false)
+abbrev pub c_of : Ty → Expr
+c_of ty = typed ty (variable (var_id 3) false)
 
-abbrev code : Form → List Expr → Line
+abbrev pub the_c : Expr
+the_c = c_of currency
+
+abbrev pub code : Form → List Expr → Line
 code f es = record { source = line 1 f; bindings = record { exprs = es; rules = none; mentions = mention.Var (var_id 3) ∷ [] } }
 
 abbrev main_lines : List Line
@@ -152,26 +159,30 @@ main_lines =
 
 -- ---- the program
 
-abbrev pub program : Program
-program = record {
+-- with these code lines in Main
+abbrev pub program_with : (of_c : Ty) → List Line → Program
+program_with of_c lines = record {
   declarations = record {
     project = record {
       file = record { kind = Exe; startup = Some (3, codes "Sub Main"); entries = []; dropped = [] };
       modules =
-          record { file = 1; name = codes "Main1"; class = false; members = main1; comments = [] }
+          record { file = 1; name = codes "Main1"; class = false; members = main1 (map (λ (l : Line). l.source.form) lines); comments = [] }
           ∷ record { file = 2; name = codes "Node"; class = true; members = node; comments = [] }
           ∷ [];
     };
     names = [];
-    vars = vars;
+    vars = vars_of of_c;
     consts = [];
     procs = procs;
     types = [];
     enums = [];
     defaults = [];
   };
-  bodies = [] ∷ [] ∷ main_lines ∷ [] ∷ [];
+  bodies = [] ∷ [] ∷ lines ∷ [] ∷ [];
 }
+
+abbrev pub program : Program
+program = program_with currency main_lines
 
 -- Main prints
 abbrev pub known : Known

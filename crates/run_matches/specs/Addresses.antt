@@ -5,7 +5,7 @@ use Rattle.vb_tree.specs.BoundTree.{Ty, class}
 use Rattle.vb_tree.specs.declared.value.Value6.{Value6}
 use Rattle.net_meaning.specs.declared.value.ValueN.TheVariants as n
 use Rattle.run_base.specs.Frames.{by_value, by_address, Kept, keeps_nothing, keeps_limit, keeps_value, keeps_address}
-use Rattle.run_base.specs.Positions.{Key, Root, Position, inner}
+use Rattle.run_base.specs.Positions.{Key, Position, inner}
 use Rattle.vb6_run.specs.Expressions as source
 use Rattle.vb6_run.specs.Shapes.{Shape, simple, group, array, endless, Shapes, no_shapes, next_shape, part_shape}
 use Rattle.vb6_run.specs.Store.{Address, root, item, constant, Locked, SourceGiven, held_at}
@@ -18,7 +18,7 @@ use Rattle.run_matches.specs.Upgrades.{Upgrade, class_home, variable_key, is_fla
 use Rattle.run_matches.specs.Maps.{World, mark, IsMade, IsMatched, moved_at, is_auto_root, is_fixed_position}
 use Rattle.run_matches.specs.Likeness.{SameShape, LikeV, ShapedAs}
 use Rattle.run_matches.specs.Match.{IsLoose, HasArray, HasRank}
-use Rattle.run_matches.specs.Pledges.{Pledge, Later, type_of_shape, NetGiven, arrays_in, taken_by}
+use Rattle.run_matches.specs.Pledges.{Pledge, Later, type_of_shape, NetGiven, taken_by}
 
 -- ---- variables
 

@@ -1,5 +1,5 @@
 -- Which procedures and lines are proved to do the same: the one file that a form group edits. What isn't covered is translated all the same.
-use Rattle.std.specs.Prelude.{◌≡◌, ℕ, Bool, true, false, cond, not, ◌&&◌, nat_eq, Option, Some, None, is_some, List, [], ◌∷◌, map, slice_get}
+use Rattle.std.specs.Prelude.{◌≡◌, ℕ, pos, negsuc, Bool, true, false, cond, not, ◌&&◌, nat_eq, Option, Some, None, is_some, List, [], ◌∷◌, map, slice_get, nat_lt}
 use Rattle.std.specs.Cmp.Lexicographic.{pointwise}
 use Rattle.std.specs.List.{list_all, list_any, Contains}
 use Rattle.up_base.specs.Names.{is_same_name}
@@ -14,19 +14,27 @@ use Rattle.vb_tree.specs.declared.declared.ProcKind.TheVariants as kind
 use Rattle.vb_tree.specs.declared.declared.VarId.{VarId}
 use Rattle.vb_tree.specs.declared.expression.BinOp.{BinOp}
 use Rattle.vb_tree.specs.declared.expression.BinOp.TheVariants as b
+use Rattle.vb_tree.specs.declared.form_parts.Label6.{Label6}
 use Rattle.vb_tree.specs.ProjectLines.{is_reserved}
-use Rattle.vb_tree.specs.Tree.{Form, Module}
+use Rattle.vb_tree.specs.Tree.{CaseItem, Form, Module}
 use Rattle.vb_tree.specs.Tree as source
 use Rattle.bound_tree.specs.declared.body.Mention.{Mention}
 use Rattle.bound_tree.specs.declared.body.Mention.TheVariants as mention
-use Rattle.bound_tree.specs.Tree.{Variable, Constant, Procedure, Declarations, Program, Expr, typed, Term, constant, variable, field, element, call, library, unary, binary, convert, new_object, me, with_object, err_number, err_raise, err_clear, is_same, loose, Exprs, no_exprs, next_expr}
+use Rattle.bound_tree.specs.Labels.{Label, label_of}
+use Rattle.bound_tree.specs.Labels as mark
+use Rattle.bound_tree.specs.Tree.{Variable, Constant, Procedure, Declarations, Program, Expr, typed, Term, constant, variable, field, element, call, library, unary, binary, convert, new_object, me, with_object, err_number, err_raise, err_clear, is_same, loose, Exprs, no_exprs, next_expr, Object, no_object, of_object, Argument, by_value, by_reference, Passed, no_passed, next_passed}
 use Rattle.bound_tree.specs.Tree as tree
-use Rattle.bound_facts.specs.Calls.{Reaches, line_calls}
+use Rattle.bound_facts.specs.Calls.{Reaches, line_calls, count_procedures}
+use Rattle.bound_facts.specs.Locks.{is_same_type}
+use Rattle.bound_facts.specs.Node.{type_at}
 use Rattle.run_base.specs.Machines.{nth_line}
 use Rattle.written_trees.specs.Prologues.{variables_of, constants_of}
-use Rattle.vb6_run.specs.Programs.{is_local_of, owned_from}
+use Rattle.vb6_run.specs.Forms.{SourceLine, body_of}
+use Rattle.vb6_run.specs.Programs.{is_local_of, owned_from, answer_in}
 use Rattle.vb6_run.specs.Runnables.{is_class_file}
+use Rattle.run_matches.specs.Callees.{frame_owns, is_found}
 use Rattle.run_matches.specs.Formed.{is_formed}
+use Rattle.run_matches.specs.Shared.{names_lead}
 use Rattle.run_matches.specs.Sites.{Site, site_of, Own, own_variable, own_constant, own_name, owns_of, variable_numbers, statement_of}
 
 -- ---- types
@@ -50,14 +58,14 @@ covers_type types.unknown = false
 
 -- ---- variables
 
--- local variables
+-- local variables, parameters by value, result variables, and variables of modules
 abbrev pub covers_owner : Owner → Bool
-covers_owner (owner.Module file) = false
+covers_owner (owner.Module file) = true
 covers_owner (owner.Local p) = true
 covers_owner (owner.Static p) = false
-covers_owner (owner.Value p) = false
+covers_owner (owner.Value p) = true
 covers_owner (owner.Reference p) = false
-covers_owner (owner.Answer p) = false
+covers_owner (owner.Answer p) = true
 covers_owner (owner.Field t) = false
 
 abbrev pub covers_variable : Variable → Bool
@@ -72,17 +80,26 @@ belongs_to p (owner.Reference q) = nat_eq p q.0
 belongs_to p (owner.Answer q) = nat_eq p q.0
 belongs_to p (owner.Field t) = false
 
-abbrev pub covers_some : (procedure : ℕ) → Option Variable → Bool
-covers_some p None = false
-covers_some p (Some x) = belongs_to p x.owner && covers_variable x
+-- no variable of the procedure has the name
+abbrev pub is_foreign_name : Declarations → (procedure : ℕ) → (name : List ℕ) → Bool
+is_foreign_name D p name = list_all (λ (x : Variable). not (belongs_to p x.owner && is_same_name x.name name)) D.vars
+
+-- a variable of the procedure, or one of a standard module to which names lead
+abbrev pub is_reached : Declarations → (procedure variable : ℕ) → (name : List ℕ) → Owner → Bool
+is_reached D p v name (owner.Module file) = names_lead D p v name file && is_foreign_name D p name
+is_reached D p v name of = belongs_to p of
+
+abbrev pub covers_some : Declarations → (procedure variable : ℕ) → Option Variable → Bool
+covers_some D p v None = false
+covers_some D p v (Some x) = is_reached D p v x.name x.owner && covers_variable x
 
 abbrev pub is_mention_of : VarId → Mention → Bool
 is_mention_of v (mention.Var u) = nat_eq v.0 u.0
 is_mention_of v _ = false
 
--- variables of the procedure, which the line that uses them mentions
+-- variables of the procedure, and those of standard modules to which names lead, which the line that uses them mentions
 abbrev pub covers_use : Program → (procedure : ℕ) → List Mention → VarId → Bool
-covers_use P p mentions v = list_any (is_mention_of v) mentions && covers_some p (slice_get P.declarations.vars v.0)
+covers_use P p mentions v = list_any (is_mention_of v) mentions && covers_some P.declarations p v.0 (slice_get P.declarations.vars v.0)
 
 -- ---- operators and the library
 
@@ -110,32 +127,33 @@ covers_operator b.Xor = true
 covers_operator b.Eqv = true
 covers_operator b.Imp = true
 
+-- calls on texts and numbers, conversions, MsgBox and InputBox
 abbrev pub covers_library : LibCall → Bool
-covers_library lib.Len = false
-covers_library lib.Left = false
-covers_library lib.Right = false
-covers_library lib.Mid = false
-covers_library lib.Trim = false
-covers_library lib.LTrim = false
-covers_library lib.RTrim = false
-covers_library lib.UCase = false
-covers_library lib.LCase = false
-covers_library lib.Space = false
-covers_library lib.Chr = false
-covers_library lib.Asc = false
-covers_library lib.InStr = false
-covers_library lib.Abs = false
-covers_library lib.CBool = false
-covers_library lib.CByte = false
-covers_library lib.CInt = false
-covers_library lib.CLng = false
-covers_library lib.CCur = false
-covers_library lib.CStr = false
+covers_library lib.Len = true
+covers_library lib.Left = true
+covers_library lib.Right = true
+covers_library lib.Mid = true
+covers_library lib.Trim = true
+covers_library lib.LTrim = true
+covers_library lib.RTrim = true
+covers_library lib.UCase = true
+covers_library lib.LCase = true
+covers_library lib.Space = true
+covers_library lib.Chr = true
+covers_library lib.Asc = true
+covers_library lib.InStr = true
+covers_library lib.Abs = true
+covers_library lib.CBool = true
+covers_library lib.CByte = true
+covers_library lib.CInt = true
+covers_library lib.CLng = true
+covers_library lib.CCur = true
+covers_library lib.CStr = true
 covers_library lib.IsEmpty = false
 covers_library lib.UBound = false
 covers_library lib.LBound = false
-covers_library lib.MsgBox = false
-covers_library lib.InputBox = false
+covers_library lib.MsgBox = true
+covers_library lib.InputBox = true
 
 -- ---- expressions
 
@@ -143,7 +161,11 @@ covers_library lib.InputBox = false
 abbrev pub Uses : Type 0
 Uses = VarId → Bool
 
--- literals and uses of constants, local variables, operators and conversions
+abbrev pub is_without_object : Object → Bool
+is_without_object no_object = true
+is_without_object (of_object e) = false
+
+-- literals and uses of constants, variables, operators, conversions, calls of the library, and calls without an object
 abbrev mutual
   pub covers_expr : Uses → Expr → Bool
   covers_expr uses (typed ty t) = covers_type ty && covers_term uses t
@@ -153,7 +175,7 @@ abbrev mutual
   covers_term uses (variable v qualified) = uses v
   covers_term uses (field e k) = false
   covers_term uses (element e indexes) = false
-  covers_term uses (call p qualified of args) = false
+  covers_term uses (call p qualified of args) = is_without_object of && covers_passed uses args
   covers_term uses (library f args) = covers_library f && covers_exprs uses args
   covers_term uses (unary op e) = covers_expr uses e
   covers_term uses (binary op d e) = covers_operator op && (covers_expr uses d && covers_expr uses e)
@@ -171,6 +193,15 @@ abbrev mutual
   covers_exprs uses no_exprs = true
   covers_exprs uses (next_expr e rest) = covers_expr uses e && covers_exprs uses rest
 
+  pub covers_passed : Uses → Passed → Bool
+  covers_passed uses no_passed = true
+  covers_passed uses (next_passed a rest) = covers_argument uses a && covers_passed uses rest
+
+  -- arguments by value
+  pub covers_argument : Uses → Argument → Bool
+  covers_argument uses (by_value e) = covers_expr uses e
+  covers_argument uses (by_reference e) = false
+
 -- ---- lines
 
 abbrev pub is_variable_in : Term → Bool
@@ -185,44 +216,120 @@ abbrev pub covers_store : Uses → List Expr → Bool
 covers_store uses (to ∷ e ∷ []) = is_variable to && (covers_expr uses to && covers_expr uses e)
 covers_store uses es = false
 
--- assignments to variables, and Debug.Print
+-- a condition, or what a Select Case compares: one expression
+abbrev pub covers_condition : Uses → List Expr → Bool
+covers_condition uses (e ∷ []) = covers_expr uses e
+covers_condition uses es = false
+
+-- an expression of a type
+abbrev pub covers_value : Uses → Ty → Expr → Bool
+covers_value uses ty e = is_same_type ty (type_at e) && covers_expr uses e
+
+abbrev pub is_comparison : BinOp → Bool
+is_comparison b.Equal = true
+is_comparison b.NotEqual = true
+is_comparison b.Less = true
+is_comparison b.Greater = true
+is_comparison b.LessEqual = true
+is_comparison b.GreaterEqual = true
+is_comparison o = false
+
+-- the items of a Case: values, ranges and comparisons
+abbrev pub covers_items : Uses → List CaseItem → List Expr → Bool
+covers_items uses [] [] = true
+covers_items uses (source.case_value y ∷ items) (e ∷ es) = covers_expr uses e && covers_items uses items es
+covers_items uses (source.case_range y z ∷ items) (d ∷ e ∷ es) = covers_expr uses d && (covers_expr uses e && covers_items uses items es)
+covers_items uses (source.case_is o y ∷ items) (e ∷ es) = is_comparison o && (covers_expr uses e && covers_items uses items es)
+covers_items uses items es = false
+
+abbrev pub is_counter : Ty → Bool
+is_counter types.integer = true
+is_counter types.long = true
+is_counter ty = false
+
+-- the counter of a For: a variable of type Integer or Long
+abbrev pub covers_counter : Uses → Expr → Bool
+covers_counter uses e = is_variable e && (is_counter (type_at e) && covers_expr uses e)
+
+-- a step of the type of the counter, or none
+abbrev pub covers_step : Uses → Ty → List Expr → Bool
+covers_step uses ty [] = true
+covers_step uses ty (s ∷ []) = covers_value uses ty s
+covers_step uses ty es = false
+
+-- the expressions of a For: start, limit and step have the type of the counter
+abbrev pub covers_counting : Uses → List Expr → Bool
+covers_counting uses (e ∷ start ∷ limit ∷ es) =
+    covers_counter uses e && (covers_value uses (type_at e) start && (covers_value uses (type_at e) limit && covers_step uses (type_at e) es))
+covers_counting uses es = false
+
+-- a word, or a number that isn't negative
+abbrev pub covers_label : Label → Bool
+covers_label (mark.word name) = true
+covers_label (mark.number (pos n)) = true
+covers_label (mark.number (negsuc n)) = false
+
+abbrev pub is_box : LibCall → Bool
+is_box lib.MsgBox = true
+is_box _ = false
+
+-- a call of MsgBox
+abbrev pub covers_box : Uses → Term → Bool
+covers_box uses (library f args) = is_box f && covers_term uses (library f args)
+covers_box uses t = false
+
+-- a call without an object, whose arguments go by value, or of MsgBox
+abbrev pub covers_called_in : Uses → Term → Bool
+covers_called_in uses (call p qualified of args) = is_without_object of && covers_passed uses args
+covers_called_in uses (library f args) = covers_box uses (library f args)
+covers_called_in uses t = false
+
+abbrev pub covers_called : Uses → Expr → Bool
+covers_called uses (typed ty t) = covers_called_in uses t
+
+-- one such call
+abbrev pub covers_call : Uses → List Expr → Bool
+covers_call uses (e ∷ []) = covers_called uses e
+covers_call uses es = false
+
+-- assignments to variables, calls, Debug.Print, If, Select Case, For, Do, While, labels, GoTo and Exit
 abbrev pub covers_form : Uses → Form → List Expr → Bool
 covers_form uses (source.assign target value) es = covers_store uses es
 covers_form uses (source.set target value) es = false
-covers_form uses (source.call callee) es = false
-covers_form uses (source.invoke callee args) es = false
+covers_form uses (source.call callee) es = covers_call uses es
+covers_form uses (source.invoke callee args) es = covers_call uses es
 covers_form uses (source.debug_print items ended) es = list_all (covers_expr uses) es
-covers_form uses (source.if_head e) es = false
-covers_form uses (source.line_if e) es = false
-covers_form uses (source.else_if e) es = false
-covers_form uses source.else_line es = false
-covers_form uses source.end_if es = false
-covers_form uses (source.select e) es = false
-covers_form uses (source.case_line items) es = false
-covers_form uses source.case_else es = false
-covers_form uses source.end_select es = false
-covers_form uses (source.for_head counter start limit step) es = false
+covers_form uses (source.if_head e) es = covers_condition uses es
+covers_form uses (source.line_if e) es = covers_condition uses es
+covers_form uses (source.else_if e) es = covers_condition uses es
+covers_form uses source.else_line es = true
+covers_form uses source.end_if es = true
+covers_form uses (source.select e) es = covers_condition uses es
+covers_form uses (source.case_line items) es = covers_items uses items es
+covers_form uses source.case_else es = true
+covers_form uses source.end_select es = true
+covers_form uses (source.for_head counter start limit step) es = covers_counting uses es
 covers_form uses (source.for_each name suffix e) es = false
-covers_form uses (source.next name) es = false
-covers_form uses source.do_head es = false
-covers_form uses (source.do_while e) es = false
-covers_form uses (source.do_until e) es = false
-covers_form uses source.loop es = false
-covers_form uses (source.loop_while e) es = false
-covers_form uses (source.loop_until e) es = false
-covers_form uses (source.while_head e) es = false
-covers_form uses source.wend es = false
+covers_form uses (source.next name) es = true
+covers_form uses source.do_head es = true
+covers_form uses (source.do_while e) es = covers_condition uses es
+covers_form uses (source.do_until e) es = covers_condition uses es
+covers_form uses source.loop es = true
+covers_form uses (source.loop_while e) es = covers_condition uses es
+covers_form uses (source.loop_until e) es = covers_condition uses es
+covers_form uses (source.while_head e) es = covers_condition uses es
+covers_form uses source.wend es = true
 covers_form uses (source.with_head e) es = false
 covers_form uses source.end_with es = false
-covers_form uses (source.goto l) es = false
-covers_form uses (source.label l) es = false
+covers_form uses (source.goto l) es = covers_label (label_of l)
+covers_form uses (source.label l) es = covers_label (label_of l)
 covers_form uses (source.on_error_goto l) es = false
 covers_form uses source.on_error_goto_zero es = false
 covers_form uses source.on_error_resume_next es = false
 covers_form uses source.resume es = false
 covers_form uses source.resume_next es = false
 covers_form uses (source.resume_at l) es = false
-covers_form uses (source.exit kind) es = false
+covers_form uses (source.exit kind) es = true
 covers_form uses (source.redim preserve items) es = false
 covers_form uses (source.erase target) es = false
 covers_form uses (source.opaque tokens) es = false
@@ -255,12 +362,68 @@ covers_form uses (source.event_variables word declarators) es = false
 abbrev pub covers_line : Program → (procedure : ℕ) → tree.Line → Bool
 covers_line P p l = covers_form (covers_use P p l.bindings.mentions) l.source.form l.bindings.exprs && list_all is_formed l.bindings.exprs
 
+-- ---- lines in their blocks
+
+abbrev pub is_local_in : (procedure : ℕ) → Option Variable → Bool
+is_local_in p None = false
+is_local_in p (Some x) = is_local_of p x.owner
+
+abbrev pub is_local_term : Program → (procedure : ℕ) → Term → Bool
+is_local_term P p (variable v qualified) = is_local_in p (slice_get P.declarations.vars v.0)
+is_local_term P p t = false
+
+abbrev pub is_local : Program → (procedure : ℕ) → Expr → Bool
+is_local P p (typed ty t) = is_local_term P p t
+
+-- a For whose counter is a local variable
+abbrev pub counts_local : Program → (procedure : ℕ) → Form → List Expr → Bool
+counts_local P p (source.for_head counter start limit step) (e ∷ es) = is_local P p e
+counts_local P p f es = false
+
+-- a Select Case of the type of all these
+abbrev pub chooses_among : List Expr → Form → List Expr → Bool
+chooses_among es (source.select d) (e ∷ []) = list_all (λ (x : Expr). is_same_type (type_at e) (type_at x)) es
+chooses_among es f ds = false
+
+-- A For counts in a local variable, a Next closes such a For, and a Case has values of the type of its Select Case; these heads are covered.
+abbrev pub covers_part : Program → (procedure : ℕ) → Form → List Expr → Option tree.Line → Bool
+covers_part P p (source.for_head counter start limit step) es head = counts_local P p (source.for_head counter start limit step) es
+covers_part P p (source.case_line items) es None = false
+covers_part P p (source.case_line items) es (Some m) = covers_line P p m && chooses_among es m.source.form m.bindings.exprs
+covers_part P p (source.next name) es None = false
+covers_part P p (source.next name) es (Some m) = covers_line P p m && counts_local P p m.source.form m.bindings.exprs
+covers_part P p f es head = true
+
+abbrev pub head_line : List tree.Line → Option ℕ → Option tree.Line
+head_line lines None = None
+head_line lines (Some h) = nth_line lines h
+
+abbrev pub covers_in_block : Program → (procedure : ℕ) → List tree.Line → SourceLine → Bool
+covers_in_block P p lines l = covers_part P p l.form.source.form l.form.bindings.exprs (head_line lines l.aims.own)
+
+-- ---- jumps
+
+-- the label that a line jumps to, or may jump to after an error
+abbrev pub jump_of : Form → Option Label6
+jump_of (source.goto l) = Some l
+jump_of (source.on_error_goto l) = Some l
+jump_of (source.resume_at l) = Some l
+jump_of _ = None
+
+-- a line that is a label is a covered one
+abbrev pub has_sound_label_in : Form → Bool
+has_sound_label_in (source.label l) = covers_label (label_of l)
+has_sound_label_in _ = true
+
+abbrev pub has_sound_label : tree.Line → Bool
+has_sound_label l = has_sound_label_in l.source.form
+
 -- ---- procedures
 
--- Subs
+-- Subs and Functions
 abbrev pub covers_kind : ProcKind → Bool
 covers_kind kind.Sub = true
-covers_kind kind.Function = false
+covers_kind kind.Function = true
 covers_kind kind.Get = false
 covers_kind kind.Let = false
 covers_kind kind.Set = false
@@ -272,23 +435,58 @@ is_plain_kind kind.Get = false
 is_plain_kind kind.Let = false
 is_plain_kind kind.Set = false
 
-abbrev pub has_no_parameters : List VarId → Bool
-has_no_parameters [] = true
-has_no_parameters (v ∷ vs) = false
+abbrev pub is_value_of : (procedure : ℕ) → Owner → Bool
+is_value_of p (owner.Value q) = nat_eq p q.0
+is_value_of p _ = false
 
--- those without parameters, of standard modules
-abbrev pub covers_head : Program → Option Procedure → Bool
-covers_head P None = false
-covers_head P (Some x) =
-    covers_kind x.kind && (has_no_parameters x.params && (not (is_some x.answer) && not (is_class_file P.declarations x.module_number)))
+abbrev pub is_answer_of : (procedure : ℕ) → Owner → Bool
+is_answer_of p (owner.Answer q) = nat_eq p q.0
+is_answer_of p _ = false
+
+abbrev pub is_value_in : (procedure : ℕ) → Option Variable → Bool
+is_value_in p None = false
+is_value_in p (Some x) = is_value_of p x.owner
+
+-- parameters by value
+abbrev pub covers_parameter : Declarations → (procedure : ℕ) → VarId → Bool
+covers_parameter D p v = is_value_in p (slice_get D.vars v.0)
+
+abbrev pub is_result_in : (procedure : ℕ) → Procedure → Option Variable → Bool
+is_result_in p x None = false
+is_result_in p x (Some y) = is_answer_of p y.owner && (is_same_type y.ty x.result && pointwise nat_eq y.name x.name)
+
+abbrev pub has_answer : Declarations → (procedure : ℕ) → Procedure → Option VarId → Bool
+has_answer D p x None = false
+has_answer D p x (Some v) = is_result_in p x (slice_get D.vars v.0)
+
+abbrev pub has_result : Declarations → (procedure : ℕ) → Procedure → ProcKind → Bool
+has_result D p x kind.Sub = not (is_some x.answer)
+has_result D p x kind.Function = has_answer D p x x.answer
+has_result D p x _ = false
+
+-- a result variable of the Function's name and type
+abbrev pub covers_result : Declarations → (procedure : ℕ) → Procedure → Bool
+covers_result D p x =
+    has_result D p x x.kind
+    && (pointwise nat_eq (map (λ (v : VarId). v.0) x.params) (owned_from (is_value_of p) 0 D.vars)
+    && pointwise nat_eq (answer_in x.answer) (owned_from (is_answer_of p) 0 D.vars))
+
+-- those whose parameters go by value, of standard modules
+abbrev pub covers_head : Program → (procedure : ℕ) → Option Procedure → Bool
+covers_head P p None = false
+covers_head P p (Some x) =
+    covers_kind x.kind
+    && (list_all (covers_parameter P.declarations p) x.params
+    && (covers_result P.declarations p x && not (is_class_file P.declarations x.module_number)))
 
 -- each variable of the procedure is covered
 abbrev pub covers_variables : Program → (procedure : ℕ) → Bool
 covers_variables P p = list_all (λ (x : Variable). cond (belongs_to p x.owner) (covers_variable x) true) P.declarations.vars
 
+-- all lines, also in their blocks
 abbrev pub covers_body : Program → (procedure : ℕ) → Option (List tree.Line) → Bool
 covers_body P p None = false
-covers_body P p (Some lines) = list_all (covers_line P p) lines
+covers_body P p (Some lines) = list_all (covers_line P p) lines && list_all (covers_in_block P p lines) (body_of lines)
 
 -- ---- names
 
@@ -313,24 +511,41 @@ abbrev pub covers_own : (procedure : ℕ) → Own → Bool
 covers_own p (own_variable v x) = true
 covers_own p (own_constant c x) = belongs_to p x.owner && is_some x.value
 
--- its lines declare its variables, and constants with values, under different names
+-- its lines declare its variables, and constants with values
 abbrev pub covers_owns : Declarations → (procedure : ℕ) → List Own → Bool
-covers_owns D p os =
-    pointwise nat_eq (variable_numbers os) (owned_from (is_local_of p) 0 D.vars) && (list_all (covers_own p) os && are_different (map own_name os))
+covers_owns D p os = pointwise nat_eq (variable_numbers os) (owned_from (is_local_of p) 0 D.vars) && list_all (covers_own p) os
 
--- in a standard module
+-- in a standard module, where all that its frame has is named differently
 abbrev pub covers_site : Declarations → (procedure : ℕ) → Option Site → Bool
 covers_site D p None = false
-covers_site D p (Some s) = not s.source_module.class && covers_owns D p (owns_of D s)
+covers_site D p (Some s) =
+    not s.source_module.class && (covers_owns D p (owns_of D s) && are_different (map own_name (frame_owns D (slice_get D.procs p) s)))
+
+-- ---- what is called
+
+-- procedures of the project, which are found by their names where they are called
+abbrev pub covers_callee : Program → (procedure : ℕ) → Option Site → (callee : ℕ) → Bool
+covers_callee P p None q = false
+covers_callee P p (Some s) q =
+    nat_lt q (count_procedures P)
+    && is_found P.declarations (slice_get P.declarations.procs p) s (slice_get P.declarations.procs q) (site_of P.declarations q)
+
+abbrev pub covers_calls : Program → (procedure : ℕ) → tree.Line → Bool
+covers_calls P p l = list_all (λ (c : ℕ × ℕ). covers_callee P p (site_of P.declarations p) c.1) (line_calls P.declarations p l)
+
+abbrev pub covers_all_calls : Program → (procedure : ℕ) → Option (List tree.Line) → Bool
+covers_all_calls P p None = false
+covers_all_calls P p (Some lines) = list_all (covers_calls P p) lines
 
 -- ---- the whole
 
--- names, its head, what it declares, its variables and all its lines
+-- names, its head, what it declares, its variables, all its lines and what they call
 abbrev pub covers_procedure : Program → (procedure : ℕ) → Bool
 covers_procedure P p =
-    covers_names P.declarations
-    && (covers_head P (slice_get P.declarations.procs p)
-    && (covers_site P.declarations p (site_of P.declarations p) && (covers_variables P p && covers_body P p (slice_get P.bodies p))))
+    covers_all_calls P p (slice_get P.bodies p)
+    && (covers_names P.declarations
+    && (covers_head P p (slice_get P.declarations.procs p)
+    && (covers_site P.declarations p (site_of P.declarations p) && (covers_variables P p && covers_body P p (slice_get P.bodies p)))))
 
 -- ---- what is covered
 
@@ -380,8 +595,13 @@ pub record IsCoveredLine (P : Program) (p number : ℕ) : Type 0 where
   -- the blocks round it are kept
   pub blocks : list_all keeps_blocks lines ≡ true
   pub covers : covers_line P p line ≡ true
+  -- no jump: the line of its label could be replaced, whose label is then missing
+  pub stays : jump_of line.source.form ≡ None
+  -- a Case and a Next suit their block
+  pub stands : (l : SourceLine) → nth_line (body_of lines) number ≡ Some l → covers_in_block P p lines l ≡ true
   pub site : Site
   pub is_site : site_of P.declarations p ≡ Some site
   pub declares : covers_statement P.declarations site.source_module.file (statement_of site number) line.bindings.mentions ≡ true
   pub names : covers_names P.declarations ≡ true
+  pub calls : covers_calls P p line ≡ true
   pub entered : (q : ℕ) → Contains (line_calls P.declarations p line) (p, q) → IsCovered P q

@@ -2,8 +2,11 @@
 use Rattle.std.specs.Prelude.{◌≡◌, ℕ, suc, ◌<◌, Bool, true, false, not, ◌&&◌, ◌||◌, cond, nat_eq, Option, Some, None, option_map, List, [], ◌∷◌, ◌++◌, map, slice_get}
 use Rattle.std.specs.List.{list_any}
 use Rattle.std.specs.Map.{lookup}
-use Rattle.vb_tree.specs.Tree.{Form, with_head}
+use Rattle.vb_tree.specs.BoundTree.{Ty}
+use Rattle.vb_tree.specs.declared.value.Value6.{Value6}
+use Rattle.vb_tree.specs.Tree.{Form, for_head, select, with_head}
 use Rattle.bound_tree.specs.Tree.{Expr, Line, Variable}
+use Rattle.bound_tree.specs.Tree as tree
 use Rattle.bound_tree.specs.declared.expression.Root as expression
 use Rattle.bound_tree.specs.declared.expression.Root.TheVariants as at
 use Rattle.bound_facts.specs.Effects.{is_own_variable, is_outside}
@@ -17,15 +20,17 @@ use Rattle.run_base.specs.Positions.{Root, Position, shared, made, field, whole}
 use Rattle.vb6_run.specs.Programs.{is_static_of}
 use Rattle.vb6_run.specs.Runnables.{static_root}
 use Rattle.run_base.specs.Machines.{nth_line}
-use Rattle.vb6_run.specs.Shapes.{Shape, variable_shape}
+use Rattle.vb6_run.specs.Shapes.{Shape, simple, variable_shape}
 use Rattle.vb6_run.specs.Store.{Address, root, item, constant, SourceFrame}
-use Rattle.vb6_run.specs.Values.{Value}
+use Rattle.vb6_run.specs.Values.{Value, scalar}
 use Rattle.net_run.specs.Lines.{NetFrame}
 use Rattle.net_run.specs.Members.{Code, params_of, result_of}
 use Rattle.net_run.specs.Names.{var_in}
 use Rattle.net_run.specs.Shapes as shape
 use Rattle.net_run.specs.Store as net
+use Rattle.net_run.specs.Values as net_value
 use Rattle.run_matches.specs.CleanLines.{lines_at}
+use Rattle.run_matches.specs.Covered.{covers_line, is_local_in}
 use Rattle.run_matches.specs.Upgrades.{Upgrade, code_of, is_flagged, is_auto}
 use Rattle.run_matches.specs.Maps.{World, mark, Below, moved_at}
 use Rattle.run_matches.specs.Likeness.{SameShape}
@@ -133,6 +138,49 @@ pub record IsInPlace (a : Address) : Type 0 where
   pub path : List ℕ
   pub stands : a ≡ root shape (record { root = made place; path = path })
 
+-- ---- what the heads of blocks keep, where they are covered
+
+-- the counter is a variable of the frame, and limit and step have its type
+pub record CounterKept (vars : List (ℕ × Address)) (ty : Ty) (v : ℕ) (a : Address) (x y : Value) : Type 0 where
+  pub found : lookup (nat_eq v) vars ≡ Some a
+  pub place : (q : Position) × (a ≡ root (simple ty) q)
+  pub limit : (z : Value6) × (x ≡ scalar ty z)
+  pub step : (z : Value6) × (y ≡ scalar ty z)
+
+abbrev pub CountedTerm : List (ℕ × Address) → Ty → tree.Term → Address → (limit step : Value) → Type 0
+CountedTerm vars ty (tree.variable v qualified) a x y = CounterKept vars ty v.0 a x y
+CountedTerm vars ty t a x y = Unit {0}
+
+abbrev pub CountedBy : List (ℕ × Address) → List Expr → Address → (limit step : Value) → Type 0
+CountedBy vars [] a x y = Unit {0}
+CountedBy vars (tree.typed ty t ∷ es) a x y = CountedTerm vars ty t a x y
+
+abbrev pub IsCounting : List (ℕ × Address) → List Expr → Kept Value Address → Type 0
+IsCounting vars es keeps_nothing = Unit {0}
+IsCounting vars es (keeps_limit a x y) = CountedBy vars es a x y
+IsCounting vars es (keeps_value x) = Unit {0}
+IsCounting vars es (keeps_address a) = Unit {0}
+
+-- a value of the type of the expression, on both sides
+abbrev pub ChosenBy : List Expr → Value → Kept net_value.Value net.Address → Type 0
+ChosenBy [] x j = Unit {0}
+ChosenBy (e ∷ es) x keeps_nothing = Unit {0}
+ChosenBy (e ∷ es) x (keeps_limit b y z) = Unit {0}
+ChosenBy (e ∷ es) x (keeps_value y) = (z : Value6) × (x ≡ scalar (node.type_at e) z)
+ChosenBy (e ∷ es) x (keeps_address b) = ⊥
+
+abbrev pub IsChoice : List Expr → Kept Value Address → Kept net_value.Value net.Address → Type 0
+IsChoice es keeps_nothing j = Unit {0}
+IsChoice es (keeps_limit a x y) j = Unit {0}
+IsChoice es (keeps_value x) j = ChosenBy es x j
+IsChoice es (keeps_address a) j = Unit {0}
+
+-- what a head keeps is what it computes, by its form
+abbrev pub KeptBy : List (ℕ × Address) → Form → List Expr → Kept Value Address → Kept net_value.Value net.Address → Type 0
+KeptBy vars (for_head counter start limit step) es k j = IsCounting vars es k
+KeptBy vars (select e) es k j = IsChoice es k j
+KeptBy vars f es k j = Unit {0}
+
 -- ---- frames
 
 -- The target's frame stands for the source's, as one of the procedure p: they are at the same line, with the same handling of errors and
@@ -152,6 +200,11 @@ pub record FrameMatch (U : Upgrade) (K : Pledge) (w : World) (p : ℕ) (f : Sour
   pub own_heads :
       (h : ℕ) (l : Line) (a : Address) → slice_get (lines_of U p) h ≡ Some l → is_own_line U p l ≡ true → f.kept (suc h) ≡ keeps_address a → IsInPlace a
   pub kept : (h : ℕ) → KeptMatch U K w (is_exact_head U (nth_line (lines_of U p) h)) (f.kept h) (g.kept h)
+  pub covered_heads :
+      (h : ℕ) (l : Line) → nth_line (lines_of U p) h ≡ Some l → covers_line U.program p l ≡ true
+      → KeptBy f.vars l.source.form l.bindings.exprs (f.kept h) (g.kept h)
+  -- the local variables of the procedure are there
+  pub has_locals : (v : ℕ) → is_local_in p (slice_get U.program.declarations.vars v) ≡ true → (a : Address) × (lookup (nat_eq v) f.vars ≡ Some a)
   pub locks : AllLocked U K w f.env
   pub low : Below K.base (mark w.src)
 

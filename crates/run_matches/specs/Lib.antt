@@ -4,6 +4,7 @@ pub mod Likeness
 pub mod Match
 pub mod Pledges
 pub mod Sites
+pub mod Shared
 pub mod CleanLines
 pub mod Addresses
 pub mod Agreeing
@@ -12,4 +13,5 @@ pub mod Runs
 pub mod Typed
 pub mod Owing
 pub mod Formed
+pub mod Callees
 pub mod Covered

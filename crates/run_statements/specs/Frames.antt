@@ -1,20 +1,29 @@
 -- What variables, expressions and assignments do in frames that match.
-use Rattle.std.specs.Prelude.{◌≡◌, ℕ, suc, Bool, true, false, nat_eq, Option, Some, None, List, [], ◌∷◌, slice_get}
-use Rattle.std.specs.Map.{lookup}
+use Rattle.std.specs.Prelude.{◌≡◌, ◌⊎◌, ℕ, Bool, true, false, Some, [], ◌∷◌, slice_get, suc, nat_eq, Option, None, List}
 use Rattle.vb_tree.specs.BoundTree.{Ty}
+use Rattle.vb_tree.specs.declared.declared.Owner.TheVariants as owner
+use Rattle.std.specs.List.{list_all}
+use Rattle.std.specs.Map.{lookup}
+use Rattle.vb_tree.specs.declared.declared.ProcId.{ProcId}
 use Rattle.vb_tree.specs.declared.declared.VarId.{VarId}
 use Rattle.vb_tree.specs.declared.value.Value6.{Value6}
-use Rattle.bound_tree.specs.Tree.{Variable, Expr}
+use Rattle.bound_tree.specs.Tree.{Variable, Expr, typed, Term, constant, variable, field, element, call, library, unary, binary, convert, new_object, me, with_object, err_number, err_raise, err_clear, is_same, loose, no_object, Exprs, no_exprs, next_expr, Argument, by_value, by_reference, Passed, no_passed, next_passed}
+use Rattle.bound_facts.specs.Locks.{Keeps}
 use Rattle.bound_facts.specs.Node.{type_at}
+use Rattle.net_tree.specs.declared.declaration.NetPassing.{NetPassing}
+use Rattle.net_tree.specs.declared.declaration.NetPassing.TheVariants as passing
+use Rattle.net_tree.specs.Tree.{call_of, path}
 use Rattle.net_tree.specs.Types.{TypeName}
-use Rattle.run_base.specs.Outcomes.{Outcome, then}
-use Rattle.run_base.specs.Positions.{Position, whole, made}
+use Rattle.run_base.specs.Positions.{Key, Position, whole, made, shared}
 use Rattle.vb6_run.specs.Expressions as source
 use Rattle.vb6_run.specs.Expressions.{Context}
 use Rattle.vb6_run.specs.Forms.{SourceLine}
+use Rattle.vb6_run.specs.Runnables.{is_class_file}
+use Rattle.vb6_run.specs.Shapes as source_shape
 use Rattle.vb6_run.specs.Shapes.{simple, variable_shape}
-use Rattle.vb6_run.specs.Store.{Address, root, Locked, SourceCalls, SourceFrame, make, write}
+use Rattle.vb6_run.specs.Store.{Address, root, Locked, SourceCalls, SourceFrame, make, read, write, make_with}
 use Rattle.vb6_run.specs.Values.{Value, scalar}
+use Rattle.net_run.specs.Calls.{passings_at}
 use Rattle.net_run.specs.Expressions as target
 use Rattle.net_run.specs.Lines.{NetFrame, NetLine, scope_of}
 use Rattle.net_run.specs.Making.{Jobs}
@@ -23,23 +32,26 @@ use Rattle.net_run.specs.Names as net_names
 use Rattle.net_run.specs.Shapes as shape
 use Rattle.net_run.specs.Store as net
 use Rattle.net_run.specs.Values as net_value
-use Rattle.written_trees.specs.Exprs.{exp_of}
-use Rattle.written_trees.specs.Names.{Scope}
+use Rattle.written_trees.specs.Exprs.{exp_of, passed_of}
+use Rattle.written_trees.specs.Names.{Scope, variable_path, procedure_path}
 use Rattle.run_matches.specs.Addresses.{Same, position_of}
+use Rattle.written_trees.specs.Arguments.{is_property, takes_reference}
 use Rattle.run_matches.specs.Agreeing.{Agrees}
-use Rattle.run_matches.specs.Formed.{is_formed}
-use Rattle.run_matches.specs.Covered.{Uses, covers_type, covers_variable, covers_expr}
+use Rattle.run_matches.specs.Formed.{passed_are_formed, is_formed}
+use Rattle.run_matches.specs.Covered.{Uses, covers_type, covers_variable, covers_expr, covers_passed}
 use Rattle.run_matches.specs.Frames.{FrameMatch, HasPlace, IsInPlace, IsOwnAddress, is_own_of}
 use Rattle.run_matches.specs.Likeness.{LikeV, scalar_word}
-use Rattle.run_matches.specs.Maps.{World, IsMatched}
+use Rattle.run_matches.specs.Maps.{World}
 use Rattle.run_matches.specs.Match.{MemoryMatch}
-use Rattle.run_matches.specs.Pledges.{Pledge}
-use Rattle.run_matches.specs.Upgrades.{Upgrade, runnable_of, is_flagged}
-use Rattle.row_laws.specs.Uncaptured.{IsUncaptured, IsTextUncaptured}
+use Rattle.run_matches.specs.Pledges.{Pledge, Later, is_inward}
+use Rattle.run_matches.specs.Upgrades.{Upgrade, runnable_of, is_flagged, variable_key, written_number}
+use Rattle.row_laws.specs.Uncaptured.{IsUncaptured, IsTextUncaptured, IsMathUncaptured}
+use Rattle.run_matches.specs.Runs.{CallsAgree}
+use Rattle.run_statements.specs.Written.{Passes}
 
 -- ---- variables
 
--- a local variable of a covered type, whose declaration carries no issue
+-- a variable of a covered type, whose declaration carries no issue
 pub record IsReadable (U : Upgrade) (v : ℕ) : Type 0 where
   pub variable : Variable
   pub is_variable : slice_get U.program.declarations.vars v ≡ Some variable
@@ -49,9 +61,29 @@ pub record IsReadable (U : Upgrade) (v : ℕ) : Type 0 where
 abbrev pub AreReadable : Upgrade → Uses → Type 0
 AreReadable U uses = (v : VarId) → uses v ≡ true → IsReadable U v.0
 
--- the variables that are used are the procedure's own
-abbrev pub AreOwn : Upgrade → (procedure : ℕ) → Uses → Type 0
-AreOwn U p uses = (v : VarId) → uses v ≡ true → is_own_of U p v.0 ≡ true
+-- A variable of a standard module is written as a member of a module, to which names lead where something is written, and no other variable
+-- is written as that member.
+pub record IsShared (U : Upgrade) (S : net_names.Scope) (T : Scope) (v : ℕ) : Type 0 where
+  pub variable : Variable
+  pub is_variable : slice_get U.program.declarations.vars v ≡ Some variable
+  pub file : ℕ
+  pub is_owner : variable.owner ≡ owner.Module file
+  pub standard : is_class_file U.program.declarations file ≡ false
+  pub key : Key
+  pub is_key : variable_key U v ≡ Some key
+  pub word : TypeName
+  pub is_word : scalar_word variable.ty ≡ Some word
+  pub leads :
+      (qualified : Bool) → net_names.path_start S false (variable_path T qualified v)
+      ≡ net_names.starts (net_names.at_place (net.root (shape.scalar word) (whole (shared key)))) []
+  pub differs : (u : ℕ) → variable_key U u ≡ Some key → v ≡ u
+
+-- the procedure's own, or one of a standard module
+abbrev pub IsPlaced : Upgrade → (procedure : ℕ) → net_names.Scope → Scope → (variable : ℕ) → Type 0
+IsPlaced U p S T v = (is_own_of U p v ≡ true) ⊎ IsShared U S T v
+
+abbrev pub ArePlaced : Upgrade → (procedure : ℕ) → net_names.Scope → Scope → Uses → Type 0
+ArePlaced U p S T uses = (v : VarId) → uses v ≡ true → IsPlaced U p S T v.0
 
 -- ---- values
 
@@ -83,11 +115,43 @@ LocalsAreMade U =
     (make (variable_shape U.program.declarations v) w.src)
     (net.made_with (shape.scalar t) (shape.default_of (shape.scalar t)) w.net)
 
--- a scalar is written to a variable that is the procedure's own
+-- a parameter is made with a value that matched at an earlier world
+abbrev pub ValuesAreMade : Upgrade → Type 1
+ValuesAreMade U =
+    (K : Pledge) (w0 w : World) (v : ℕ) (r : IsReadable U v) (t : TypeName) (x : Value) (y : net_value.Value) → scalar_word r.variable.ty ≡ Some t
+    → Later U K w0 w → LikeV U w0 x y
+    → Agrees U K w (MadeMatch U K v r.variable.ty t)
+    (make_with (variable_shape U.program.declarations v) x w.src)
+    (net.made_with (shape.scalar t) y w.net)
+
+-- a scalar is read of a variable, and of its image
+abbrev pub ScalarsAreRead : Upgrade → Type 1
+ScalarsAreRead U =
+    (K : Pledge) (w : World) (a : Address) (b : net.Address) (ty : Ty) → covers_type ty ≡ true → MemoryMatch U w → Same U K w a b
+    → ((q : Position) × (a ≡ root (simple ty) q)) → Agrees U K w (ScalarMatch U ty) (read a w.src) (target.read b w.net)
+
+-- the address of a variable of a standard module that is written with a key of its own
+pub record HasOwnKey (U : Upgrade) (a : Address) : Type 0 where
+  pub variable : ℕ
+  pub key : Key
+  pub of_shape : source_shape.Shape
+  pub stands : a ≡ root of_shape (whole (shared (variable ∷ [])))
+  pub is_key : variable_key U variable ≡ Some key
+  pub differs : (u : ℕ) → variable_key U u ≡ Some key → variable ≡ u
+
+-- where a scalar can be written: a place, or a variable of a standard module
+abbrev pub IsTarget : Upgrade → Address → Type 0
+IsTarget U a = IsInPlace a ⊎ HasOwnKey U a
+
+-- the pledge lets it change
+abbrev pub MayChange : Pledge → Address → Type 0
+MayChange K a = K.steady → IsOwnAddress K a
+
+-- a scalar is written to a variable
 abbrev pub ScalarsAreWritten : Upgrade → Type 1
 ScalarsAreWritten U =
     (K : Pledge) (w : World) (a : Address) (b : net.Address) (locked : Locked) (ty : Ty) (z : Value6) (y : net_value.Value) → covers_type ty ≡ true
-    → MemoryMatch U w → Same U K w a b → ((q : Position) × (a ≡ root (simple ty) q)) → IsInPlace a → IsOwnAddress K a → LikeV U w (scalar ty z) y
+    → MemoryMatch U w → Same U K w a b → ((q : Position) × (a ≡ root (simple ty) q)) → IsTarget U a → MayChange K a → LikeV U w (scalar ty z) y
     → Agrees U K w AnyUnits (write locked (scalar ty z) a w.src) (net.written b y w.net)
 
 -- ---- expressions
@@ -99,13 +163,86 @@ context_of U oracle p f l = record { runnable = runnable_of U; oracle = oracle; 
 pub record IsOpen (S : net_names.Scope) : Type 0 where
   pub support : IsUncaptured S
   pub texts : IsTextUncaptured S
+  pub math : IsMathUncaptured S
 
--- A covered expression that is well formed and what is written for it give values that match.
+-- ---- calls
+
+abbrev mutual
+  -- a property of each procedure that a covered expression calls
+  pub AllCalled : (ℕ → Type 0) → Expr → Type 0
+  AllCalled Q (typed ty t) = AllCalledIn Q t
+
+  pub AllCalledIn : (ℕ → Type 0) → Term → Type 0
+  AllCalledIn Q (constant x origin) = Unit {0}
+  AllCalledIn Q (variable v qualified) = Unit {0}
+  AllCalledIn Q (field e k) = Unit {0}
+  AllCalledIn Q (element e indexes) = Unit {0}
+  AllCalledIn Q (call p qualified of args) = Q p.0 × AllCalledFor Q args
+  AllCalledIn Q (library f args) = AllCalledAll Q args
+  AllCalledIn Q (unary op e) = AllCalled Q e
+  AllCalledIn Q (binary op d e) = AllCalled Q d × AllCalled Q e
+  AllCalledIn Q (convert to e) = AllCalled Q e
+  AllCalledIn Q (new_object c) = Unit {0}
+  AllCalledIn Q me = Unit {0}
+  AllCalledIn Q (with_object of) = Unit {0}
+  AllCalledIn Q err_number = Unit {0}
+  AllCalledIn Q (err_raise e) = Unit {0}
+  AllCalledIn Q err_clear = Unit {0}
+  AllCalledIn Q (is_same d e) = Unit {0}
+  AllCalledIn Q (loose e rules) = Unit {0}
+
+  pub AllCalledAll : (ℕ → Type 0) → Exprs → Type 0
+  AllCalledAll Q no_exprs = Unit {0}
+  AllCalledAll Q (next_expr e rest) = AllCalled Q e × AllCalledAll Q rest
+
+  pub AllCalledFor : (ℕ → Type 0) → Passed → Type 0
+  AllCalledFor Q no_passed = Unit {0}
+  AllCalledFor Q (next_passed a rest) = AllCalledBy Q a × AllCalledFor Q rest
+
+  pub AllCalledBy : (ℕ → Type 0) → Argument → Type 0
+  AllCalledBy Q (by_value e) = AllCalled Q e
+  AllCalledBy Q (by_reference e) = AllCalled Q e
+
+abbrev pub is_value : NetPassing → Bool
+is_value passing.Value = true
+is_value passing.Reference = false
+
+-- A procedure that can be called from where something is written: it passes, and promises what is promised there; what is written for it
+-- takes values, and is found by its name.
+pub record CanCall (U : Upgrade) (K : Pledge) (S : net_names.Scope) (T : Scope) (q : ℕ) : Type 0 where
+  pub passes : Passes U q
+  pub keeps : (ty : Ty) → K.keeps ty → Keeps U.program q ty
+  pub inward : K.steady → is_inward U q ≡ true
+  pub number : ℕ
+  pub is_number : written_number U q ≡ Some number
+  pub plain : is_property U.program.declarations q ≡ false
+  pub values : (i : ℕ) → takes_reference U.program.declarations q i ≡ false
+  pub net_values : list_all is_value (passings_at U.written (Some number)) ≡ true
+  pub found :
+      (qualified : Bool) → net_names.path_start S true (procedure_path T qualified q) ≡ net_names.starts (net_names.named (net_names.to_procedure None number)) []
+
+-- A covered expression that is well formed and what is written for it give values that match, where calls of what it calls agree.
 abbrev pub ExpressionsAgree : Upgrade → Type 1
 ExpressionsAgree U =
     (K : Pledge) (w : World) (p : ℕ) (f : SourceFrame) (g : NetFrame) (oracle : SourceCalls) (net_oracle : Jobs) (l : SourceLine) (k : NetLine) (c : Code)
     (T : Scope) (uses : Uses) (e : Expr) → MemoryMatch U w → FrameMatch U K w p f g → T.declarations ≡ U.program.declarations
-    → IsOpen (scope_of U.written c g k) → AreReadable U uses → AreOwn U p uses → covers_expr uses e ≡ true → is_formed e ≡ true
+    → IsOpen (scope_of U.written c g k) → AreReadable U uses → ArePlaced U p (scope_of U.written c g k) T uses → CallsAgree U (Passes U) oracle net_oracle
+    → AllCalled (CanCall U K (scope_of U.written c g k) T) e → covers_expr uses e ≡ true → is_formed e ≡ true
     → Agrees U K w (ScalarMatch U (type_at e))
     (source.value_of (context_of U oracle p f l) e w.src)
     (target.value_of (scope_of U.written c g k) net_oracle (exp_of T e) w.net)
+
+abbrev pub AnyParts : World → source.Parts → net.Address → Type 0
+AnyParts w x a = Unit {0}
+
+-- so a covered call is one on both sides, whatever it gives
+abbrev pub CallsAreMade : Upgrade → Type 1
+CallsAreMade U =
+    (K : Pledge) (w : World) (p : ℕ) (f : SourceFrame) (g : NetFrame) (oracle : SourceCalls) (net_oracle : Jobs) (l : SourceLine) (k : NetLine) (c : Code)
+    (T : Scope) (uses : Uses) (ty : Ty) (q : ProcId) (qualified : Bool) (args : Passed) → MemoryMatch U w → FrameMatch U K w p f g
+    → T.declarations ≡ U.program.declarations → IsOpen (scope_of U.written c g k) → AreReadable U uses → ArePlaced U p (scope_of U.written c g k) T uses
+    → CallsAgree U (Passes U) oracle net_oracle → AllCalled (CanCall U K (scope_of U.written c g k) T) (typed ty (call q qualified no_object args))
+    → covers_passed uses args ≡ true → passed_are_formed args ≡ true
+    → Agrees U K w AnyParts
+    (source.term_parts (context_of U oracle p f l) ty (call q qualified no_object args) w.src)
+    (target.address_of (scope_of U.written c g k) net_oracle (call_of (path (procedure_path T qualified q.0)) (passed_of T q.0 0 args)) w.net)

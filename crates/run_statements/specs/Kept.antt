@@ -1,29 +1,44 @@
 -- What clean procedures and lines that are covered keep in what is written for them.
-use Rattle.std.specs.Prelude.{◌≡◌, ℕ, suc, true, Option, Some, None, List, map, slice_get}
+use Rattle.std.specs.Prelude.{◌≡◌, ◌||◌, ℕ, suc, true, false, Option, Some, None, List, map, slice_get, Bool, []}
 use Rattle.std.specs.List.{Contains, list_all}
 use Rattle.vb_tree.specs.declared.declared.VarId.{VarId}
+use Rattle.vb_tree.specs.declared.form_parts.Label6.{Label6}
 use Rattle.bound_tree.specs.declared.rule_set.RuleSet.{RuleSet}
-use Rattle.bound_tree.specs.Tree.{Procedure, Constant, Variable, Line}
+use Rattle.bound_tree.specs.Labels.{label_of, label_at, labels}
+use Rattle.bound_tree.specs.Tree.{Procedure, Constant, Variable, Line, Expr}
+use Rattle.bound_facts.specs.Calls.{line_calls}
 use Rattle.bound_facts.specs.Clean.{IsClean}
+use Rattle.bound_facts.specs.Effects.{is_outside}
+use Rattle.bound_facts.specs.Node.{root}
+use Rattle.bound_facts.specs.Parts.{line_stores}
 use Rattle.net_tree.specs.Tree as net
-use Rattle.run_base.specs.Machines.{line_at}
+use Rattle.run_base.specs.Machines.{line_at, nth_line, go}
 use Rattle.written_trees.specs.Bodies.{inside_procedure}
-use Rattle.written_trees.specs.Lines.{replaced_by}
-use Rattle.written_trees.specs.Names.{Scope}
+use Rattle.written_trees.specs.Lines.{jump, replaced_by}
+use Rattle.written_trees.specs.Names.{Scope, procedure_path}
+use Rattle.written_trees.specs.Arguments.{is_property_kind}
 use Rattle.written_trees.specs.Prologues.{code_sets, constant_dim, variable_dim}
 use Rattle.vb6_run.specs.Forms.{SourceLine}
+use Rattle.vb6_run.specs.Lines.{lines_in}
 use Rattle.vb6_run.specs.Programs.{machine_of}
-use Rattle.net_run.specs.Lines.{NetFrame, NetLine, scope_of}
+use Rattle.net_run.specs.Lines.{NetFrame, NetLine, scope_of, target_of}
+use Rattle.vb6_run.specs.Store.{SourceFrame}
 use Rattle.net_run.specs.Members.{Code, code_at}
+use Rattle.net_run.specs.Names as net_names
 use Rattle.net_run.specs.Program as net_program
 use Rattle.run_matches.specs.CleanLines.{IsCleanLine}
-use Rattle.run_matches.specs.Covered.{IsCoveredLine, covers_line, covers_names, covers_procedure, covers_use, keeps_blocks}
-use Rattle.run_matches.specs.Frames.{HasNames}
-use Rattle.run_matches.specs.Runs.{SameLine}
+use Rattle.run_matches.specs.Covered.{IsCoveredLine, covers_in_block, covers_label, covers_line, covers_names, covers_procedure, covers_use, has_sound_label, jump_of, keeps_blocks}
+use Rattle.run_matches.specs.Frames.{HasNames, lines_of, FrameMatch, NextMatch, frame_pledge}
+use Rattle.run_matches.specs.Pledges.{is_inward, is_self_made}
+use Rattle.run_matches.specs.Runs.{SameLine, CallsAgree, line_result}
 use Rattle.run_matches.specs.Sites.{Own, own_variable, own_constant, Site, site_of, site_lines, first_statement, owns_of}
 use Rattle.run_matches.specs.Upgrades.{Upgrade, code_of, runnable_of}
-use Rattle.run_statements.specs.Frames.{IsOpen, IsReadable}
-use Rattle.run_statements.specs.Written.{IsWritten, WrittenProcedure, WrittenLine, site_scope}
+use Rattle.run_statements.specs.Frames.{IsOpen, IsReadable, ArePlaced, CanCall}
+use Rattle.run_statements.specs.Written.{WrittenProcedure, WrittenLine, site_scope, IsWritten, Passes}
+use Rattle.run_matches.specs.Agreeing.{Agrees}
+use Rattle.run_matches.specs.Callees.{is_found}
+use Rattle.run_matches.specs.Maps.{World}
+use Rattle.run_matches.specs.Match.{MemoryMatch}
 
 -- ---- names
 
@@ -32,6 +47,16 @@ abbrev pub NamesAreOpen : Upgrade → Type 0
 NamesAreOpen U =
     (p : ℕ) (s : Site) (x : Procedure) (W : WrittenProcedure U p s x) (g : NetFrame) (k : NetLine) → covers_names U.program.declarations ≡ true
     → HasNames (Some W.code) g → IsOpen (scope_of U.written W.code g k)
+
+-- a procedure that is called is found by what is written for its name
+abbrev pub CalleesAreFound : Upgrade → Type 0
+CalleesAreFound U =
+    (p q : ℕ) (s t : Site) (x y : Procedure) (W : WrittenProcedure U p s x) (V : WrittenProcedure U q t y) (g : NetFrame) (k : NetLine)
+    → site_of U.program.declarations p ≡ Some s → slice_get U.program.declarations.procs p ≡ Some x → is_property_kind x.kind ≡ false
+    → site_of U.program.declarations q ≡ Some t → slice_get U.program.declarations.procs q ≡ Some y → is_property_kind y.kind ≡ false
+    → is_found U.program.declarations (Some x) s (Some y) (Some t) ≡ true → HasNames (Some W.code) g → (qualified : Bool)
+    → net_names.path_start (scope_of U.written W.code g k) true (procedure_path (inside_procedure (site_scope U s) p) qualified q)
+    ≡ net_names.starts (net_names.named (net_names.to_procedure None V.number)) []
 
 -- ---- declarations of a procedure
 
@@ -76,11 +101,66 @@ NoFurtherLines U =
     → (W : WrittenProcedure U p s x) (n : ℕ) → line_at (machine_of (runnable_of U)) p n ≡ None
     → line_at (net_program.machine_of U.written) W.number n ≡ None
 
--- a covered line does the same as what is written for it
+-- where the procedure promises to change nothing but what is its own, the line stores to that alone
+abbrev pub StoresAreOwn : Upgrade → (procedure : ℕ) → Line → Type 0
+StoresAreOwn U p l =
+    (is_inward U p || is_self_made U p) ≡ true → (e : Expr) → Contains (line_stores l) e → is_outside U.program.declarations.vars p (root e) ≡ false
+
+-- the variables that a line uses are found on both sides
+abbrev pub UsesArePlaced : Upgrade → (procedure : ℕ) → Site → Code → Line → Type 0
+UsesArePlaced U p s c l =
+    (g : NetFrame) (k : NetLine) → HasNames (code_of U p) g
+    → ArePlaced U p (scope_of U.written c g k) (inside_procedure (site_scope U s) p) (covers_use U.program p l.bindings.mentions)
+
+-- ---- labels
+
+-- what is written for a jump to a label finds it at the line of the number at which the source finds it
+abbrev pub IsFoundLabel : Upgrade → (procedure : ℕ) → Site → Code → Label6 → Type 0
+IsFoundLabel U p s c a =
+    target_of c (jump (labels (site_lines s)) a) ≡ label_at (labels (lines_in (slice_get U.program.bodies p))) (label_of a)
+
+-- so it is in a procedure none of whose lines is replaced
+abbrev pub LabelsAreFound : Upgrade → Type 0
+LabelsAreFound U =
+    (p : ℕ) (s : Site) (x : Procedure) → site_of U.program.declarations p ≡ Some s → (W : WrittenProcedure U p s x)
+    → ((lines : List Line) → slice_get U.program.bodies p ≡ Some lines → list_all has_sound_label lines ≡ true)
+    → ((k : ℕ) → IsUnreplaced U p s k) → (a : Label6) → covers_label (label_of a) ≡ true → IsFoundLabel U p s W.code a
+
+-- the label of a line that jumps
+abbrev pub LabelIsKept : Upgrade → (procedure : ℕ) → Site → Code → SourceLine → Type 0
+LabelIsKept U p s c l = (a : Label6) → jump_of l.form.source.form ≡ Some a → IsFoundLabel U p s c a
+
+-- ---- what a line does
+
+-- the line of a number, in a block that suits it
+pub record LineStands (U : Upgrade) (p : ℕ) (s : Site) (c : Code) (number : ℕ) (l : SourceLine) : Type 0 where
+  pub is_there : nth_line (lines_of U p) number ≡ Some l.form
+  pub in_block : covers_in_block U.program p (lines_of U p) l ≡ true
+  pub label : LabelIsKept U p s c l
+
+-- a line and the written line do the same, with so many turns for what they call
+abbrev pub SameLineIn : Upgrade → (p q number turns : ℕ) → SourceLine → NetLine → Type 0
+SameLineIn U p q number turns l k =
+    (w : World) (f : SourceFrame) (g : NetFrame) → f.line ≡ number → MemoryMatch U w → FrameMatch U (frame_pledge U p w f) w p f g
+    → Agrees U (frame_pledge U p w f) w (NextMatch U (frame_pledge U p w f) p f.me)
+    (line_result (machine_of (runnable_of U)) turns p f l w.src)
+    (line_result (net_program.machine_of U.written) turns q g k w.net)
+
+-- a procedure that can be called from the lines of another
+abbrev pub CanCallFrom : Upgrade → (p : ℕ) → Site → Code → (q : ℕ) → Type 0
+CanCallFrom U p s c q =
+    (w : World) (f : SourceFrame) (g : NetFrame) (k : NetLine) → HasNames (code_of U p) g
+    → CanCall U (frame_pledge U p w f) (scope_of U.written c g k) (inside_procedure (site_scope U s) p) q
+
+-- a covered line does the same as what is written for it, where calls of what it calls agree
 abbrev pub LinesAgree : Upgrade → Type 0
 LinesAgree U =
-    (p : ℕ) (s : Site) (written number : ℕ) (l : SourceLine) (c : Code) (L : WrittenLine U p s written number l) → code_at U.written written ≡ Some c
+    (p : ℕ) (s : Site) (written number turns : ℕ) (l : SourceLine) (c : Code) (L : WrittenLine U p s written number l) → code_at U.written written ≡ Some c
     → ((g : NetFrame) (k : NetLine) → HasNames (code_of U p) g → IsOpen (scope_of U.written c g k))
     → ((v : VarId) → covers_use U.program p l.form.bindings.mentions v ≡ true → IsReadable U v.0)
+    → UsesArePlaced U p s c l.form → StoresAreOwn U p l.form
+    → CallsAgree U (Passes U) (go (machine_of (runnable_of U)) turns) (go (net_program.machine_of U.written) turns)
+    → ((q : ℕ) → Contains (line_calls U.program.declarations p l.form) (p, q) → CanCallFrom U p s c q)
     → covers_line U.program p l.form ≡ true
-    → SameLine U p written number l L.line
+    → LineStands U p s c number l
+    → SameLineIn U p written number turns l L.line

@@ -1,5 +1,5 @@
 -- What is known of a bound program, and what is written for its procedures and their lines.
-use Rattle.std.specs.Prelude.{◌≡◌, ◌+◌, ℕ, true, false, Option, Some, None, List, map, slice_get}
+use Rattle.std.specs.Prelude.{◌≡◌, ◌↔◌, ◌+◌, ◌&&◌, IsTrue, ℕ, true, false, nat_lt, Some, None, List, map, slice_get}
 use Rattle.vb_tree.specs.Blocks.{is_code}
 use Rattle.vb_tree.specs.FlatLines.{code_lines}
 use Rattle.vb_tree.specs.Tree as source
@@ -7,8 +7,11 @@ use Rattle.bound_tree.specs.declared.marks.Marks.{Marks}
 use Rattle.bound_tree.specs.RuleSets.{none}
 use Rattle.bound_tree.specs.Tree.{Procedure, Line, Declarations, Program}
 use Rattle.bound_facts.specs.Clean.{IsClean}
+use Rattle.bound_facts.specs.Calls.{count_procedures}
+use Rattle.bound_facts.specs.Facts.{Known, ReachesOutward, AreFacts}
+use Rattle.bound_facts.specs.Leading.{is_in}
+use Rattle.bound_facts.specs.SelfMade.{unplain}
 use Rattle.net_tree.specs.declared.declaration.NetClose.{NetClose}
-use Rattle.net_tree.specs.Tree as net
 use Rattle.written_trees.specs.Arguments.{is_property_kind}
 use Rattle.written_trees.specs.Bodies.{procedure_with, inside_procedure}
 use Rattle.written_trees.specs.Facts.{Facts}
@@ -19,16 +22,15 @@ use Rattle.written_trees.specs.Placing.{Numbers}
 use Rattle.written_trees.specs.Projects.{module_scope, written_module, written_project}
 use Rattle.bound_tree.specs.Labels.{labels}
 use Rattle.vb6_run.specs.Forms.{SourceLine}
-use Rattle.vb6_run.specs.Programs as source_program
 use Rattle.run_base.specs.Machines.{line_at}
 use Rattle.net_run.specs.Lines.{NetLine}
 use Rattle.net_run.specs.Members.{Code, code_at}
 use Rattle.net_run.specs.Program as net_program
-use Rattle.run_matches.specs.Covered.{IsCovered, IsCoveredLine, is_plain_kind}
+use Rattle.run_matches.specs.Covered.{IsCovered, IsCoveredLine}
 use Rattle.run_matches.specs.CleanLines.{IsCleanLine}
 use Rattle.run_matches.specs.Runs.{RunsTheSame, LineDoesTheSame}
 use Rattle.run_matches.specs.Sites.{Site, site_of, site_lines, first_statement}
-use Rattle.run_matches.specs.Upgrades.{Upgrade, runnable_of, written_number}
+use Rattle.run_matches.specs.Upgrades.{Upgrade, written_number}
 
 -- ---- what a bound program keeps
 
@@ -49,8 +51,9 @@ PartsStandTogether D =
     (n : ℕ) (q : Procedure) (s : Site) → slice_get D.procs n ≡ Some q → is_property_kind q.kind ≡ true → site_of D q.first.0 ≡ Some s
     → (t : Site) × (site_of D n ≡ Some t) × (t.home ≡ s.home)
 
--- A program whose written project is what is written for it by facts on its own lines.
+-- A program with what is known of it, whose written project is what is written for it by facts on its own lines.
 pub record IsWritten (U : Upgrade) : Type 0 where
+  pub known : AreFacts U.program U.known
   pub is_written : U.written ≡ written_project U.program U.facts
   pub parts : PartsStandTogether U.program.declarations
   pub bodies : (p : ℕ) (s : Site) → site_of U.program.declarations p ≡ Some s → HasBody U.program p s
@@ -94,6 +97,10 @@ pub record WrittenLine (U : Upgrade) (p : ℕ) (s : Site) (written number : ℕ)
   pub tests : line.tests ≡ l.tests
 
 -- ---- the theorem
+
+-- a clean procedure that is covered
+abbrev pub Passes : Upgrade → (procedure : ℕ) → Type 0
+Passes U p = IsClean U.program U.facts.marks p × IsCovered U.program p
 
 -- clean procedures that are covered run the same
 abbrev pub SameRuns : Upgrade → Marks → Type 0

@@ -3,4 +3,4 @@ mod Steps
 pub mod Bodies
 pub mod Tests
 pub mod Aims
-mod Labels
+pub mod Labels

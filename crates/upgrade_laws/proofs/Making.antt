@@ -4,9 +4,12 @@ use Rattle.vb_tree.specs.Tree.{Project}
 use Rattle.bound_tree.specs.declared.marks.Marks.{Marks}
 use Rattle.bound_tree.specs.Tree.{Program}
 use Rattle.bound_tree.specs.View.{program_of}
+use Rattle.bound_facts.specs.Facts.{AreFacts, Known}
 use Rattle.net_tree.specs.View.{project_of}
 use Rattle.broken_rules.specs.Marks.{all_marks}
-use Rattle.broken_rules.specs.View.{passes_of}
+use Rattle.broken_rules.specs.declared.passes.Found.{Found}
+use Rattle.broken_rules.specs.View.{AreFound, passes_of}
+use Rattle.byref_analysis.specs.Tests.{Tells}
 use Rattle.written_facts.specs.United.{AreUnited}
 use Rattle.project_loader.specs.Held.{IsOfGrammar}
 use Rattle.project_upgrade.specs.declared.upgrade.Upgraded.{Upgraded}
@@ -33,11 +36,35 @@ counts_clean P g ms m n u c = record {
   count = c.count;
 }
 
+-- the facts of a program: those that the rules on references ask for, and that of arrays
+abbrev known_of : (P : Program) (f : Found) → AreFound P f → Known
+known_of P f are = record {
+  outward = are.facts.outward;
+  touched = are.facts.touched;
+  resized = are.arrays.0.resized;
+  unplain = are.facts.unplain;
+}
+
+facts_are_known : (P : Program) (f : Found) (are : AreFound P f) → AreFacts P (known_of P f are)
+facts_are_known P f are = record {
+  outward_are = are.facts_are.outward_are;
+  touched_are = are.facts_are.touched_are;
+  resized_are = are.arrays.1.resized_are;
+  unplain_are = are.facts_are.unplain_are;
+}
+
+tells_known : (P : Program) (f : Found) (are : AreFound P f) → Tells P (known_of P f are)
+tells_known P f are = record {
+  outward_are = are.facts_are.outward_are;
+  touched_are = are.facts_are.touched_are;
+  unplain_are = are.facts_are.unplain_are;
+}
+
 -- what is made of a project, as the laws on runs see it
 abbrev made_upgrade : (P : Project) (u : Upgraded) → IsUpgraded P u → Upgrade
 made_upgrade P u is = record {
   program = program_of is.bound;
-  known = is.made.are_found.facts;
+  known = known_of (program_of is.bound) is.made.found is.made.are_found;
   facts = is.made.made.tree.facts;
   written = project_of u.tree;
 }
@@ -46,7 +73,9 @@ written_for : (P : Project) (u : Upgraded) (is : IsUpgraded P u) → AreOrderly 
 written_for P u is orderly =
     let b = is.bound in
     let w = is.made.made.tree in
+    let told = is.made.are_found.facts_are in
     record {
+      known = facts_are_known (program_of b) is.made.found is.made.are_found;
       is_written = w.exact;
       parts = parts_stand_together P b is.is_bound orderly;
       bodies = bodies_are_bound P b is.is_bound;
@@ -69,7 +98,7 @@ upgrade_is_written P u is orderly =
       program = refl;
       read = is.is_bound.project;
       project = is.is_bound.project;
-      known = is.made.are_found.facts_are;
+      known = tells_known (program_of b) f is.made.are_found;
       facts = w.are_facts;
       united = w.are_facts.marks;
       tree = refl;

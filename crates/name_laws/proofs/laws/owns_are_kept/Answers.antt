@@ -1,4 +1,4 @@
-use Rattle.name_laws.proofs.Owns.{owns_are_kept}
+use Rattle.name_laws.proofs.OwnsKept.{owns_are_kept}
 use Rattle.name_laws.proofs.laws.owns_are_kept.Goals as goal
 
 pub returns : goal.returns

@@ -1,0 +1,132 @@
+-- What is written for a call names what its arguments name, where the path of its procedure is no variable's.
+use Rattle.std.proofs.Common.{◌≡◌, ℕ, ◌+◌, Bool, true, false, not, ◌&&◌, cond, List, [], ◌∷◌, ◌++◌, Option, Some, None, refl, sym, ap, subst, ◌∙◌, arith, nat_eq, eqb-true}
+use Rattle.std.specs.List.{list_any}
+use Rattle.std.specs.Prelude.{slice_get, ◌||◌}
+use Rattle.up_base.specs.Names.{is_same_name, lower_case}
+use Rattle.up_base.proofs.Lists.{by_test}
+use Rattle.vb_tree.specs.BoundTree as types
+use Rattle.vb_tree.specs.BoundTree.{Ty}
+use Rattle.bound_tree.specs.Tree.{Declarations, Expr, Procedure, by_value}
+use Rattle.bound_facts.specs.Node.{type_at}
+use Rattle.net_tree.specs.Tree.{Exp, Exps, no_exps}
+use Rattle.written_trees.specs.Arguments.{argument_exp, copy_by, has_address, in_parentheses, is_copied, kept}
+use Rattle.written_trees.specs.Exprs.{called, exp_of}
+use Rattle.written_trees.specs.Facts.{Facts, holds_array}
+use Rattle.written_trees.specs.Names.{Path, Scope, first_name, is_foreign, is_standard_module, module_at, module_name, procedure_name, procedure_path, procedure_path_of}
+use Rattle.run_matches.specs.Covered.{covers_type}
+use Rattle.correspondence.specs.Uses.{exps_name, is_named_there, names, path_names, shared_names, stands_elsewhere}
+use Rattle.correspondence.proofs.Variables.{one_of, same_itself, shared_other}
+
+-- ---- tests
+
+pub neither : (b c : Bool) → (b || c) ≡ false → (b ≡ false) × (c ≡ false)
+neither true c h = absurd (cc h)
+neither false c h = (refl, h)
+
+pub none_of_both : {A : Type 0} (test : A → Bool) (xs ys : List A) → list_any test (xs ++ ys) ≡ false → (list_any test xs ≡ false) × (list_any test ys ≡ false)
+none_of_both test [] ys h = (refl, h)
+none_of_both test (x ∷ xs) ys h =
+    let first = neither (test x) (list_any test (xs ++ ys)) h in
+    let rest = none_of_both test xs ys first.1 in
+    (ap (λ b. b || list_any test xs) first.0 ∙ rest.0, rest.1)
+
+-- ---- paths of procedures
+
+-- that of a procedure of another name
+pub path_other : (D : Declarations) (S : Scope) → S.declarations ≡ D → (name : List ℕ) (q : Bool) (p : ℕ) → is_same_name (procedure_name D p) name ≡ false
+    → path_names name (procedure_path S q p) ≡ 0
+path_other D S same name q p h = by (slice_get S.declarations.procs p) (ap (λ (d : Declarations). is_same_name (procedure_name d p) name) same ∙ h)
+  where
+    either : (b : Bool) (m n : List ℕ) → is_same_name n name ≡ false → path_names name (cond b (m ∷ n ∷ []) (n ∷ [])) ≡ 0
+    either true m n e = refl
+    either false m n e = ap {B = ℕ} (λ c. cond c 1 0) e
+
+    by : (o : Option Procedure) → is_same_name (first_name S.declarations o) name ≡ false → path_names name (procedure_path_of S q o) ≡ 0
+    by None e = refl
+    by (Some y) e =
+        either (q || is_foreign S.declarations S.file y.module_number) (module_name S.declarations y.module_number) (first_name S.declarations (Some y)) e
+
+apart : (a b c : Bool) → (a && not (b && not c)) ≡ false → a ≡ true → (b ≡ true) × (c ≡ false)
+apart true true true h e = absurd (cc h)
+apart true true false h e = (refl, refl)
+apart true false c h e = absurd (cc h)
+apart false b c h e = absurd (cc e)
+
+-- and of one of another name or of another standard module
+module _ (S : Scope) (file : ℕ) (name : List ℕ) (q : Bool) where
+  abbrev D : Declarations
+  D = S.declarations
+
+  abbrev of : List ℕ
+  of = module_name D file
+
+  abbrev count : Path → ℕ
+  count = shared_names (nat_eq S.file file) of name
+
+  unnamed : (behind : Bool) (m n : List ℕ) → is_same_name n name ≡ false → count (cond behind (m ∷ n ∷ []) (n ∷ [])) ≡ 0
+  unnamed true m n e = one_of (is_same_name m of) (is_same_name n name) (λ s t. cc (sym e ∙ t))
+  unnamed false m n e = one_of (nat_eq S.file file) (is_same_name n name) (λ s t. cc (sym e ∙ t))
+
+  elsewhere : (y : Procedure) → is_standard_module (module_at D.project y.module_number) ≡ true → is_same_name (module_name D y.module_number) of ≡ false
+      → count (procedure_path_of S q (Some y)) ≡ 0
+  elsewhere y standard differs =
+      let n : List ℕ = first_name D (Some y) in
+      let m : List ℕ = module_name D y.module_number in
+      ap {B = ℕ} (λ b. count (cond (q || (not (nat_eq S.file y.module_number) && b)) (m ∷ n ∷ []) (n ∷ []))) standard
+      ∙ shared_other q (nat_eq S.file y.module_number) (nat_eq S.file file) of name m n (λ s t. cc (sym differs ∙ s))
+      (λ s t u.
+      let here : is_same_name (module_name D y.module_number) of ≡ true =
+      subst (λ i. is_same_name (module_name D i) of ≡ true) (sym (eqb-true S.file file t) ∙ eqb-true S.file y.module_number s)
+      (same_itself (lower_case of)) in
+      cc (sym differs ∙ here))
+
+  of_other : (o : Option Procedure) → (is_same_name (first_name D o) name && not (stands_elsewhere D of o)) ≡ false → count (procedure_path_of S q o) ≡ 0
+  of_other None e = refl
+  of_other (Some y) e =
+      by_test (is_same_name (first_name D (Some y)) name) (λ c. count (procedure_path_of S q (Some y)) ≡ 0)
+      (λ s.
+      let parts = apart (is_same_name (first_name D (Some y)) name) (is_standard_module (module_at D.project y.module_number))
+      (is_same_name (module_name D y.module_number) of) e s in
+      elsewhere y parts.0 parts.1)
+      (λ s. unnamed (q || is_foreign D S.file y.module_number) (module_name D y.module_number) (first_name D (Some y)) s)
+
+pub shared_path_other : (D : Declarations) (S : Scope) → S.declarations ≡ D → (file : ℕ) (name : List ℕ) (q : Bool) (p : ℕ)
+    → is_named_there D (module_name D file) name (Some p) ≡ false
+    → shared_names (nat_eq S.file file) (module_name D file) name (procedure_path S q p) ≡ 0
+shared_path_other D S same file name q p h =
+    subst (λ (d : Declarations). is_named_there d (module_name d file) name (Some p) ≡ false
+    → shared_names (nat_eq S.file file) (module_name d file) name (procedure_path S q p) ≡ 0) same
+    (λ e. of_other S file name q (slice_get S.declarations.procs p) e) h
+
+-- ---- arguments
+
+pub no_copy : (F : Facts) (ty : Ty) (copied : Bool) → covers_type ty ≡ true → (holds_array F ty && copied) ≡ false
+no_copy F (types.user t) copied h = absurd (cc h)
+no_copy F _ copied h = refl
+
+-- an argument by value names what it is
+pub argument_names : (S : Scope) (count : Path → ℕ) (by_address : Bool) (e : Expr) → covers_type (type_at e) ≡ true
+    → names count (argument_exp S by_address (by_value e) (exp_of S e)) ≡ names count (exp_of S e)
+argument_names S count true e h =
+    ap {B = ℕ} (λ b. names count (cond b (copy_by (type_at e) (exp_of S e)) (in_parentheses (has_address S.declarations (kept e)) (exp_of S e))))
+    (no_copy S.facts (type_at e) (is_copied e) h)
+    ∙ by (has_address S.declarations (kept e))
+  where
+    by : (b : Bool) → names count (in_parentheses b (exp_of S e)) ≡ names count (exp_of S e)
+    by true = refl
+    by false = refl
+argument_names S count false e h =
+    ap {B = ℕ} (λ b. names count (cond b (copy_by (type_at e) (exp_of S e)) (exp_of S e))) (no_copy S.facts (type_at e) (is_copied e) h)
+
+-- ---- calls
+
+pub bare_names : (count : Path → ℕ) (b : Bool) (c : Exp) → names count c ≡ 0 → names count (called b c no_exps) ≡ 0
+bare_names count true c h = h
+bare_names count false c h = omega (arith, h)
+
+pub none_before : (n : ℕ) → 0 + n ≡ n
+none_before n = omega arith
+
+pub full_names : (count : Path → ℕ) (b c : Bool) (e : Exp) (es : Exps) → names count e ≡ 0 → names count (called (b && (false && c)) e es) ≡ exps_name count es
+full_names count true c e es h = omega (arith, h)
+full_names count false c e es h = omega (arith, h)

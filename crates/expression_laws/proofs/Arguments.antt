@@ -1,0 +1,119 @@
+-- Scalars that are given by value: they go on to match, and are arguments of a call that promises enough.
+use Rattle.std.proofs.Common.{◌≡◌, refl, sym, ap, subst, ◌∙◌, ℕ, zero, suc, ◌<◌, Bool, true, false, cond, ◌||◌, Option, Some, None, List, [], ◌∷◌, ◌++◌, arith}
+use Rattle.std.specs.List.{AllPairs, Contains}
+use Rattle.vb_tree.specs.BoundTree.{Ty}
+use Rattle.vb_tree.specs.declared.value.Value6.{Value6}
+use Rattle.net_meaning.specs.declared.value.ValueN.{ValueN}
+use Rattle.net_meaning.specs.ValueMatch.{Matches, booleans}
+use Rattle.run_base.specs.Frames.{by_value}
+use Rattle.run_base.specs.Positions.{Root, shared, made, field}
+use Rattle.vb6_run.specs.Store.{SourceFrame, SourceGiven}
+use Rattle.vb6_run.specs.Values.{scalar}
+use Rattle.net_run.specs.Lines.{NetFrame}
+use Rattle.net_run.specs.Names as net_names
+use Rattle.net_run.specs.Values as net_value
+use Rattle.written_trees.specs.Names.{Scope}
+use Rattle.run_matches.specs.Addresses.{AllLocked, ArgsMatch, ArgsOk, no_args, value_args}
+use Rattle.run_matches.specs.Frames.{FrameMatch}
+use Rattle.run_matches.specs.Likeness.{LikeV, like_scalar}
+use Rattle.run_matches.specs.Maps.{World, mark}
+use Rattle.run_matches.specs.Pledges.{IsOld, Later, NetGiven, Pledge, arrays_in, is_own, is_self_made, is_inward, is_that_object, own_object, taken_by}
+use Rattle.run_matches.specs.Runs.{IsObject, call_pledge, own_in_call}
+use Rattle.run_matches.specs.Upgrades.{Upgrade}
+use Rattle.run_statements.specs.Frames.{CanCall}
+use Rattle.agreeing_laws.specs.Promises.{Weaker}
+use Rattle.agreeing_laws.proofs.Made.{more}
+use Rattle.agreeing_laws.proofs.Moves.{locks_later}
+use Rattle.agreeing_laws.proofs.Scalars.{object_later, scalar_later}
+use Rattle.expression_laws.specs.Calls.{Stands, ValuesMatch, no_values, next_value}
+
+-- ---- the frames of a caller
+
+made_object : (w : World) (me o : Option ℕ) → me ≡ o → ((k : ℕ) → me ≡ Some k → k < w.src.next_object) → IsObject w o
+made_object w me None e h = tt
+made_object w me (Some k) e h = h k e
+
+object_at : (w : World) (me : Option ℕ) → ((k : ℕ) → me ≡ Some k → k < w.src.next_object) → IsObject w me
+object_at w me h = made_object w me me refl h
+
+object_stays : (U : Upgrade) (K : Pledge) (w0 w1 : World) (me : Option ℕ) → Later U K w0 w1 → IsObject w0 me → IsObject w1 me
+object_stays U K w0 w1 None l h = tt
+object_stays U K w0 w1 (Some k) l h = more k w0.src.next_object w1.src.next_object l.grows.objects h
+
+pub stands_now : (U : Upgrade) (K : Pledge) (w : World) (p : ℕ) (f : SourceFrame) (g : NetFrame) → FrameMatch U K w p f g → Stands U K w f g
+stands_now U K w p f g h = record { me = h.me; object = object_at w f.me h.me_made; locks = h.locks }
+
+pub stands_later : (U : Upgrade) (K : Pledge) (w0 w1 : World) (f : SourceFrame) (g : NetFrame) → Later U K w0 w1 → Stands U K w0 f g → Stands U K w1 f g
+stands_later U K w0 w1 f g l h = record {
+  me = h.me ∙ sym (object_later w0 w1 f.me l.extends h.object);
+  object = object_stays U K w0 w1 f.me l h.object;
+  locks = locks_later U K w0 w1 f.env l h.locks;
+}
+
+-- ---- no array is in a scalar
+
+no_arrays_in : (same : ℕ → ℕ → Bool) (ty : Ty) (x : Value6) (y : ValueN) → Matches same ty x y → arrays_in (net_value.single y) ≡ []
+no_arrays_in same _ _ _ (booleans b) = refl
+no_arrays_in same _ _ _ _ = refl
+
+pub no_arrays : (U : Upgrade) (w : World) (ty : Ty) (z : Value6) (y : net_value.Value) → LikeV U w (scalar ty z) y → arrays_in y ≡ []
+no_arrays U w _ _ _ (like_scalar ty z y m) = no_arrays_in _ ty z y m
+
+none_in : (k : ℕ) (ks : List ℕ) → ks ≡ [] → Contains ks k → ⊥
+none_in k [] e c = let lt = c.1 in omega arith
+none_in k (j ∷ ks) e c = absurd (cc e)
+
+no_pairs : (ks : List ℕ) → ks ≡ [] → AllPairs (λ j k. j ≡ k → ⊥) ks
+no_pairs [] e = λ i j d lt more. absurd (let l = more in omega arith)
+no_pairs (k ∷ ks) e = absurd (cc e)
+
+-- no array occurs in what is given
+pub loose_in_none : {A : Type 0} (ks : List ℕ) (k : ℕ) → ks ≡ [] → Contains ks k → A
+loose_in_none ks k e c = absurd (none_in k ks e c)
+
+pub once_in_none : (ks : List ℕ) → ks ≡ [] → AllPairs (λ j k. j ≡ k → ⊥) ks
+once_in_none ks e = no_pairs ks e
+
+-- ---- values
+
+pub values_later : (U : Upgrade) (K : Pledge) (w0 w1 : World) (xs : List SourceGiven) (ys : List NetGiven) → Later U K w0 w1 → ValuesMatch U w0 xs ys
+    → ValuesMatch U w1 xs ys
+values_later U K w0 w1 _ _ l no_values = no_values
+values_later U K w0 w1 _ _ l (next_value ty z y xs ys h rest) =
+    next_value ty z y xs ys (scalar_later U K w0 w1 ty z y l h) (values_later U K w0 w1 xs ys l rest)
+
+taken_none : (U : Upgrade) (w : World) (xs : List SourceGiven) (ys : List NetGiven) → ValuesMatch U w xs ys → taken_by xs ys ≡ []
+taken_none U w _ _ no_values = refl
+taken_none U w _ _ (next_value ty z y xs ys h rest) =
+    ap (λ ks. ks ++ taken_by xs ys) (no_arrays U w ty z y h) ∙ taken_none U w xs ys rest
+
+values_match : (U : Upgrade) (K : Pledge) (w : World) (q i : ℕ) (xs : List SourceGiven) (ys : List NetGiven) → ValuesMatch U w xs ys → ArgsMatch U K w q i xs ys
+values_match U K w q i _ _ no_values = no_args i
+values_match U K w q i _ _ (next_value ty z y xs ys h rest) = value_args i (scalar ty z) y xs ys h (values_match U K w q (suc i) xs ys rest)
+
+pub values_ok : (U : Upgrade) (K : Pledge) (w : World) (q : ℕ) (xs : List SourceGiven) (ys : List NetGiven) → ValuesMatch U w xs ys → ArgsOk U K w q xs ys
+values_ok U K w q xs ys h = record {
+  match = values_match U K w q 0 xs ys h;
+  loose = λ k c. loose_in_none (taken_by xs ys) k (taken_none U w xs ys h) c;
+  once = once_in_none (taken_by xs ys) (taken_none U w xs ys h);
+}
+
+-- ---- what a call promises
+
+either_first : (a b : Bool) → a ≡ true → (a || b) ≡ true
+either_first true b h = refl
+either_first false b h = absurd (cc h)
+
+inward_foreign : (U : Upgrade) (q : ℕ) (me : Option ℕ) (r : Root) → is_inward U q ≡ true → is_own (own_in_call U q me) r ≡ false
+inward_foreign U q me (shared k) h = refl
+inward_foreign U q me (made n) h = refl
+inward_foreign U q me (field o k) h = ap (λ b. is_that_object (cond b None (cond (is_self_made U q) me None)) o) h
+
+pub callee_is_weaker : (U : Upgrade) (K : Pledge) (S : net_names.Scope) (T : Scope) (q : ℕ) (w : World) (me : Option ℕ) (xs : List SourceGiven)
+    (ys : List NetGiven) → CanCall U K S T q → ValuesMatch U w xs ys → Weaker w K (call_pledge U q (mark w.src) me xs ys)
+callee_is_weaker U K S T q w me xs ys c h = record {
+  keeps = c.keeps;
+  steady = λ s. either_first (is_inward U q) (is_self_made U q) (c.inward s);
+  old = λ r m s o. record { is_made = m; foreign = inward_foreign U q me r (c.inward s) };
+  takes = λ k lt x. loose_in_none (taken_by xs ys) k (taken_none U w xs ys h) x;
+}

@@ -1,0 +1,41 @@
+-- What a call needs of the frames in which it stands, what its arguments are, and what it gives.
+use Rattle.std.specs.Prelude.{◌≡◌, ℕ, Option, option_map, List, [], ◌∷◌}
+use Rattle.vb_tree.specs.BoundTree.{Ty}
+use Rattle.vb_tree.specs.declared.value.Value6.{Value6}
+use Rattle.run_base.specs.Frames.{by_value}
+use Rattle.vb6_run.specs.Expressions.{Parts, result_parts}
+use Rattle.vb6_run.specs.Store.{SourceFrame, SourceGiven}
+use Rattle.vb6_run.specs.Values.{Value, scalar}
+use Rattle.net_run.specs.Calls.{result_address}
+use Rattle.net_run.specs.Lines.{NetFrame}
+use Rattle.net_run.specs.Shapes as shape
+use Rattle.net_run.specs.Store as net
+use Rattle.net_run.specs.Values as net_value
+use Rattle.run_matches.specs.Addresses.{AllLocked}
+use Rattle.run_matches.specs.Agreeing.{ResultMatch}
+use Rattle.run_matches.specs.Likeness.{LikeV}
+use Rattle.run_matches.specs.Maps.{World}
+use Rattle.run_matches.specs.Pledges.{NetGiven, Pledge}
+use Rattle.run_matches.specs.Runs.{IsObject}
+use Rattle.run_matches.specs.Upgrades.{Upgrade}
+
+-- the object of the frames is the same, and what is handed down is kept
+pub record Stands (U : Upgrade) (K : Pledge) (w : World) (f : SourceFrame) (g : NetFrame) : Type 0 where
+  pub me : g.me ≡ option_map w.map.objects f.me
+  pub object : IsObject w f.me
+  pub locks : AllLocked U K w f.env
+
+-- scalars that are given by value
+pub data ValuesMatch (U : Upgrade) (w : World) : List SourceGiven → List NetGiven → Type 0 where
+  no_values : ValuesMatch U w [] []
+  next_value : (ty : Ty) (z : Value6) (y : net_value.Value) (xs : List SourceGiven) (ys : List NetGiven) → LikeV U w (scalar ty z) y
+      → ValuesMatch U w xs ys → ValuesMatch U w (by_value (scalar ty z) ∷ xs) (by_value y ∷ ys)
+
+-- what a call gives, which is nothing of a Sub
+pub record GivenMatch (U : Upgrade) (w : World) (p : Parts) (a : net.Address) : Type 0 where
+  pub given : Option Value
+  pub net_given : Option net_value.Value
+  pub shape : shape.Shape
+  pub is_given : p ≡ result_parts given
+  pub is_net_given : a ≡ result_address shape net_given
+  pub match : ResultMatch U w given net_given

@@ -1,0 +1,109 @@
+-- What the expressions of a line call are calls of the line.
+use Rattle.std.proofs.Common.{◌≡◌, refl, sym, ap, subst, ℕ, zero, suc, ◌<◌, true, Option, Some, None, List, [], ◌∷◌, ◌++◌, length, true≢false, arith}
+use Rattle.std.specs.Prelude.{slice_index_or}
+use Rattle.std.specs.List.{Contains, flat_map}
+use Rattle.std.proofs.lemmas.List.Elements.{Contains-append_left, Contains-append_right, Contains-push}
+use Rattle.vb_tree.specs.Tree.{Form}
+use Rattle.vb_tree.specs.Tree as source_form
+use Rattle.bound_tree.specs.Tree.{Declarations, Expr, typed, Term, constant, variable, field, element, call, library, unary, binary, convert, new_object, me, with_object, err_number, err_raise, err_clear, is_same, loose, Exprs, no_exprs, next_expr, by_value, by_reference, Passed, no_passed, next_passed, Line}
+use Rattle.bound_facts.specs.Calls.{initialized, line_calls, node_calls, pair_to}
+use Rattle.bound_facts.specs.Node.{called}
+use Rattle.bound_facts.specs.Nodes.{nodes, nodes_in, nodes_of_all, nodes_of_object, nodes_of_passed}
+use Rattle.bound_facts.specs.Parts.{line_uses, used_nodes}
+use Rattle.run_matches.specs.Covered.{Uses, covers_form}
+use Rattle.run_statements.specs.Frames.{AllCalled, AllCalledAll, AllCalledFor}
+
+abbrev pub AllIn : {A : Type 0} → (A → Type 0) → List A → Type 0
+AllIn P [] = Unit {0}
+AllIn P (x ∷ xs) = P x × AllIn P xs
+
+-- ---- lists
+
+contains_first : {A : Type 0} (x : A) (xs : List A) → Contains (x ∷ xs) x
+contains_first x xs = Contains-append_left (x ∷ []) xs x (Contains-push [] x)
+
+contains_next : {A : Type 0} (x y : A) (xs : List A) → Contains xs y → Contains (x ∷ xs) y
+contains_next x y xs h = Contains-append_right (x ∷ []) xs y h
+
+contains_flat : {A B : Type 0} (f : A → List B) (xs : List A) (x : A) (y : B) (k : ℕ) → k < length xs → slice_index_or xs k x ≡ x → Contains (f x) y
+    → Contains (flat_map f xs) y
+contains_flat f [] x y k lt e h = absurd (omega arith)
+contains_flat f (z ∷ zs) x y zero lt e h = Contains-append_left (f z) (flat_map f zs) y (subst (λ a. Contains (f a) y) (sym e) h)
+contains_flat f (z ∷ zs) x y (suc k) lt e h = Contains-append_right (f z) (flat_map f zs) y (contains_flat f zs x y k (omega arith) e h)
+
+-- ---- nodes
+
+module _ (Q : ℕ → Type 0) where
+  abbrev OfNodes : List Expr → Type 0
+  OfNodes es = (d : Expr) (q : ℕ) → Contains es d → called d ≡ Some q → Q q
+
+  of_left : (xs ys : List Expr) → OfNodes (xs ++ ys) → OfNodes xs
+  of_left xs ys h d q c e = h d q (Contains-append_left xs ys d c) e
+
+  of_right : (xs ys : List Expr) → OfNodes (xs ++ ys) → OfNodes ys
+  of_right xs ys h d q c e = h d q (Contains-append_right xs ys d c) e
+
+  of_rest : (x : Expr) (xs : List Expr) → OfNodes (x ∷ xs) → OfNodes xs
+  of_rest x xs h d q c e = h d q (contains_next x d xs c) e
+
+  mutual
+    nodes_called : (e : Expr) → OfNodes (nodes e) → AllCalled Q e
+    nodes_called (typed ty (constant x origin)) h = tt
+    nodes_called (typed ty (variable v qualified)) h = tt
+    nodes_called (typed ty (field e k)) h = tt
+    nodes_called (typed ty (element e indexes)) h = tt
+    nodes_called (typed ty (call p qualified of args)) h = (
+      h (typed ty (call p qualified of args)) p.0 (contains_first (typed ty (call p qualified of args)) (nodes_in (call p qualified of args))) refl,
+      passed_called args
+          (of_right (nodes_of_object of) (nodes_of_passed args) (of_rest (typed ty (call p qualified of args)) (nodes_in (call p qualified of args)) h)),
+    )
+    nodes_called (typed ty (library f args)) h = exprs_called args (of_rest (typed ty (library f args)) (nodes_of_all args) h)
+    nodes_called (typed ty (unary op e)) h = nodes_called e (of_rest (typed ty (unary op e)) (nodes e) h)
+    nodes_called (typed ty (binary op d e)) h =
+        let more = of_rest (typed ty (binary op d e)) (nodes d ++ nodes e) h in
+        (nodes_called d (of_left (nodes d) (nodes e) more), nodes_called e (of_right (nodes d) (nodes e) more))
+    nodes_called (typed ty (convert to e)) h = nodes_called e (of_rest (typed ty (convert to e)) (nodes e) h)
+    nodes_called (typed ty (new_object c)) h = tt
+    nodes_called (typed ty me) h = tt
+    nodes_called (typed ty (with_object root)) h = tt
+    nodes_called (typed ty err_number) h = tt
+    nodes_called (typed ty (err_raise e)) h = tt
+    nodes_called (typed ty err_clear) h = tt
+    nodes_called (typed ty (is_same d e)) h = tt
+    nodes_called (typed ty (loose e rules)) h = tt
+
+    exprs_called : (args : Exprs) → OfNodes (nodes_of_all args) → AllCalledAll Q args
+    exprs_called no_exprs h = tt
+    exprs_called (next_expr e rest) h =
+        (nodes_called e (of_left (nodes e) (nodes_of_all rest) h), exprs_called rest (of_right (nodes e) (nodes_of_all rest) h))
+
+    passed_called : (args : Passed) → OfNodes (nodes_of_passed args) → AllCalledFor Q args
+    passed_called no_passed h = tt
+    passed_called (next_passed (by_value e) rest) h =
+        (nodes_called e (of_left (nodes e) (nodes_of_passed rest) h), passed_called rest (of_right (nodes e) (nodes_of_passed rest) h))
+    passed_called (next_passed (by_reference e) rest) h =
+        (nodes_called e (of_left (nodes e) (nodes_of_passed rest) h), passed_called rest (of_right (nodes e) (nodes_of_passed rest) h))
+
+  all_called : (es : List Expr) → OfNodes (flat_map nodes es) → AllIn (AllCalled Q) es
+  all_called [] h = tt
+  all_called (e ∷ es) h =
+      (nodes_called e (of_left (nodes e) (flat_map nodes es) h), all_called es (of_right (nodes e) (flat_map nodes es) h))
+
+-- ---- lines
+
+called_first : (D : Declarations) (p q : ℕ) (o : Option ℕ) (more : List (ℕ × ℕ)) → o ≡ Some q → Contains (pair_to p o more) (p, q)
+called_first D p q o more e = subst (λ o. Contains (pair_to p o more) (p, q)) (sym e) (contains_first (p, q) more)
+
+uses_are : (uses : Uses) (f : Form) (es : List Expr) → covers_form uses f es ≡ true → used_nodes f es ≡ flat_map nodes es
+uses_are uses (source_form.set target value) es h = absurd (true≢false (sym h))
+uses_are uses _ es h = refl
+
+-- what holds of the calls of a covered line holds of those of its expressions
+pub line_called : (Q : ℕ → Type 0) (D : Declarations) (p : ℕ) (uses : Uses) (l : Line) → covers_form uses l.source.form l.bindings.exprs ≡ true
+    → ((q : ℕ) → Contains (line_calls D p l) (p, q) → Q q) → AllIn (AllCalled Q) l.bindings.exprs
+line_called Q D p uses l covers h =
+    all_called Q l.bindings.exprs
+    (λ d q c e.
+    h q
+    (let m : Contains (line_uses l) d = subst (λ ns. Contains ns d) (sym (uses_are uses l.source.form l.bindings.exprs covers)) c in
+    contains_flat (node_calls D p) (line_uses l) d (p, q) m.0 m.1 m.2 (called_first D p q (called d) (pair_to p (initialized D d) []) e)))

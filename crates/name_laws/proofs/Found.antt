@@ -1,0 +1,285 @@
+-- A procedure that is called is found by what is written for its name.
+use Rattle.std.proofs.Common.{◌≡◌, refl, sym, ap, subst, ◌∙◌, ℕ, suc, ◌+◌, ◌<◌, ◌≤◌, Bool, true, false, cond, not, ◌&&◌, ◌||◌, nat_eq, List, [], ◌∷◌, ◌++◌, map, Option, Some, None, option_map, slice_get, eqb-true, eq-eqb, arith}
+use Rattle.std.specs.Prelude.{nat_lt}
+use Rattle.std.specs.Cmp.Lexicographic.{pointwise}
+use Rattle.std.proofs.lemmas.Bool.{ltb-true}
+use Rattle.up_base.specs.Names.{is_same_name, lower_case}
+use Rattle.vb_tree.specs.Tree.{Module}
+use Rattle.bound_tree.specs.Tree.{Declarations, Procedure, Program}
+use Rattle.net_tree.specs.Tree as net
+use Rattle.written_trees.specs.Bodies.{inside_procedure}
+use Rattle.written_trees.specs.Facts.{Facts}
+use Rattle.written_trees.specs.Heads.{is_function, result_type}
+use Rattle.written_trees.specs.Names.{first_name, is_foreign, module_name, procedure_path, procedure_path_of}
+use Rattle.written_trees.specs.Placing.{Numbers, behind_members}
+use Rattle.written_trees.specs.Projects.{first_numbers, modules_from, next_module, written_module}
+use Rattle.net_run.specs.Lines.{NetFrame, NetLine, scope_of}
+use Rattle.net_run.specs.Members.{code_number, is_head_named, is_member_named, member_named, result_of}
+use Rattle.net_run.specs.Names.{Scope, frame_start, frame_var, is_result, member_start, module_member, module_start, named, path_start, procedure_reached, some_member, starts, to_procedure, var_in}
+use Rattle.net_run.specs.Shapes.{first_from, members_of, module_at, module_named}
+use Rattle.run_matches.specs.Callees.{count_named, is_first_module, is_found, is_found_behind, is_found_here, is_nowhere, is_once, is_source_name, is_that_place, names_in, other_names, result_name}
+use Rattle.run_matches.specs.Frames.{HasNames, declared_names, result_names}
+use Rattle.run_matches.specs.Sites.{Site}
+use Rattle.run_matches.specs.Upgrades.{Upgrade}
+use Rattle.run_statements.specs.Kept.{CalleesAreFound}
+use Rattle.run_statements.specs.Written.{IsWritten, WrittenProcedure, site_scope}
+use Rattle.name_laws.proofs.Codes.{IsMember, module_is, number_found, stands_in}
+use Rattle.name_laws.proofs.Counting.{count_of, first_found, found_stands, none_found}
+use Rattle.name_laws.proofs.FrameNames.{code_head, frame_none, no_result_named, none_left, none_right, result_are, var_none}
+use Rattle.name_laws.proofs.Lists.{both_true, same_numbers, some_same}
+use Rattle.name_laws.proofs.MemberNames.{head_named, modules_most, named_append}
+
+-- ---- tests
+
+nowhere_is : (name : List ℕ) (ns : List (List ℕ)) → is_nowhere name ns ≡ true → count_named name ns ≡ 0
+nowhere_is name ns h = eqb-true (count_named name ns) 0 h
+
+once_is : (name : List ℕ) (ns : List (List ℕ)) → is_once name ns ≡ true → count_named name ns < 2
+once_is name ns h = ltb-true (count_named name ns) 2 h
+
+same_units : (xs : List ℕ) → pointwise nat_eq xs xs ≡ true
+same_units [] = refl
+same_units (x ∷ xs) = ap (λ b. b && pointwise nat_eq xs xs) (eq-eqb x x refl) ∙ same_units xs
+
+same_name : (name : List ℕ) → is_same_name name name ≡ true
+same_name name = same_units (lower_case name)
+
+-- ---- modules
+
+module_found : (P : Program) (F : Facts) (at : Numbers) (test : Module → Bool) (net_test : net.Module → Bool) (i : ℕ) (ms : List Module)
+    → ((at : Numbers) (m : Module) → net_test (written_module P F at m) ≡ test m) → (n : ℕ) (m : Module) → first_from test i ms ≡ Some (n, m)
+    → (w : net.Module) × (first_from net_test i (modules_from P F at ms) ≡ Some (n, w))
+module_found P F at test net_test i [] same n m e = absurd (cc e)
+module_found P F at test net_test i (x ∷ xs) same n m e =
+    by (test x) (same at x) e (λ z. module_found P F (next_module (behind_members at x.members)) test net_test (suc i) xs same n m z)
+  where
+    w : net.Module
+    w = written_module P F at x
+
+    rest : Option (ℕ × net.Module)
+    rest = first_from net_test (suc i) (modules_from P F (next_module (behind_members at x.members)) xs)
+
+    by : (b : Bool) → net_test (written_module P F at x) ≡ b → cond b (Some (i, x)) (first_from test (suc i) xs) ≡ Some (n, m)
+        → (first_from test (suc i) xs ≡ Some (n, m)
+        → (v : net.Module) × (first_from net_test (suc i) (modules_from P F (next_module (behind_members at x.members)) xs) ≡ Some (n, v)))
+        → (v : net.Module) × (first_from net_test i (modules_from P F at (x ∷ xs)) ≡ Some (n, v))
+    by true q z more =
+        let pair : ◌≡◌ {A = ℕ × Module} (i, x) (n, m) = some_same (i, x) (n, m) z in
+        (w, ap (λ b. cond b (Some (i, w)) rest) q ∙ ap (λ j. Some (j, w)) (ap (λ (p : ℕ × Module). p.0) pair))
+    by false q z more = let v = more z in (v.0, ap (λ b. cond b (Some (i, w)) rest) q ∙ v.1)
+
+-- ---- the callee is a member of its module
+
+below_two : (a b : ℕ) → a ≤ b → b < 2 → a < 2
+below_two a b h k = omega (arith, h, k)
+
+none_below : (a b : ℕ) → a ≤ b → b ≡ 0 → a ≡ 0
+none_below a b h k = omega (arith, h, k)
+
+from_start : (n : ℕ) → 0 + n ≡ n
+from_start n = omega arith
+
+module _ (U : Upgrade) (I : IsWritten U) where
+  abbrev D : Declarations
+  D = U.program.declarations
+
+  abbrev N : net.Project
+  N = U.written
+
+  modules_are : U.written.modules ≡ modules_from U.program U.facts first_numbers U.program.declarations.project.modules
+  modules_are = ap (λ (M : net.Project). M.modules) I.is_written
+
+  members_most : (home : ℕ) (w : net.Module) (name : List ℕ) → slice_get U.written.modules home ≡ Some w
+      → count_of (is_member_named name) w.members ≤ count_named name (names_in U.program.declarations home)
+  members_most home w name e =
+      modules_most name U.program U.facts first_numbers D.project.modules home w (subst (λ ms. slice_get ms home ≡ Some w) modules_are e)
+
+  members_are : (home : ℕ) (w : net.Module) → slice_get U.written.modules home ≡ Some w → members_of (module_at U.written home) ≡ w.members
+  members_are home w e = ap members_of (module_is U.written.modules home ∙ e)
+
+  module _ (q : ℕ) (t : Site) (y : Procedure) (V : WrittenProcedure U q t y) where
+    abbrev w : net.Module
+    w = written_module U.program U.facts V.numbers t.source_module
+
+    member : IsMember U.written.modules V.code
+    member = stands_in U.written V.number V.code V.is_code V.property
+
+    of_is : member.of ≡ w
+    of_is = some_same member.of w (sym member.is_module ∙ ap (slice_get U.written.modules) V.home ∙ V.is_module)
+
+    is_member : slice_get w.members V.code.member ≡ Some (net.proc V.code.procedure)
+    is_member = subst (λ (m : net.Module). slice_get m.members V.code.member ≡ Some (net.proc V.code.procedure)) of_is member.is_member
+
+    is_named : is_member_named y.name (net.proc V.code.procedure) ≡ true
+    is_named = ap (is_head_named y.name) (code_head U q t y V) ∙ head_named y.name (site_scope U t) y y.name ∙ same_name y.name
+
+    member_found : is_once y.name (names_in D t.home) ≡ true
+        → member_named y.name (members_of (module_at U.written t.home)) ≡ Some (V.code.member, net.proc V.code.procedure)
+    member_found once =
+        let most = members_most t.home w y.name V.is_module in
+        ap (member_named y.name) (members_are t.home w V.is_module)
+        ∙ first_found (is_member_named y.name) 0 w.members V.code.member (net.proc V.code.procedure) is_member is_named
+        (below_two (count_of (is_member_named y.name) w.members) (count_named y.name (names_in D t.home)) most (once_is y.name (names_in D t.home) once))
+        ∙ ap (λ n. Some (n, net.proc V.code.procedure)) (from_start V.code.member)
+
+    number_is : code_number U.written t.home V.code.member false ≡ Some V.number
+    number_is =
+        ap (λ h. code_number U.written h V.code.member false) (sym V.home) ∙ number_found U.written V.number V.code V.is_code member.sets
+
+    -- what its member leads to
+    pub reached : (S : Scope) → S.project ≡ U.written → is_once y.name (names_in D t.home) ≡ true
+        → some_member S None t.home (member_named y.name (members_of (module_at U.written t.home))) ≡ named (to_procedure None V.number)
+    reached S same once =
+        ap (some_member S None t.home) (member_found once)
+        ∙ ap (λ M. procedure_reached None (code_number M t.home V.code.member false)) same
+        ∙ ap (procedure_reached None) number_is
+
+  -- ---- from where it is called
+
+  module _ (p q : ℕ) (s t : Site) (x y : Procedure) (W : WrittenProcedure U p s x) (V : WrittenProcedure U q t y) (g : NetFrame) (k : NetLine)
+      (names : HasNames (Some W.code) g) where
+    abbrev S : Scope
+    S = scope_of U.written W.code g k
+
+    abbrev module_of : List ℕ
+    module_of = t.source_module.name
+
+    -- where the names of the frame lack a name, no variable has it
+    no_variable : (name : List ℕ) → count_named name (declared_names W.code) ≡ 0 → var_in g.vars name ≡ None
+    no_variable name h = var_none g.vars name (ap (count_named name) names ∙ h)
+
+    -- by its name alone
+    not_in_frame : is_source_name y.name ≡ true → is_nowhere y.name (other_names D (Some x) s) ≡ true → frame_var S true y.name [] ≡ None
+    not_in_frame source nowhere = by (is_result S.result_name y.name) refl
+      where
+        by : (b : Bool) → is_result S.result_name y.name ≡ b → cond b None (var_in g.vars y.name) ≡ None
+        by true e = refl
+        by false e =
+            no_variable y.name
+            (frame_none U p s x W y.name source (nowhere_is y.name (other_names D (Some x) s) nowhere) (no_result_named (result_of W.code) y.name e))
+
+    here : is_found_here D (other_names D (Some x) s) s t y.name ≡ true → path_start S true (y.name ∷ []) ≡ starts (named (to_procedure None V.number)) []
+    here h =
+        let rest = is_nowhere y.name (other_names D (Some x) s) && is_once y.name (names_in D t.home) in
+        let a = both_true (nat_eq s.home t.home) (is_source_name y.name && rest) h in
+        let b = both_true (is_source_name y.name) rest a.1 in
+        let c = both_true (is_nowhere y.name (other_names D (Some x) s)) (is_once y.name (names_in D t.home)) b.1 in
+        let home : W.code.home ≡ t.home = W.home ∙ eqb-true s.home t.home a.0 in
+        ap (λ o. frame_start S y.name [] o) (not_in_frame b.0 c.0)
+        ∙ ap (member_start S y.name [])
+        (ap (λ n. member_named y.name (members_of (module_at U.written n))) home ∙ member_found q t y V c.1)
+        ∙ ap (λ o. starts (procedure_reached None o) [])
+        (ap (λ n. code_number U.written n V.code.member false) home ∙ number_is q t y V)
+
+    -- behind the name of its module
+    -- no variable has the name of the module
+    module_not_in_frame : is_source_name module_of ≡ true → is_nowhere module_of (result_name (Some x) ++ other_names D (Some x) s) ≡ true
+        → var_in g.vars module_of ≡ None
+    module_not_in_frame source nowhere =
+        let all = nowhere_is module_of (result_name (Some x) ++ other_names D (Some x) s) nowhere in
+        let one = count_named module_of (x.name ∷ []) in
+        let others = count_named module_of (other_names D (Some x) s) in
+        let split : one + others ≡ 0 = sym (named_append module_of (x.name ∷ []) (other_names D (Some x) s)) ∙ all in
+        no_variable module_of
+        (frame_none U p s x W module_of source (none_right one others split)
+        (ap (λ r. count_named module_of (result_names r)) (result_are U p s x W)
+        ∙ by (is_function x.kind) (none_left one others split)))
+      where
+        by : (b : Bool) → count_named module_of (x.name ∷ []) ≡ 0
+            → count_named module_of (result_names (cond b (Some (x.name, result_type (site_scope U s) x)) None)) ≡ 0
+        by true h = h
+        by false h = refl
+
+    -- the first module of its name is that of the callee
+    module_at_name : is_first_module D module_of t.home ≡ true
+        → module_named U.written module_of ≡ Some (t.home, written_module U.program U.facts V.numbers t.source_module)
+    module_at_name h = by (first_from (λ (m : Module). is_same_name m.name module_of) 0 D.project.modules) refl h
+      where
+        test : net.Module → Bool
+        test m = is_same_name m.name module_of
+
+        w : net.Module
+        w = written_module U.program U.facts V.numbers t.source_module
+
+        by : (o : Option (ℕ × Module)) → first_from (λ (m : Module). is_same_name m.name module_of) 0 D.project.modules ≡ o → is_that_place t.home o ≡ true
+            → module_named U.written module_of ≡ Some (t.home, w)
+        by None e z = absurd (cc z)
+        by (Some found) e z =
+            let home : found.0 ≡ t.home = eqb-true found.0 t.home z in
+            let v =
+            module_found U.program U.facts first_numbers (λ (m : Module). is_same_name m.name module_of) test 0 D.project.modules (λ at m. refl) found.0 found.1 e in
+            let at : module_named U.written module_of ≡ Some (found.0, v.0) = ap (first_from test 0) modules_are ∙ v.1 in
+            let stands = found_stands test 0 U.written.modules found.0 v.0 at in
+            let place : stands.0 ≡ t.home = sym (from_start stands.0) ∙ sym stands.1 ∙ home in
+            let same : v.0 ≡ w = some_same v.0 w (sym stands.2 ∙ ap (slice_get U.written.modules) place ∙ V.is_module) in
+            at ∙ (λ i. Some (home i, same i))
+
+    behind : is_found_behind D (result_name (Some x) ++ other_names D (Some x) s) s t y.name ≡ true
+        → path_start S true (module_of ∷ y.name ∷ []) ≡ starts (named (to_procedure None V.number)) []
+    behind h =
+        let all = result_name (Some x) ++ other_names D (Some x) s in
+        let fifth = not t.source_module.class && is_once y.name (names_in D t.home) in
+        let fourth = is_first_module D module_of t.home && fifth in
+        let third = is_nowhere module_of (names_in D s.home) && fourth in
+        let a = both_true (is_source_name module_of) (is_nowhere module_of all && third) h in
+        let b = both_true (is_nowhere module_of all) third a.1 in
+        let c = both_true (is_nowhere module_of (names_in D s.home)) fourth b.1 in
+        let d = both_true (is_first_module D module_of t.home) fifth c.1 in
+        let e = both_true (not t.source_module.class) (is_once y.name (names_in D t.home)) d.1 in
+        let own = written_module U.program U.facts W.numbers s.source_module in
+        let none : member_named module_of (members_of (module_at U.written W.code.home)) ≡ None =
+        ap (λ n. member_named module_of (members_of (module_at U.written n))) W.home
+        ∙ ap (member_named module_of) (members_are s.home own W.is_module)
+        ∙ none_found (is_member_named module_of) 0 own.members
+        (none_below (count_of (is_member_named module_of) own.members) (count_named module_of (names_in D s.home)) (members_most s.home own module_of W.is_module)
+        (nowhere_is module_of (names_in D s.home) c.0)) in
+        ap (λ o. frame_start S module_of (y.name ∷ []) o) (module_not_in_frame a.0 b.0)
+        ∙ ap (member_start S module_of (y.name ∷ [])) none
+        ∙ ap (module_start S module_of (y.name ∷ [])) (module_at_name d.0)
+        ∙ ap (λ class. module_member S t.home class (y.name ∷ [])) (not_class t.source_module.class e.0)
+        ∙ ap (λ r. starts r []) (reached q t y V S refl e.1)
+      where
+        not_class : (b : Bool) → not b ≡ true → b ≡ false
+        not_class true z = absurd (cc z)
+        not_class false z = refl
+
+    -- by either path
+    abbrev foreign : Bool
+    foreign = is_foreign D s.source_module.file y.module_number
+
+    either_path : (qualified b : Bool) → (qualified || foreign) ≡ b → (foreign || is_found_here D (other_names D (Some x) s) s t y.name) ≡ true
+        → is_found_behind D (result_name (Some x) ++ other_names D (Some x) s) s t y.name ≡ true
+        → path_start S true (cond b (module_of ∷ y.name ∷ []) (y.name ∷ [])) ≡ starts (named (to_procedure None V.number)) []
+    either_path qualified true e h z = behind z
+    either_path qualified false e h z = here (second foreign (is_found_here D (other_names D (Some x) s) s t y.name) (not_second qualified foreign e) h)
+      where
+        not_second : (a b : Bool) → (a || b) ≡ false → b ≡ false
+        not_second true b q = absurd (cc q)
+        not_second false b q = q
+
+        second : (a b : Bool) → a ≡ false → (a || b) ≡ true → b ≡ true
+        second true b q r = absurd (cc q)
+        second false b q r = r
+
+    path_found : slice_get D.procs q ≡ Some y → is_found D (Some x) s (Some y) (Some t) ≡ true → (qualified : Bool)
+        → path_start S true (procedure_path (inside_procedure (site_scope U s) p) qualified q) ≡ starts (named (to_procedure None V.number)) []
+    path_found is h qualified =
+        let last = is_found_behind D (result_name (Some x) ++ other_names D (Some x) s) s t y.name in
+        let third = foreign || is_found_here D (other_names D (Some x) s) s t y.name in
+        let second = pointwise nat_eq (module_name D y.module_number) module_of in
+        let a = both_true (pointwise nat_eq (first_name D (Some y)) y.name) (second && (third && last)) h in
+        let b = both_true second (third && last) a.1 in
+        let c = both_true third last b.1 in
+        let first : first_name D (Some y) ≡ y.name = same_numbers (first_name D (Some y)) y.name a.0 in
+        let behind_name : module_name D y.module_number ≡ module_of = same_numbers (module_name D y.module_number) module_of b.0 in
+        let T = inside_procedure (site_scope U s) p in
+        ap (λ o. path_start S true (procedure_path_of T qualified o)) is
+        ∙ ap (λ n. path_start S true (cond (qualified || foreign) (module_name D y.module_number ∷ n ∷ []) (n ∷ []))) first
+        ∙ ap (λ m. path_start S true (cond (qualified || foreign) (m ∷ y.name ∷ []) (y.name ∷ []))) behind_name
+        ∙ either_path qualified (qualified || foreign) refl c.0 c.1
+
+-- ---- the law
+
+pub callees_are_found : (U : Upgrade) → IsWritten U → CalleesAreFound U
+callees_are_found U I p q s t x y W V g k site procedure kind other_site other_procedure other_kind found names qualified =
+    path_found U I p q s t x y W V g k names other_procedure found qualified

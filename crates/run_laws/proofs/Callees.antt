@@ -1,0 +1,123 @@
+-- A procedure that passes can be called from the lines of another.
+use Rattle.std.proofs.Common.{◌≡◌, refl, sym, ap, subst, ◌∙◌, ℕ, Bool, true, false, ◌&&◌, true≢false, Option, Some, None, List, ◌++◌, map}
+use Rattle.std.specs.Prelude.{nat_lt, slice_get}
+use Rattle.std.specs.List.{Contains, list_all}
+use Rattle.up_base.proofs.Tests.{both_true}
+use Rattle.vb_tree.specs.declared.declared.VarId.{VarId}
+use Rattle.bound_tree.specs.Tree.{Declarations, Line, Procedure, Variable}
+use Rattle.reach_table.specs.Chains.{empty}
+use Rattle.bound_facts.specs.Calls.{count_procedures, line_calls}
+use Rattle.bound_facts.specs.Clean.{Arrow, IsClean, line_arrows, procedure}
+use Rattle.bound_facts.specs.Facts.{AreFacts}
+use Rattle.run_base.specs.Machines.{nth_line}
+use Rattle.net_run.specs.Calls.{passings, passings_of_code}
+use Rattle.net_run.specs.Members.{Code}
+use Rattle.written_trees.specs.Arguments.{is_property_at, is_property_kind, is_reference_owner, parameter_in, takes_reference, takes_reference_at, takes_reference_of}
+use Rattle.run_matches.specs.Callees.{is_found}
+use Rattle.run_matches.specs.CleanLines.{IsCleanLine, line_points, lines_at, result_points}
+use Rattle.run_matches.specs.Covered.{covers_callee, covers_calls, covers_parameter}
+use Rattle.run_matches.specs.Sites.{Site, site_of}
+use Rattle.run_matches.specs.Upgrades.{Upgrade}
+use Rattle.run_statements.specs.Frames.{is_value}
+use Rattle.run_statements.specs.Kept.{CalleesAreFound, CanCallFrom}
+use Rattle.run_statements.specs.Written.{Passes, ProceduresAreWritten, WrittenProcedure, site_scope}
+use Rattle.name_laws.proofs.Lists.{Among, all_among, among, among_left, among_right, contains, map_among}
+use Rattle.name_laws.proofs.Uses.{clean_line_is}
+use Rattle.run_laws.proofs.Covered.{CoveredProcedure, all_at, covered_parts, no_property}
+use Rattle.name_laws.proofs.FrameNames.{params_are}
+use Rattle.run_laws.proofs.Heads.{Parameter, parameter_is, params_take}
+use Rattle.run_laws.proofs.Names.{code_is, names_in_code}
+use Rattle.run_laws.proofs.Reaching.{IsLineOf, inward_called, keeps_called}
+
+-- ---- the callee
+
+takes_none : (D : Declarations) (p : ℕ) (vs : List VarId) (i : ℕ) → list_all (covers_parameter D p) vs ≡ true → takes_reference_of D (slice_get vs i) ≡ false
+takes_none D p vs i h = by (slice_get vs i) refl
+  where
+    by : (o : Option VarId) → slice_get vs i ≡ o → takes_reference_of D o ≡ false
+    by None e = refl
+    by (Some v) e =
+        let q : Parameter D p v = parameter_is D p v (all_at (covers_parameter D p) vs i v h e) in
+        ap takes_reference_at q.is_variable ∙ ap is_reference_owner q.owner
+
+-- the parts of the test on what is called
+record CalleeParts (U : Upgrade) (p q : ℕ) (s : Site) : Type 0 where
+  within : nat_lt q (count_procedures U.program) ≡ true
+  found : is_found U.program.declarations (slice_get U.program.declarations.procs p) s (slice_get U.program.declarations.procs q) (site_of U.program.declarations q) ≡ true
+
+callee_parts : (U : Upgrade) (p q : ℕ) (s : Site) (o : Option Site) → o ≡ Some s → covers_callee U.program p o q ≡ true → CalleeParts U p q s
+callee_parts U p q s o e h =
+    let D : Declarations = U.program.declarations in
+    let test : covers_callee U.program p (Some s) q ≡ true = subst (λ z. covers_callee U.program p z q ≡ true) e h in
+    let both = both_true (nat_lt q (count_procedures U.program)) (is_found D (slice_get D.procs p) s (slice_get D.procs q) (site_of D q)) test in
+    record { within = both.0; found = both.1 }
+
+-- what a line calls passes the test
+pub callee_covered : (U : Upgrade) (p q : ℕ) (l : Line) → covers_calls U.program p l ≡ true → Contains (line_calls U.program.declarations p l) (p, q)
+    → covers_callee U.program p (site_of U.program.declarations p) q ≡ true
+callee_covered U p q l h c =
+    all_among (λ (z : ℕ × ℕ). covers_callee U.program p (site_of U.program.declarations p) z.1) (line_calls U.program.declarations p l) (p, q) h
+    (among (line_calls U.program.declarations p l) (p, q) c)
+
+pub callee_within : (U : Upgrade) (p q : ℕ) (s : Site) → site_of U.program.declarations p ≡ Some s
+    → covers_callee U.program p (site_of U.program.declarations p) q ≡ true → nat_lt q (count_procedures U.program) ≡ true
+callee_within U p q s e h = (callee_parts U p q s (site_of U.program.declarations p) e h).within
+
+module _ (U : Upgrade) (known : AreFacts U.program U.known) (procedures : ProceduresAreWritten U) (found : CalleesAreFound U) (p q : ℕ) (s : Site) (x : Procedure)
+    (is_site : site_of U.program.declarations p ≡ Some s) (is_procedure : slice_get U.program.declarations.procs p ≡ Some x)
+    (kind : is_property_kind x.kind ≡ false) (W : WrittenProcedure U p s x) (l : Line) (stands : IsLineOf U.program p l)
+    (call : Contains (line_calls U.program.declarations p l) (p, q)) (test : covers_callee U.program p (site_of U.program.declarations p) q ≡ true)
+    (pass : Passes U q) where
+  abbrev D : Declarations
+  D = U.program.declarations
+
+  abbrev c : CoveredProcedure U.program q
+  c = covered_parts U.program q (pass.1 q (empty q))
+
+  abbrev V : WrittenProcedure U q c.site c.procedure
+  V = procedures q c.site c.procedure c.is_site c.is_procedure (no_property c.procedure.kind c.kind)
+
+  abbrev parts : CalleeParts U p q s
+  parts = callee_parts U p q s (site_of D p) is_site test
+
+  is_found_from : is_found D (Some x) s (Some c.procedure) (Some c.site) ≡ true
+  is_found_from =
+      subst (λ o. is_found D (Some x) s (Some c.procedure) o ≡ true) c.is_site
+      (subst (λ o. is_found D (Some x) s o (site_of D q) ≡ true) c.is_procedure
+      (subst (λ o. is_found D o s (slice_get D.procs q) (site_of D q) ≡ true) is_procedure parts.found))
+
+  takes_values : list_all is_value (passings_of_code (Some V.code)) ≡ true
+  takes_values =
+      ap (λ ps. list_all is_value (passings ps)) (params_are U q c.site c.procedure V)
+      ∙ params_take (site_scope U c.site) q c.procedure.params c.params
+
+  pub can_call : CanCallFrom U p s W.code q
+  can_call w f g k names = record {
+    passes = pass;
+    keeps = λ ty h. keeps_called U.program p q x is_procedure parts.within l stands call ty h;
+    inward = λ h. inward_called U known p q x is_procedure parts.within l stands call h;
+    number = V.number;
+    is_number = V.is_number;
+    plain = ap is_property_at c.is_procedure ∙ no_property c.procedure.kind c.kind;
+    values = λ i. ap (λ o. takes_reference_of D (parameter_in o i)) c.is_procedure ∙ takes_none D q c.procedure.params i c.params;
+    net_values = ap (λ o. list_all is_value (passings_of_code o)) V.is_code ∙ takes_values;
+    found = λ qualified.
+        found p q s c.site x c.procedure W V g k is_site is_procedure kind c.is_site c.is_procedure (no_property c.procedure.kind c.kind) is_found_from
+        (names_in_code U p s x W g names) qualified;
+  }
+
+-- ---- what a line that is clean by itself calls
+
+-- is clean
+pub called_clean : (U : Upgrade) (p number : ℕ) (l : Line) (clean : IsCleanLine U.program U.facts.marks p number)
+    → nth_line (lines_at U.program p) number ≡ Some l → (q : ℕ) → Contains (line_calls U.program.declarations p l) (p, q)
+    → IsClean U.program U.facts.marks q
+called_clean U p number l clean e q call =
+    let D : Declarations = U.program.declarations in
+    let arrows = map (λ (a : Arrow). a.1) (line_arrows D p l) in
+    let called = map (λ (c : ℕ × ℕ). procedure c.1) (line_calls D p l) in
+    let point : Among called (procedure q) = map_among (λ (c : ℕ × ℕ). procedure c.1) (line_calls D p l) (p, q) (among (line_calls D p l) (p, q) call) in
+    clean.itself.mentions (procedure q)
+    (subst (λ (k : Line). Contains (line_points D p k) (procedure q)) (sym (clean_line_is U.program U.facts.marks p number l clean e))
+    (contains (line_points D p l) (procedure q)
+    (among_right arrows (called ++ result_points D p l.source.form) (procedure q) (among_left called (result_points D p l.source.form) (procedure q) point))))

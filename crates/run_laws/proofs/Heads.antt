@@ -1,0 +1,169 @@
+-- What is written for the head of a covered procedure: its parameters take values, and a Function has a result variable.
+use Rattle.std.proofs.Common.{◌≡◌, ◌⊎◌, inl, inr, refl, sym, ap, subst, ◌∙◌, ℕ, Bool, true, false, cond, not, ◌&&◌, nat_eq, true≢false, Option, Some, None, option_map, List, [], ◌∷◌, ◌++◌, map}
+use Rattle.std.specs.Prelude.{is_some, slice_get}
+use Rattle.std.specs.Cmp.Lexicographic.{pointwise}
+use Rattle.std.specs.List.{flat_map, list_all}
+use Rattle.up_base.proofs.Lists.{all_first, all_rest}
+use Rattle.up_base.proofs.Tests.{both_true, not_true}
+use Rattle.vb_tree.specs.declared.declared.Owner.{Owner}
+use Rattle.vb_tree.specs.declared.declared.Owner.TheVariants as owner
+use Rattle.vb_tree.specs.declared.declared.ProcId.{ProcId}
+use Rattle.vb_tree.specs.declared.declared.ProcKind.{ProcKind}
+use Rattle.vb_tree.specs.declared.declared.ProcKind.TheVariants as kind
+use Rattle.vb_tree.specs.declared.declared.VarId.{VarId}
+use Rattle.bound_tree.specs.Tree.{Declarations, Procedure, Variable}
+use Rattle.bound_facts.specs.Locks.{is_same_type}
+use Rattle.net_tree.specs.declared.declaration.NetPassing.TheVariants as passing
+use Rattle.net_tree.specs.Tree as net_tree
+use Rattle.net_tree.specs.Types.{TypeName}
+use Rattle.net_run.specs.Calls.{passings}
+use Rattle.net_run.specs.Members.{Code, params_by, params_of, result_by, result_of}
+use Rattle.written_trees.specs.Heads as heads
+use Rattle.written_trees.specs.Heads.{head_of, is_function}
+use Rattle.written_trees.specs.Names.{Scope}
+use Rattle.run_matches.specs.Callees.{answer_owns, own_at, own_of_some, parameter_owns}
+use Rattle.run_matches.specs.Covered.{covers_parameter, has_answer, has_result, is_answer_of, is_result_in, is_value_in, is_value_of}
+use Rattle.run_matches.specs.Frames.{result_names}
+use Rattle.run_matches.specs.Sites.{Own, Site, own_name, own_variable}
+use Rattle.run_matches.specs.Upgrades.{Upgrade}
+use Rattle.run_statements.specs.Frames.{is_value}
+use Rattle.run_statements.specs.Written.{WrittenProcedure, site_scope}
+use Rattle.name_laws.proofs.FrameNames.{result_are}
+use Rattle.run_laws.proofs.Covered.{same_numbers}
+
+-- ---- parameters
+
+-- a parameter that takes a value
+pub record Parameter (D : Declarations) (p : ℕ) (v : VarId) : Type 0 where
+  pub variable : Variable
+  pub is_variable : slice_get D.vars v.0 ≡ Some variable
+  pub id : ProcId
+  pub owner : variable.owner ≡ owner.Value id
+  pub own : nat_eq p id.0 ≡ true
+
+pub parameter_is : (D : Declarations) (p : ℕ) (v : VarId) → covers_parameter D p v ≡ true → Parameter D p v
+parameter_is D p v h = by (slice_get D.vars v.0) refl h
+  where
+    owned : (y : Variable) (o : Owner) → slice_get D.vars v.0 ≡ Some y → y.owner ≡ o → is_value_of p o ≡ true → Parameter D p v
+    owned y (owner.Value q) e is k = record { variable = y; is_variable = e; id = q; owner = is; own = k }
+    owned y _ e is k = absurd (true≢false (sym k))
+
+    by : (o : Option Variable) → slice_get D.vars v.0 ≡ o → is_value_in p o ≡ true → Parameter D p v
+    by None e k = absurd (true≢false (sym k))
+    by (Some y) e k = owned y y.owner e refl k
+
+-- ---- the result variable
+
+pub record HasAnswer (D : Declarations) (p : ℕ) (x : Procedure) : Type 0 where
+  pub function : is_function x.kind ≡ true
+  pub id : VarId
+  pub is_answer : x.answer ≡ Some id
+  pub variable : Variable
+  pub is_variable : slice_get D.vars id.0 ≡ Some variable
+  pub of : ProcId
+  pub owner : variable.owner ≡ owner.Answer of
+  pub own : nat_eq p of.0 ≡ true
+  pub type : is_same_type variable.ty x.result ≡ true
+  pub name : variable.name ≡ x.name
+
+pub record HasNone (x : Procedure) : Type 0 where
+  pub function : is_function x.kind ≡ false
+  pub is_answer : x.answer ≡ None
+
+answer_is : (D : Declarations) (p : ℕ) (x : Procedure) → is_function x.kind ≡ true → has_answer D p x x.answer ≡ true → HasAnswer D p x
+answer_is D p x function h = by x.answer refl h
+  where
+    owned : (v : VarId) (y : Variable) (o : Owner) → x.answer ≡ Some v → slice_get D.vars v.0 ≡ Some y → y.owner ≡ o
+        → (is_answer_of p o && (is_same_type y.ty x.result && pointwise nat_eq y.name x.name)) ≡ true → HasAnswer D p x
+    owned v y (owner.Answer q) a e is k =
+        let first = both_true (nat_eq p q.0) (is_same_type y.ty x.result && pointwise nat_eq y.name x.name) k in
+        let second = both_true (is_same_type y.ty x.result) (pointwise nat_eq y.name x.name) first.1 in
+        record {
+          function = function;
+          id = v;
+          is_answer = a;
+          variable = y;
+          is_variable = e;
+          of = q;
+          owner = is;
+          own = first.0;
+          type = second.0;
+          name = same_numbers y.name x.name second.1;
+        }
+    owned v y _ a e is k = absurd (true≢false (sym k))
+
+    found : (v : VarId) (o : Option Variable) → x.answer ≡ Some v → slice_get D.vars v.0 ≡ o → is_result_in p x o ≡ true → HasAnswer D p x
+    found v None a e k = absurd (true≢false (sym k))
+    found v (Some y) a e k = owned v y y.owner a e refl k
+
+    by : (o : Option VarId) → x.answer ≡ o → has_answer D p x o ≡ true → HasAnswer D p x
+    by None a k = absurd (true≢false (sym k))
+    by (Some v) a k = found v (slice_get D.vars v.0) a refl k
+
+none_is : (o : Option VarId) → not (is_some o) ≡ true → o ≡ None
+none_is None h = refl
+none_is (Some v) h = absurd (true≢false (sym h))
+
+pub answer_parts : (D : Declarations) (p : ℕ) (x : Procedure) → has_result D p x x.kind ≡ true → HasNone x ⊎ HasAnswer D p x
+answer_parts D p x h = by x.kind refl h
+  where
+    by : (k : ProcKind) → x.kind ≡ k → has_result D p x k ≡ true → HasNone x ⊎ HasAnswer D p x
+    by kind.Sub e a = inl (record { function = ap is_function e; is_answer = none_is x.answer a })
+    by kind.Function e a = inr (answer_is D p x (ap is_function e) a)
+    by kind.Get e a = absurd (true≢false (sym a))
+    by kind.Let e a = absurd (true≢false (sym a))
+    by kind.Set e a = absurd (true≢false (sym a))
+
+-- ---- the head
+
+module _ (U : Upgrade) (p : ℕ) (s : Site) (x : Procedure) (W : WrittenProcedure U p s x) where
+  abbrev S : Scope
+  S = site_scope U s
+
+  pub no_result : HasNone x → result_of W.code ≡ None
+  no_result h = result_are U p s x W ∙ ap (λ b. cond b (Some (x.name, heads.result_type S x)) None) h.function
+
+  pub a_result : HasAnswer U.program.declarations p x → result_of W.code ≡ Some (x.name, heads.result_type (site_scope U s) x)
+  a_result h = result_are U p s x W ∙ ap (λ b. cond b (Some (x.name, heads.result_type S x)) None) h.function
+
+-- ---- what is written for parameters
+
+passing_is : (o : Owner) (q : ProcId) → o ≡ owner.Value q → heads.passing_of o ≡ passing.Value
+passing_is o q e = ap heads.passing_of e
+
+value_by : (S : Scope) (p : ℕ) (v : ℕ) (o : Option Variable) → is_value_in p o ≡ true → list_all is_value (passings (heads.param_by S false v o)) ≡ true
+value_by S p v None h = refl
+value_by S p v (Some y) h = one y.owner h
+  where
+    one : (o : Owner) → is_value_of p o ≡ true → (is_value (heads.passing_of o) && true) ≡ true
+    one (owner.Value q) k = refl
+    one _ k = absurd (true≢false (sym k))
+
+values_append : (ks bs : List net_tree.Param) → list_all is_value (passings ks) ≡ true → list_all is_value (passings bs) ≡ true
+    → list_all is_value (passings (ks ++ bs)) ≡ true
+values_append [] bs h k = k
+values_append (a ∷ ks) bs h k =
+    let both = both_true (is_value a.passing) (list_all is_value (passings ks)) h in
+    ap (λ b. b && list_all is_value (passings (ks ++ bs))) both.0 ∙ values_append ks bs both.1 k
+
+-- all are passed by value
+pub params_take : (S : Scope) (p : ℕ) (vs : List VarId) → list_all (covers_parameter S.declarations p) vs ≡ true
+    → list_all is_value (passings (heads.params_of S false vs)) ≡ true
+params_take S p [] h = refl
+params_take S p (v ∷ vs) h =
+    values_append (heads.param_by S false v.0 (slice_get S.declarations.vars v.0)) (heads.params_of S false vs)
+    (value_by S p v.0 (slice_get S.declarations.vars v.0) (all_first (covers_parameter S.declarations p) v vs h))
+    (params_take S p vs (all_rest (covers_parameter S.declarations p) v vs h))
+
+-- ---- names
+
+-- the result variable is written under its name
+pub answer_names : (U : Upgrade) (p : ℕ) (s : Site) (x : Procedure) (W : WrittenProcedure U p s x) → HasNone x ⊎ HasAnswer U.program.declarations p x
+    → map own_name (answer_owns U.program.declarations x.answer) ≡ result_names (result_of W.code)
+answer_names U p s x W (inl h) =
+    ap (λ a. map own_name (answer_owns U.program.declarations a)) h.is_answer ∙ sym (ap result_names (no_result U p s x W h))
+answer_names U p s x W (inr h) =
+    ap (λ a. map own_name (answer_owns U.program.declarations a)) h.is_answer
+    ∙ ap (λ o. map own_name (own_of_some h.id.0 o)) h.is_variable
+    ∙ ap {B = List (List ℕ)} (λ n. n ∷ []) h.name
+    ∙ sym (ap result_names (a_result U p s x W h))
