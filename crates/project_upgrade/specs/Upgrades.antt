@@ -47,6 +47,7 @@ pub record IsCleanCount (P : Program) (ms : List Marks) (n : ℕ) : Type 0 where
 -- what is made of a bound project by what the analyses find in it
 pub record IsMadeOf (b : Bound) (f : Found) (further : List Issue) (u : Upgraded) : Type 0 where
   pub issues : AreIssues (program_of b) (all_marks (passes_of b f)) further u.issues
+  pub procedures : u.procedures ≡ length (program_of b).declarations.procs
   pub clean : IsCleanCount (program_of b) (all_marks (passes_of b f)) u.clean
   pub tree : IsWritten (program_of b) (all_marks (passes_of b f)) (project_of u.tree)
 

@@ -25,8 +25,17 @@ use written_rows::WrittenFacts;
 pub struct Upgraded {
     pub tree: NetProject,
     pub issues: Issues,
-    /// How many of its procedures are clean.
+    /// How many procedures it has.
+    pub procedures: usize,
+    /// How many of them are clean.
     pub clean: usize,
+}
+
+// How many procedures there are, and how many of them are clean.
+#[derive(Clone, Copy, Debug, PartialEq, Eq)]
+struct ProcedureCounts {
+    all: usize,
+    clean: usize,
 }
 
 fn facts(alloc: Global, bound: &Bound, found: &Found) -> Result<WrittenFacts, Mem>
@@ -61,8 +70,9 @@ fn count_true(flags: &[bool]) -> usize
     flags.iter().filter(|flag| **flag).count()
 }
 
-fn count_clean(alloc: Global, bound: &Bound, found: &Found) -> Result<usize, Mem>
-    ensures { IfOk result (λ n. IsCleanCount (program_of bound.now) (all_marks (passes_of bound.now found.now)) n) }
+fn count_procedures(alloc: Global, bound: &Bound, found: &Found) -> Result<ProcedureCounts, Mem>
+    ensures all { IfOk result (λ n. n.all ≡ length (program_of bound.now).declarations.procs) }
+    ensures clean { IfOk result (λ n. IsCleanCount (program_of bound.now) (all_marks (passes_of bound.now found.now)) n.clean) }
 {
     let marks: [&Marks; 7] = [
         &bound.declared.marks,
@@ -74,7 +84,10 @@ fn count_clean(alloc: Global, bound: &Bound, found: &Found) -> Result<usize, Mem
         &found.arrays.marks,
     ];
     let flags = clean_procedures(alloc, bound, &marks)?;
-    Ok(count_true(&flags))
+    Ok(ProcedureCounts {
+        all: flags.len(),
+        clean: count_true(&flags),
+    })
 }
 
 fn made(alloc: Global, bound: &Bound, found: &Found, further: Vec<Issue>) -> Result<Upgraded, Mem>
@@ -82,12 +95,13 @@ fn made(alloc: Global, bound: &Bound, found: &Found, further: Vec<Issue>) -> Res
     ensures { IfOk result (λ u. IsMadeOf bound.now found.now further.items u) }
 {
     let issues = issues_found(alloc, bound, found, further)?;
-    let clean = count_clean(alloc, bound, found)?;
+    let counts = count_procedures(alloc, bound, found)?;
     let tree = written(alloc, bound, found)?;
     Ok(Upgraded {
         tree,
         issues,
-        clean,
+        procedures: counts.all,
+        clean: counts.clean,
     })
 }
 
@@ -109,7 +123,7 @@ fn made_beside(alloc: Global, project: Project6, further: Vec<Issue>) -> Result<
     upgraded
 }
 
-/// What is written for a project, its issues, and how many of its procedures are clean. A name that is no name of .NET, a number
+/// What is written for a project, its issues, and how many procedures it has. A name that is no name of .NET, a number
 /// that no literal has room for, or a rank from 255 on is answered as want of memory.
 #[tactic(auto, using(crate::proofs::Broken::upgraded_beside, crate::proofs::Broken::are_broken))]
 pub fn upgrade_project(alloc: Global, project: Project6) -> Result<Upgraded, Mem>

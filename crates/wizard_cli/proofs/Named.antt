@@ -10,16 +10,11 @@ use Rattle.vb_tree.specs.ProjectLines.{is_letter, is_name_unit, is_module_name, 
 use Rattle.vb_tree.specs.Tree.{Project}
 use Rattle.net_tree.specs.Text.{files_of, file_name, module_text, response_text, written_modules}
 use Rattle.net_tree.specs.Tree as net
-use Rattle.net_tree.specs.View.{project_of}
 use Rattle.project_file.proofs.ModuleNames.{module_is_name}
 use Rattle.project_loader.specs.Held.{IsOfGrammar}
-use Rattle.project_upgrade.specs.declared.files.UpgradedFiles.{UpgradedFiles}
-use Rattle.project_upgrade.specs.Files.{IsUpgradedAs}
 use Rattle.wizard_cli.specs.Headline.{in_folder}
 use Rattle.wizard_cli.proofs.Apart.{NamedAs}
 use Rattle.wizard_cli.proofs.Grammar.{entries_named}
-use Rattle.wizard_cli.proofs.Translations.{translates}
-use Rattle.wizard_cli.proofs.Upgrades.{translation_named}
 
 both_true : (a b : Bool) → a && b ≡ true → (a ≡ true) × (b ≡ true)
 both_true true b e = (refl, e)
@@ -73,14 +68,14 @@ entry_short e h = short_module e.name (both_true (is_module_name e.name) (is_nam
 abbrev pub has_folder_name : List ℕ × List ℕ → Bool
 has_folder_name f = is_name (in_folder f.0)
 
-names_in_folder : (head : Option (List ℕ)) (es : List Entry) (ns : List net.Module) → list_all is_named es ≡ true → NamedAs es ns → list_all has_folder_name (map (λ (m : net.Module). (file_name m, module_text head m)) ns) ≡ true
-names_in_folder head [] [] h k = refl
-names_in_folder head [] (n ∷ ns) h k = absurd k
-names_in_folder head (e ∷ es) [] h k = absurd k
-names_in_folder head (e ∷ es) (n ∷ ns) h k =
+names_in_folder : (said : Option (List ℕ)) (es : List Entry) (ns : List net.Module) → list_all is_named es ≡ true → NamedAs es ns → list_all has_folder_name (map (λ (m : net.Module). (file_name m, module_text said m)) ns) ≡ true
+names_in_folder said [] [] h k = refl
+names_in_folder said [] (n ∷ ns) h k = absurd k
+names_in_folder said (e ∷ es) [] h k = absurd k
+names_in_folder said (e ∷ es) (n ∷ ns) h k =
     let both = both_true (is_named e) (list_all is_named es) h in
-    and_true (is_name (in_folder (file_name n))) (list_all has_folder_name (map (λ (m : net.Module). (file_name m, module_text head m)) ns))
-    (ap (λ s. is_name (in_folder (s ++ codes ".vb"))) k.0 ∙ folder_named e.name (entry_short e both.0)) (names_in_folder head es ns both.1 k.1)
+    and_true (is_name (in_folder (file_name n))) (list_all has_folder_name (map (λ (m : net.Module). (file_name m, module_text said m)) ns))
+    (ap (λ s. is_name (in_folder (s ++ codes ".vb"))) k.0 ∙ folder_named e.name (entry_short e both.0)) (names_in_folder said es ns both.1 k.1)
 
 map_append : {A B : Type 0} (f : A → B) (xs ys : List A) → map f (xs ++ ys) ≡ map f xs ++ map f ys
 map_append f [] ys = refl
@@ -100,12 +95,4 @@ folder_names P N g support named =
 
 -- the response file is one
 pub some_files : (N : net.Project) → 1 ≤ length (files_of N)
-some_files N = omega (arith, length-append {A = List ℕ × List ℕ} (map (λ (m : net.Module). (file_name m, module_text N.note m)) (written_modules N)) ((codes "upgrade.rsp", response_text N) ∷ []))
-
--- the files of what is made of a project can be named in the folder
-pub made_named : (names : List (List ℕ)) (P : Project) (made : UpgradedFiles) → IsOfGrammar P → IsUpgradedAs names P made → list_all has_folder_name made.files ≡ true
-made_named names P made grammar is =
-    let N = project_of is.made.tree in
-    let t = translates P is.made grammar is.upgraded in
-    ap (list_all has_folder_name) is.are.files
-    ∙ folder_names P N grammar (ap (λ (n : net.Project). n.support.name) (t.written ∙ t.is_written)) (translation_named P is.made.issues N grammar t)
+some_files N = let size = length-append {A = List ℕ × List ℕ} (map (λ (m : net.Module). (file_name m, module_text N.note m)) (written_modules N)) ((codes "upgrade.rsp", response_text N) ∷ []) in omega (arith, size)

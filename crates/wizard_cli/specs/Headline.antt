@@ -1,5 +1,5 @@
--- What is written for a project, and that it does the same.
-use Rattle.std.specs.Prelude.{◌≡◌, ◌-◌, ℕ, List, [], ◌∷◌, ◌++◌, map, insert, take, length, codes, All, Some, slice_get}
+-- What is written for a project by settings, and that it does the same.
+use Rattle.std.specs.Prelude.{◌≡◌, ◌-◌, ℕ, List, [], ◌∷◌, ◌++◌, map, insert, take, length, codes, All, Option, Some, slice_get}
 use Rattle.up_base.specs.Outside.{Files, ChangesOnly, LeavesPrefix}
 use Rattle.up_base.specs.declared.issue.Issue.{Issue}
 use Rattle.vb_tree.specs.Tree.{Project}
@@ -10,6 +10,9 @@ use Rattle.broken_rules.specs.Marks.{all_marks}
 use Rattle.issue_report.specs.Reports.{report_text}
 use Rattle.project_loader.specs.Held.{HeldProject}
 use Rattle.project_loader.specs.Faults.{file_names}
+use Rattle.project_upgrade.specs.Files.{with_settings}
+use Rattle.settings_file.specs.Settings.{Given}
+use Rattle.wizard_cli.specs.Settings.{AreSet}
 use Rattle.written_facts.specs.United.{AreUnited}
 use Rattle.written_trees.specs.Projects.{written_project}
 use Rattle.run_matches.specs.Upgrades.{Upgrade}
@@ -20,13 +23,13 @@ use Rattle.correspondence.specs.Corresponds.{FilesCorrespond}
 
 -- N is what is written for a project with these issues. They are the rules that the project breaks, and what is clean is so by them. What is
 -- written corresponds to the project part by part. A code line that is clean by itself, and a clean procedure, does the same in what is
--- written for it, where it is covered.
-pub record IsTranslation (P : Project) (issues : List Issue) (N : net.Project) : Type 0 where
+-- written for it, where it is covered. N has the target and the note that are set; for the rest it is what the meanings speak of.
+pub record IsTranslation (P : Project) (given : Given) (issues : List Issue) (N : net.Project) : Type 0 where
   pub broken : AreBroken P issues
   pub upgrade : Upgrade
   pub program : upgrade.program ≡ broken.program
   pub marks : AreUnited (all_marks broken.passes) upgrade.facts.marks
-  pub written : N ≡ upgrade.written
+  pub written : N ≡ with_settings given.library given.note upgrade.written
   pub is_written : upgrade.written ≡ written_project upgrade.program upgrade.facts
   pub files_correspond : FilesCorrespond upgrade
   pub same_lines : SameLines upgrade upgrade.facts.marks
@@ -68,25 +71,32 @@ pub record PutUpTo (files : List (List ℕ × List ℕ)) (k : ℕ) (before after
 abbrev pub HoldsAll : List (List ℕ × List ℕ) → Files → Type 0
 HoldsAll written files = All (λ f. files (in_folder f.0) ≡ Some f.1) written
 
+-- the folder holds these files, by their whole names
+abbrev pub HoldFiles : List (List ℕ × List ℕ) → Files → Type 0
+HoldFiles [] held = Unit {0}
+HoldFiles (f ∷ more) held = (held f.0 ≡ Some f.1) × HoldFiles more held
+
 -- ---- upgrades
 
--- What is written for the project under a name: a translation of it, and its issues, of which there are so many.
-pub record IsUpgrade (name : List ℕ) (P : Project) (count : ℕ) : Type 0 where
+-- What is written for the project under a name by settings: a translation of it, and its issues, of which there are so many.
+pub record IsUpgrade (name : List ℕ) (P : Project) (given : Given) (count : ℕ) : Type 0 where
   pub net_project : net.Project
   pub issues : List Issue
-  pub translation : IsTranslation P issues net_project
+  pub translation : IsTranslation P given issues net_project
   pub count_is : count ≡ length issues
 
 -- the report of an upgrade
-abbrev pub report_of : {name : List ℕ} {P : Project} {count : ℕ} → IsUpgrade name P count → List ℕ
+abbrev pub report_of : {name : List ℕ} {P : Project} {given : Given} {count : ℕ} → IsUpgrade name P given count → List ℕ
 report_of {name} {P} u = report_text u.issues (file_names name P.file.entries)
 
--- The project under this name was upgraded: the outlet holds the files that stand for a translation of it, and the
+-- The project under this name was upgraded by the settings of a file: the outlet holds the files that stand for a translation of it, and the
 -- report; nothing else in the outlet changed.
-pub record IsUpgraded (files : Files) (name : List ℕ) (count : ℕ) (before after : Files) : Type 0 where
+pub record IsUpgraded (files : Files) (name : List ℕ) (settings : Option (List ℕ)) (count : ℕ) (before after : Files) : Type 0 where
   pub project : Project
   pub held : HeldProject files name project
-  pub upgrade : IsUpgrade name project count
+  pub given : Given
+  pub set : AreSet files settings given
+  pub upgrade : IsUpgrade name project given count
   pub net_files : List (List ℕ × List ℕ)
   pub text : NetText upgrade.net_project net_files
   pub stand : HoldsAll net_files after

@@ -4,13 +4,13 @@ ghost use Rattle.std.specs.Fmt.{decimal};
 
 use std::marker::Model;
 
-/// The longest message, in bytes: a name has at most 512, and what stands around it fewer than 80.
-pub(crate) const CAPACITY: usize = 640;
+/// More than the bytes of the longest message, which lists the rules. A name has at most 512 bytes, and what stands around it fewer than 80.
+pub(crate) const CAPACITY: usize = 1024;
 
-/// A list of at most 640 bytes. Contracts see it as that list.
+/// A list of at most 1024 bytes. Contracts see it as that list.
 #[derive(Drop)]
 pub(crate) struct Message {
-    bytes: [u8; 640],
+    bytes: [u8; 1024],
     used: usize,
 }
 
@@ -21,7 +21,7 @@ impl Model for Message {
 
     ghost view = { λ m. take m.used m.bytes };
 
-    ghost invariant = { λ m. m.used ≤ 640 };
+    ghost invariant = { λ m. m.used ≤ 1024 };
 }
 
 impl Message {
@@ -29,13 +29,13 @@ impl Message {
         ensures { result ≡ [] }
     {
         Message {
-            bytes: [0; 640],
+            bytes: [0; 1024],
             used: 0,
         }
     }
 
     pub(crate) fn push(&mut self, byte: u8)
-        requires { length self.old < 640 }
+        requires { length self.old < 1024 }
         ensures { self.new ≡ self.old ++ byte ∷ [] }
     {
         self.bytes[self.used] = byte;
@@ -51,7 +51,7 @@ impl Message {
 
 /// Appends a text.
 pub(crate) fn push_text(message: &mut Message, text: &[u8])
-    requires { length message.old + length text.now ≤ 640 }
+    requires { length message.old + length text.now ≤ 1024 }
     ensures text { message.new ≡ message.old ++ text.now }
     ensures len { length message.new ≡ length message.old + length text.now }
 {
@@ -62,7 +62,7 @@ pub(crate) fn push_text(message: &mut Message, text: &[u8])
 
 /// Appends a number in decimal digits.
 pub(crate) fn push_number(message: &mut Message, n: u64)
-    requires { length message.old + 20 ≤ 640 }
+    requires { length message.old + 20 ≤ 1024 }
     ensures digits { message.new ≡ message.old ++ decimal n }
     ensures len { length message.new ≤ length message.old + 20 }
 {
@@ -71,7 +71,7 @@ pub(crate) fn push_number(message: &mut Message, n: u64)
 
 // Appends the digits of a number, for which there is room.
 fn push_digits(message: &mut Message, n: u64)
-    requires { length message.old + length (decimal n) ≤ 640 }
+    requires { length message.old + length (decimal n) ≤ 1024 }
     ensures { message.new ≡ message.old ++ decimal n }
 {
     if n < 10 {

@@ -1,0 +1,3 @@
+Sub Main()
+Debug.Print "hi"
+End Sub
