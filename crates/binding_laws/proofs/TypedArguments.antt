@@ -20,7 +20,7 @@ use Rattle.typing_rows.specs.Types.{ty_of}
 use Rattle.expression_words.specs.declared.lookups.ErrMember.{ErrMember}
 use Rattle.expression_words.specs.declared.lookups.ErrMember.TheVariants as err_members
 use Rattle.expression_words.specs.Flaws as flaws
-use Rattle.expression_words.specs.Flaws.{Typed, known, no_flaw, breaks, lacks, together, on_known}
+use Rattle.expression_words.specs.Flaws.{Typed, known, no_flaw, breaks, lacks, together}
 use Rattle.expression_words.specs.Converting.{fails, id, preset_at, preset_of, wanted}
 use Rattle.expression_words.specs.Members.{value_part, result_in, params_in}
 use Rattle.expression_words.specs.Passing.{Value, left_out, given, Supplied, value_flaw, is_worded, with_slack, Slot, filled, flawed, all_filled, slot_flaws_after, passed_in, slot_by_value, is_place, is_reference, pass_value, place_argument, array_slot, pass_array, place_slot, pass_reference, pass_typed, preset_slot_of, preset_slot, value_slot, slot, param_at, given_slots, slots, call_over, call_with, called_part, called}

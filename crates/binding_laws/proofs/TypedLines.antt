@@ -22,7 +22,7 @@ use Rattle.typing_rows.specs.declared.conversions.Conversion.TheVariants as conv
 use Rattle.typing_rows.specs.Cases.{case_converts}
 use Rattle.typing_rows.specs.Conversions.{assigned, condition, index, limit, printed, set_to}
 use Rattle.expression_words.specs.Flaws as flaws
-use Rattle.expression_words.specs.Flaws.{Typed, known, on_known}
+use Rattle.expression_words.specs.Flaws.{Typed, known}
 use Rattle.expression_words.specs.Converting.{wanted}
 use Rattle.expression_words.specs.Meanings.{Meaning, Scope}
 use Rattle.bound_exprs.specs.Resolved.{meaning, resolved}

@@ -30,7 +30,7 @@ use Rattle.typing_rows.specs.Library.{library_call, library_constant, is_library
 use Rattle.typing_rows.specs.declared.library.TextConstant.{TextConstant}
 use Rattle.expression_words.specs.declared.lookups.Lookup.{Lookup}
 use Rattle.expression_words.specs.Flaws as flaws
-use Rattle.expression_words.specs.Flaws.{Typed, known, lacks, flawed_by}
+use Rattle.expression_words.specs.Flaws.{Typed, known, lacks}
 use Rattle.expression_words.specs.Elements.{element_of}
 use Rattle.expression_words.specs.LibraryCalls.{library_called}
 use Rattle.expression_words.specs.Members.{type_of_variable, count_classes, class_of_file, default_of, place_of}

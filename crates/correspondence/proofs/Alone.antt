@@ -12,12 +12,12 @@ use Rattle.vb_tree.specs.declared.declared.Owner.{Owner}
 use Rattle.vb_tree.specs.declared.declared.Owner.TheVariants as owner
 use Rattle.vb_tree.specs.declared.declared.VarId.{VarId}
 use Rattle.bound_tree.specs.Tree.{Variable, Constant, Procedure, Declarations, Program}
-use Rattle.written_trees.specs.Prologues.{declares, is_statement, variables_from, variables_of, constants_of}
-use Rattle.vb6_run.specs.Programs.{answer_in, is_local_of, owned_from}
+use Rattle.written_trees.specs.Prologues.{declares, is_statement, variables_from, variables_of, constants_of, is_static}
+use Rattle.vb6_run.specs.Programs.{answer_in, is_local_of, owned_from, is_static_of}
 use Rattle.vb6_run.specs.Runnables.{is_class_file}
 use Rattle.run_matches.specs.Callees.{answer_owns, frame_owns, own_of_some, parameter_owns}
 use Rattle.run_matches.specs.Covered.{are_different, belongs_to, covers_body, covers_all_calls, covers_head, covers_kind, covers_names, covers_own, covers_owner, covers_owns, covers_parameter, covers_procedure, covers_result, covers_site, covers_type, covers_variable, covers_variables, has_result, is_answer_of, is_named_in, is_value_of}
-use Rattle.run_matches.specs.Sites.{Own, own_variable, own_constant, own_name, own_variables, own_constants, statement_owns, owns_from, owns_of, variable_numbers, Site, site_of, site_lines, first_statement}
+use Rattle.run_matches.specs.Sites.{Own, own_variable, own_constant, own_name, own_variables, own_constants, statement_owns, owns_from, owns_of, Site, site_of, site_lines, first_statement, local_numbers, static_numbers}
 use Rattle.correspondence.specs.Lists.{In}
 use Rattle.correspondence.specs.Uses.{IsAlone}
 use Rattle.correspondence.proofs.Among.{has_any, in_either, in_left, in_map, in_right, from_map}
@@ -99,11 +99,27 @@ own_is D s o h =
 
 -- ---- the variables of the procedure are declared by its lines
 
-own_of_number : (os : List Own) (u : ℕ) → In u (variable_numbers os) → (z : Variable) × In (own_variable u z) os
-own_of_number [] u h = absurd h
-own_of_number (own_variable v x ∷ os) u (inl e) = (x, inl (ap (λ (w : ℕ). own_variable w x) e))
-own_of_number (own_variable v x ∷ os) u (inr i) = let more = own_of_number os u i in (more.0, inr more.1)
-own_of_number (own_constant c x ∷ os) u i = let more = own_of_number os u i in (more.0, inr more.1)
+local_of_number : (os : List Own) (u : ℕ) → In u (local_numbers os) → (z : Variable) × In (own_variable u z) os
+local_of_number [] u h = absurd h
+local_of_number (own_constant c x ∷ os) u i = let more = local_of_number os u i in (more.0, inr more.1)
+local_of_number (own_variable v x ∷ os) u i = by (is_static x.owner) i (λ j. local_of_number os u j)
+  where
+    by : (c : Bool) → In u (cond c [] (v ∷ []) ++ local_numbers os) → (In u (local_numbers os) → (z : Variable) × In (own_variable u z) os)
+        → (z : Variable) × In (own_variable u z) (own_variable v x ∷ os)
+    by true j more = let r = more j in (r.0, inr r.1)
+    by false (inl e) more = (x, inl (ap (λ (w : ℕ). own_variable w x) e))
+    by false (inr j) more = let r = more j in (r.0, inr r.1)
+
+static_of_number : (os : List Own) (u : ℕ) → In u (static_numbers os) → (z : Variable) × In (own_variable u z) os
+static_of_number [] u h = absurd h
+static_of_number (own_constant c x ∷ os) u i = let more = static_of_number os u i in (more.0, inr more.1)
+static_of_number (own_variable v x ∷ os) u i = by (is_static x.owner) i (λ j. static_of_number os u j)
+  where
+    by : (c : Bool) → In u (cond c (v ∷ []) [] ++ static_numbers os) → (In u (static_numbers os) → (z : Variable) × In (own_variable u z) os)
+        → (z : Variable) × In (own_variable u z) (own_variable v x ∷ os)
+    by true (inl e) more = (x, inl (ap (λ (w : ℕ). own_variable w x) e))
+    by true (inr j) more = let r = more j in (r.0, inr r.1)
+    by false j more = let r = more j in (r.0, inr r.1)
 
 owned_at : (test : Owner → Bool) (k : ℕ) (xs : List Variable) (i j : ℕ) (y : Variable) → j ≡ k + i → slice_get xs i ≡ Some y → test y.owner ≡ true
     → In j (owned_from test k xs)
@@ -144,7 +160,8 @@ different (o ∷ os) a c h i j e =
 -- ---- covered procedures
 
 record Covers (P : Program) (p : ℕ) (s : Site) : Type 0 where
-  numbers : pointwise nat_eq (variable_numbers (owns_of P.declarations s)) (owned_from (is_local_of p) 0 P.declarations.vars) ≡ true
+  locals : pointwise nat_eq (local_numbers (owns_of P.declarations s)) (owned_from (is_local_of p) 0 P.declarations.vars) ≡ true
+  statics : pointwise nat_eq (static_numbers (owns_of P.declarations s)) (owned_from (is_static_of p) 0 P.declarations.vars) ≡ true
   procedure : Procedure
   params : pointwise nat_eq (map (λ (v : VarId). v.0) procedure.params) (owned_from (is_value_of p) 0 P.declarations.vars) ≡ true
   answer : pointwise nat_eq (answer_in procedure.answer) (owned_from (is_answer_of p) 0 P.declarations.vars) ≡ true
@@ -165,14 +182,18 @@ covered_parts P p s e h =
     let site : covers_site D p (Some s) ≡ true = sym (ap (covers_site D p) e) ∙ c.0 in
     let names = are_different (map own_name (frame_owns D (slice_get D.procs p) s)) in
     let f = both_true (covers_owns D p os) names (both_true (not s.source_module.class) (covers_owns D p os && names) site).1 in
-    let g = both_true (pointwise nat_eq (variable_numbers os) (owned_from (is_local_of p) 0 D.vars)) (list_all (covers_own p) os) f.0 in
-    by (slice_get D.procs p) b.0 f.1 g.0 d.0
+    let locals = pointwise nat_eq (local_numbers os) (owned_from (is_local_of p) 0 D.vars) in
+    let statics = pointwise nat_eq (static_numbers os) (owned_from (is_static_of p) 0 D.vars) in
+    let g = both_true (locals && statics) (list_all (covers_own D p) os) f.0 in
+    let j = both_true locals statics g.0 in
+    by (slice_get D.procs p) b.0 f.1 j.0 j.1 d.0
   where
     by : (o : Option Procedure) → covers_head P p o ≡ true → are_different (map own_name (frame_owns P.declarations o s)) ≡ true
-        → pointwise nat_eq (variable_numbers (owns_of P.declarations s)) (owned_from (is_local_of p) 0 P.declarations.vars) ≡ true
+        → pointwise nat_eq (local_numbers (owns_of P.declarations s)) (owned_from (is_local_of p) 0 P.declarations.vars) ≡ true
+        → pointwise nat_eq (static_numbers (owns_of P.declarations s)) (owned_from (is_static_of p) 0 P.declarations.vars) ≡ true
         → covers_variables P p ≡ true → Covers P p s
-    by None h names numbers vars = absurd (cc h)
-    by (Some x) h names numbers vars =
+    by None h names locals statics vars = absurd (cc h)
+    by (Some x) h names locals statics vars =
         let D = P.declarations in
         let outer = not (is_class_file D x.module_number) in
         let params = pointwise nat_eq (map (λ (v : VarId). v.0) x.params) (owned_from (is_value_of p) 0 D.vars) in
@@ -182,7 +203,7 @@ covered_parts P p s e h =
         let c = both_true (covers_result D p x) outer b.1 in
         let d = both_true (has_result D p x x.kind) (params && answer) c.0 in
         let e = both_true params answer d.1 in
-        record { numbers = numbers; procedure = x; params = e.0; answer = e.1; apart = names; vars = vars }
+        record { locals = locals; statics = statics; procedure = x; params = e.0; answer = e.1; apart = names; vars = vars }
 
 passes_at : (test : Variable → Bool) (xs : List Variable) (i : ℕ) (x : Variable) → list_all test xs ≡ true → slice_get xs i ≡ Some x → test x ≡ true
 passes_at test [] i x h e = absurd (cc e)
@@ -224,19 +245,29 @@ module _ (P : Program) (p : ℕ) (s : Site) (C : Covers P p s) (v : ℕ) (x : Va
   number_of : (test : Owner → Bool) → test x.owner ≡ true → In v (owned_from test 0 D.vars)
   number_of test h = owned_at test 0 D.vars v v x (omega arith) e h
 
-  local_among : is_local_of p x.owner ≡ true → In (own_variable v x) (owns_of D s)
-  local_among local =
-      let found = own_of_number (owns_of D s) v
-      (subst (In v) (sym (same_list (variable_numbers (owns_of D s)) (owned_from (is_local_of p) 0 D.vars) C.numbers)) (number_of (is_local_of p) local)) in
+  declared_among : (z : Variable) × In (own_variable v z) (owns_of D s) → In (own_variable v x) (owns_of D s)
+  declared_among found =
       let same : found.0 ≡ x = some_same found.0 x (sym (own_is D s (own_variable v found.0) found.1) ∙ e) in
       subst (λ (y : Variable). In (own_variable v y) (owns_of D s)) same found.1
+
+  local_among : is_local_of p x.owner ≡ true → In (own_variable v x) (owns_of D s)
+  local_among local =
+      declared_among (local_of_number (owns_of D s) v
+      (subst (In v) (sym (same_list (local_numbers (owns_of D s)) (owned_from (is_local_of p) 0 D.vars) C.locals)) (number_of (is_local_of p) local)))
+
+  static_among : is_static_of p x.owner ≡ true → In (own_variable v x) (owns_of D s)
+  static_among static =
+      declared_among (static_of_number (owns_of D s) v
+      (subst (In v) (sym (same_list (static_numbers (owns_of D s)) (owned_from (is_static_of p) 0 D.vars) C.statics)) (number_of (is_static_of p) static)))
 
   among_by : (o : Owner) → x.owner ≡ o → belongs_to p o ≡ true → covers_owner o ≡ true → In (own_variable v x) (params ++ rest)
   among_by (owner.Module file) is h c = absurd (cc h)
   among_by (owner.Local q) is h c =
       in_right params rest (own_variable v x)
       (in_right (answer_owns D C.procedure.answer) (owns_of D s) (own_variable v x) (local_among (ap (is_local_of p) is ∙ h)))
-  among_by (owner.Static q) is h c = absurd (cc c)
+  among_by (owner.Static q) is h c =
+      in_right params rest (own_variable v x)
+      (in_right (answer_owns D C.procedure.answer) (owns_of D s) (own_variable v x) (static_among (ap (is_static_of p) is ∙ h)))
   among_by (owner.Value q) is h c =
       in_left params rest (own_variable v x)
       (parameter_among D C.procedure.params (record { 0 = v }) x e

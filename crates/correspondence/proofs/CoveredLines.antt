@@ -9,14 +9,14 @@ use Rattle.vb_tree.specs.Tree.{CaseItem, Form}
 use Rattle.vb_tree.specs.Tree as source
 use Rattle.bound_tree.specs.declared.body.Mention.{Mention}
 use Rattle.bound_tree.specs.Labels.{Label}
-use Rattle.bound_tree.specs.Tree.{Program, Expr, typed, variable, Line, Term, library, Exprs, no_exprs, next_expr, Declarations, call, no_object, of_object, Passed}
+use Rattle.bound_tree.specs.Tree.{Program, Expr, typed, variable, Line, Term, library, Exprs, no_exprs, next_expr, Declarations, call, no_object, of_object, Passed, err_raise, err_clear}
 use Rattle.vb_tree.specs.declared.bound.LibCall.{LibCall}
 use Rattle.vb_tree.specs.declared.bound.LibCall.TheVariants as lib
 use Rattle.bound_facts.specs.Locks.{is_same_type}
 use Rattle.vb_tree.specs.declared.declared.ProcId.{ProcId}
 use Rattle.bound_facts.specs.Node.{type_at}
 use Rattle.bound_facts.specs.Nodes.{nodes, nodes_in}
-use Rattle.net_tree.specs.Tree.{Exp, Exps}
+use Rattle.net_tree.specs.Tree.{Exp}
 use Rattle.net_tree.specs.Tree as net
 use Rattle.written_trees.specs.Exprs.{called, exp_of, is_bare, passed_of}
 use Rattle.written_trees.specs.Lines.{as_call, case_items, first_exp, items_exp, line_of, step_exp, call_line}
@@ -26,7 +26,7 @@ use Rattle.run_matches.specs.Covered.{covers_type, covers_use, covers_expr, cove
 use Rattle.run_matches.specs.Formed.{is_formed, is_row_of_call, are_formed}
 use Rattle.correspondence.specs.Uses.{FormCorresponds, SameUses, case_exps, names, total, uses, CallCorresponds, IsAlone, IsSharedAlone, is_call_in, is_call_of, path_names, shared_names}
 use Rattle.correspondence.proofs.NamedCalls.{neither, none_of_both, path_other, shared_path_other}
-use Rattle.correspondence.proofs.Naming.{IsRight, expr_names, items_names, assigned_names, box_names, term_names}
+use Rattle.correspondence.proofs.Naming.{IsRight, expr_names, items_names, assigned_names, box_names, raised_names, term_names}
 use Rattle.correspondence.proofs.Variables.{no_support, own_use, shared_use}
 
 formed_plain : (S : Scope) (rank : ℕ) (ty : Ty) (a : Exp) → covers_type ty ≡ true → formed S rank ty a ≡ a
@@ -244,6 +244,15 @@ module _ (P : Program) (S : Scope) (same : S.declarations ≡ P.declarations) (p
   called_in ty (call q qualified (of_object d) args) h f = absurd (cc h)
   called_in ty (call q qualified no_object args) h f = called_one ty q qualified args h f
   called_in ty (library g args) h f = shown ty (library g args) h f
+  called_in ty (err_raise e) h f =
+      let form = both_true (is_same_type (type_at e) types.long) (is_formed e) f in (
+        exp_of S e,
+        refl,
+        refl,
+        same_uses (typed ty (err_raise e) ∷ []) (exp_of S e ∷ [])
+            (λ v count test right free. raised_names P S p v count test mentions right ty e h form.1 free),
+      )
+  called_in ty err_clear h f = (refl, refl)
   called_in ty _ h f = absurd (cc h)
 
   called_line : (es : List Expr) → covers_call (covers_use P p mentions) es ≡ true → list_all is_formed es ≡ true → IsCall es
@@ -281,6 +290,12 @@ module _ (P : Program) (S : Scope) (same : S.declarations ≡ P.declarations) (p
   form_corresponds source.wend es h f = tt
   form_corresponds (source.goto l) es h f = tt
   form_corresponds (source.label l) es h f = tt
+  form_corresponds (source.on_error_goto l) es h f = tt
+  form_corresponds source.on_error_goto_zero es h f = tt
+  form_corresponds source.on_error_resume_next es h f = tt
+  form_corresponds source.resume es h f = tt
+  form_corresponds source.resume_next es h f = tt
+  form_corresponds (source.resume_at l) es h f = tt
   form_corresponds (source.exit kind) es h f = tt
   form_corresponds (source.call callee) es h f = called_line es h f
   form_corresponds (source.invoke callee args) es h f = called_line es h f

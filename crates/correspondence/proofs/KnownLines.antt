@@ -11,12 +11,12 @@ use Rattle.vb_tree.specs.ProjectLines.{is_reserved}
 use Rattle.vb_tree.specs.Tree as source
 use Rattle.bound_tree.specs.declared.body.Mention.{Mention}
 use Rattle.bound_tree.specs.Labels.{Label}
-use Rattle.bound_tree.specs.Tree.{Program, Expr, typed, Term, constant, variable, library, unary, binary, convert, Line, Exprs, no_exprs, next_expr, call, no_object, of_object, by_value, by_reference, Passed, no_passed, next_passed}
+use Rattle.bound_tree.specs.Tree.{Program, Expr, typed, Term, constant, variable, library, unary, binary, convert, Line, Exprs, no_exprs, next_expr, call, no_object, of_object, by_value, by_reference, Passed, no_passed, next_passed, err_raise, err_clear}
 use Rattle.bound_facts.specs.Locks.{is_same_type}
 use Rattle.bound_facts.specs.Node.{type_at, is_variant}
 use Rattle.net_tree.specs.declared.expression.NetBin.TheVariants as op
 use Rattle.net_tree.specs.Spelling.{is_same_text}
-use Rattle.net_tree.specs.Tree.{Exp, Procedure}
+use Rattle.net_tree.specs.Tree.{Exp}
 use Rattle.net_tree.specs.Tree as net
 use Rattle.written_trees.specs.Arguments.{argument_exp, copy_by, has_address, in_parentheses, is_copied, kept, takes_reference}
 use Rattle.written_trees.specs.Exprs.{called, exp_of, is_bare, passed_of, term_exp, exps_of}
@@ -30,7 +30,7 @@ use Rattle.correspondence.specs.Paths.{paths_of_case, paths_of_exp, paths_of_lin
 use Rattle.correspondence.proofs.CoveredLines.{stored_plain, type_covered}
 use Rattle.correspondence.proofs.Naming.{no_variant, neither_variant, covered_type}
 use Rattle.correspondence.proofs.KnownLibrary.{library_known}
-use Rattle.correspondence.proofs.KnownPaths.{AreKnown, HasKnown, IsFunction, constant_known, converted_known, is_not_upgraded, is_print_line, is_print_part, known_append, operand_known, operator_known, printed_known, unary_known, IsKnown, path_known}
+use Rattle.correspondence.proofs.KnownPaths.{AreKnown, HasKnown, IsFunction, constant_known, converted_known, is_err_clear, is_not_upgraded, is_raise, is_print_line, is_print_part, known_append, operand_known, operator_known, printed_known, unary_known, IsKnown, path_known}
 use Rattle.correspondence.proofs.NamedCalls.{no_copy}
 use Rattle.correspondence.proofs.Variables.{IsVariablePath, covered_at, path_is, variable_exp}
 
@@ -217,6 +217,8 @@ module _ (P : Program) (S : Scope) (same : S.declarations ≡ P.declarations) (f
   called_known : (ty : Ty) (t : Term) → covers_called_in (covers_use P p mentions) t ≡ true → HasKnown (term_exp S ty t)
   called_known ty (call q qualified of args) h = term_known ty (call q qualified of args) h
   called_known ty (library g args) h = box_known ty (library g args) h
+  called_known ty (err_raise e) h = ((λ s. (is_raise, refl)), known_append (paths_of_exp (exp_of S e)) [] (expr_known e h) tt)
+  called_known ty err_clear h = ((λ s. (is_err_clear, refl)), tt)
   called_known ty _ h = absurd (cc h)
 
   call_line_known : (es : List Expr) → covers_call (covers_use P p mentions) es ≡ true → AreKnown (paths_of_line (call_line S es))
@@ -250,6 +252,12 @@ module _ (P : Program) (S : Scope) (same : S.declarations ≡ P.declarations) (f
   form_known labels source.wend es h = tt
   form_known labels (source.goto l) es h = tt
   form_known labels (source.label l) es h = tt
+  form_known labels (source.on_error_goto l) es h = tt
+  form_known labels source.on_error_goto_zero es h = tt
+  form_known labels source.on_error_resume_next es h = tt
+  form_known labels source.resume es h = tt
+  form_known labels source.resume_next es h = tt
+  form_known labels (source.resume_at l) es h = tt
   form_known labels (source.exit kind) es h = tt
   form_known labels (source.call callee) es h = call_line_known es h
   form_known labels (source.invoke callee args) es h = call_line_known es h

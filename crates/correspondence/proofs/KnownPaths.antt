@@ -27,7 +27,7 @@ use Rattle.net_tree.specs.Spelling.{is_same_text}
 use Rattle.net_tree.specs.Tree.{Exp, Procedure}
 use Rattle.net_tree.specs.Tree as net
 use Rattle.support_text.specs.Bounds.{the_cur}
-use Rattle.support_text.specs.Errors.{the_not_upgraded}
+use Rattle.support_text.specs.Errors.{the_err_clear, the_raise, the_not_upgraded}
 use Rattle.support_text.specs.FixedTexts.{the_fix}
 use Rattle.support_text.specs.Printing.{the_print_line, the_print_part, the_cur_text, the_print_num, the_print_var}
 use Rattle.support_text.specs.VariantConversions.{the_var_str, the_var_byte, the_var_short, the_var_int, the_var_bool, the_var_cur}
@@ -125,6 +125,12 @@ is_cur = record { function = the_cur; among = in_place fixed_functions 7 the_cur
 
 is_fix : IsFunction (codes "Fix")
 is_fix = record { function = the_fix; among = in_place fixed_functions 12 the_fix refl; named = refl }
+
+pub is_raise : IsFunction (codes "Raise")
+is_raise = record { function = the_raise; among = in_place fixed_functions 15 the_raise refl; named = refl }
+
+pub is_err_clear : IsFunction (codes "ErrClear")
+is_err_clear = record { function = the_err_clear; among = in_place fixed_functions 16 the_err_clear refl; named = refl }
 
 pub is_not_upgraded : IsFunction (codes "NotUpgraded")
 is_not_upgraded = record { function = the_not_upgraded; among = in_place fixed_functions 17 the_not_upgraded refl; named = refl }

@@ -17,7 +17,7 @@ use Rattle.vb_tree.specs.declared.value.Value6.{Value6}
 use Rattle.vb_tree.specs.declared.value.Value6.TheVariants as v6
 use Rattle.bound_tree.specs.declared.body.Mention.{Mention}
 use Rattle.bound_tree.specs.declared.expression.Origin.{Origin}
-use Rattle.bound_tree.specs.Tree.{Program, Expr, typed, Term, constant, variable, library, unary, binary, convert, Exprs, no_exprs, next_expr, call, no_object, of_object, by_value, by_reference, Passed, no_passed, next_passed}
+use Rattle.bound_tree.specs.Tree.{Program, Expr, typed, Term, constant, variable, library, unary, binary, convert, Exprs, no_exprs, next_expr, call, no_object, of_object, by_value, by_reference, Passed, no_passed, next_passed, err_raise}
 use Rattle.bound_facts.specs.Nodes.{nodes, nodes_in, nodes_of_all, nodes_of_passed}
 use Rattle.bound_facts.specs.Node.{type_at, is_variant}
 use Rattle.net_meaning.specs.WrittenRows.{write_operator, write_unary, write_conversion}
@@ -347,6 +347,15 @@ module _ (P : Program) (S : Scope) (p v : ℕ) (count : Path → ℕ) (test : Ex
       let left = expr_names to h f parted.0 in
       let value = expr_names e k g last.0 in
       omega (arith, left, value)
+
+  -- the number of an Err.Raise
+  pub raised_names : (ty : Ty) (e : Expr) → covers_expr (covers_use P p mentions) e ≡ true → is_formed e ≡ true
+      → Free (flat_map nodes (typed ty (err_raise e) ∷ [])) → total (uses v) (typed ty (err_raise e) ∷ []) ≡ total (names count) (exp_of S e ∷ [])
+  raised_names ty e h f free =
+      let parted = none_of_both test (nodes (typed ty (err_raise e))) [] free in
+      let inner = neither (test (typed ty (err_raise e))) (list_any test (nodes e)) parted.0 in
+      let here = expr_names e h f inner.1 in
+      omega (arith, here)
 
   -- the text of a box
   pub box_names : (ty : Ty) (e : Expr) → covers_expr (covers_use P p mentions) e ≡ true → is_formed e ≡ true

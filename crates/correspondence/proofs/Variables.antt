@@ -20,7 +20,7 @@ use Rattle.written_trees.specs.Exprs.{exp_of, made_if}
 use Rattle.written_trees.specs.Names.{Path, Scope, module_at, is_standard_module, module_name, is_foreign, variable_path_of, owner_path, support}
 use Rattle.written_trees.specs.Prologues.{one_if}
 use Rattle.run_matches.specs.Covered.{covers_type, covers_owner, covers_variable, belongs_to, is_foreign_name, is_reached, covers_some, covers_use, is_mention_of}
-use Rattle.run_matches.specs.Shared.{names_lead, leads_to_home}
+use Rattle.run_matches.specs.Shared.{names_lead, leads_to_home, is_alone_static}
 use Rattle.correspondence.specs.Uses.{path_names, shared_names, names, IsAlone, IsSharedAlone}
 
 pub some_same : {A : Type 0} (x y : A) → Some x ≡ Some y → x ≡ y
@@ -87,7 +87,7 @@ path_is P S same p k q y is = by y.owner is.1 is.2
         (ap (λ (d : tree.Declarations). is_reserved (module_name d file)) same
         ∙ not_true (is_reserved (module_name D file)) (both_true (is_standard_module (module_at D.project file)) (not (is_reserved (module_name D file))) free.0).1)
     by (owner.Local q) h c = tt
-    by (owner.Static p) h c = absurd (cc c)
+    by (owner.Static q) h c = tt
     by (owner.Value q) h c = tt
     by (owner.Reference p) h c = absurd (cc c)
     by (owner.Answer q) h c = tt
@@ -145,7 +145,8 @@ module _ (P : Program) (S : Scope) (same : S.declarations ≡ P.declarations) (p
       path_named (q || is_foreign S.declarations S.file file) (module_name S.declarations file) y.name
       (turned_false x.name y.name (foreign_name p y.name P.declarations.vars v x leads.1 at own))
   other k y q is (owner.Local r) e h c n = other_own k y is (ap (belongs_to p) e ∙ h) n
-  other k y q is (owner.Static r) e h c n = absurd (cc c)
+  other k y q is (owner.Static r) e h c n =
+      other_own k y is (ap (belongs_to p) e ∙ (both_true (nat_eq p r.0) (is_alone_static P.declarations p k y.name) h).0) n
   other k y q is (owner.Value r) e h c n = other_own k y is (ap (belongs_to p) e ∙ h) n
   other k y q is (owner.Reference r) e h c n = absurd (cc c)
   other k y q is (owner.Answer r) e h c n = other_own k y is (ap (belongs_to p) e ∙ h) n
@@ -250,7 +251,7 @@ module _ (P : Program) (S : Scope) (same : S.declarations ≡ P.declarations) (p
       (subst (λ i. is_same_name (module_name D i) (module_name D file) ≡ true) (sym (eqb-true S.file file t) ∙ eqb-true S.file f s)
       (same_itself (lower_case (module_name D file)))))
   other_shared k y q is (owner.Local r) e h c n = own_shared k y is (ap (belongs_to p) e ∙ h)
-  other_shared k y q is (owner.Static r) e h c n = absurd (cc c)
+  other_shared k y q is (owner.Static r) e h c n = own_shared k y is (ap (belongs_to p) e ∙ (both_true (nat_eq p r.0) (is_alone_static D p k y.name) h).0)
   other_shared k y q is (owner.Value r) e h c n = own_shared k y is (ap (belongs_to p) e ∙ h)
   other_shared k y q is (owner.Reference r) e h c n = absurd (cc c)
   other_shared k y q is (owner.Answer r) e h c n = own_shared k y is (ap (belongs_to p) e ∙ h)

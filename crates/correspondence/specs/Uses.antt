@@ -152,12 +152,15 @@ case_exps (net.case_value e) = e ∷ []
 case_exps (net.case_range d e) = d ∷ e ∷ []
 case_exps (net.case_is o e) = e ∷ []
 
--- a MsgBox is written as a call of Box, and a call of a procedure as one
+-- a MsgBox is written as a call of Box, Err.Raise as one of Raise, Err.Clear as one of ErrClear, and a call of a procedure as one
 abbrev pub CallCorresponds : Scope → (procedure : ℕ) → List Expr → net.Line → Type 0
 CallCorresponds S p (typed ty (library f given) ∷ []) (net.call callee args) =
     (text : Exp) × (callee ≡ net.path (support (codes "Box"))) × (args ≡ one text) × SameUses S p (typed ty (library f given) ∷ []) (text ∷ [])
 CallCorresponds S p (typed ty (call q qualified of given) ∷ []) (net.call callee args) =
     SameUses S p (typed ty (call q qualified of given) ∷ []) (net.call_of callee args ∷ [])
+CallCorresponds S p (typed ty (err_raise e) ∷ []) (net.call callee args) =
+    (number : Exp) × (callee ≡ net.path (support (codes "Raise"))) × (args ≡ one number) × SameUses S p (typed ty (err_raise e) ∷ []) (number ∷ [])
+CallCorresponds S p (typed ty err_clear ∷ []) (net.call callee args) = (callee ≡ net.path (support (codes "ErrClear"))) × (args ≡ no_exps)
 CallCorresponds S p _ w = ⊥
 
 -- An assignment to a variable is written as one, and Debug.Print as a call of PrintLine or, where it doesn't end the line, of PrintPart.
@@ -188,6 +191,12 @@ FormCorresponds S p (source.while_head condition) es (net.while_head e) = SameUs
 FormCorresponds S p source.wend es net.end_while = Unit {0}
 FormCorresponds S p (source.goto l) es (net.goto m) = Unit {0}
 FormCorresponds S p (source.label l) es (net.label m) = Unit {0}
+FormCorresponds S p (source.on_error_goto l) es (net.on_error_goto m) = Unit {0}
+FormCorresponds S p source.on_error_goto_zero es net.on_error_goto_zero = Unit {0}
+FormCorresponds S p source.on_error_resume_next es net.on_error_resume_next = Unit {0}
+FormCorresponds S p source.resume es net.resume = Unit {0}
+FormCorresponds S p source.resume_next es net.resume_next = Unit {0}
+FormCorresponds S p (source.resume_at l) es (net.resume_at m) = Unit {0}
 FormCorresponds S p (source.exit kind) es (net.exit what) = Unit {0}
 FormCorresponds S p (source.call callee) es w = CallCorresponds S p es w
 FormCorresponds S p (source.invoke callee args) es w = CallCorresponds S p es w

@@ -1,11 +1,10 @@
 -- Scalars that are given by value: they go on to match, and are arguments of a call that promises enough.
-use Rattle.std.proofs.Common.{◌≡◌, refl, sym, ap, subst, ◌∙◌, ℕ, zero, suc, ◌<◌, Bool, true, false, cond, ◌||◌, Option, Some, None, List, [], ◌∷◌, ◌++◌, arith}
+use Rattle.std.proofs.Common.{◌≡◌, refl, sym, ap, ◌∙◌, ℕ, suc, ◌<◌, Bool, true, false, cond, ◌||◌, Option, Some, None, List, [], ◌∷◌, ◌++◌, arith}
 use Rattle.std.specs.List.{AllPairs, Contains}
 use Rattle.vb_tree.specs.BoundTree.{Ty}
 use Rattle.vb_tree.specs.declared.value.Value6.{Value6}
 use Rattle.net_meaning.specs.declared.value.ValueN.{ValueN}
 use Rattle.net_meaning.specs.ValueMatch.{Matches, booleans}
-use Rattle.run_base.specs.Frames.{by_value}
 use Rattle.run_base.specs.Positions.{Root, shared, made, field}
 use Rattle.vb6_run.specs.Store.{SourceFrame, SourceGiven}
 use Rattle.vb6_run.specs.Values.{scalar}
@@ -13,11 +12,11 @@ use Rattle.net_run.specs.Lines.{NetFrame}
 use Rattle.net_run.specs.Names as net_names
 use Rattle.net_run.specs.Values as net_value
 use Rattle.written_trees.specs.Names.{Scope}
-use Rattle.run_matches.specs.Addresses.{AllLocked, ArgsMatch, ArgsOk, no_args, value_args}
+use Rattle.run_matches.specs.Addresses.{ArgsMatch, ArgsOk, no_args, value_args}
 use Rattle.run_matches.specs.Frames.{FrameMatch}
 use Rattle.run_matches.specs.Likeness.{LikeV, like_scalar}
 use Rattle.run_matches.specs.Maps.{World, mark}
-use Rattle.run_matches.specs.Pledges.{IsOld, Later, NetGiven, Pledge, arrays_in, is_own, is_self_made, is_inward, is_that_object, own_object, taken_by}
+use Rattle.run_matches.specs.Pledges.{Later, NetGiven, Pledge, arrays_in, is_own, is_self_made, is_inward, is_that_object, taken_by}
 use Rattle.run_matches.specs.Runs.{IsObject, call_pledge, own_in_call}
 use Rattle.run_matches.specs.Upgrades.{Upgrade}
 use Rattle.run_statements.specs.Frames.{CanCall}

@@ -1,11 +1,10 @@
 -- Calls with arguments by value: how both sides come to their arguments, to the callee, and to what it gives.
-use Rattle.std.proofs.Common.{◌≡◌, refl, sym, ap, subst, ◌∙◌, ℕ, suc, Bool, true, false, cond, not, ◌&&◌, Option, Some, None, List, [], ◌∷◌}
+use Rattle.std.proofs.Common.{◌≡◌, refl, sym, ap, subst, ◌∙◌, ℕ, Bool, true, false, cond, not, ◌&&◌, Option, Some, None, List, [], ◌∷◌}
 use Rattle.std.specs.List.{list_all}
 use Rattle.vb_tree.specs.BoundTree as types
 use Rattle.vb_tree.specs.BoundTree.{Ty}
 use Rattle.vb_tree.specs.declared.declared.ProcId.{ProcId}
-use Rattle.vb_tree.specs.declared.value.Value6.{Value6}
-use Rattle.bound_tree.specs.Tree.{Declarations, Expr, typed, call, no_object, Passed, next_passed}
+use Rattle.bound_tree.specs.Tree.{Expr, typed, call, no_object, Passed}
 use Rattle.bound_tree.specs.Tree as tree
 use Rattle.bound_facts.specs.Node.{type_at}
 use Rattle.net_tree.specs.declared.declaration.NetPassing.{NetPassing}
@@ -14,13 +13,13 @@ use Rattle.net_meaning.specs.declared.value.ValueN.TheVariants as net_scalar
 use Rattle.net_tree.specs.Tree.{Exp, Exps, call_of, path}
 use Rattle.run_base.specs.Frames.{by_value}
 use Rattle.run_base.specs.Machines.{enters}
-use Rattle.run_base.specs.Outcomes.{Outcome, gives, outside, after, then}
+use Rattle.run_base.specs.Outcomes.{Outcome, gives, after, then}
 use Rattle.vb6_run.specs.Expressions as source
-use Rattle.vb6_run.specs.Expressions.{Context, Parts, at_address, declared, no_value, result_parts, type_shape}
+use Rattle.vb6_run.specs.Expressions.{Context, Parts, at_address, declared, result_parts, type_shape}
 use Rattle.vb6_run.specs.Forms.{SourceLine}
-use Rattle.vb6_run.specs.Shapes.{Shape, simple, group, array, endless}
-use Rattle.vb6_run.specs.Store.{Memory, SourceCalls, SourceFrame, SourceGiven, constant, provided}
-use Rattle.vb6_run.specs.Values.{Value, scalar, fields, elements, is_of_shape}
+use Rattle.vb6_run.specs.Shapes.{Shape, simple}
+use Rattle.vb6_run.specs.Store.{Memory, SourceCalls, SourceFrame, SourceGiven, provided}
+use Rattle.vb6_run.specs.Values.{Value, fields, elements, is_of_shape}
 use Rattle.net_run.specs.Calls.{Arguments, passings_at, result_address, result_shape_of}
 use Rattle.net_run.specs.Expressions as target
 use Rattle.net_run.specs.Lines.{NetFrame, NetLine, scope_of}
@@ -31,7 +30,7 @@ use Rattle.net_run.specs.Names.{Scope, called, named, path_start, starts, to_pro
 use Rattle.net_run.specs.Shapes as shape
 use Rattle.net_run.specs.Store as net
 use Rattle.net_run.specs.Values as net_value
-use Rattle.written_trees.specs.Arguments.{argument_exp, copy_by, is_copied, is_property, needs_copy, takes_reference, temporary_exp, value_exp}
+use Rattle.written_trees.specs.Arguments.{argument_exp, copy_by, is_copied, is_property, temporary_exp, value_exp}
 use Rattle.written_trees.specs.Exprs.{exp_of, has_none, passed_of, reads_itself}
 use Rattle.written_trees.specs.Exprs as written
 use Rattle.written_trees.specs.Facts.{Facts, holds_array}
@@ -39,7 +38,7 @@ use Rattle.written_trees.specs.Names as written_names
 use Rattle.written_trees.specs.Names.{procedure_path}
 use Rattle.run_matches.specs.Agreeing.{Agrees, ResultMatch}
 use Rattle.run_matches.specs.Covered.{covers_type}
-use Rattle.run_matches.specs.Likeness.{LikeV, ValueLike, like_scalar, like_fields, like_elements}
+use Rattle.run_matches.specs.Likeness.{LikeV, like_scalar, like_fields, like_elements}
 use Rattle.run_matches.specs.Maps.{World, mark}
 use Rattle.run_matches.specs.Match.{MemoryMatch}
 use Rattle.run_matches.specs.Pledges.{Later, NetGiven, Pledge}

@@ -27,7 +27,7 @@ use Rattle.meaning_laws.proofs.ConversionRows.{minus, turn}
 use Rattle.run_base.specs.Frames.{Given}
 use Rattle.run_base.specs.Outcomes.{Outcome, gives, after, then, answered}
 use Rattle.vb6_run.specs.Expressions as source
-use Rattle.vb6_run.specs.Expressions.{Context, Parts, at_address}
+use Rattle.vb6_run.specs.Expressions.{Context}
 use Rattle.vb6_run.specs.Forms.{SourceLine}
 use Rattle.vb6_run.specs.Store.{Memory, SourceCalls, SourceFrame}
 use Rattle.net_run.specs.Calls.{passings_at}
@@ -276,8 +276,8 @@ module _ (U : Upgrade) (K : Pledge) (reads : VariablesAreReadBy U K) (p : ℕ) (
     expression_agrees (typed ty me) w start have stands can covers formed = absurd (cc formed)
     expression_agrees (typed ty (with_object root)) w start have stands can covers formed = absurd (cc formed)
     expression_agrees (typed ty err_number) w start have stands can covers formed = absurd (cc formed)
-    expression_agrees (typed ty (err_raise e)) w start have stands can covers formed = absurd (cc formed)
-    expression_agrees (typed ty err_clear) w start have stands can covers formed = absurd (cc formed)
+    expression_agrees (typed ty (err_raise e)) w start have stands can covers formed = absurd (cc (both_true (covers_type ty) false covers).1)
+    expression_agrees (typed ty err_clear) w start have stands can covers formed = absurd (cc (both_true (covers_type ty) false covers).1)
     expression_agrees (typed ty (is_same d e)) w start have stands can covers formed = absurd (cc formed)
     expression_agrees (typed ty (loose e rules)) w start have stands can covers formed = absurd (cc formed)
 

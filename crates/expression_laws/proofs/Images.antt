@@ -1,15 +1,18 @@
 -- Variables that are used are images of each other, and stay so.
-use Rattle.std.proofs.Common.{◌≡◌, refl, sym, ap, subst, ◌∙◌, inl, inr, ℕ, Bool, true, false, cond, not, ◌&&◌, nat_eq, List, [], ◌∷◌, Some}
+use Rattle.std.proofs.Common.{◌≡◌, refl, sym, ap, subst, ◌∙◌, inl, inr, ℕ, Bool, true, false, cond, not, ◌&&◌, nat_eq, List, [], ◌∷◌, Some, Option, None}
 use Rattle.std.specs.Prelude.{slice_get, is_some}
 use Rattle.std.specs.Map.{lookup}
+use Rattle.std.proofs.lemmas.Bool.{eqb-true}
 use Rattle.vb_tree.specs.declared.declared.Owner.{Owner}
 use Rattle.vb_tree.specs.declared.declared.Owner.TheVariants as owner
 use Rattle.bound_tree.specs.Tree.{Variable, Declarations}
 use Rattle.bound_facts.specs.Effects.{is_own_owner, is_own_variable}
+use Rattle.bound_facts.specs.SelfMade.{module_of}
 use Rattle.bound_facts.specs.Facts.{Known, is_quiet, is_quiet_owner, is_quiet_variable}
 use Rattle.run_base.specs.Positions.{Position, made, shared, whole}
 use Rattle.written_trees.specs.Names.{Scope, alone, owner_path, variable_path, variable_path_of, variable_name_of}
-use Rattle.vb6_run.specs.Runnables.{is_class_file, owned_address, declared_address, variable_address, object_root, root_address}
+use Rattle.vb6_run.specs.Runnables.{is_class_file, owned_address, declared_address, variable_address, object_root, root_address, static_root}
+use Rattle.vb6_run.specs.Programs.{is_static_of}
 use Rattle.vb6_run.specs.Shapes.{simple, shape_by, variable_shape, declared_shape, user_shapes}
 use Rattle.vb6_run.specs.Store.{Address, root, SourceFrame}
 use Rattle.net_run.specs.Lines.{NetFrame}
@@ -19,12 +22,12 @@ use Rattle.net_run.specs.Shapes as net_shapes
 use Rattle.net_run.specs.Store as net
 use Rattle.run_matches.specs.Addresses.{Same, same_root, Bound, images, mirrored}
 use Rattle.run_matches.specs.Covered.{Uses, covers_owner, covers_type, covers_variable}
-use Rattle.run_matches.specs.Frames.{FrameMatch, SameVariable, HasPlace, is_own_of}
+use Rattle.run_matches.specs.Frames.{FrameMatch, SameVariable, SameStatic, HasPlace, is_own_of, is_static_in, static_of}
 use Rattle.run_matches.specs.Likeness.{same_scalar}
 use Rattle.run_matches.specs.Maps.{World, IsMatched, key_or_none, moved_at}
 use Rattle.run_matches.specs.Pledges.{Pledge, Later}
 use Rattle.run_matches.specs.Upgrades.{Upgrade, variable_key}
-use Rattle.run_statements.specs.Frames.{IsReadable, IsShared, IsPlaced, ArePlaced, AreReadable}
+use Rattle.run_statements.specs.Frames.{IsReadable, IsOwnStatic, IsShared, IsPlaced, ArePlaced, AreReadable}
 use Rattle.agreeing_laws.proofs.Moves.{address_later}
 use Rattle.expression_laws.specs.Images.{HasImage, HaveImages}
 use Rattle.expression_laws.proofs.Types.{both_true, simple_type}
@@ -33,7 +36,7 @@ use Rattle.expression_laws.proofs.Types.{both_true, simple_type}
 unquiet_owner : (F : Known) (o : Owner) → covers_owner o ≡ true → is_quiet_owner F o ≡ false
 unquiet_owner F (owner.Module file) h = refl
 unquiet_owner F (owner.Local p) h = refl
-unquiet_owner F (owner.Static p) h = absurd (cc h)
+unquiet_owner F (owner.Static p) h = refl
 unquiet_owner F (owner.Value p) h = refl
 unquiet_owner F (owner.Reference p) h = absurd (cc h)
 unquiet_owner F (owner.Answer p) h = refl
@@ -146,6 +149,21 @@ module _ (U : Upgrade) (K : Pledge) (w : World) (f : SourceFrame) (S : net_names
         stands = stands;
       }
 
+-- ---- Statics of the procedure
+
+static_path : (T : Scope) (qualified : Bool) (name : List ℕ) (p : ℕ) (o : Owner) → is_static_of p o ≡ true → owner_path T qualified name o ≡ alone name
+static_path T qualified name p (owner.Static q) h = refl
+static_path T qualified name p _ h = absurd (cc h)
+
+static_owner : (p : ℕ) (o : Owner) → is_static_of p o ≡ true → (q : ℕ) × (q ≡ p) × ((D : Declarations) (f : SourceFrame) (v : ℕ)
+    → owned_address D f v o ≡ root_address D v (static_root D f.me v (module_of (slice_get D.procs q))))
+static_owner p (owner.Static q) h = (q.0, sym (eqb-true p q.0 h), λ D f v. refl)
+static_owner p _ h = absurd (cc h)
+
+outer_root : (D : Declarations) (me : Option ℕ) (v file : ℕ) (o : Option ℕ) → o ≡ Some file → is_class_file D file ≡ false
+    → static_root D me v o ≡ Some (shared (v ∷ []))
+outer_root D me v file o e outer = ap (static_root D me v) e ∙ ap (λ b. cond b (object_root me v) (Some (shared (v ∷ [])))) outer
+
 -- ---- now and later
 
 module _ (U : Upgrade) (K : Pledge) (w : World) (p : ℕ) (f : SourceFrame) (g : NetFrame) (S : net_names.Scope) (vars : S.vars ≡ g.vars) (T : Scope)
@@ -171,13 +189,47 @@ module _ (U : Upgrade) (K : Pledge) (w : World) (p : ℕ) (f : SourceFrame) (g :
         stands = place.stands;
       }
 
+  static_image : (v : ℕ) → IsReadable U v → IsOwnStatic U p v → (a : Address) → variable_address U.program.declarations f v ≡ Some a → HasImage U K w S T v a
+  static_image v r s a is =
+      let same_is : s.variable ≡ r.variable = some_is s.variable r.variable (sym s.is_variable ∙ r.is_variable) in
+      let o = static_owner p s.variable.owner s.is_static in
+      let procs = U.program.declarations.procs in
+      let stands_at : static_root U.program.declarations f.me v (module_of (slice_get procs p)) ≡ Some (shared (v ∷ [])) =
+      outer_root U.program.declarations f.me v s.file (module_of (slice_get procs p)) s.is_file s.standard in
+      let there : variable_address U.program.declarations f v ≡ Some (root (variable_shape U.program.declarations v) (at_key v)) =
+      ap (declared_address U.program.declarations f v) s.is_variable ∙ o.2 U.program.declarations f v
+      ∙ ap (λ q. root_address U.program.declarations v (static_root U.program.declarations f.me v (module_of (slice_get procs q)))) o.1
+      ∙ ap (root_address U.program.declarations v) stands_at in
+      let that : static_of U p f.me v ≡ Some (shared (v ∷ [])) =
+      ap (λ x. cond (is_static_in p x) (static_root U.program.declarations f.me v (module_of (slice_get procs p))) None) s.is_variable
+      ∙ ap (λ b. cond b (static_root U.program.declarations f.me v (module_of (slice_get procs p))) None) s.is_static ∙ stands_at in
+      let x : SameStatic U w v (shared (v ∷ [])) g = h.statics v (shared (v ∷ [])) that r.sound in
+      let stands : a ≡ root (variable_shape U.program.declarations v) (at_key v) =
+      some_is a (root (variable_shape U.program.declarations v) (at_key v)) (sym is ∙ there) in
+      let address : net.Address = net.root x.written (moved_at U w.map (at_key v)) in
+      let name : var_in S.vars s.variable.name ≡ Some address =
+      ap (λ xs. var_in xs s.variable.name) vars ∙ ap (λ o. var_in g.vars (variable_name_of o)) (sym s.is_variable) ∙ x.found in
+      let path : (q : Bool) → variable_path T q v ≡ s.variable.name ∷ [] =
+      λ q. ap (λ (E : Declarations). variable_path_of T q (slice_get E.vars v)) same_declarations ∙ ap (variable_path_of T q) s.is_variable
+      ∙ static_path T q s.variable.name p s.variable.owner s.is_static in
+      record {
+        address = address;
+        found = λ q. ap (path_start S false) (path q) ∙ named_start S s.variable.name address name;
+        same = subst (λ z. Same U K w z address) (sym stands)
+            (same_root (variable_shape U.program.declarations v) x.written (at_key v) x.same x.is_matched x.ranked);
+        shape = variable_shape U.program.declarations v;
+        position = at_key v;
+        stands = stands;
+      }
+
   -- variables that are used have images in frames that match
   pub images_now : (uses : Uses) → AreReadable U uses → ArePlaced U p S T uses → HaveImages U K w f S T uses
   images_now uses readable placed v a used is = by (placed v used)
     where
       by : IsPlaced U p S T v.0 → HasImage U K w S T v.0 a
       by (inl own) = own_image v.0 (readable v used) own a is
-      by (inr s) = shared_image U K w f S T v.0 (readable v used) s a is
+      by (inr (inl s)) = static_image v.0 (readable v used) s a is
+      by (inr (inr s)) = shared_image U K w f S T v.0 (readable v used) s a is
 
 pub images_later : (U : Upgrade) (K : Pledge) (w0 w1 : World) (f : SourceFrame) (S : net_names.Scope) (T : Scope) (uses : Uses) → Later U K w0 w1
     → HaveImages U K w0 f S T uses → HaveImages U K w1 f S T uses

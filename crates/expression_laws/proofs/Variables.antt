@@ -16,7 +16,7 @@ use Rattle.vb6_run.specs.Forms.{SourceLine}
 use Rattle.vb6_run.specs.Runnables.{variable_address}
 use Rattle.vb6_run.specs.Shapes.{Shape, simple, group, array, endless}
 use Rattle.vb6_run.specs.Store as store
-use Rattle.vb6_run.specs.Store.{Held, blank, table, parts, Address, root, Memory, Does, SourceCalls, SourceFrame, provided, value_if, single_in, array_in, fields_from, gathered, all_gathered}
+use Rattle.vb6_run.specs.Store.{Held, blank, table, parts, Address, root, Memory, Does, SourceCalls, SourceFrame, provided, value_if, single_in, array_in, fields_from, all_gathered}
 use Rattle.vb6_run.specs.Values.{Value, scalar, fields, elements, Values, Dimension, is_of_shape, is_typed}
 use Rattle.net_run.specs.Expressions as target
 use Rattle.net_run.specs.Lines.{NetFrame, NetLine, scope_of}

@@ -1,5 +1,5 @@
 -- What a call needs of the frames in which it stands, what its arguments are, and what it gives.
-use Rattle.std.specs.Prelude.{◌≡◌, ℕ, Option, option_map, List, [], ◌∷◌}
+use Rattle.std.specs.Prelude.{◌≡◌, Option, option_map, List, [], ◌∷◌}
 use Rattle.vb_tree.specs.BoundTree.{Ty}
 use Rattle.vb_tree.specs.declared.value.Value6.{Value6}
 use Rattle.run_base.specs.Frames.{by_value}

@@ -1,11 +1,11 @@
 -- What the expressions of a line call are calls of the line.
-use Rattle.std.proofs.Common.{◌≡◌, refl, sym, ap, subst, ℕ, zero, suc, ◌<◌, true, Option, Some, None, List, [], ◌∷◌, ◌++◌, length, true≢false, arith}
+use Rattle.std.proofs.Common.{◌≡◌, refl, sym, subst, ℕ, zero, suc, ◌<◌, true, Option, Some, List, [], ◌∷◌, ◌++◌, length, true≢false, arith}
 use Rattle.std.specs.Prelude.{slice_index_or}
 use Rattle.std.specs.List.{Contains, flat_map}
 use Rattle.std.proofs.lemmas.List.Elements.{Contains-append_left, Contains-append_right, Contains-push}
 use Rattle.vb_tree.specs.Tree.{Form}
 use Rattle.vb_tree.specs.Tree as source_form
-use Rattle.bound_tree.specs.Tree.{Declarations, Expr, typed, Term, constant, variable, field, element, call, library, unary, binary, convert, new_object, me, with_object, err_number, err_raise, err_clear, is_same, loose, Exprs, no_exprs, next_expr, by_value, by_reference, Passed, no_passed, next_passed, Line}
+use Rattle.bound_tree.specs.Tree.{Declarations, Expr, typed, constant, variable, field, element, call, library, unary, binary, convert, new_object, me, with_object, err_number, err_raise, err_clear, is_same, loose, Exprs, no_exprs, next_expr, by_value, by_reference, Passed, no_passed, next_passed, Line}
 use Rattle.bound_facts.specs.Calls.{initialized, line_calls, node_calls, pair_to}
 use Rattle.bound_facts.specs.Node.{called}
 use Rattle.bound_facts.specs.Nodes.{nodes, nodes_in, nodes_of_all, nodes_of_object, nodes_of_passed}
@@ -67,7 +67,7 @@ module _ (Q : ℕ → Type 0) where
     nodes_called (typed ty me) h = tt
     nodes_called (typed ty (with_object root)) h = tt
     nodes_called (typed ty err_number) h = tt
-    nodes_called (typed ty (err_raise e)) h = tt
+    nodes_called (typed ty (err_raise e)) h = nodes_called e (of_rest (typed ty (err_raise e)) (nodes e) h)
     nodes_called (typed ty err_clear) h = tt
     nodes_called (typed ty (is_same d e)) h = tt
     nodes_called (typed ty (loose e rules)) h = tt

@@ -8,9 +8,12 @@ pub mod Stores
 pub mod Prints
 pub mod Conditions
 pub mod Jumps
+pub mod Handlers
 pub mod Choices
 pub mod Counts
 pub mod Counting
 pub mod Rounds
 pub mod Boxes
+pub mod Errors
+pub mod Behind
 pub mod Lines

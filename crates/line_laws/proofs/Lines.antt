@@ -9,15 +9,15 @@ use Rattle.vb_tree.specs.declared.form_parts.Label6.{Label6}
 use Rattle.vb_tree.specs.Tree.{Form}
 use Rattle.vb_tree.specs.Tree as source_form
 use Rattle.bound_tree.specs.Labels.{Label, labels}
-use Rattle.bound_tree.specs.Tree.{Expr, Line, typed, Term, variable, library, call, no_object, of_object, Passed}
+use Rattle.bound_tree.specs.Tree.{Expr, Line, typed, Term, variable, library, call, err_clear, err_raise, no_object, of_object, Passed}
 use Rattle.bound_facts.proofs.Chains.{both_true}
 use Rattle.bound_facts.specs.Effects.{is_outside}
 use Rattle.bound_facts.specs.Node.{root}
 use Rattle.bound_facts.specs.Parts.{stores}
 use Rattle.net_tree.specs.Tree as net
-use Rattle.run_base.specs.Frames.{Kept, to_line, at_handler, keeping}
+use Rattle.run_base.specs.Frames.{Handler, none, next_line, at_line, to_line}
 use Rattle.run_base.specs.Machines.{go, handled, nth_line}
-use Rattle.run_base.specs.Outcomes.{Outcome, gives, then}
+use Rattle.run_base.specs.Outcomes.{Outcome, gives, then, some_of}
 use Rattle.written_trees.specs.Bodies.{inside_procedure}
 use Rattle.written_trees.specs.Conversions.{one, support_call}
 use Rattle.written_trees.specs.Exprs.{exp_of, has_none, passed_of, reads_itself}
@@ -28,15 +28,14 @@ use Rattle.written_trees.specs.Exprs as written
 use Rattle.vb6_run.specs.Expressions as source
 use Rattle.vb6_run.specs.Forms as source_forms
 use Rattle.vb6_run.specs.Forms.{SourceLine}
-use Rattle.vb6_run.specs.Lines.{goes_if, goes_on, let_to, line_of_label, items_text, print, when_done, with_one}
+use Rattle.vb6_run.specs.Lines.{goes_if, goes_on, handles_by, let_to, line_of_label, items_text, print, when_done, with_one}
 use Rattle.vb6_run.specs.Lines as source_lines
 use Rattle.vb6_run.specs.Programs as source_program
 use Rattle.vb6_run.specs.Store.{Address, Memory, SourceCalls, SourceFrame}
-use Rattle.vb6_run.specs.Values.{Value}
 use Rattle.net_run.specs.Blocks.{condition}
 use Rattle.net_run.specs.Expressions as target
 use Rattle.net_run.specs.Lines as target_lines
-use Rattle.net_run.specs.Lines.{NetFrame, NetLine, NetMachine, scope_of, assignment, at_some, back_if, back_unless, if_fails, if_holds}
+use Rattle.net_run.specs.Lines.{NetFrame, NetLine, NetMachine, scope_of, assignment, at_some, back_if, back_unless, handler_set, if_fails, if_holds}
 use Rattle.net_run.specs.Making.{Jobs}
 use Rattle.net_run.specs.Members.{Code}
 use Rattle.net_run.specs.Names as net_names
@@ -47,82 +46,37 @@ use Rattle.run_matches.specs.Upgrades.{Upgrade, runnable_of}
 use Rattle.run_matches.specs.Maps.{World}
 use Rattle.run_matches.specs.Match.{MemoryMatch}
 use Rattle.run_matches.specs.Pledges.{Pledge, Later}
-use Rattle.run_matches.specs.Addresses.{KeptMatch}
 use Rattle.run_matches.specs.Agreeing.{Agrees}
 use Rattle.run_matches.specs.Formed.{is_formed}
-use Rattle.run_matches.specs.Covered.{Uses, is_variable_in, covers_type, covers_use, covers_expr, covers_condition, covers_store, covers_form, covers_part, head_line, jump_of, covers_call, covers_called}
+use Rattle.run_matches.specs.Covered.{Uses, is_variable_in, covers_type, covers_use, covers_expr, covers_condition, covers_store, covers_form, covers_part, head_line, jump_of, resumes, covers_call, covers_called}
 use Rattle.run_matches.specs.Frames.{FrameMatch, KeptBy, NextMatch, OwnsAll, is_own_of, frame_pledge, lines_of}
 use Rattle.run_matches.specs.Runs.{line_result, CallsAgree}
 use Rattle.run_matches.specs.Sites.{site_lines}
 use Rattle.run_statements.specs.Frames.{ExpressionsAgree, ScalarsAreRead, ScalarsAreWritten, IsOpen, IsReadable, AnyUnits, context_of, ArePlaced, AllCalled, AnyParts, CallsAreMade, CanCall}
-use Rattle.run_statements.specs.Kept.{LinesAgree}
+use Rattle.run_statements.specs.Kept.{AllSameWays, LinesAgree}
 use Rattle.run_statements.specs.Written.{Passes, site_scope}
 use Rattle.agreeing_laws.specs.Beside.{with_steps}
 use Rattle.agreeing_laws.proofs.Agreeing.{agrees_gives, agrees_weaker, then_agrees}
-use Rattle.agreeing_laws.proofs.Lasting.{later_now, later_then}
+use Rattle.agreeing_laws.proofs.Lasting.{later_now}
 use Rattle.agreeing_laws.proofs.Machines.{stepped_agrees, handled_agrees}
 use Rattle.row_laws.proofs.Composing.{then_gives}
 use Rattle.line_laws.specs.Lasting.{SteadyFrame, SteadyNext, SteadyLinesAgree}
-use Rattle.line_laws.proofs.Bounds.{kept_later, some_is}
+use Rattle.line_laws.proofs.Behind.{handler_at, keeping_at, next_at, placed_at, steady_later}
+use Rattle.line_laws.proofs.Bounds.{some_is}
 use Rattle.line_laws.proofs.Choices.{case_agrees, select_agrees}
 use Rattle.line_laws.proofs.Conditions.{BothLead, condition_agrees}
 use Rattle.line_laws.proofs.Counting.{for_agrees}
-use Rattle.line_laws.proofs.FrameLater.{frame_keeping, frame_later, frame_placed, heads_keeping, IsNoAddress, KeptHere, Keeps}
+use Rattle.line_laws.proofs.FrameLater.{frame_later, Keeps}
+use Rattle.line_laws.proofs.Handlers.{Places, handler_agrees, handler_at_agrees, resume_agrees, resume_at_agrees, resume_next_agrees}
 use Rattle.line_laws.proofs.Jumps.{exit_agrees, leads}
 use Rattle.line_laws.proofs.Boxes.{AnyShown, AgreesAsCall, box_agrees}
 use Rattle.line_laws.proofs.Called.{AllIn, line_called}
+use Rattle.line_laws.proofs.Errors.{clear_agrees, raise_agrees}
 use Rattle.line_laws.proofs.Owning.{owns_now}
 use Rattle.line_laws.proofs.Prints.{AnyAddress, print_agrees}
 use Rattle.line_laws.proofs.Rounds.{next_agrees}
 use Rattle.line_laws.proofs.Stores.{assignment_agrees, line_is}
 use Rattle.line_laws.proofs.Uses.{all_good, good, is_good}
-
--- ---- frames behind a line
-
-module _ (U : Upgrade) (K : Pledge) (p : ℕ) (f : SourceFrame) (g : NetFrame) (w : World) (h : MemoryMatch U w) (F : SteadyFrame U K w p f g) where
-  pub steady_later : (w1 : World) → Later U K w w1 → SteadyFrame U K w1 p f g
-  steady_later w1 l = record { match = λ w2 m. F.match w2 (later_then U K w w1 w2 h l m); shapes = F.shapes }
-
-  module _ (owns : OwnsAll U K p f) (w1 : World) (l : Later U K w w1) where
-    abbrev at : (w2 : World) → Later U K w1 w2 → FrameMatch U K w2 p f g
-    at w2 m = F.match w2 (later_then U K w w1 w2 h l m)
-
-    -- at a line where control goes on
-    pub next_at : (n m : ℕ) → m ≡ n → SteadyNext U K p f.me w1 (to_line n f) (to_line m g)
-    next_at n m e = record {
-      same_object = refl;
-      frames = record {
-        match = λ w2 x.
-            frame_placed U K w2 p f g n m f.handler g.handler f.active g.active f.resume g.resume e (at w2 x).handler (at w2 x).active (at w2 x).resume
-            (at w2 x);
-        shapes = F.shapes;
-      };
-      owns = record { variables = owns.variables; heads = owns.heads };
-    }
-
-    -- and with what the line keeps
-    pub keeping_at : (x : Kept Value Address) (y : Kept net_value.Value net_store.Address) → IsNoAddress x → KeptHere U p f x y
-        → ((exact : Bool) → KeptMatch U K w1 exact x y) → (n m : ℕ) → m ≡ n → SteadyNext U K p f.me w1 (keeping x n f) (keeping y m g)
-    keeping_at x y no_address here kept n m e = record {
-      same_object = refl;
-      frames = record {
-        match = λ w2 later.
-            frame_keeping U K w2 p f g x y (λ exact. kept_later U K w1 w2 l.match later exact x y (kept exact)) no_address here (at w2 later) n m e;
-        shapes = F.shapes;
-      };
-      owns = heads_keeping U K w1 p f g x y kept no_address here (at w1 (later_now U K w1 l.match)) n owns;
-    }
-
-    -- at a handler of an error
-    pub handler_at : (n : ℕ) → SteadyNext U K p f.me w1 (at_handler n f) (at_handler n g)
-    handler_at n = record {
-      same_object = refl;
-      frames = record {
-        match = λ w2 x. frame_placed U K w2 p f g n n f.handler g.handler true true f.line g.line refl (at w2 x).handler refl (at w2 x).line (at w2 x);
-        shapes = F.shapes;
-      };
-      owns = record { variables = owns.variables; heads = owns.heads };
-    }
 
 -- ---- forms
 
@@ -142,12 +96,15 @@ not_outside true e = refl
 not_outside false e = absurd (true≢false e)
 
 module _ (U : Upgrade) (expressions : ExpressionsAgree U) (calls : CallsAreMade U) (reads : ScalarsAreRead U) (scalars : ScalarsAreWritten U) (K : Pledge) (p q : ℕ) (f : SourceFrame) (g : NetFrame) (l : SourceLine) (k : NetLine) (c : Code) (T : Scope)
-    (declared : T.declarations ≡ U.program.declarations) (oracle : SourceCalls) (machine : NetMachine) (net_oracle : Jobs)
+    (declared : T.declarations ≡ U.program.declarations) (oracle : SourceCalls) (net_oracle : Jobs)
     (is_open : IsOpen (scope_of U.written c g k)) (uses : Uses) (readable : (v : VarId) → uses v ≡ true → IsReadable U v.0)
     (placed : ArePlaced U p (scope_of U.written c g k) T uses) (agree : CallsAgree U (Passes U) oracle net_oracle)
     (R : World → SourceFrame → NetFrame → Type 0) (w : World) (h : MemoryMatch U w)
     (F : SteadyFrame U K w p f g) (owns : OwnsAll U K p f) (aims : k.aims ≡ l.aims)
-    (next : (n m : ℕ) → m ≡ n → (w1 : World) → Later U K w w1 → R w1 (to_line n f) (to_line m g)) where
+    (next : (n m : ℕ) → m ≡ n → (w1 : World) → Later U K w w1 → R w1 (to_line n f) (to_line m g)) (place : Places U K w R f g) where
+  abbrev machine : NetMachine
+  machine = target_program.frames_of U.written
+
   abbrev C : source.Context
   C = context_of U oracle p f l
 
@@ -187,6 +144,14 @@ module _ (U : Upgrade) (expressions : ExpressionsAgree U) (calls : CallsAreMade 
   goes V r r' x =
       then_agrees U K w V R r r' (λ x s. goes_on C s) (λ x t. gives [] (to_line k.aims.after g) t) h x (λ a b w1 m later. behind w1 later)
 
+  -- both set a handler
+  handles : (i : Handler) → Agrees U K w R (handles_by C i w.src) (handler_set g k i w.net)
+  handles i = handler_agrees U K R p q oracle f l g w h (F.match w (later_now U K w h)) place k aims i
+
+  handles_at : (n m : Option ℕ) → m ≡ n
+      → Agrees U K w R (some_of n (λ n w. handles_by C (at_line n) w) w.src) (some_of m (λ n w. handler_set g k (at_line n) w) w.net)
+  handles_at n m e = handler_at_agrees U K R p q oracle f l g w h (F.match w (later_now U K w h)) place k aims n m e
+
   -- a condition with the lines where it holds and where it doesn't
   tested : (m n : Option ℕ) (go : Bool → net_store.Memory → Outcome net_store.Memory NetFrame) → ((w1 : World) → Later U K w w1 → BothLead U K R C m n go w1)
       → (es : List Expr) → AllIn Can es → covers_condition uses es ≡ true → list_all is_formed es ≡ true
@@ -221,6 +186,12 @@ module _ (U : Upgrade) (expressions : ExpressionsAgree U) (calls : CallsAreMade 
       let second : (covers_expr uses (typed ty t) ≡ true) × (covers_expr uses e ≡ true) = both_true (covers_expr uses (typed ty t)) (covers_expr uses e) first.1 in
       stored ty t e can first.0 second.0 (good uses e second.1 formed) own
 
+  -- a call whose value is let go of
+  shown : (r : Outcome Memory source.Parts) (e : net.Exp) → AgreesAsCall U K w S net_oracle r e → Agrees U K w R (then r (λ x s. goes_on C s)) (does (as_call e))
+  shown r e x =
+      subst (λ z. Agrees U K w R (then r (λ x s. goes_on C s)) (does z)) (sym x.is)
+      (goes AnyShown r (then (target.address_of S net_oracle (net.call_of x.callee x.args) w.net) (λ a t. gives [] tt t)) x.agrees)
+
   -- a call as a line
   called_line : (e : Expr) → Can e → covers_called uses e ≡ true → is_formed e ≡ true
       → Agrees U K w R (then (source.parts_of C e w.src) (λ x s. goes_on C s)) (does (as_call (exp_of T e)))
@@ -238,12 +209,15 @@ module _ (U : Upgrade) (expressions : ExpressionsAgree U) (calls : CallsAreMade 
       (λ x a w1 m later. agrees_gives U K w1 AnyDone x tt later.match tt)))))
   called_line (typed ty (call id qualified (of_object d) args)) can covers formed = absurd (true≢false (sym covers))
   called_line (typed ty (library function args)) can covers formed =
-      let x : AgreesAsCall U K w S net_oracle (source.parts_of C (typed ty (library function args)) w.src) (exp_of T (typed ty (library function args))) =
-      box_agrees U expressions K p f g l k c T declared oracle net_oracle is_open uses readable placed agree w h (F.match w (later_now U K w h)) ty
-      (library function args) can covers formed in
-      subst (λ z. Agrees U K w R (then (source.parts_of C (typed ty (library function args)) w.src) (λ x s. goes_on C s)) (does z)) (sym x.is)
-      (goes AnyShown (source.parts_of C (typed ty (library function args)) w.src)
-      (then (target.address_of S net_oracle (net.call_of x.callee x.args) w.net) (λ a t. gives [] tt t)) x.agrees)
+      shown (source.parts_of C (typed ty (library function args)) w.src) (exp_of T (typed ty (library function args)))
+      (box_agrees U expressions K p f g l k c T declared oracle net_oracle is_open uses readable placed agree w h (F.match w (later_now U K w h)) ty
+      (library function args) can covers formed)
+  called_line (typed ty (err_raise e)) can covers formed =
+      shown (source.parts_of C (typed ty (err_raise e)) w.src) (exp_of T (typed ty (err_raise e)))
+      (raise_agrees U expressions K p f g l k c T declared oracle net_oracle is_open uses readable placed agree w h (F.match w (later_now U K w h)) ty e can covers formed)
+  called_line (typed ty err_clear) can covers formed =
+      shown (source.parts_of C (typed ty err_clear) w.src) (exp_of T (typed ty err_clear))
+      (clear_agrees U expressions K p f g l k c T declared oracle net_oracle is_open uses readable placed agree w h (F.match w (later_now U K w h)) ty)
   called_line (typed ty _) can covers formed = absurd (true≢false (sym covers))
 
   called : (es : List Expr) → AllIn Can es → covers_call uses es ≡ true → list_all is_formed es ≡ true
@@ -255,15 +229,15 @@ module _ (U : Upgrade) (expressions : ExpressionsAgree U) (calls : CallsAreMade 
   pub form_agrees : (ls : List (Option Label)) (form : Form) (es : List Expr) → AllIn Can es → covers_form uses form es ≡ true → list_all is_formed es ≡ true
       → ((a : Label6) → jump_of form ≡ Some a → target_lines.target_of c (jump ls a) ≡ line_of_label C a)
       → ((e : Expr) → Contains (stores form es) e → IsOwnTarget e) → Keeps U K p f g R w form es
-      → covers_part U.program p form es (head_line (lines_of U p) l.aims.own) ≡ true
+      → covers_part U.program p form es (head_line (lines_of U p) l.aims.own) ≡ true → (resumes form ≡ true → AllSameWays U p q)
       → Agrees U K w R (source_forms.form_does C form es w.src) (does (line_of T ls form es))
-  form_agrees ls (source_form.assign to value) [] can covers formed found mine keep stands = absurd (true≢false (sym covers))
-  form_agrees ls (source_form.assign to value) (x ∷ []) can covers formed found mine keep stands = absurd (true≢false (sym covers))
-  form_agrees ls (source_form.assign to value) (x ∷ y ∷ []) can covers formed found mine keep stands =
+  form_agrees ls (source_form.assign to value) [] can covers formed found mine keep stands ways = absurd (true≢false (sym covers))
+  form_agrees ls (source_form.assign to value) (x ∷ []) can covers formed found mine keep stands ways = absurd (true≢false (sym covers))
+  form_agrees ls (source_form.assign to value) (x ∷ y ∷ []) can covers formed found mine keep stands ways =
       let first : (is_formed x ≡ true) × (list_all is_formed (y ∷ []) ≡ true) = both_true (is_formed x) (list_all is_formed (y ∷ [])) formed in
       assigned x y can.1.0 covers (both_true (is_formed y) true first.1).0 (mine x (Contains-push [] x))
-  form_agrees ls (source_form.assign to value) (x ∷ y ∷ z ∷ es) can covers formed found mine keep stands = absurd (true≢false (sym covers))
-  form_agrees ls (source_form.debug_print items ended) es can covers formed found mine keep stands =
+  form_agrees ls (source_form.assign to value) (x ∷ y ∷ z ∷ es) can covers formed found mine keep stands ways = absurd (true≢false (sym covers))
+  form_agrees ls (source_form.debug_print items ended) es can covers formed found mine keep stands ways =
       goes AnyUnits (then (items_text C es w.src) (print ended))
       (then (target.address_of S net_oracle (support_call (print_name ended) (one (items_exp T es))) w.net) (λ a t. gives [] tt t))
       (put_agrees (then (items_text C es w.src) (print ended))
@@ -276,52 +250,62 @@ module _ (U : Upgrade) (expressions : ExpressionsAgree U) (calls : CallsAreMade 
           subst (λ z. Agrees U K w AnyUnits z (then r' (λ a t. gives [] tt t))) (then_gives r)
           (then_agrees U K w AnyAddress AnyUnits r r' (λ u s. gives [] u s) (λ a t. gives [] tt t) h x
           (λ u a w1 m later. agrees_gives U K w1 AnyUnits u tt later.match tt))
-  form_agrees ls (source_form.if_head e) es can covers formed found mine keep stands =
+  form_agrees ls (source_form.if_head e) es can covers formed found mine keep stands ways =
       tested (Some l.aims.after) l.aims.otherwise (if_holds g k) (λ w1 x. (behind w1 x, otherwise w1 x)) es can covers formed
-  form_agrees ls (source_form.line_if e) es can covers formed found mine keep stands =
+  form_agrees ls (source_form.line_if e) es can covers formed found mine keep stands ways =
       tested (Some l.aims.after) l.aims.otherwise (if_holds g k) (λ w1 x. (behind w1 x, otherwise w1 x)) es can covers formed
-  form_agrees ls (source_form.else_if e) es can covers formed found mine keep stands =
+  form_agrees ls (source_form.else_if e) es can covers formed found mine keep stands ways =
       tested (Some l.aims.after) l.aims.otherwise (if_holds g k) (λ w1 x. (behind w1 x, otherwise w1 x)) es can covers formed
-  form_agrees ls source_form.else_line es can covers formed found mine keep stands = behind_now
-  form_agrees ls source_form.end_if es can covers formed found mine keep stands = behind_now
-  form_agrees ls (source_form.select e) [] can covers formed found mine keep stands = absurd (true≢false (sym covers))
-  form_agrees ls (source_form.select e) (x ∷ []) can covers formed found mine keep stands =
+  form_agrees ls source_form.else_line es can covers formed found mine keep stands ways = behind_now
+  form_agrees ls source_form.end_if es can covers formed found mine keep stands ways = behind_now
+  form_agrees ls (source_form.select e) [] can covers formed found mine keep stands ways = absurd (true≢false (sym covers))
+  form_agrees ls (source_form.select e) (x ∷ []) can covers formed found mine keep stands ways =
       select_agrees U expressions K p f g l k c T declared oracle net_oracle is_open uses readable placed agree R w h (F.match w (later_now U K w h)) e x can.0
       (good uses x covers (both_true (is_formed x) true formed).0) keep after_same
-  form_agrees ls (source_form.select e) (x ∷ y ∷ es) can covers formed found mine keep stands = absurd (true≢false (sym covers))
-  form_agrees ls (source_form.case_line items) es can covers formed found mine keep stands =
+  form_agrees ls (source_form.select e) (x ∷ y ∷ es) can covers formed found mine keep stands ways = absurd (true≢false (sym covers))
+  form_agrees ls (source_form.case_line items) es can covers formed found mine keep stands ways =
       case_agrees U expressions K p f g l k c T declared oracle net_oracle is_open uses readable placed agree R w h F.match items es can covers formed aims
       (λ w1 x. (behind w1 x, otherwise w1 x)) stands
-  form_agrees ls source_form.case_else es can covers formed found mine keep stands = behind_now
-  form_agrees ls source_form.end_select es can covers formed found mine keep stands = behind_now
-  form_agrees ls (source_form.for_head head first last pace) [] can covers formed found mine keep stands = absurd (true≢false (sym covers))
-  form_agrees ls (source_form.for_head head first last pace) (e ∷ []) can covers formed found mine keep stands = absurd (true≢false (sym covers))
-  form_agrees ls (source_form.for_head head first last pace) (e ∷ start ∷ []) can covers formed found mine keep stands = absurd (true≢false (sym covers))
-  form_agrees ls (source_form.for_head head first last pace) (e ∷ start ∷ limit ∷ steps) can covers formed found mine keep stands =
+  form_agrees ls source_form.case_else es can covers formed found mine keep stands ways = behind_now
+  form_agrees ls source_form.end_select es can covers formed found mine keep stands ways = behind_now
+  form_agrees ls (source_form.for_head head first last pace) [] can covers formed found mine keep stands ways = absurd (true≢false (sym covers))
+  form_agrees ls (source_form.for_head head first last pace) (e ∷ []) can covers formed found mine keep stands ways = absurd (true≢false (sym covers))
+  form_agrees ls (source_form.for_head head first last pace) (e ∷ start ∷ []) can covers formed found mine keep stands ways = absurd (true≢false (sym covers))
+  form_agrees ls (source_form.for_head head first last pace) (e ∷ start ∷ limit ∷ steps) can covers formed found mine keep stands ways =
       for_agrees U expressions scalars K p f g l k c T declared oracle net_oracle is_open uses readable placed agree R w h F.match owns aims head first last pace e start
       limit steps can.1 covers formed keep stands
-  form_agrees ls (source_form.next name) es can covers formed found mine keep stands =
+  form_agrees ls (source_form.next name) es can covers formed found mine keep stands ways =
       next_agrees U reads scalars K p f g l k oracle R w h F.match owns aims (λ w1 x. (back w1 x, behind w1 x)) name es stands
-  form_agrees ls source_form.do_head es can covers formed found mine keep stands = behind_now
-  form_agrees ls (source_form.do_while e) es can covers formed found mine keep stands =
+  form_agrees ls source_form.do_head es can covers formed found mine keep stands ways = behind_now
+  form_agrees ls (source_form.do_while e) es can covers formed found mine keep stands ways =
       tested (Some l.aims.after) l.aims.otherwise (if_holds g k) (λ w1 x. (behind w1 x, otherwise w1 x)) es can covers formed
-  form_agrees ls (source_form.do_until e) es can covers formed found mine keep stands =
+  form_agrees ls (source_form.do_until e) es can covers formed found mine keep stands ways =
       tested l.aims.otherwise (Some l.aims.after) (if_fails g k) (λ w1 x. (otherwise w1 x, behind w1 x)) es can covers formed
-  form_agrees ls source_form.loop es can covers formed found mine keep stands = back w (later_now U K w h)
-  form_agrees ls (source_form.loop_while e) es can covers formed found mine keep stands =
+  form_agrees ls source_form.loop es can covers formed found mine keep stands ways = back w (later_now U K w h)
+  form_agrees ls (source_form.loop_while e) es can covers formed found mine keep stands ways =
       tested l.aims.back (Some l.aims.after) (back_if g k) (λ w1 x. (back w1 x, behind w1 x)) es can covers formed
-  form_agrees ls (source_form.loop_until e) es can covers formed found mine keep stands =
+  form_agrees ls (source_form.loop_until e) es can covers formed found mine keep stands ways =
       tested (Some l.aims.after) l.aims.back (back_unless g k) (λ w1 x. (behind w1 x, back w1 x)) es can covers formed
-  form_agrees ls (source_form.while_head e) es can covers formed found mine keep stands =
+  form_agrees ls (source_form.while_head e) es can covers formed found mine keep stands ways =
       tested (Some l.aims.after) l.aims.otherwise (if_holds g k) (λ w1 x. (behind w1 x, otherwise w1 x)) es can covers formed
-  form_agrees ls source_form.wend es can covers formed found mine keep stands = back w (later_now U K w h)
-  form_agrees ls (source_form.goto a) es can covers formed found mine keep stands =
+  form_agrees ls source_form.wend es can covers formed found mine keep stands ways = back w (later_now U K w h)
+  form_agrees ls (source_form.goto a) es can covers formed found mine keep stands ways =
       lead (line_of_label C a) (target_lines.target_of c (jump ls a)) (found a refl) w (later_now U K w h)
-  form_agrees ls (source_form.label a) es can covers formed found mine keep stands = behind_now
-  form_agrees ls (source_form.exit kind) es can covers formed found mine keep stands = exit_agrees U K R C g k aims w h next kind
-  form_agrees ls (source_form.call callee) es can covers formed found mine keep stands = called es can covers formed
-  form_agrees ls (source_form.invoke callee args) es can covers formed found mine keep stands = called es can covers formed
-  form_agrees ls _ es can covers formed found mine keep stands = absurd (true≢false (sym covers))
+  form_agrees ls (source_form.label a) es can covers formed found mine keep stands ways = behind_now
+  form_agrees ls (source_form.on_error_goto a) es can covers formed found mine keep stands ways =
+      handles_at (line_of_label C a) (target_lines.target_of c (jump ls a)) (found a refl)
+  form_agrees ls source_form.on_error_goto_zero es can covers formed found mine keep stands ways = handles none
+  form_agrees ls source_form.on_error_resume_next es can covers formed found mine keep stands ways = handles next_line
+  form_agrees ls source_form.resume es can covers formed found mine keep stands ways =
+      resume_agrees U K R p q oracle f l g w h (F.match w (later_now U K w h)) place (ways refl)
+  form_agrees ls source_form.resume_next es can covers formed found mine keep stands ways =
+      resume_next_agrees U K R p q oracle f l g w h (F.match w (later_now U K w h)) place (ways refl)
+  form_agrees ls (source_form.resume_at a) es can covers formed found mine keep stands ways =
+      resume_at_agrees U K R p q oracle f l g w h (F.match w (later_now U K w h)) place (line_of_label C a) (target_lines.target_of c (jump ls a)) (found a refl)
+  form_agrees ls (source_form.exit kind) es can covers formed found mine keep stands ways = exit_agrees U K R C g k aims w h next kind
+  form_agrees ls (source_form.call callee) es can covers formed found mine keep stands ways = called es can covers formed
+  form_agrees ls (source_form.invoke callee args) es can covers formed found mine keep stands ways = called es can covers formed
+  form_agrees ls _ es can covers formed found mine keep stands ways = absurd (true≢false (sym covers))
 
 -- ---- lines
 
@@ -361,12 +345,13 @@ steady_lines_agree U expressions calls reads scalars p s written number turns l 
     (target_lines.line_in U.written (target_program.frames_of U.written) net_oracle written g L.line o w1.net)) (sym code)
     (subst (λ x. Agrees U K w1 R (source_program.line_does (runnable_of U) oracle p f l w1.src)
     (target_lines.form_does (target_program.frames_of U.written) net_oracle written c (scope_of U.written c g L.line) g L.line x w1.net)) (sym L.form)
-    (form_agrees U expressions calls reads scalars K p written f g l L.line c T refl oracle (target_program.frames_of U.written) net_oracle (opens g L.line now.names)
+    (form_agrees U expressions calls reads scalars K p written f g l L.line c T refl oracle net_oracle (opens g L.line now.names)
     (covers_use U.program p l.form.bindings.mentions) readable (placed g L.line now.names) agree R w1 later.match F1 owns L.aims next
+    (λ n m i j t u d e c w2 more. placed_at U K p f g w1 later.match F1 owns w2 more n m i j t u d e c)
     (labels (site_lines s)) l.form.source.form l.form.bindings.exprs
     (line_called (CanCall U K (scope_of U.written c g L.line) T) U.program.declarations p (covers_use U.program p l.form.bindings.mentions) l.form both.0
     (λ i m. can i m w f g L.line now.names))
-    both.0 both.1 stands.label (λ e m steady. own steady e m) keep stands.in_block))))
+    both.0 both.1 stands.label (λ e m steady. own steady e m) keep stands.in_block stands.ways))))
 
 -- ---- all frames that match go on to match
 

@@ -52,8 +52,8 @@ use Rattle.run_matches.specs.Likeness.{LikeV, like_scalar, are_same}
 use Rattle.run_matches.specs.Match.{MemoryMatch}
 use Rattle.run_matches.specs.Pledges.{Pledge}
 use Rattle.run_matches.specs.Agreeing.{Agrees}
-use Rattle.run_matches.specs.Covered.{Uses, covers_expr}
-use Rattle.run_matches.specs.Frames.{FrameMatch, is_own_of}
+use Rattle.run_matches.specs.Covered.{Uses}
+use Rattle.run_matches.specs.Frames.{FrameMatch}
 use Rattle.run_statements.specs.Frames.{ExpressionsAgree, IsOpen, IsReadable, ScalarMatch, context_of, ArePlaced, AllCalled, CanCall}
 use Rattle.run_matches.specs.Runs.{CallsAgree}
 use Rattle.run_statements.specs.Written.{Passes}

@@ -1,27 +1,31 @@
 -- A variable of a standard module stands at its number on one side, and at its member on the other.
-use Rattle.std.proofs.Common.{◌≡◌, ◌∙◌, refl, sym, ap, subst, ℕ, Bool, true, false, cond, not, [], ◌∷◌, Some, slice_get, true≢false}
+use Rattle.std.proofs.Common.{◌≡◌, ◌∙◌, refl, sym, ap, subst, ℕ, Bool, true, false, cond, not, [], ◌∷◌, Some, slice_get, true≢false, eqb-true, List, Option, None}
 use Rattle.std.specs.Prelude.{is_some}
 use Rattle.vb_tree.specs.declared.declared.Owner.{Owner}
 use Rattle.vb_tree.specs.declared.declared.Owner.TheVariants as owner
 use Rattle.bound_tree.specs.Tree.{Variable, Declarations}
 use Rattle.bound_facts.specs.Effects.{is_own_owner, is_own_variable}
-use Rattle.run_base.specs.Positions.{Position, shared, whole}
-use Rattle.written_trees.specs.Names.{Scope, variable_path}
-use Rattle.vb6_run.specs.Runnables.{is_class_file, owned_address, declared_address, variable_address, object_root, root_address}
+use Rattle.run_base.specs.Positions.{Key, Position, shared, whole}
+use Rattle.bound_facts.specs.SelfMade.{module_of}
+use Rattle.written_trees.specs.Names.{Scope, owner_path, variable_path, variable_path_of}
+use Rattle.vb6_run.specs.Runnables.{is_class_file, owned_address, declared_address, variable_address, object_root, root_address, static_root}
+use Rattle.vb6_run.specs.Programs.{is_static_of}
 use Rattle.vb6_run.specs.Shapes.{simple, variable_shape}
 use Rattle.vb6_run.specs.Store.{Address, root, SourceFrame}
+use Rattle.net_run.specs.Lines.{NetFrame}
 use Rattle.net_run.specs.Names as net_names
-use Rattle.net_run.specs.Names.{path_start, starts, at_place}
+use Rattle.net_run.specs.Names.{path_start, starts, at_place, var_in}
 use Rattle.net_run.specs.Shapes as net_shapes
 use Rattle.net_run.specs.Store as net
 use Rattle.run_matches.specs.Addresses.{Same, same_root}
-use Rattle.run_matches.specs.Frames.{is_own_of}
+use Rattle.run_matches.specs.Frames.{FrameMatch, SameStatic, is_own_of, is_static_in, static_of}
 use Rattle.run_matches.specs.Likeness.{same_scalar, scalar_word}
 use Rattle.run_matches.specs.Maps.{World, IsMatched, key_or_none, moved_at}
 use Rattle.run_matches.specs.Pledges.{Pledge}
 use Rattle.run_matches.specs.Upgrades.{Upgrade, variable_key}
-use Rattle.run_statements.specs.Frames.{IsReadable, IsShared, HasOwnKey}
-use Rattle.line_laws.proofs.Uses.{shape_is}
+use Rattle.run_statements.specs.Frames.{IsReadable, IsOwnStatic, IsShared, HasOwnKey}
+use Rattle.agreeing_laws.proofs.Moves.{matched_whole}
+use Rattle.line_laws.proofs.Uses.{shape_is, name_is}
 
 abbrev at_key : ℕ → Position
 at_key v = whole (shared (v ∷ []))
@@ -85,3 +89,79 @@ module_not_own p o file e h = true≢false (sym h ∙ ap (is_own_owner p) e)
 
 pub not_own : (U : Upgrade) (p : ℕ) (S : net_names.Scope) (T : Scope) (v : ℕ) (s : IsShared U S T v) → is_own_of U p v ≡ true → ⊥
 not_own U p S T v s h = module_not_own p s.variable.owner s.file s.is_owner (sym (ap (is_own_variable p) s.is_variable) ∙ h)
+
+-- ---- a Static of the procedure
+
+-- where it stands
+pub record StaticPlace (U : Upgrade) (K : Pledge) (w : World) (p : ℕ) (f : SourceFrame) (g : NetFrame) (T : Scope) (v : ℕ) (r : IsReadable U v) : Type 0 where
+  pub address : Address
+  pub net_address : net.Address
+  pub position : Position
+  pub found : variable_address U.program.declarations f v ≡ Some address
+  pub named : var_in g.vars r.variable.name ≡ Some net_address
+  pub path : (qualified : Bool) → variable_path T qualified v ≡ r.variable.name ∷ []
+  pub same : Same U K w address net_address
+  pub stands : address ≡ root (simple r.variable.ty) position
+  pub own_key : HasOwnKey U address
+
+static_path : (T : Scope) (qualified : Bool) (name : List ℕ) (p : ℕ) (o : Owner) → is_static_of p o ≡ true → owner_path T qualified name o ≡ name ∷ []
+static_path T qualified name p (owner.Static q) h = refl
+static_path T qualified name p _ h = absurd (true≢false (sym h))
+
+static_owner : (p : ℕ) (o : Owner) → is_static_of p o ≡ true → (q : ℕ) × (q ≡ p) × ((D : Declarations) (f : SourceFrame) (v : ℕ)
+    → owned_address D f v o ≡ root_address D v (static_root D f.me v (module_of (slice_get D.procs q))))
+static_owner p (owner.Static q) h = (q.0, sym (eqb-true p q.0 h), λ D f v. refl)
+static_owner p _ h = absurd (true≢false (sym h))
+
+static_not_own : (p : ℕ) (o : Owner) → is_static_of p o ≡ true → is_own_owner p o ≡ true → ⊥
+static_not_own p (owner.Static q) h e = true≢false (sym e)
+static_not_own p _ h e = true≢false (sym h)
+
+key_there : (o : Option Key) → is_some o ≡ true → o ≡ Some (key_or_none o)
+key_there None e = absurd (true≢false (sym e))
+key_there (Some k) e = refl
+
+pub static_place : (U : Upgrade) (K : Pledge) (w : World) (p : ℕ) (f : SourceFrame) (g : NetFrame) (T : Scope) → T.declarations ≡ U.program.declarations
+    → FrameMatch U K w p f g → (v : ℕ) (r : IsReadable U v) → IsOwnStatic U p v → StaticPlace U K w p f g T v r
+static_place U K w p f g T declared F v r s =
+    let D : Declarations = U.program.declarations in
+    let at : Position = at_key v in
+    let is : s.variable ≡ r.variable = some_is s.variable r.variable (sym s.is_variable ∙ r.is_variable) in
+    let of : is_static_of p r.variable.owner ≡ true = subst (λ (x : Variable). is_static_of p x.owner ≡ true) is s.is_static in
+    let o = static_owner p r.variable.owner of in
+    let stands_at : static_root D f.me v (module_of (slice_get D.procs p)) ≡ Some (shared (v ∷ [])) =
+    ap (static_root D f.me v) s.is_file ∙ ap (λ b. cond b (object_root f.me v) (Some (shared (v ∷ [])))) s.standard in
+    let that : static_of U p f.me v ≡ Some (shared (v ∷ [])) =
+    ap (λ x. cond (is_static_in p x) (static_root D f.me v (module_of (slice_get D.procs p))) None) r.is_variable
+    ∙ ap (λ b. cond b (static_root D f.me v (module_of (slice_get D.procs p))) None) of ∙ stands_at in
+    let x : SameStatic U w v (shared (v ∷ [])) g = F.statics v (shared (v ∷ [])) that r.sound in
+    let there : net.Address = net.root x.written (moved_at U w.map at) in
+    let key : variable_key U v ≡ Some (key_or_none (variable_key U v)) =
+    key_there (variable_key U v) (matched_whole U w (variable_shape D v) at x.is_matched).counterpart in
+    let shaped : root (variable_shape D v) at ≡ root (simple r.variable.ty) at = ap (λ z. root z at) (shape_is U v r) in
+    record {
+      address = root (simple r.variable.ty) at;
+      net_address = there;
+      position = at;
+      found =
+          ap (declared_address D f v) r.is_variable ∙ o.2 D f v
+          ∙ ap (λ q. root_address D v (static_root D f.me v (module_of (slice_get D.procs q)))) o.1 ∙ ap (root_address D v) stands_at
+          ∙ ap (λ z. Some z) shaped;
+      named = ap (λ n. var_in g.vars n) (sym (name_is U v r)) ∙ x.found;
+      path = λ q.
+          ap (λ (E : Declarations). variable_path_of T q (slice_get E.vars v)) declared ∙ ap (variable_path_of T q) r.is_variable
+          ∙ static_path T q r.variable.name p r.variable.owner of;
+      same = subst (λ z. Same U K w z there) shaped (same_root (variable_shape D v) x.written at x.same x.is_matched x.ranked);
+      stands = refl;
+      own_key = record {
+        variable = v;
+        key = key_or_none (variable_key U v);
+        of_shape = simple r.variable.ty;
+        stands = refl;
+        is_key = key;
+        differs = λ u e. s.differs (key_or_none (variable_key U v)) u key e;
+      };
+    }
+
+pub static_is_not_own : (U : Upgrade) (p v : ℕ) (s : IsOwnStatic U p v) → is_own_of U p v ≡ true → ⊥
+static_is_not_own U p v s h = static_not_own p s.variable.owner s.is_static (sym (ap (is_own_variable p) s.is_variable) ∙ h)

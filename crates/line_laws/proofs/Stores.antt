@@ -38,8 +38,8 @@ use Rattle.run_matches.specs.Pledges.{Pledge, Later}
 use Rattle.run_matches.specs.Addresses.{Same}
 use Rattle.run_matches.specs.Agreeing.{Agrees}
 use Rattle.run_matches.specs.Covered.{Uses, covers_type, covers_expr}
-use Rattle.run_matches.specs.Frames.{FrameMatch, OwnsAll, SameVariable, is_own_of, IsInPlace, IsOwnAddress}
-use Rattle.run_statements.specs.Frames.{ExpressionsAgree, ScalarsAreWritten, IsOpen, IsReadable, IsShared, IsPlaced, ArePlaced, IsTarget, MayChange, ScalarMatch, AnyUnits, context_of, AllCalled, CanCall}
+use Rattle.run_matches.specs.Frames.{FrameMatch, OwnsAll, SameVariable, is_own_of}
+use Rattle.run_statements.specs.Frames.{ExpressionsAgree, ScalarsAreWritten, IsOpen, IsReadable, IsShared, IsPlaced, ArePlaced, IsTarget, MayChange, ScalarMatch, AnyUnits, context_of, AllCalled, CanCall, IsOwnStatic}
 use Rattle.run_matches.specs.Runs.{CallsAgree}
 use Rattle.run_statements.specs.Written.{Passes}
 use Rattle.agreeing_laws.proofs.Agreeing.{agrees_outside, left_alone, right_alone, then_agrees}
@@ -47,7 +47,7 @@ use Rattle.agreeing_laws.proofs.Moves.{address_later}
 use Rattle.line_laws.specs.Lasting.{OwnShape}
 use Rattle.line_laws.proofs.Bounds.{exactly}
 use Rattle.line_laws.proofs.Uses.{good_parts, is_good, type_covered, address_found, address_is, own_path, path_is, name_reached, variable_reached, variable_named, is_loud, name_is, scalar_type, shape_is}
-use Rattle.line_laws.proofs.Shared.{SharedPlace, shared_place, not_own}
+use Rattle.line_laws.proofs.Shared.{SharedPlace, shared_place, not_own, StaticPlace, static_place, static_is_not_own}
 
 -- ---- types
 
@@ -237,9 +237,17 @@ module _ (U : Upgrade) (expressions : ExpressionsAgree U) (scalars : ScalarsAreW
         stored_there x.address x.net_address x.position x.found (x.leads qualified) x.same x.stands (inr x.own_key)
         (λ steady. absurd (not_own U p S T v.0 s (inward steady)))
 
+    static_by : IsOwnStatic U p v.0 → Goal
+    static_by s =
+        let x : StaticPlace U K w p f g T v.0 readable_v = static_place U K w p f g T declared F v.0 readable_v s in
+        stored_there x.address x.net_address x.position x.found
+        (ap (net_names.path_start S false) (x.path qualified) ∙ variable_named S net_oracle readable_v.variable.name x.net_address x.named) x.same x.stands
+        (inr x.own_key) (λ steady. absurd (static_is_not_own U p v.0 s (inward steady)))
+
     placed_by : IsPlaced U p S T v.0 → Goal
     placed_by (inl own) = own_by own (lookup (nat_eq v.0) f.vars) refl
-    placed_by (inr s) = shared_by s
+    placed_by (inr (inl s)) = static_by s
+    placed_by (inr (inr s)) = shared_by s
 
     pub assignment_agrees : Goal
     assignment_agrees = placed_by (placed v use_v)

@@ -59,6 +59,7 @@ quiet_owner F (owner.Module file) c = refl
 quiet_owner F (owner.Local q) c = refl
 quiet_owner F (owner.Value q) c = refl
 quiet_owner F (owner.Answer q) c = refl
+quiet_owner F (owner.Static q) c = refl
 quiet_owner F _ c = absurd (true≢false (sym c))
 
 simple_type : (users : ℕ → Shape) (bounds : List (ℤ × ℤ)) (ty : Ty) → covers_type ty ≡ true → shape_by users bounds ty ≡ simple ty

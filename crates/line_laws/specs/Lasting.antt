@@ -1,8 +1,8 @@
 -- Frames that go on to match at later worlds, and lines in them.
-use Rattle.std.specs.Prelude.{◌≡◌, ℕ, true, nat_eq, Option, Some, ◌<◌}
+use Rattle.std.specs.Prelude.{◌≡◌, ℕ, true, nat_eq, Option, Some}
 use Rattle.std.specs.Map.{lookup}
 use Rattle.vb_tree.specs.declared.declared.VarId.{VarId}
-use Rattle.run_base.specs.Positions.{made, whole, Position}
+use Rattle.run_base.specs.Positions.{made, whole}
 use Rattle.std.specs.List.{Contains}
 use Rattle.bound_facts.specs.Calls.{line_calls}
 use Rattle.run_base.specs.Machines.{go}
@@ -19,7 +19,7 @@ use Rattle.run_matches.specs.Match.{MemoryMatch}
 use Rattle.run_matches.specs.Pledges.{Pledge, Later}
 use Rattle.run_matches.specs.Agreeing.{Agrees}
 use Rattle.run_matches.specs.Covered.{covers_use, covers_line}
-use Rattle.run_matches.specs.Frames.{HasNames, FrameMatch, OwnsAll, is_own_of, frame_pledge, HasPlace}
+use Rattle.run_matches.specs.Frames.{HasNames, FrameMatch, OwnsAll, is_own_of, frame_pledge}
 use Rattle.run_matches.specs.Runs.{line_result, CallsAgree}
 use Rattle.run_matches.specs.Sites.{Site}
 use Rattle.run_statements.specs.Frames.{IsOpen, IsReadable}
@@ -67,5 +67,5 @@ SteadyLinesAgree U =
     → CallsAgree U (Passes U) (go (source.machine_of (runnable_of U)) turns) (go (target.machine_of U.written) turns)
     → ((q : ℕ) → Contains (line_calls U.program.declarations p l.form) (p, q) → CanCallFrom U p s c q)
     → covers_line U.program p l.form ≡ true
-    → LineStands U p s c number l
+    → LineStands U p s written c number l
     → SameSteadyLine U p written number turns l L.line

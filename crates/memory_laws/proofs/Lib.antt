@@ -8,3 +8,4 @@ pub mod Writing
 pub mod Making
 pub mod Parameters
 pub mod ByPledges
+pub mod Statics

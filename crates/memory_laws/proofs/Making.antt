@@ -32,13 +32,13 @@ use Rattle.memory_laws.proofs.Scalars.{scalar_is_no_array, FirstMatch, first_mat
 
 -- ---- a place in which a scalar stands
 
-no_table_in : (h : Held) → h ≡ blank → IsNoTable h
+pub no_table_in : (h : Held) → h ≡ blank → IsNoTable h
 no_table_in h e d dims xs f = no_table (sym e ∙ f)
   where
     no_table : blank ≡ table d dims xs → ⊥
     no_table g = cc
 
-no_array_in : (c : net.Cell) → c ≡ net.blank → IsNoArray c
+pub no_array_in : (c : net.Cell) → c ≡ net.blank → IsNoArray c
 no_array_in c e k f = no_array (sym e ∙ f)
   where
     no_array : net.blank ≡ net.holds (n.Array k) → ⊥

@@ -1,6 +1,6 @@
 -- Scalar variables are made with values that are given.
 use Rattle.std.proofs.Common.{◌≡◌, refl, sym, ap, subst, ◌∙◌, ℕ, suc, Bool, true, false, not, cond, ◌&&◌, Option, Some, None, List, [], true≢false}
-use Rattle.up_base.proofs.Tests.{by_test, both_true}
+use Rattle.up_base.proofs.Tests.{by_test}
 use Rattle.vb_tree.specs.BoundTree.{Ty}
 use Rattle.vb_tree.specs.BoundTree as types
 use Rattle.vb_tree.specs.declared.value.Value6.{Value6}
@@ -9,9 +9,9 @@ use Rattle.net_tree.specs.Types.{TypeName}
 use Rattle.net_meaning.specs.declared.value.ValueN.{ValueN}
 use Rattle.net_meaning.specs.declared.value.ValueN.TheVariants as n
 use Rattle.run_base.specs.Outcomes.{Outcome, gives, outside, some_of, then}
-use Rattle.run_base.specs.Positions.{Position, made, whole, is_same_position, updated}
+use Rattle.run_base.specs.Positions.{Position, made, whole, is_same_position}
 use Rattle.vb6_run.specs.Shapes.{Shape, simple, variable_shape}
-use Rattle.vb6_run.specs.Store.{Address, Memory, root, Held, single, provided, with_held, put_single, store, write, make_with}
+use Rattle.vb6_run.specs.Store.{Address, Memory, root, Held, single, provided, with_held, put_single, store, make_with}
 use Rattle.vb6_run.specs.Values.{Value, Values, Dimension, scalar, fields, elements, first_scalar, if_of_shape, is_typed, kept_as}
 use Rattle.net_run.specs.Shapes as shape
 use Rattle.net_run.specs.Store as net
@@ -23,7 +23,7 @@ use Rattle.run_matches.specs.Match.{MemoryMatch}
 use Rattle.run_matches.specs.Pledges.{Pledge, Later}
 use Rattle.run_matches.specs.Agreeing.{Agrees}
 use Rattle.run_matches.specs.Covered.{covers_type}
-use Rattle.run_statements.specs.Frames.{IsReadable, MadeMatch, ValuesAreMade}
+use Rattle.run_statements.specs.Frames.{MadeMatch, ValuesAreMade}
 use Rattle.agreeing_laws.proofs.Agreeing.{agrees_outside, left_alone}
 use Rattle.agreeing_laws.proofs.Scalars.{matches_more, same_later}
 use Rattle.memory_laws.specs.Changes.{with_place}

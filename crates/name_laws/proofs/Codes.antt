@@ -1,11 +1,11 @@
 -- The procedures of a written project are told apart by their modules and members.
-use Rattle.std.proofs.Common.{◌≡◌, ◌⊎◌, inl, inr, refl, sym, ap, subst, ◌∙◌, ℕ, zero, suc, ◌+◌, ◌<◌, ◌≤◌, nat_eq, Bool, true, false, cond, ◌&&◌, List, [], ◌∷◌, ◌++◌, Option, Some, None, slice_get, true≢false, eqb-true, eq-eqb, arith}
+use Rattle.std.proofs.Common.{◌≡◌, ◌⊎◌, inl, inr, refl, sym, ap, subst, ◌∙◌, ℕ, zero, suc, ◌+◌, ◌<◌, ◌≤◌, nat_eq, Bool, true, false, ◌&&◌, List, [], ◌∷◌, Option, Some, None, slice_get, eqb-true, eq-eqb, arith}
 use Rattle.written_trees.specs.Prologues.{one_if}
 use Rattle.net_tree.specs.Tree as net
 use Rattle.net_run.specs.Members.{Code, codes_of, codes_of_member, codes_of_members, codes_of_modules, code_at, code_number, is_code_of, is_same_flag, part_code}
-use Rattle.net_run.specs.Shapes.{module_at, module_in}
+use Rattle.net_run.specs.Shapes.{module_in}
 use Rattle.name_laws.proofs.Counting.{count_append, count_of, position_found}
-use Rattle.name_laws.proofs.Lists.{Among, among_append, among_at, some_same}
+use Rattle.name_laws.proofs.Lists.{Among, among_append, among_at}
 
 -- ---- where a procedure stands
 

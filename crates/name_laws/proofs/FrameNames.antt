@@ -1,10 +1,9 @@
 -- The names that a written procedure declares are those of its parameters, its result variable and what its lines declare, and counters.
-use Rattle.std.proofs.Common.{◌≡◌, refl, sym, ap, subst, ◌∙◌, ℕ, zero, suc, ◌+◌, Bool, true, false, cond, not, ◌&&◌, List, [], ◌∷◌, ◌++◌, map, Option, Some, None, option_map, slice_get, codes, nat_eq, eqb-true, eq-eqb, arith}
+use Rattle.std.proofs.Common.{◌≡◌, refl, sym, ap, ◌∙◌, ℕ, suc, ◌+◌, Bool, true, false, cond, not, ◌&&◌, List, [], ◌∷◌, ◌++◌, map, Option, Some, None, option_map, slice_get, codes, nat_eq, eqb-true, eq-eqb, arith}
 use Rattle.std.specs.Cmp.Lexicographic.{pointwise}
 use Rattle.std.specs.Fmt.{decimal}
 use Rattle.up_base.specs.Names.{is_same_name, lower_case}
 use Rattle.vb_tree.specs.Blocks.{is_code}
-use Rattle.vb_tree.specs.FlatLines.{flat_lines}
 use Rattle.vb_tree.specs.Tree.{Form}
 use Rattle.vb_tree.specs.Tree as source
 use Rattle.vb_tree.specs.declared.declared.VarId.{VarId}
@@ -18,7 +17,7 @@ use Rattle.written_trees.specs.Heads as heads
 use Rattle.written_trees.specs.Heads.{is_function}
 use Rattle.written_trees.specs.Lines.{counter_name, is_flagged_for}
 use Rattle.written_trees.specs.Names.{Scope}
-use Rattle.written_trees.specs.Prologues.{Code, constant_dim, constant_dim_by, constants_of, counter_dim, count_replaced, counters_from, declares, dims_from, is_static, object_variable, one_if, prologue, sound_value, typed_variable, variable_dim, variables_of}
+use Rattle.written_trees.specs.Prologues.{Code, constant_dim_by, counter_dim, count_replaced, counters_from, declares, dims_from, is_static, object_variable, one_if, prologue, sound_value, typed_variable}
 use Rattle.net_run.specs.Members.{params_by, params_of, result_by, result_of}
 use Rattle.net_run.specs.Names.{is_result, var_in}
 use Rattle.net_run.specs.Store.{Address}

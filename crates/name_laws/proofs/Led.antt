@@ -4,6 +4,7 @@ use Rattle.std.specs.Prelude.{position, ◌||◌}
 use Rattle.std.specs.List.{list_all, list_any}
 use Rattle.std.proofs.lemmas.Bool.{eqb-true}
 use Rattle.up_base.specs.Names.{is_same_name}
+use Rattle.vb_tree.specs.declared.declared.Owner.{Owner}
 use Rattle.vb_tree.specs.ProjectLines.{is_reserved}
 use Rattle.vb_tree.specs.Tree.{Module}
 use Rattle.bound_tree.specs.Tree.{Variable, Procedure, Declarations, Program}
@@ -76,7 +77,7 @@ pub record Led (D : Declarations) (p v : ℕ) (name : List ℕ) (file : ℕ) : T
   pub is_first : first_from (λ (n : Module). is_same_name n.name placed.0.name) 0 D.project.modules ≡ Some first
   pub first_home : first.0 ≡ home
   pub first_standard : first.1.class ≡ false
-  pub differs : others_differ v file name 0 D.vars ≡ true
+  pub differs : others_differ (is_of_module file) v name 0 D.vars ≡ true
   pub leads : leads_from D name placed.0.name file home (site_of D p) (slice_get D.procs p) ≡ true
 
 abbrev found_in : Declarations → Module → Option (ℕ × Module)
@@ -90,7 +91,7 @@ led D p v name file h =
   where
     by_first : (home : ℕ) (m : Module × List Placed) → position (λ (m : Module). nat_eq m.file file) D.project.modules ≡ Some home
         → placed_module D home ≡ Some m → is_class_file D file ≡ false → declares_alone D v name m ≡ true → (o : Option (ℕ × Module))
-        → found_in D m.0 ≡ o → is_module home o ≡ true → others_differ v file name 0 D.vars ≡ true
+        → found_in D m.0 ≡ o → is_module home o ≡ true → others_differ (is_of_module file) v name 0 D.vars ≡ true
         → leads_from D name m.0.name file home (site_of D p) (slice_get D.procs p) ≡ true → Led D p v name file
     by_first home m i j outer alone None e k differ leads = absurd (cc k)
     by_first home m i j outer alone (Some f) e k differ leads =
@@ -120,10 +121,10 @@ led D p v name file h =
     by_module home i (Some m) j k =
         let leads = leads_from D name m.0.name file home (site_of D p) (slice_get D.procs p) in
         let a = both_true (not (is_class_file D file))
-        (declares_alone D v name m && (is_module home (found_in D m.0) && (others_differ v file name 0 D.vars && leads))) k in
-        let b = both_true (declares_alone D v name m) (is_module home (found_in D m.0) && (others_differ v file name 0 D.vars && leads)) a.1 in
-        let c = both_true (is_module home (found_in D m.0)) (others_differ v file name 0 D.vars && leads) b.1 in
-        let d = both_true (others_differ v file name 0 D.vars) leads c.1 in
+        (declares_alone D v name m && (is_module home (found_in D m.0) && (others_differ (is_of_module file) v name 0 D.vars && leads))) k in
+        let b = both_true (declares_alone D v name m) (is_module home (found_in D m.0) && (others_differ (is_of_module file) v name 0 D.vars && leads)) a.1 in
+        let c = both_true (is_module home (found_in D m.0)) (others_differ (is_of_module file) v name 0 D.vars && leads) b.1 in
+        let d = both_true (others_differ (is_of_module file) v name 0 D.vars) leads c.1 in
         by_first home m i j (not_true (is_class_file D file) a.0) b.0 (found_in D m.0) refl c.0 d.0 d.1
 
     by_home : (o : Option ℕ) → position (λ (m : Module). nat_eq m.file file) D.project.modules ≡ o → leads_to_home D p v name file o ≡ true
@@ -147,16 +148,16 @@ led_from D name of file home i j s q e f h =
     let b = both_true (declares_none D of (placed_module D s.home)) own a.1 in
     record { free = a.0; none = b.0; own = b.1 }
 
--- no other variable of the module has the name
-pub differing : (v file : ℕ) (name : List ℕ) (k i : ℕ) (xs : List Variable) (x : Variable) → others_differ v file name k xs ≡ true
-    → slice_get xs i ≡ Some x → is_of_module file x.owner ≡ true → is_same_name x.name name ≡ true → v ≡ k + i
-differing v file name k i [] x h e o n = absurd (cc e)
-differing v file name k zero (y ∷ ys) x h e o n =
+-- no other variable whose owner passes has the name
+pub differing : (test : Owner → Bool) (v : ℕ) (name : List ℕ) (k i : ℕ) (xs : List Variable) (x : Variable) → others_differ test v name k xs ≡ true
+    → slice_get xs i ≡ Some x → test x.owner ≡ true → is_same_name x.name name ≡ true → v ≡ k + i
+differing test v name k i [] x h e o n = absurd (cc e)
+differing test v name k zero (y ∷ ys) x h e o n =
     let same : y ≡ x = some_same y x e in
-    let a = both_true (nat_eq v k || not (is_of_module file y.owner && is_same_name y.name name)) (others_differ v file name (suc k) ys) h in
-    let here : (nat_eq v k || not (is_of_module file x.owner && is_same_name x.name name)) ≡ true =
-    subst (λ (z : Variable). (nat_eq v k || not (is_of_module file z.owner && is_same_name z.name name)) ≡ true) same a.0 in
-    let number : v ≡ k = eqb-true v k (first_of (nat_eq v k) (is_of_module file x.owner) (is_same_name x.name name) here o n) in
+    let a = both_true (nat_eq v k || not (test y.owner && is_same_name y.name name)) (others_differ test v name (suc k) ys) h in
+    let here : (nat_eq v k || not (test x.owner && is_same_name x.name name)) ≡ true =
+    subst (λ (z : Variable). (nat_eq v k || not (test z.owner && is_same_name z.name name)) ≡ true) same a.0 in
+    let number : v ≡ k = eqb-true v k (first_of (nat_eq v k) (test x.owner) (is_same_name x.name name) here o n) in
     omega (arith, number)
   where
     first_of : (a b c : Bool) → (a || not (b && c)) ≡ true → b ≡ true → c ≡ true → a ≡ true
@@ -164,7 +165,7 @@ differing v file name k zero (y ∷ ys) x h e o n =
     first_of false true true h e f = absurd (cc h)
     first_of false true false h e f = absurd (cc f)
     first_of false false c h e f = absurd (cc e)
-differing v file name k (suc i) (y ∷ ys) x h e o n =
-    let a = both_true (nat_eq v k || not (is_of_module file y.owner && is_same_name y.name name)) (others_differ v file name (suc k) ys) h in
-    let more : v ≡ suc k + i = differing v file name (suc k) i ys x a.1 e o n in
+differing test v name k (suc i) (y ∷ ys) x h e o n =
+    let a = both_true (nat_eq v k || not (test y.owner && is_same_name y.name name)) (others_differ test v name (suc k) ys) h in
+    let more : v ≡ suc k + i = differing test v name (suc k) i ys x a.1 e o n in
     omega (arith, more)

@@ -26,3 +26,4 @@ pub mod Words
 pub mod Shared
 pub mod Placed
 pub mod Outward
+pub mod Keys

@@ -1,11 +1,11 @@
 -- What is written in a module has the names that the module declares, and none more often.
-use Rattle.std.proofs.Common.{◌≡◌, refl, sym, ap, subst, ◌∙◌, ℕ, zero, suc, ◌+◌, ◌<◌, ◌≤◌, Bool, true, false, cond, not, ◌&&◌, List, [], ◌∷◌, ◌++◌, map, Option, Some, None, slice_get, arith}
+use Rattle.std.proofs.Common.{◌≡◌, refl, sym, ap, subst, ℕ, zero, suc, ◌+◌, ◌≤◌, Bool, true, false, cond, not, List, [], ◌∷◌, ◌++◌, map, Option, Some, None, slice_get, arith}
 use Rattle.std.specs.List.{flat_map}
 use Rattle.up_base.specs.Names.{is_same_name}
 use Rattle.vb_tree.specs.Tree.{Form, Member, Module, Nodes, alone, group, proc}
 use Rattle.vb_tree.specs.Tree as source
 use Rattle.vb_tree.specs.declared.value.Value6.{Value6}
-use Rattle.bound_tree.specs.Tree.{Variable, Constant, Procedure, Declarations, Program}
+use Rattle.bound_tree.specs.Tree.{Variable, Constant, Procedure, Program}
 use Rattle.net_tree.specs.declared.declaration.NetClose.TheVariants.{EndFunction, EndSub}
 use Rattle.net_tree.specs.declared.declaration.NetVisibility.{NetVisibility}
 use Rattle.net_tree.specs.declared.declaration.NetVisibility.TheVariants as net_seen
@@ -21,10 +21,10 @@ use Rattle.written_trees.specs.Names.{Scope, procedure_name}
 use Rattle.written_trees.specs.Placing.{Numbers, Placed, behind_members, is_type_head, last_comments, placed_members}
 use Rattle.written_trees.specs.Projects.{has_initializer, makers, module_scope, modules_from, next_module, written_module}
 use Rattle.written_trees.specs.Prologues.{constants_of, object_variable, one_if, sound_value, typed_variable, variables_of, written_variable}
-use Rattle.written_trees.specs.Properties.{head_comments, is_counted, is_separate, joined_property, no_part, only_part, own_part, property_of, separate_name}
+use Rattle.written_trees.specs.Properties.{head_comments, is_counted, is_separate, joined_property, no_part, own_part, property_of, separate_name}
 use Rattle.net_run.specs.Members.{is_head_named, is_member_named}
 use Rattle.run_matches.specs.Callees.{count_named, enum_names, names_among, names_at, names_from, procedure_names}
-use Rattle.run_matches.specs.Sites.{own_constant, own_constants, own_name, own_variable, own_variables, statement_owns}
+use Rattle.run_matches.specs.Sites.{own_constants, own_name, own_variables, statement_owns}
 use Rattle.name_laws.proofs.Counting.{count_append, count_of}
 use Rattle.name_laws.proofs.Lists.{map_append}
 

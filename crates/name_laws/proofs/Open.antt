@@ -9,7 +9,7 @@ use Rattle.written_trees.specs.Heads.{head_of}
 use Rattle.written_trees.specs.Projects.{first_numbers, modules_from}
 use Rattle.net_run.specs.Lines.{scope_of}
 use Rattle.net_run.specs.Members as made
-use Rattle.net_run.specs.Members.{is_head_named, is_member_named, member_named}
+use Rattle.net_run.specs.Members.{is_head_named, is_member_named}
 use Rattle.net_run.specs.Names.{support_name, var_in}
 use Rattle.net_run.specs.Names as net_names
 use Rattle.net_run.specs.Shapes.{first_from, members_of, module_at, module_in}

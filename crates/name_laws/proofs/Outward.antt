@@ -21,12 +21,13 @@ use Rattle.bound_facts.specs.Node.{root}
 use Rattle.bound_facts.specs.Parts.{line_stores, line_uses, stores}
 use Rattle.bound_facts.specs.SelfMade.{module_of, is_mine, is_mine_owner, is_mine_variable, is_plain_store, is_plain_line, enters, unplain_items, unplain}
 use Rattle.run_base.specs.Machines.{nth_line}
+use Rattle.vb6_run.specs.Programs.{is_static_of}
 use Rattle.vb6_run.specs.Runnables.{is_class_file}
 use Rattle.run_matches.specs.CleanLines.{lines_at}
 use Rattle.run_matches.specs.Covered.{Uses, covers_owner, covers_type, is_foreign_name, is_reached, covers_some, is_mention_of, covers_use, covers_expr, covers_term, covers_form, covers_line, is_variable, is_variable_in}
 use Rattle.run_matches.specs.Formed.{is_formed}
 use Rattle.run_matches.specs.Pledges.{stands_in_class}
-use Rattle.run_matches.specs.Shared.{names_lead}
+use Rattle.run_matches.specs.Shared.{names_lead, is_alone_static, is_outer, others_differ}
 use Rattle.run_matches.specs.Upgrades.{Upgrade}
 use Rattle.run_statements.specs.Kept.{StoresAreOwn}
 use Rattle.run_statements.specs.Written.{IsWritten}
@@ -126,7 +127,12 @@ module _ (P : Program) (p : ℕ) (x : Procedure) (is_procedure : slice_get P.dec
   mine_owner v name (owner.Module file) c h e =
       not_here file (led D p v name file (both_true (names_lead D p v name file) (is_foreign_name D p name) h).0).outer
   mine_owner v name (owner.Local q) c h e = e
-  mine_owner v name (owner.Static q) c h e = absurd (cc c)
+  mine_owner v name (owner.Static q) c h e =
+      let b = both_true (nat_eq p q.0) (is_alone_static D p v name) h in
+      let a = both_true (is_outer D (slice_get D.procs p)) (others_differ (is_static_of p) v name 0 D.vars) b.1 in
+      let outer : is_class_file D x.module_number ≡ false =
+      not_true (is_class_file D x.module_number) (sym (ap (is_outer D) is_procedure) ∙ a.0) in
+      absurd (true≢false (sym in_class ∙ outer))
   mine_owner v name (owner.Value q) c h e = refl
   mine_owner v name (owner.Reference q) c h e = absurd (cc c)
   mine_owner v name (owner.Answer q) c h e = refl

@@ -6,8 +6,8 @@ use Rattle.vb_tree.specs.Tree as source
 use Rattle.bound_tree.specs.Tree.{Variable, Constant, Declarations}
 use Rattle.written_trees.specs.Prologues.{is_statement, variables_from, constants_from, variables_of, constants_of}
 use Rattle.vb6_run.specs.Programs.{owned_from}
-use Rattle.run_matches.specs.Sites.{Own, own_variable, own_constant, own_variables, own_constants, statement_owns, owns_from, variable_number, variable_numbers}
-use Rattle.name_laws.proofs.Lists.{some_same, Among, among_append, among_left, among_right, among_map, map_among, flat_among}
+use Rattle.run_matches.specs.Sites.{Own, own_variable, own_constant, own_variables, own_constants, statement_owns, owns_from}
+use Rattle.name_laws.proofs.Lists.{some_same, Among, among_append, among_left, among_right, among_map, map_among}
 
 -- the item of a number, of items that are numbered from k
 abbrev pub IsNumber : {X : Type 0} → (k : ℕ) → List X → ℕ → X → Type 0
@@ -99,9 +99,6 @@ line_owns D file test n (suc i) (m ∷ ms) l o e t h =
     (line_owns D file test (suc n) i ms l o e t (subst (λ (k : ℕ). Among (statement_owns D file k) o) (let q : n + suc i ≡ suc n + i = omega arith in q) h))
 
 -- ---- numbers of variables
-
-pub number_among : (os : List Own) (v : ℕ) (x : Variable) → Among os (own_variable v x) → Among (variable_numbers os) v
-number_among os v x h = flat_among variable_number os (own_variable v x) v h (inl refl)
 
 abbrev IsOwned : (Owner → Bool) → (k : ℕ) → List Variable → ℕ → Type 0
 IsOwned test k xs j = (x : Variable) × IsNumber k xs j x × (test x.owner ≡ true)

@@ -1,5 +1,5 @@
 -- What a covered, clean procedure declares is written as it is declared.
-use Rattle.std.proofs.Common.{◌≡◌, refl, ap, sym, subst, ◌∙◌, ℕ, nat_eq, Bool, true, false, cond, not, ◌&&◌, List, map, Option, Some, None, slice_get, inl, inr}
+use Rattle.std.proofs.Common.{◌≡◌, refl, ap, sym, subst, ◌∙◌, ℕ, nat_eq, Bool, true, false, cond, not, ◌&&◌, List, [], ◌∷◌, map, Option, Some, None, slice_get, inl, inr}
 use Rattle.std.specs.Prelude.{is_some, ◌⊎◌}
 use Rattle.std.specs.Cmp.Lexicographic.{pointwise}
 use Rattle.std.specs.List.{list_all}
@@ -14,18 +14,18 @@ use Rattle.bound_facts.specs.Clean.{variable, point_broken, IsClean}
 use Rattle.written_trees.specs.Bodies.{inside_procedure}
 use Rattle.written_trees.specs.Facts.{is_flagged_variable, is_flagged_constant}
 use Rattle.written_trees.specs.Names.{Scope}
-use Rattle.written_trees.specs.Prologues.{declares, constant_dim_by, constant_dim}
-use Rattle.vb6_run.specs.Programs.{is_local_of, owned_from}
+use Rattle.written_trees.specs.Prologues.{declares, constant_dim_by, constant_dim, is_static}
+use Rattle.vb6_run.specs.Programs.{is_local_of, owned_from, is_static_of}
 use Rattle.run_matches.specs.Covered.{covers_type, covers_owner, covers_variable, belongs_to, covers_head, covers_variables, covers_body, covers_names, are_different, covers_all_calls, covers_own, covers_owns, covers_site, covers_procedure}
 use Rattle.run_matches.specs.Callees.{frame_owns}
-use Rattle.run_matches.specs.Sites.{Site, site_of, site_lines, first_statement, Own, own_variable, own_constant, own_name, owns_from, owns_of, variable_numbers}
+use Rattle.run_matches.specs.Sites.{Site, site_of, site_lines, first_statement, Own, own_variable, own_constant, own_name, owns_from, owns_of, local_number, local_numbers, static_number, static_numbers}
 use Rattle.run_matches.specs.Upgrades.{Upgrade, is_unknown, type_of_some, type_of}
 use Rattle.run_statements.specs.Frames.{IsReadable}
 use Rattle.run_statements.specs.Kept.{IsConstantDim}
 use Rattle.run_statements.specs.Written.{site_scope}
-use Rattle.name_laws.proofs.Lists.{both_true, none_of_both, Among, among_append, all_among, all_at, same_numbers}
+use Rattle.name_laws.proofs.Lists.{both_true, none_of_both, Among, among_append, all_among, all_at, same_numbers, flat_among}
 use Rattle.name_laws.proofs.Arrows.{variable_unbroken, constant_unbroken, variable_unflagged, constant_unflagged}
-use Rattle.name_laws.proofs.Owned.{IsOwn, lines_own, number_among, owned_is}
+use Rattle.name_laws.proofs.Owned.{IsOwn, lines_own, owned_is}
 
 -- ---- what can be read
 
@@ -65,8 +65,9 @@ readable U v x e h unbroken =
 -- ---- the parts of what covers a procedure
 
 pub record Covers (P : Program) (p : ℕ) (s : Site) : Type 0 where
-  pub numbers : pointwise nat_eq (variable_numbers (owns_of P.declarations s)) (owned_from (is_local_of p) 0 P.declarations.vars) ≡ true
-  pub owns : list_all (covers_own p) (owns_of P.declarations s) ≡ true
+  pub locals : pointwise nat_eq (local_numbers (owns_of P.declarations s)) (owned_from (is_local_of p) 0 P.declarations.vars) ≡ true
+  pub statics : pointwise nat_eq (static_numbers (owns_of P.declarations s)) (owned_from (is_static_of p) 0 P.declarations.vars) ≡ true
+  pub owns : list_all (covers_own P.declarations p) (owns_of P.declarations s) ≡ true
   pub vars : covers_variables P p ≡ true
   pub body : covers_body P p (slice_get P.bodies p) ≡ true
 
@@ -84,8 +85,11 @@ covered_parts P p s e h =
     let site : covers_site D p (Some s) ≡ true = sym (ap (covers_site D p) e) ∙ c.0 in
     let names = are_different (map own_name (frame_owns D (slice_get D.procs p) s)) in
     let f = both_true (covers_owns D p os) names (both_true (not s.source_module.class) (covers_owns D p os && names) site).1 in
-    let g = both_true (pointwise nat_eq (variable_numbers os) (owned_from (is_local_of p) 0 D.vars)) (list_all (covers_own p) os) f.0 in
-    record { numbers = g.0; owns = g.1; vars = d.0; body = d.1 }
+    let locals = pointwise nat_eq (local_numbers os) (owned_from (is_local_of p) 0 D.vars) in
+    let statics = pointwise nat_eq (static_numbers os) (owned_from (is_static_of p) 0 D.vars) in
+    let g = both_true (locals && statics) (list_all (covers_own D p) os) f.0 in
+    let j = both_true locals statics g.0 in
+    record { locals = j.0; statics = j.1; owns = g.1; vars = d.0; body = d.1 }
 
 local_belongs : (p : ℕ) (o : Owner) → is_local_of p o ≡ true → belongs_to p o ≡ true
 local_belongs p (owner.Module file) h = absurd (cc h)
@@ -95,6 +99,23 @@ local_belongs p (owner.Value q) h = absurd (cc h)
 local_belongs p (owner.Reference q) h = absurd (cc h)
 local_belongs p (owner.Answer q) h = absurd (cc h)
 local_belongs p (owner.Field t) h = absurd (cc h)
+
+static_belongs : (p : ℕ) (o : Owner) → is_static_of p o ≡ true → belongs_to p o ≡ true
+static_belongs p (owner.Static q) h = h
+static_belongs p (owner.Module file) h = absurd (cc h)
+static_belongs p (owner.Local q) h = absurd (cc h)
+static_belongs p (owner.Value q) h = absurd (cc h)
+static_belongs p (owner.Reference q) h = absurd (cc h)
+static_belongs p (owner.Answer q) h = absurd (cc h)
+static_belongs p (owner.Field t) h = absurd (cc h)
+
+pub number_if : (b : Bool) (v : ℕ) → b ≡ true → Among (cond b (v ∷ []) []) v
+number_if true v h = inl refl
+number_if false v h = absurd (cc h)
+
+number_unless : (b : Bool) (v : ℕ) → b ≡ false → Among (cond b [] (v ∷ [])) v
+number_unless true v h = absurd (cc h)
+number_unless false v h = inl refl
 
 own_covers : (b c : Bool) → cond b c true ≡ true → b ≡ true → c ≡ true
 own_covers true c h e = h
@@ -117,21 +138,32 @@ pub own_readable : (U : Upgrade) (p : ℕ) (s : Site) → Covers U.program p s �
 own_readable U p s C clean v y h =
     let D = U.program.declarations in
     let stands : slice_get D.vars v ≡ Some y = own_is D s (own_variable v y) h in
-    let number : Among (owned_from (is_local_of p) 0 D.vars) v =
-    subst (λ (ns : List ℕ). Among ns v) (same_numbers (variable_numbers (owns_of D s)) (owned_from (is_local_of p) 0 D.vars) C.numbers)
-    (number_among (owns_of D s) v y h) in
-    let owned : belongs_to p y.owner ≡ true = local_belongs p y.owner (owned_is (is_local_of p) D.vars v y number stands) in
+    let owned : belongs_to p y.owner ≡ true = by (is_static y.owner) refl stands in
     let covers : covers_variable y ≡ true =
     own_covers (belongs_to p y.owner) (covers_variable y)
     (all_at (λ (x : Variable). cond (belongs_to p x.owner) (covers_variable x) true) D.vars v y C.vars stands) owned in
     readable U v y stands covers (variable_unbroken U.program U.facts.marks p v y clean stands owned)
+  where
+    by : (b : Bool) → is_static y.owner ≡ b → slice_get U.program.declarations.vars v ≡ Some y → belongs_to p y.owner ≡ true
+    by true e stands =
+        let D = U.program.declarations in
+        let number : Among (owned_from (is_static_of p) 0 D.vars) v =
+        subst (λ (ns : List ℕ). Among ns v) (same_numbers (static_numbers (owns_of D s)) (owned_from (is_static_of p) 0 D.vars) C.statics)
+        (flat_among static_number (owns_of D s) (own_variable v y) v h (number_if (is_static y.owner) v e)) in
+        static_belongs p y.owner (owned_is (is_static_of p) D.vars v y number stands)
+    by false e stands =
+        let D = U.program.declarations in
+        let number : Among (owned_from (is_local_of p) 0 D.vars) v =
+        subst (λ (ns : List ℕ). Among ns v) (same_numbers (local_numbers (owns_of D s)) (owned_from (is_local_of p) 0 D.vars) C.locals)
+        (flat_among local_number (owns_of D s) (own_variable v y) v h (number_unless (is_static y.owner) v e)) in
+        local_belongs p y.owner (owned_is (is_local_of p) D.vars v y number stands)
 
 pub own_unflagged : (U : Upgrade) (p : ℕ) (s : Site) → Covers U.program p s → IsClean U.program U.facts.marks p → (c : ℕ) (y : Constant)
     → Among (owns_of U.program.declarations s) (own_constant c y) → is_flagged_constant U.facts c ≡ false
 own_unflagged U p s C clean c y h =
     let D = U.program.declarations in
     let stands : slice_get D.consts c ≡ Some y = own_is D s (own_constant c y) h in
-    let own = both_true (belongs_to p y.owner) (is_some y.value) (all_among (covers_own p) (owns_of D s) (own_constant c y) C.owns h) in
+    let own = both_true (belongs_to p y.owner) (is_some y.value) (all_among (covers_own D p) (owns_of D s) (own_constant c y) C.owns h) in
     constant_unflagged D U.facts c y stands (constant_unbroken U.program U.facts.marks p c y clean stands own.0)
 
 constant_kept : (S : Scope) (x : Constant) (b : Bool) (o : Option Value6) → b ≡ false → is_some o ≡ true → IsConstantDim (constant_dim_by S x (cond b None o))
@@ -142,5 +174,5 @@ constant_kept S x false (Some v) h e = tt
 pub own_constant_dim : (U : Upgrade) (p : ℕ) (s : Site) → Covers U.program p s → IsClean U.program U.facts.marks p → (c : ℕ) (y : Constant)
     → Among (owns_of U.program.declarations s) (own_constant c y) → IsConstantDim (constant_dim (inside_procedure (site_scope U s) p) (c, y))
 own_constant_dim U p s C clean c y h =
-    let own = both_true (belongs_to p y.owner) (is_some y.value) (all_among (covers_own p) (owns_of U.program.declarations s) (own_constant c y) C.owns h) in
+    let own = both_true (belongs_to p y.owner) (is_some y.value) (all_among (covers_own U.program.declarations p) (owns_of U.program.declarations s) (own_constant c y) C.owns h) in
     constant_kept (inside_procedure (site_scope U s) p) y (is_flagged_constant U.facts c) y.value (own_unflagged U p s C clean c y h) own.1

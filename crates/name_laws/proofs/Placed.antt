@@ -1,5 +1,5 @@
 -- The variables that covered lines use are found on both sides.
-use Rattle.std.proofs.Common.{◌≡◌, refl, ap, sym, subst, ◌∙◌, inl, inr, ℕ, true, not, ◌&&◌, nat_eq, Some, slice_get}
+use Rattle.std.proofs.Common.{◌≡◌, refl, ap, sym, subst, ◌∙◌, inl, inr, ℕ, ◌+◌, arith, true, not, ◌&&◌, nat_eq, Some, slice_get}
 use Rattle.std.specs.Prelude.{option_and_then}
 use Rattle.std.specs.List.{list_any}
 use Rattle.std.proofs.lemmas.Bool.{eqb-true}
@@ -8,21 +8,29 @@ use Rattle.vb_tree.specs.declared.declared.Owner.TheVariants as owner
 use Rattle.vb_tree.specs.declared.declared.VarId.{VarId}
 use Rattle.bound_tree.specs.Tree.{Variable, Procedure, Declarations, Line}
 use Rattle.bound_facts.specs.Effects.{is_own_owner, is_own_variable}
+use Rattle.bound_facts.specs.SelfMade.{module_of}
+use Rattle.vb6_run.specs.Programs.{is_static_of}
+use Rattle.vb6_run.specs.Runnables.{is_class_file}
 use Rattle.written_trees.specs.Bodies.{inside_procedure}
 use Rattle.net_run.specs.Lines.{NetFrame, NetLine, scope_of}
 use Rattle.net_run.specs.Members.{code_at}
 use Rattle.run_matches.specs.Covered.{covers_owner, covers_type, is_foreign_name, is_reached, covers_some, is_mention_of, covers_use}
 use Rattle.run_matches.specs.Frames.{HasNames}
-use Rattle.run_matches.specs.Shared.{names_lead}
+use Rattle.run_matches.specs.Shared.{names_lead, is_alone_static, is_outer, others_differ}
 use Rattle.run_matches.specs.Sites.{Site, site_of}
-use Rattle.run_matches.specs.Upgrades.{Upgrade, code_of}
+use Rattle.run_matches.specs.Upgrades.{Upgrade, code_of, declared_key, owned_key}
 use Rattle.run_statements.specs.Frames.{IsReadable, IsPlaced}
 use Rattle.run_statements.specs.Kept.{UsesArePlaced}
 use Rattle.run_statements.specs.Written.{IsWritten, WrittenProcedure, site_scope}
 use Rattle.name_laws.proofs.Lists.{both_true, some_same, same_number}
-use Rattle.name_laws.proofs.Led.{led}
+use Rattle.name_laws.proofs.Keys.{StaticKey, static_parts, key_of_static}
+use Rattle.name_laws.proofs.Looked.{not_true}
+use Rattle.name_laws.proofs.Led.{led, differing}
 use Rattle.name_laws.proofs.Shared.{shared_variable}
 use Rattle.name_laws.proofs.Uses.{CoveredUse, use_is}
+
+plus_none : (n : ℕ) → 0 + n ≡ n
+plus_none n = omega arith
 
 own_number : (p q : ℕ) → nat_eq p q ≡ true → nat_eq q p ≡ true
 own_number p q h = same_number q p (sym (eqb-true p q h))
@@ -39,10 +47,28 @@ module _ (U : Upgrade) (I : IsWritten U) (p : ℕ) (s : Site) (x : Procedure) (i
   by_owner : (v : ℕ) (r : IsReadable U v) (o : Owner) → r.variable.owner ≡ o → covers_owner o ≡ true → is_reached D p v r.variable.name o ≡ true → Goal v
   by_owner v r (owner.Module file) e c h =
       let b = both_true (names_lead D p v r.variable.name file) (is_foreign_name D p r.variable.name) h in
-      inr (shared_variable U I p v r file e (led D p v r.variable.name file b.0) s x is_site is_procedure W g k names)
+      inr (inr (shared_variable U I p v r file e (led D p v r.variable.name file b.0) s x is_site is_procedure W g k names))
   by_owner v r (owner.Local q) e c h =
       inl (ap (is_own_variable p) r.is_variable ∙ ap (is_own_owner p) e ∙ own_number p q.0 h)
-  by_owner v r (owner.Static q) e c h = absurd (cc c)
+  by_owner v r (owner.Static q) e c h =
+      let b = both_true (nat_eq p q.0) (is_alone_static D p v r.variable.name) h in
+      let a = both_true (is_outer D (slice_get D.procs p)) (others_differ (is_static_of p) v r.variable.name 0 D.vars) b.1 in
+      let outer : not (is_class_file D x.module_number) ≡ true = sym (ap (is_outer D) is_procedure) ∙ a.0 in
+      let of : is_static_of p r.variable.owner ≡ true = ap (is_static_of p) e ∙ b.0 in
+      inr (inl (record {
+        variable = r.variable;
+        is_variable = r.is_variable;
+        is_static = of;
+        file = x.module_number;
+        is_file = ap module_of is_procedure;
+        standard = not_true (is_class_file D x.module_number) outer;
+        differs = λ key u f i.
+            let parts : StaticKey U q.0 r.variable.name key =
+            static_parts U q.0 r.variable.name key (sym (ap (declared_key U) r.is_variable ∙ ap (owned_key U r.variable.name) e) ∙ f) in
+            let z = key_of_static U q.0 r.variable.name key parts u i in
+            let owned : is_static_of p z.0.owner ≡ true = subst (λ n. is_static_of n z.0.owner ≡ true) (sym (eqb-true p q.0 b.0)) z.2 in
+            differing (is_static_of p) v r.variable.name 0 u D.vars z.0 a.1 z.1 owned z.3 ∙ plus_none u;
+      }))
   by_owner v r (owner.Value q) e c h =
       inl (ap (is_own_variable p) r.is_variable ∙ ap (is_own_owner p) e ∙ own_number p q.0 h)
   by_owner v r (owner.Reference q) e c h = absurd (cc c)

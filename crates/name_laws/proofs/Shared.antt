@@ -23,7 +23,7 @@ use Rattle.written_trees.specs.Prologues.{written_variable, object_variable, typ
 use Rattle.net_run.specs.Lines.{NetFrame, NetLine, scope_of}
 use Rattle.net_run.specs.Members.{Code, is_member_named, member_named}
 use Rattle.net_run.specs.Names as net_names
-use Rattle.net_run.specs.Names.{key_of, is_class_at, own_field, at_place, member_reached, some_member, starts, path_start, frame_start, member_start, module_start, module_member, var_in}
+use Rattle.net_run.specs.Names.{key_of, is_class_at, own_field, at_place, member_reached, some_member, starts, path_start, frame_start, member_start, module_start, module_member}
 use Rattle.net_run.specs.Program.{static_key}
 use Rattle.net_run.specs.Shapes.{scalar, shape_of, members_of, module_at, module_in, module_named, first_from}
 use Rattle.net_run.specs.Store.{root}
@@ -228,7 +228,7 @@ module _ (U : Upgrade) (I : IsWritten U) (p v : ℕ) (r : IsReadable U v) (file 
       let same : f ≡ file = same_file f here in
       let of_file : is_of_module file z.owner ≡ true =
       ap (is_of_module file) o ∙ ap (λ k. nat_eq k file) (same ∙ sym file_is) ∙ at_file.0 in
-      let number : v ≡ 0 + u = differing v file name 0 u D.vars z L.differs is of_file alike in
+      let number : v ≡ 0 + u = differing (is_of_module file) v name 0 u D.vars z L.differs is of_file alike in
       omega (arith, number)
 
   differs : (u : ℕ) → variable_key U u ≡ Some key → v ≡ u

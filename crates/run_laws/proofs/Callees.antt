@@ -1,18 +1,17 @@
 -- A procedure that passes can be called from the lines of another.
-use Rattle.std.proofs.Common.{◌≡◌, refl, sym, ap, subst, ◌∙◌, ℕ, Bool, true, false, ◌&&◌, true≢false, Option, Some, None, List, ◌++◌, map}
+use Rattle.std.proofs.Common.{◌≡◌, refl, sym, ap, subst, ◌∙◌, ℕ, true, false, Option, Some, None, List, ◌++◌, map}
 use Rattle.std.specs.Prelude.{nat_lt, slice_get}
 use Rattle.std.specs.List.{Contains, list_all}
 use Rattle.up_base.proofs.Tests.{both_true}
 use Rattle.vb_tree.specs.declared.declared.VarId.{VarId}
-use Rattle.bound_tree.specs.Tree.{Declarations, Line, Procedure, Variable}
+use Rattle.bound_tree.specs.Tree.{Declarations, Line, Procedure}
 use Rattle.reach_table.specs.Chains.{empty}
 use Rattle.bound_facts.specs.Calls.{count_procedures, line_calls}
 use Rattle.bound_facts.specs.Clean.{Arrow, IsClean, line_arrows, procedure}
 use Rattle.bound_facts.specs.Facts.{AreFacts}
 use Rattle.run_base.specs.Machines.{nth_line}
 use Rattle.net_run.specs.Calls.{passings, passings_of_code}
-use Rattle.net_run.specs.Members.{Code}
-use Rattle.written_trees.specs.Arguments.{is_property_at, is_property_kind, is_reference_owner, parameter_in, takes_reference, takes_reference_at, takes_reference_of}
+use Rattle.written_trees.specs.Arguments.{is_property_at, is_property_kind, is_reference_owner, parameter_in, takes_reference_at, takes_reference_of}
 use Rattle.run_matches.specs.Callees.{is_found}
 use Rattle.run_matches.specs.CleanLines.{IsCleanLine, line_points, lines_at, result_points}
 use Rattle.run_matches.specs.Covered.{covers_callee, covers_calls, covers_parameter}
@@ -26,7 +25,7 @@ use Rattle.name_laws.proofs.Uses.{clean_line_is}
 use Rattle.run_laws.proofs.Covered.{CoveredProcedure, all_at, covered_parts, no_property}
 use Rattle.name_laws.proofs.FrameNames.{params_are}
 use Rattle.run_laws.proofs.Heads.{Parameter, parameter_is, params_take}
-use Rattle.run_laws.proofs.Names.{code_is, names_in_code}
+use Rattle.run_laws.proofs.Names.{names_in_code}
 use Rattle.run_laws.proofs.Reaching.{IsLineOf, inward_called, keeps_called}
 
 -- ---- the callee

@@ -4,10 +4,8 @@ use Rattle.std.specs.Prelude.{slice_get}
 use Rattle.std.specs.Cmp.Lexicographic.{pointwise}
 use Rattle.std.specs.List.{list_all}
 use Rattle.up_base.proofs.Lists.{all_first, all_rest, all_leads}
-use Rattle.up_base.proofs.Tests.{both_true}
+use Rattle.up_base.proofs.Tests.{both_true, not_true}
 use Rattle.up_base.specs.Names.{is_same_name, lower_case}
-use Rattle.vb_tree.specs.declared.declared.Owner.{Owner}
-use Rattle.vb_tree.specs.declared.declared.Owner.TheVariants as owner
 use Rattle.vb_tree.specs.declared.declared.ProcKind.{ProcKind}
 use Rattle.vb_tree.specs.declared.declared.ProcKind.TheVariants as kind
 use Rattle.vb_tree.specs.declared.declared.VarId.{VarId}
@@ -24,10 +22,10 @@ use Rattle.vb6_run.specs.Programs.{answer_in, is_static_of, is_local_of, owned_f
 use Rattle.vb6_run.specs.Runnables.{is_class_file}
 use Rattle.written_trees.specs.Arguments.{is_property_kind}
 use Rattle.run_matches.specs.Formed.{is_formed}
-use Rattle.run_matches.specs.Covered.{Uses, belongs_to, covers_body, covers_form, covers_head, covers_in_block, covers_kind, covers_label, covers_line, covers_names, covers_owner, covers_owns, covers_procedure, covers_site, covers_type, covers_use, covers_variable, covers_variables, has_sound_label, has_sound_label_in, is_plain, is_plain_kind, jump_of, keeps_blocks, keeps_blocks_in, are_different, covers_own, covers_all_calls, covers_calls, covers_parameter, covers_result, has_result, is_answer_of, is_value_of}
+use Rattle.run_matches.specs.Covered.{Uses, belongs_to, covers_body, covers_form, covers_head, covers_in_block, covers_kind, covers_label, covers_line, covers_names, covers_owns, covers_procedure, covers_site, covers_use, covers_variable, covers_variables, has_sound_label, has_sound_label_in, is_plain, is_plain_kind, jump_of, keeps_blocks, keeps_blocks_in, are_different, covers_own, covers_all_calls, covers_calls, covers_parameter, covers_result, has_result, is_answer_of, is_value_of}
 use Rattle.run_matches.specs.Callees.{frame_owns}
-use Rattle.run_matches.specs.Frames.{is_exact_head, is_own_head, is_own_line, is_quiet_head, is_static_in}
-use Rattle.run_matches.specs.Sites.{Site, own_name, owns_of, site_of, variable_numbers}
+use Rattle.run_matches.specs.Frames.{is_exact_head, is_own_head, is_own_line, is_quiet_head}
+use Rattle.run_matches.specs.Sites.{Site, own_name, owns_of, site_of, local_numbers, static_numbers}
 use Rattle.run_matches.specs.Upgrades.{Upgrade}
 
 pub some_is : {A : Type 0} {x y : A} → ◌≡◌ {A = Option A} (Some x) (Some y) → x ≡ y
@@ -74,6 +72,7 @@ record Head (P : Program) (p : ℕ) (o : Option Procedure) : Type 0 where
   kind : covers_kind procedure.kind ≡ true
   params : list_all (covers_parameter P.declarations p) procedure.params ≡ true
   result : has_result P.declarations p procedure procedure.kind ≡ true
+  outer : is_class_file P.declarations procedure.module_number ≡ false
 
 head_parts : (P : Program) (p : ℕ) (o : Option Procedure) → covers_head P p o ≡ true → Head P p o
 head_parts P p None h = absurd (true≢false (sym h))
@@ -91,11 +90,13 @@ head_parts P p (Some x) h =
       kind = a.0;
       params = b.0;
       result = (both_true (has_result D p x x.kind) numbers c.0).0;
+      outer = not_true (is_class_file D x.module_number) c.1;
     }
 
 record Stands (D : Declarations) (p : ℕ) (o : Option Site) : Type 0 where
   site : Site
   is_site : o ≡ Some site
+  standard : site.source_module.class ≡ false
   owns : covers_owns D p (owns_of D site) ≡ true
   different : are_different (map own_name (frame_owns D (slice_get D.procs p) site)) ≡ true
 
@@ -103,8 +104,9 @@ site_parts : (D : Declarations) (p : ℕ) (o : Option Site) → covers_site D p 
 site_parts D p None h = absurd (true≢false (sym h))
 site_parts D p (Some s) h =
     let names = are_different (map own_name (frame_owns D (slice_get D.procs p) s)) in
-    let both = both_true (covers_owns D p (owns_of D s)) names (both_true (not s.source_module.class) (covers_owns D p (owns_of D s) && names) h).1 in
-    record { site = s; is_site = refl; owns = both.0; different = both.1 }
+    let b = both_true (not s.source_module.class) (covers_owns D p (owns_of D s) && names) h in
+    let both = both_true (covers_owns D p (owns_of D s)) names b.1 in
+    record { site = s; is_site = refl; standard = not_true s.source_module.class b.0; owns = both.0; different = both.1 }
 
 record Body (P : Program) (p : ℕ) (o : Option (List Line)) : Type 0 where
   lines : List Line
@@ -126,9 +128,13 @@ pub record CoveredProcedure (P : Program) (p : ℕ) : Type 0 where
   pub kind : covers_kind procedure.kind ≡ true
   pub params : list_all (covers_parameter P.declarations p) procedure.params ≡ true
   pub result : has_result P.declarations p procedure procedure.kind ≡ true
+  pub outer : is_class_file P.declarations procedure.module_number ≡ false
   pub site : Site
   pub is_site : site_of P.declarations p ≡ Some site
-  pub numbers : variable_numbers (owns_of P.declarations site) ≡ owned_from (is_local_of p) 0 P.declarations.vars
+  pub standard : site.source_module.class ≡ false
+  pub locals : local_numbers (owns_of P.declarations site) ≡ owned_from (is_local_of p) 0 P.declarations.vars
+  pub statics : static_numbers (owns_of P.declarations site) ≡ owned_from (is_static_of p) 0 P.declarations.vars
+  pub owns : list_all (covers_own P.declarations p) (owns_of P.declarations site) ≡ true
   pub different : are_different (map own_name (frame_owns P.declarations (Some procedure) site)) ≡ true
   pub variables : covers_variables P p ≡ true
   pub lines : List Line
@@ -157,8 +163,10 @@ covered_parts P p h =
     let s : Stands D p (site_of D p) = site_parts D p (site_of D p) c.0 in
     let y : Body P p (slice_get P.bodies p) = body_parts P p (slice_get P.bodies p) d.1 in
     let os = owns_of D s.site in
-    let m = both_true (pointwise nat_eq (variable_numbers os) (owned_from (is_local_of p) 0 D.vars))
-    (list_all (covers_own p) os) s.owns in
+    let locals = pointwise nat_eq (local_numbers os) (owned_from (is_local_of p) 0 D.vars) in
+    let statics = pointwise nat_eq (static_numbers os) (owned_from (is_static_of p) 0 D.vars) in
+    let m = both_true (locals && statics) (list_all (covers_own D p) os) s.owns in
+    let l = both_true locals statics m.0 in
     record {
       names = a.0;
       procedure = x.procedure;
@@ -166,9 +174,13 @@ covered_parts P p h =
       kind = x.kind;
       params = x.params;
       result = x.result;
+      outer = x.outer;
       site = s.site;
+      standard = s.standard;
       is_site = s.is_site;
-      numbers = same_numbers (variable_numbers os) (owned_from (is_local_of p) 0 D.vars) m.0;
+      locals = same_numbers (local_numbers os) (owned_from (is_local_of p) 0 D.vars) l.0;
+      statics = same_numbers (static_numbers os) (owned_from (is_static_of p) 0 D.vars) l.1;
+      owns = m.1;
       different = subst (λ o. are_different (map own_name (frame_owns D o s.site)) ≡ true) x.is_procedure s.different;
       variables = d.0;
       lines = y.lines;
@@ -201,44 +213,14 @@ pub plain_parts : (o : Option Procedure) → is_plain o ≡ true → PlainProced
 plain_parts None h = absurd (true≢false (sym h))
 plain_parts (Some x) h = record { procedure = x; is_procedure = refl; kind = plain_kind x.kind h }
 
--- ---- a covered procedure has no Statics
-
-static_not : (p : ℕ) (o : Owner) (rest : Bool) → cond (belongs_to p o) (covers_owner o && rest) true ≡ true → is_static_of p o ≡ false
-static_not p (owner.Static q) rest h = by (nat_eq p q.0) h
-  where
-    by : (b : Bool) → cond b false true ≡ true → b ≡ false
-    by true e = absurd (true≢false (sym e))
-    by false e = refl
-static_not p (owner.Module file) rest h = refl
-static_not p (owner.Local q) rest h = refl
-static_not p (owner.Value q) rest h = refl
-static_not p (owner.Reference q) rest h = refl
-static_not p (owner.Answer q) rest h = refl
-static_not p (owner.Field t) rest h = refl
-
 abbrev own_covered : (p : ℕ) → Variable → Bool
 own_covered p x = cond (belongs_to p x.owner) (covers_variable x) true
-
-pub no_statics : (p k : ℕ) (xs : List Variable) → list_all (λ (x : Variable). cond (belongs_to p x.owner) (covers_variable x) true) xs ≡ true
-    → owned_from (is_static_of p) k xs ≡ []
-no_statics p k [] h = refl
-no_statics p k (x ∷ xs) h =
-    ap (λ b. cond b (k ∷ owned_from (is_static_of p) (suc k) xs) (owned_from (is_static_of p) (suc k) xs))
-    (static_not p x.owner (covers_type x.ty && not x.auto) (all_first (own_covered p) x xs h))
-    ∙ no_statics p (suc k) xs (all_rest (own_covered p) x xs h)
 
 -- what the procedure owns is covered
 pub own_covered_at : (P : Program) (p v : ℕ) (x : Variable) → covers_variables P p ≡ true → slice_get P.declarations.vars v ≡ Some x
     → belongs_to p x.owner ≡ true → covers_variable x ≡ true
 own_covered_at P p v x h e owned =
     sym (ap (λ b. cond b (covers_variable x) true) owned) ∙ all_at (own_covered p) P.declarations.vars v x h e
-
-pub no_static : (P : Program) (p v : ℕ) → covers_variables P p ≡ true → is_static_in p (slice_get P.declarations.vars v) ≡ false
-no_static P p v h = by (slice_get P.declarations.vars v) refl
-  where
-    by : (o : Option Variable) → slice_get P.declarations.vars v ≡ o → is_static_in p o ≡ false
-    by None e = refl
-    by (Some x) e = static_not p x.owner (covers_type x.ty && not x.auto) (all_at (own_covered p) P.declarations.vars v x h e)
 
 -- ---- lines
 
@@ -271,8 +253,8 @@ labels_are_sound P p lines h =
 
 form_jumps_soundly : (uses : Uses) (f : Form) (es : List Expr) (a : Label6) → covers_form uses f es ≡ true → jump_of f ≡ Some a → covers_label (label_of a) ≡ true
 form_jumps_soundly uses (source.goto b) es a h e = ap (λ c. covers_label (label_of c)) (sym (some_is e)) ∙ h
-form_jumps_soundly uses (source.on_error_goto b) es a h e = absurd (true≢false (sym h))
-form_jumps_soundly uses (source.resume_at b) es a h e = absurd (true≢false (sym h))
+form_jumps_soundly uses (source.on_error_goto b) es a h e = ap (λ c. covers_label (label_of c)) (sym (some_is e)) ∙ h
+form_jumps_soundly uses (source.resume_at b) es a h e = ap (λ c. covers_label (label_of c)) (sym (some_is e)) ∙ h
 form_jumps_soundly uses _ es a h e = absurd (not_none e)
 
 pub jumps_soundly : (P : Program) (p : ℕ) (l : Line) (a : Label6) → covers_line P p l ≡ true → jump_of l.source.form ≡ Some a → covers_label (label_of a) ≡ true

@@ -11,10 +11,11 @@ use Rattle.bound_facts.specs.Facts.{Known, is_quiet_owner}
 use Rattle.net_tree.specs.Tree as net_tree
 use Rattle.net_tree.specs.Types as words
 use Rattle.net_tree.specs.Types.{TypeName}
-use Rattle.run_base.specs.Outcomes.{gives, then}
+use Rattle.run_base.specs.Outcomes.{gives, some_of, then}
+use Rattle.run_base.specs.Positions.{shared, whole}
 use Rattle.net_run.specs.Members.{Code}
-use Rattle.net_run.specs.Names.{declared_constant}
-use Rattle.net_run.specs.Program.{dim_made}
+use Rattle.net_run.specs.Names.{declared_constant, is_class}
+use Rattle.net_run.specs.Program.{dim_made, made_once, object_static, static_at, static_key}
 use Rattle.net_run.specs.Shapes as shape
 use Rattle.net_run.specs.Store as net
 use Rattle.written_trees.specs.Facts.{is_flagged_variable}
@@ -23,9 +24,8 @@ use Rattle.written_trees.specs.Prologues.{constant_dim, constant_dim_by, initial
 use Rattle.written_trees.specs.Types.{type_with}
 use Rattle.agreeing_laws.proofs.Outputs.{after_nothing}
 use Rattle.run_matches.specs.Covered.{covers_owner, covers_type}
-use Rattle.run_matches.specs.Frames.{dim_name}
 use Rattle.run_matches.specs.Likeness.{scalar_word}
-use Rattle.run_matches.specs.Sites.{Own, own_constant, own_name, own_variable}
+use Rattle.run_matches.specs.Sites.{own_constant, own_variable}
 use Rattle.run_matches.specs.Upgrades.{Upgrade, is_unknown, type_of}
 use Rattle.run_statements.specs.Frames.{IsReadable}
 use Rattle.run_statements.specs.Kept.{IsConstantDim, own_dim}
@@ -60,13 +60,15 @@ word_of _ h = absurd (true≢false (sym h))
 abbrev plain_variable : List ℕ → TypeName → net_tree.Variable
 plain_variable name t = record { name = name; ty = t; value = None }
 
-no_static : (o : Owner) → covers_owner o ≡ true → is_static o ≡ false
-no_static (owner.Static p) h = absurd (true≢false (sym h))
-no_static _ h = refl
-
 pub no_quiet : (F : Known) (o : Owner) → covers_owner o ≡ true → is_quiet_owner F o ≡ false
 no_quiet F (owner.Reference p) h = absurd (true≢false (sym h))
 no_quiet F _ h = refl
+
+static_dim_by : (b c : Bool) (x y : net_tree.Variable) → b ≡ true → c ≡ false
+    → cond b (net_tree.static_local (cond c x y)) (net_tree.local (cond c x y)) ≡ net_tree.static_local y
+static_dim_by true true x y d e = absurd (true≢false e)
+static_dim_by true false x y d e = refl
+static_dim_by false c x y d e = absurd (true≢false (sym d))
 
 dim_by : (b c : Bool) (x y : net_tree.Variable) → b ≡ false → c ≡ false
     → cond b (net_tree.static_local (cond c x y)) (net_tree.local (cond c x y)) ≡ net_tree.local y
@@ -83,8 +85,9 @@ pub record ScalarMade (U : Upgrade) (S : Scope) (c : Code) (v : ℕ) (r : IsRead
       → dim_made U.written c me i (own_dim S (own_variable v r.variable)) w
       ≡ then (net.made_with (shape.scalar word) (shape.default_of (shape.scalar word)) w) (λ b t. gives [] (r.variable.name, b) t)
 
-pub variable_made : (U : Upgrade) (S : Scope) → S.facts ≡ U.facts → (c : Code) (v : ℕ) (r : IsReadable U v) → ScalarMade U S c v r
-variable_made U S facts c v r =
+pub variable_made : (U : Upgrade) (S : Scope) → S.facts ≡ U.facts → (c : Code) (v : ℕ) (r : IsReadable U v) → is_static r.variable.owner ≡ false
+    → ScalarMade U S c v r
+variable_made U S facts c v r local =
     let x : Variable = r.variable in
     let a = both_true (covers_owner x.owner) (covers_type x.ty && not x.auto) r.covers in
     let m : WordOf x.ty = word_of x.ty (both_true (covers_type x.ty) (not x.auto) a.1).0 in
@@ -93,7 +96,7 @@ variable_made U S facts c v r =
     let typed : typed_variable S v x ≡ plain_variable x.name m.word =
     λ i. record { name = x.name; ty = m.written S.declarations S.file x.qualified (S.facts.rank v) i; value = m.plain S v x i } in
     let dim : variable_dim S (v, x) ≡ net_tree.local (plain_variable x.name m.word) =
-    dim_by (is_static x.owner) (is_flagged_variable S.facts v) (object_variable x.name) (typed_variable S v x) (no_static x.owner a.0) unflagged
+    dim_by (is_static x.owner) (is_flagged_variable S.facts v) (object_variable x.name) (typed_variable S v x) local unflagged
     ∙ ap (λ y. net_tree.local y) typed in
     let at = λ (d : Code). shape.shape_of U.written d.home m.word in
     record {
@@ -103,6 +106,48 @@ variable_made U S facts c v r =
           ap (λ d. dim_made U.written c me i d w) dim
           ∙ after_nothing (then (net.made_with (at c) (shape.default_of (at c)) w) (λ b t. gives [] (x.name, b) t))
           ∙ ap (λ s. then (net.made_with s (shape.default_of s) w) (λ b t. gives [] (x.name, b) t)) (m.shaped U.written c.home);
+    }
+
+-- ---- Statics
+
+-- The declaration of a Static makes one of its word at its key, where none is there.
+pub record StaticMade (U : Upgrade) (S : Scope) (c : Code) (v : ℕ) (r : IsReadable U v) : Type 0 where
+  pub word : TypeName
+  pub is_word : scalar_word r.variable.ty ≡ Some word
+  pub made : net_tree.Variable
+  pub plain : made.value ≡ None
+  pub shaped : shape.shape_of U.written c.home made.ty ≡ shape.scalar word
+  pub is_made :
+      (me : Option ℕ) (i : ℕ) (w : net.Memory)
+      → dim_made U.written c me i (own_dim S (own_variable v r.variable)) w
+      ≡ then (made_once U.written c.home (shared (static_key c i)) made (w.cell (whole (shared (static_key c i)))) w)
+      (λ u t. gives [] (r.variable.name, net.root (shape.scalar word) (whole (shared (static_key c i)))) t)
+
+pub static_made : (U : Upgrade) (S : Scope) → S.facts ≡ U.facts → (c : Code) → is_class U.written c.home ≡ false → (v : ℕ) (r : IsReadable U v)
+    → is_static r.variable.owner ≡ true → StaticMade U S c v r
+static_made U S facts c outer v r static =
+    let x : Variable = r.variable in
+    let a = both_true (covers_owner x.owner) (covers_type x.ty && not x.auto) r.covers in
+    let m : WordOf x.ty = word_of x.ty (both_true (covers_type x.ty) (not x.auto) a.1).0 in
+    let unflagged : is_flagged_variable S.facts v ≡ false =
+    ap (λ F. is_flagged_variable F v) facts ∙ (neither (is_flagged_variable U.facts v) (is_unknown (type_of U v)) r.sound).0 in
+    let typed : typed_variable S v x ≡ plain_variable x.name m.word =
+    λ i. record { name = x.name; ty = m.written S.declarations S.file x.qualified (S.facts.rank v) i; value = m.plain S v x i } in
+    let dim : variable_dim S (v, x) ≡ net_tree.static_local (plain_variable x.name m.word) =
+    static_dim_by (is_static x.owner) (is_flagged_variable S.facts v) (object_variable x.name) (typed_variable S v x) static unflagged
+    ∙ ap (λ y. net_tree.static_local y) typed in
+    let d : net_tree.Variable = plain_variable x.name m.word in
+    record {
+      word = m.word;
+      is_word = m.is_word;
+      made = d;
+      plain = refl;
+      shaped = m.shaped U.written c.home;
+      is_made = λ me i w.
+          ap (λ e. dim_made U.written c me i e w) dim
+          ∙ ap (λ b. some_of (cond b (object_static (static_key c i) me) (Some (shared (static_key c i)))) (static_at U.written c.home d) w) outer
+          ∙ ap (λ s. then (made_once U.written c.home (shared (static_key c i)) d (w.cell (whole (shared (static_key c i)))) w)
+          (λ u t. gives [] (x.name, net.root s (whole (shared (static_key c i)))) t)) (m.shaped U.written c.home);
     }
 
 -- ---- constants

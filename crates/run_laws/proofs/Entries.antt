@@ -1,29 +1,25 @@
 -- The entry of a covered procedure makes frames that match.
-use Rattle.std.proofs.Common.{◌≡◌, refl, sym, ap, subst, ◌∙◌, ℕ, ◌<◌, ◌≤◌, arith, true, false, cond, not, ◌&&◌, nat_eq, true≢false, Option, Some, None, option_map, List, [], ◌∷◌, ◌++◌, map, ◌⊎◌, inl, inr}
-use Rattle.std.specs.Prelude.{slice_get, option_and_then}
+use Rattle.std.proofs.Common.{◌≡◌, refl, sym, ap, subst, ◌∙◌, ℕ, arith, true, false, not, nat_eq, Option, Some, None, option_map, List, [], ◌∷◌, ◌++◌, map, ◌⊎◌, inl, inr}
+use Rattle.std.specs.Prelude.{slice_get, is_some}
 use Rattle.std.specs.List.{list_any, list_all}
+use Rattle.written_trees.specs.Prologues.{is_static}
 use Rattle.std.specs.Map.{lookup}
 use Rattle.up_base.proofs.Lists.{all_first, all_rest}
-use Rattle.up_base.proofs.Tests.{both_true}
 use Rattle.vb_tree.specs.declared.declared.VarId.{VarId}
-use Rattle.vb_tree.specs.Tree.{Form}
 use Rattle.vb_tree.specs.Tree as source_form
-use Rattle.bound_tree.specs.Tree.{Declarations, Expr, Procedure, Variable}
-use Rattle.bound_facts.specs.Facts.{Known, is_quiet, is_quiet_variable}
-use Rattle.bound_facts.specs.SelfMade.{module_of}
+use Rattle.bound_tree.specs.Tree.{Declarations, Procedure, Variable}
+use Rattle.bound_facts.specs.Facts.{is_quiet}
 use Rattle.net_tree.specs.Tree as net_tree
 use Rattle.net_tree.specs.Types.{TypeName}
-use Rattle.run_base.specs.Frames.{Kept, first_frame, keeps_address, keeps_nothing}
+use Rattle.run_base.specs.Frames.{first_frame}
 use Rattle.run_base.specs.Outcomes.{Outcome, after, gives, some_of, then}
-use Rattle.run_base.specs.Positions.{Position, Root, made, whole}
+use Rattle.run_base.specs.Positions.{Root, made, shared, whole}
 use Rattle.vb6_run.specs.Programs.{answer_in, entered_as, entry, is_local_of, is_static_of, lay_statics, made_each, owned_from, parameters}
-use Rattle.vb6_run.specs.Runnables.{static_root}
-use Rattle.vb6_run.specs.Values.{Value}
-use Rattle.vb6_run.specs.Shapes.{variable_shape}
+use Rattle.vb6_run.specs.Shapes.{variable_shape, simple}
 use Rattle.vb6_run.specs.Store.{Address, Locked, Memory, SourceFrame, SourceGiven, locked_by, make}
 use Rattle.net_run.specs.Lines.{NetFrame}
-use Rattle.net_run.specs.Members.{Code, params_of, result_of}
-use Rattle.net_run.specs.Names.{var_in}
+use Rattle.net_run.specs.Members.{params_of, result_of, result_by}
+use Rattle.net_run.specs.Names.{var_in, is_class, is_class_at}
 use Rattle.net_run.specs.Program as target
 use Rattle.net_run.specs.Program.{dims_made, enter, frame_made}
 use Rattle.net_run.specs.Shapes as shape
@@ -32,18 +28,18 @@ use Rattle.written_trees.specs.Bodies.{inside_procedure}
 use Rattle.written_trees.specs.Heads as heads
 use Rattle.written_trees.specs.Names.{Scope, variable_name_of}
 use Rattle.written_trees.specs.Types.{type_with}
-use Rattle.run_matches.specs.Addresses.{ArgsMatch, IsPlain, both_nothing, images, AllLocked}
+use Rattle.run_matches.specs.Addresses.{ArgsMatch, both_nothing, images, AllLocked, AllMatched, AllRanked}
 use Rattle.run_matches.specs.Agreeing.{Agrees}
-use Rattle.run_matches.specs.Covered.{covers_kind, covers_owner, covers_type, belongs_to, covers_parameter}
-use Rattle.run_matches.specs.Frames.{FrameMatch, HasNames, HasPlace, KeptBy, SameVariable, declared_names, dim_name, is_static_in, result_names, static_of}
+use Rattle.run_matches.specs.Covered.{are_different, covers_type, belongs_to, covers_parameter, covers_own}
+use Rattle.run_matches.specs.Frames.{FrameMatch, HasNames, SameVariable, declared_names, dim_name, result_names, static_of, SameStatic, name_of}
 use Rattle.run_matches.specs.Callees.{answer_owns, own_of_some, parameter_owns}
-use Rattle.run_matches.specs.Likeness.{scalar_word}
-use Rattle.run_matches.specs.Maps.{Below, Mark, World, is_auto_root, is_auto_variable, mark}
+use Rattle.run_matches.specs.Likeness.{scalar_word, SameShape, same_scalar}
+use Rattle.run_matches.specs.Maps.{Below, Mark, World, mark, IsMatched, key_or_none, moved_at}
 use Rattle.run_matches.specs.Match.{MemoryMatch, StoreMatch}
 use Rattle.run_matches.specs.Pledges.{Later, NetGiven, Pledge}
 use Rattle.run_matches.specs.Runs.{IsObject, call_pledge}
-use Rattle.run_matches.specs.Sites.{Own, own_name, own_variable, owns_of, variable_numbers}
-use Rattle.run_matches.specs.Upgrades.{Upgrade, is_auto, runnable_of}
+use Rattle.run_matches.specs.Sites.{Own, own_name, own_variable, owns_of, own_constant, local_numbers, static_number, static_numbers}
+use Rattle.run_matches.specs.Upgrades.{Upgrade, runnable_of}
 use Rattle.run_statements.specs.Frames.{IsReadable}
 use Rattle.run_statements.specs.Kept.{OwnsAreKept, own_dim}
 use Rattle.run_statements.specs.Written.{WrittenProcedure, site_scope}
@@ -54,51 +50,23 @@ use Rattle.agreeing_laws.proofs.Made.{below_then, more}
 use Rattle.agreeing_laws.proofs.Moves.{locks_later}
 use Rattle.agreeing_laws.proofs.Scalars.{object_later}
 use Rattle.expression_laws.proofs.Types.{same_of}
-use Rattle.run_laws.specs.Entered.{AllSound, LocalsMatch, RunMatch, next_constant, next_variable, no_locals}
-use Rattle.run_laws.specs.Premises.{LocalsAreMadeBy, ValuesAreMadeBy}
-use Rattle.run_laws.proofs.Covered.{CoveredProcedure, no_static, no_statics, not_none, some_is}
-use Rattle.run_laws.proofs.Dims.{WordOf, no_quiet, word_of}
+use Rattle.memory_laws.proofs.Making.{readable_shape}
 use Rattle.name_laws.proofs.FrameNames.{own_names, parameter_names, params_are}
-use Rattle.name_laws.proofs.Lists.{map_append}
+use Rattle.name_laws.proofs.Lists.{Among, all_among, among_right, flat_among, map_append}
+use Rattle.name_laws.proofs.Owned.{owned_is}
+use Rattle.name_laws.proofs.Owns.{number_if, own_is}
+use Rattle.run_laws.specs.Entered.{AllKeyed, AllSound, LocalsMatch, RunMatch, StaticMatch, next_constant, next_static, next_variable, no_locals}
+use Rattle.run_laws.specs.Premises.{LocalsAreMadeBy, ValuesAreMadeBy}
+use Rattle.run_laws.proofs.Covered.{CoveredProcedure, some_is}
+use Rattle.run_laws.proofs.Dims.{WordOf, word_of}
 use Rattle.run_laws.proofs.Heads.{HasAnswer, HasNone, Parameter, a_result, answer_names, answer_parts, no_result, parameter_is}
 use Rattle.run_laws.proofs.Names.{code_is}
 use Rattle.run_laws.proofs.Owns.{owns_sound}
-use Rattle.run_laws.proofs.Locals.{Found, position_is, Locals, listed_behind, local_found, local_later, local_listed, local_names, local_places, local_there, locals_agree, locals_later}
+use Rattle.run_laws.proofs.StaticOrder.{each_next, in_order, laid_as_statics, made_in_order}
+use Rattle.run_laws.proofs.StaticKeys.{IsDeclaredOwn, StaticFound, all_keyed, static_found, static_there}
+use Rattle.run_laws.proofs.Locals.{Found, Locals, listed_behind, local_found, local_later, local_listed, local_names, local_places, local_there, locals_agree, locals_later}
 use Rattle.run_laws.proofs.Parameters.{Local, Parameters, local_is_made, none_quiet, parameters_agree, readable_type}
-
--- ---- the frames of an entry
-
-nothing_kept : (a : Address) → ◌≡◌ {A = Kept Value Address} keeps_nothing (keeps_address a) → ⊥
-nothing_kept a e = cc e
-
-nothing_by : (vars : List (ℕ × Address)) (form : Form) (es : List Expr) → KeptBy vars form es keeps_nothing keeps_nothing
-nothing_by vars (source_form.for_head counter start limit step) es = tt
-nothing_by vars (source_form.select e) es = tt
-nothing_by vars _ es = tt
-
-made_object : (w u : World) (me : Option ℕ) → w.src.next_object ≤ u.src.next_object → IsObject w me → (o : ℕ) → me ≡ Some o → o < u.src.next_object
-made_object w u None le h o e = absurd (not_none e)
-made_object w u (Some m) le h o e = more o w.src.next_object u.src.next_object le (subst (λ n. n < w.src.next_object) (some_is e) h)
-
--- a variable in a place has no As New declaration where it isn't known by one
-plain_place : (U : Upgrade) (w : World) (v : ℕ) (a : Address) → HasPlace U w v a → is_auto U v ≡ false → IsPlain U w a
-plain_place U w v a h auto q e =
-    subst (λ (z : Position). is_auto_root U w.map z.root ≡ false) (position_is a (variable_shape U.program.declarations v) (whole (made h.place)) q h.stands e)
-    (ap (is_auto_variable U) h.declared ∙ auto)
-
-quiet_by : (F : Known) (o : Option Variable) (x : Variable) → o ≡ Some x → covers_owner x.owner ≡ true → is_quiet_variable F o ≡ false
-quiet_by F o x e h = ap (is_quiet_variable F) e ∙ no_quiet F x.owner h
-
--- a variable that can be read is no quiet parameter
-pub readable_exact : (U : Upgrade) (v : ℕ) → IsReadable U v → is_quiet U.program.declarations U.known v ≡ false
-readable_exact U v r =
-    let a = both_true (covers_owner r.variable.owner) (covers_type r.variable.ty && not r.variable.auto) r.covers in
-    ap (λ b. b && not (U.known.touched v)) (quiet_by U.known (slice_get U.program.declarations.vars v) r.variable r.is_variable a.0)
-
-no_static_root : (U : Upgrade) (p : ℕ) (me : Option ℕ) (v : ℕ) (r : Root) → is_static_in p (slice_get U.program.declarations.vars v) ≡ false
-    → static_of U p me v ≡ Some r → ⊥
-no_static_root U p me v r n e =
-    not_none (sym (ap (λ b. cond b (static_root U.program.declarations me v (module_of (slice_get U.program.declarations.procs p))) None) n) ∙ e)
+use Rattle.run_laws.proofs.Standing.{different_behind, made_object, module_in_is, nothing_by, nothing_kept, plain_place, readable_exact, simple_owns, static_root_is}
 
 module _ (U : Upgrade) (p : ℕ) (c : CoveredProcedure U.program p) (W : WrittenProcedure U p c.site c.procedure)
     (kept : OwnsAreKept U p c.site c.procedure W)
@@ -205,6 +173,27 @@ module _ (U : Upgrade) (p : ℕ) (c : CoveredProcedure U.program p) (W : Written
             plain = plain_place U u v a z.match.place;
           }
 
+      static_there_is : (v : ℕ) (r : Root) → static_of U p me v ≡ Some r → SameStatic U u v r g
+      static_there_is v r e =
+          let y = static_root_is U p x me v r (slice_get D.vars v) refl c.is_procedure c.outer e in
+          let z = static_there D p v y.0 os c.statics y.1 y.2 in
+          let there = among_right (parameter_owns D x.params) others (own_variable v z.0) (among_right (answer_owns D x.answer) os (own_variable v z.0) z.1) in
+          let t : StaticFound U v z.0 bs = static_found U K u v z.0 z.2 all ks bs m c.different there in
+          let named : name_of U v ≡ z.0.name = ap (λ o. variable_name_of o) (own_is D c.site (own_variable v z.0) z.1) in
+          let s : StaticMatch U v t.address = t.match in
+          let standing : net.root (shape.scalar s.word) (moved_at U u.map (whole (shared (v ∷ [])))) ≡ t.address =
+          ap (λ o. net.root (shape.scalar s.word) (whole (shared (key_or_none o)))) s.is_key ∙ sym s.stands in
+          let matched : IsMatched U u (whole (shared (v ∷ []))) =
+          record { is_made = tt; counterpart = ap is_some s.is_key; sound = ap not s.readable.sound } in
+          let shaped : variable_shape D v ≡ simple s.readable.variable.ty = readable_shape U v s.readable in
+          subst (λ q. SameStatic U u v q g) y.3 (record {
+            written = shape.scalar s.word;
+            found = ap (λ n. var_in bs n) named ∙ t.found ∙ ap (λ b. Some b) (sym standing);
+            same = subst (λ t. SameShape U t (shape.scalar s.word)) (sym shaped) (same_scalar s.readable.variable.ty s.word s.is_word);
+            is_matched = subst (λ t. AllMatched U u t (whole (shared (v ∷ [])))) (sym shaped) matched;
+            ranked = subst (λ t. AllRanked U u t (shape.scalar s.word) (whole (shared (v ∷ [])))) (sym shaped) tt;
+          })
+
       frames_match : FrameMatch U K u p f g
       frames_match = record {
         line = refl;
@@ -215,7 +204,7 @@ module _ (U : Upgrade) (p : ℕ) (c : CoveredProcedure U.program p) (W : Written
         me_made = made_object w u me lat.grows.objects obj;
         names = subst (λ o. HasNames o g) (sym (code_is U p c.site x W)) (local_names U S K u all ks bs m ∙ all_names);
         vars = λ v a e flag. variable_at v a e;
-        statics = λ v r e flag. absurd (no_static_root U p me v r (no_static U.program p v c.variables) e);
+        statics = λ v r e flag. static_there_is v r e;
         own = λ v a e is. (found_at v a e).match.place;
         own_heads = λ h l a e is k. absurd (nothing_kept a k);
         kept = λ h. both_nothing;
@@ -224,7 +213,7 @@ module _ (U : Upgrade) (p : ℕ) (c : CoveredProcedure U.program p) (W : Written
             local_there U S K u all ks bs m v
             (listed_behind v (parameter_owns D x.params) others
             (listed_behind v (answer_owns D x.answer) os
-            (subst (λ ns. list_any (nat_eq v) ns ≡ true) (sym c.numbers) (local_listed p v 0 v D.vars is (omega arith)))));
+            (subst (λ ns. list_any (nat_eq v) ns ≡ true) (sym c.locals) (local_listed p v 0 v D.vars is (omega arith)))));
         locks = subst (λ z. AllLocked U K u z) (sym is) (locks_later U K w u locked lat held);
         low = below_then base (mark w.src) (mark u.src) low lat.grows;
       }
@@ -243,6 +232,46 @@ module _ (U : Upgrade) (p : ℕ) (c : CoveredProcedure U.program p) (W : Written
         places = local_places U S K u p all ks bs m;
       }
 
+    -- ---- the Statics of the entry
+
+    sound : AllSound U S os
+    sound = owns_sound U p c.site x W kept
+
+    outer_home : is_class U.written W.code.home ≡ false
+    outer_home =
+        ap (is_class U.written) W.home ∙ ap is_class_at (module_in_is U.written.modules c.site.home) ∙ ap is_class_at W.is_module ∙ c.standard
+
+    declared_own : (o : Own) → Among os o → IsDeclaredOwn U p W.code (code_is U p c.site x W) S o
+    declared_own (own_variable v y) m =
+        let is : slice_get D.vars v ≡ Some y = own_is D c.site (own_variable v y) m in (
+          is,
+          λ static.
+              owned_is (is_static_of p) D.vars v y
+              (subst (λ ns. Among ns v) c.statics (flat_among static_number os (own_variable v y) v m (number_if (is_static y.owner) v static))) is,
+          all_among (covers_own D p) os (own_variable v y) c.owns m,
+        )
+    declared_own (own_constant d y) m = tt
+
+    own_different : are_different (map own_name os) ≡ true
+    own_different =
+        different_behind (map own_name (answer_owns D x.answer)) (map own_name os)
+        (different_behind (map own_name (parameter_owns D x.params)) (map own_name (answer_owns D x.answer) ++ map own_name os)
+        (subst (λ ns. are_different ns ≡ true)
+        (map_append own_name (parameter_owns D x.params) others
+        ∙ ap (λ ns. map own_name (parameter_owns D x.params) ++ ns) (map_append own_name (answer_owns D x.answer) os)) c.different))
+
+    keyed : AllKeyed U W.code 0 os
+    keyed = all_keyed U p W.code (code_is U p c.site x W) S [] os kept.prologue (λ o m. tt) own_different declared_own
+
+    -- they could as well be laid where they stand among the local variables
+    ordered : {A : Type 0} (G : List (ℕ × Address) → Memory → Outcome Memory A) (w : Memory)
+        → then (made_each D (local_numbers os) w) (λ more w. then (lay_statics D me (Some x.module_number) (static_numbers os) w) (λ u w. G more w))
+        ≡ then (made_in_order D os w) G
+    ordered G w =
+        ap (λ f. then (made_each D (local_numbers os) w) f)
+        (λ i more v. then (laid_as_statics D me x.module_number c.outer (static_numbers os) v i) (λ u z. G more z))
+        ∙ in_order D os (simple_owns U S os sound) G w
+
     -- ---- the result variable and what the lines declare
 
     abbrev net_others : Option (List ℕ × TypeName) → Option ℕ → net.Memory → Outcome net.Memory (List (List ℕ × net.Address))
@@ -250,17 +279,26 @@ module _ (U : Upgrade) (p : ℕ) (c : CoveredProcedure U.program p) (W : Written
         then (target.result_made U.written W.code.home r t) (λ own t.
         then (dims_made U.written W.code to 0 (map (own_dim S) os) t) (λ dims t. gives [] (own ++ dims) t))
 
+    -- what the source makes behind its parameters
+    abbrev source_others : List ℕ → (statics owned : List ℕ) → Memory → Outcome Memory (List (ℕ × Address))
+    source_others answer statics owned w =
+        then (made_each D (answer ++ owned) w) (λ more w. then (lay_statics D me (Some x.module_number) statics w) (λ u w. gives [] more w))
+
+    abbrev all_others : Option VarId → Memory → Outcome Memory (List (ℕ × Address))
+    all_others a w = source_others (answer_in a) (static_numbers os) (local_numbers os) w
+
     others_agree : (w : World) (to : Option ℕ) → HasNone x ⊎ HasAnswer D p x → Below base (mark w.src) → MemoryMatch U w
-        → Agrees U K w (Locals U K others) (made_each D (answer_in x.answer ++ variable_numbers os) w.src) (net_others (result_of W.code) to w.net)
+        → Agrees U K w (Locals U K others) (all_others x.answer w.src) (net_others (result_of W.code) to w.net)
     others_agree w to (inl h) low start =
-        let r = made_each D (variable_numbers os) w.src in
+        let r = all_others None w.src in
         let r' = dims_made U.written W.code to 0 (map (own_dim S) os) w.net in
-        subst (λ a. Agrees U K w (Locals U K (answer_owns D a ++ os)) (made_each D (answer_in a ++ variable_numbers os) w.src) (net_others (result_of W.code) to w.net))
+        subst (λ a. Agrees U K w (Locals U K (answer_owns D a ++ os)) (all_others a w.src) (net_others (result_of W.code) to w.net))
         (sym h.is_answer)
         (subst (λ z. Agrees U K w (Locals U K os) r (net_others z to w.net)) (sym (no_result U p c.site x W h))
         (right_alone U K w (Locals U K os) r (then r' (λ dims t. gives [] dims t))
         (subst (λ z. Agrees U K w (Locals U K os) r z) (sym (then_gives r'))
-        (locals_agree U K made_alike S refl W.code to w 0 os (owns_sound U p c.site x W kept) low start))))
+        (subst (λ z. Agrees U K w (Locals U K os) z r') (sym (ordered (λ more w. gives [] more w) w.src ∙ then_gives (made_in_order D os w.src)))
+        (locals_agree U K made_alike S refl W.code to outer_home w 0 os sound keyed low start)))))
     others_agree w to (inr h) low start =
         let y : Variable = h.variable in
         let r : IsReadable U h.id.0 = (answer_sound h).0 in
@@ -281,26 +319,33 @@ module _ (U : Upgrade) (p : ℕ) (c : CoveredProcedure U.program p) (W : Written
         let R = Locals U K (own_variable h.id.0 y ∷ os) in
         let made = net.made_with (shape.scalar m.word) (shape.default_of (shape.scalar m.word)) w.net in
         let rest = λ (own : List (List ℕ × net.Address)) (t : net.Memory). then (dims_made U.written W.code to 0 ds t) (λ dims t. gives [] (own ++ dims) t) in
-        let all_made = made_each D (h.id.0 ∷ variable_numbers os) w.src in
-        subst (λ a. Agrees U K w (Locals U K (answer_owns D a ++ os)) (made_each D (answer_in a ++ variable_numbers os) w.src) (net_others (result_of W.code) to w.net))
+        let all_made = all_others (Some h.id) w.src in
+        let in_order_made =
+        then (make s w.src) (λ a v. then (made_in_order D os v) (λ more v. gives [] ((h.id.0, a) ∷ more) v)) in
+        let reordered : all_made ≡ in_order_made =
+        each_next D h.id.0 (local_numbers os) (λ more v. then (lay_statics D me (Some x.module_number) (static_numbers os) v) (λ u v. gives [] more v)) w.src
+        ∙ ap (λ k. then (make s w.src) k) (λ i a v. ordered (λ more v. gives [] ((h.id.0, a) ∷ more) v) v i) in
+        subst (λ a. Agrees U K w (Locals U K (answer_owns D a ++ os)) (all_others a w.src) (net_others (result_of W.code) to w.net))
         (sym h.is_answer)
         (subst (λ o. Agrees U K w (Locals U K (own_of_some h.id.0 o ++ os)) all_made (net_others (result_of W.code) to w.net)) (sym h.is_variable)
         (subst (λ z. Agrees U K w R all_made (net_others z to w.net)) (sym (a_result U p c.site x W h))
         (subst (λ z. Agrees U K w R all_made (then (then (net.made_with z (shape.default_of z) w.net) (λ a t. gives [] ((x.name, a) ∷ []) t)) rest)) (sym shape_is)
         (subst (λ z. Agrees U K w R all_made z) (sym (then_assoc made (λ a t. gives [] ((x.name, a) ∷ []) t) rest))
+        (subst (λ z. Agrees U K w R z (then made (λ b t. after [] (then (dims_made U.written W.code to 0 ds t) (λ dims t. gives [] ((x.name, b) ∷ dims) t)))))
+        (sym reordered)
         (then_agrees U K w (Local U K made_alike made_with h.id.0) R (make s w.src) made
-        (λ a s. then (made_each D (variable_numbers os) s) (λ more s. gives [] ((h.id.0, a) ∷ more) s))
+        (λ a s. then (made_in_order D os s) (λ more s. gives [] ((h.id.0, a) ∷ more) s))
         (λ b t. after [] (then (dims_made U.written W.code to 0 ds t) (λ dims t. gives [] ((x.name, b) ∷ dims) t))) start
         (local_is_made U K made_alike made_with w h.id.0 r m.word word low start)
         (λ a b u n later.
-        right_alone U K u R (then (made_each D (variable_numbers os) u.src) (λ more s. gives [] ((h.id.0, a) ∷ more) s))
+        right_alone U K u R (then (made_in_order D os u.src) (λ more s. gives [] ((h.id.0, a) ∷ more) s))
         (then (dims_made U.written W.code to 0 ds u.net) (λ dims t. gives [] ((x.name, b) ∷ dims) t))
-        (then_agrees U K u (Locals U K os) R (made_each D (variable_numbers os) u.src) (dims_made U.written W.code to 0 ds u.net)
+        (then_agrees U K u (Locals U K os) R (made_in_order D os u.src) (dims_made U.written W.code to 0 ds u.net)
         (λ more s. gives [] ((h.id.0, a) ∷ more) s) (λ dims t. gives [] ((x.name, b) ∷ dims) t) later.match
-        (locals_agree U K made_alike S refl W.code to u 0 os (owns_sound U p c.site x W kept) (below_then base (mark w.src) (mark u.src) low later.grows) later.match)
+        (locals_agree U K made_alike S refl W.code to outer_home u 0 os sound keyed (below_then base (mark w.src) (mark u.src) low later.grows) later.match)
         (λ ks bs z ms more.
         agrees_gives U K z R ((h.id.0, a) ∷ ks) ((x.name, b) ∷ bs) more.match
-        (next_variable h.id.0 y a (x.name, b) os ks bs (sym h.name) (local_later U K u z h.id.0 a b more n) ms)))))))))
+        (next_variable h.id.0 y a (x.name, b) os ks bs (ap is_static h.owner) (sym h.name) (local_later U K u z h.id.0 a b more n) ms))))))))))
 
     -- ---- the entries
 
@@ -312,7 +357,7 @@ module _ (U : Upgrade) (p : ℕ) (c : CoveredProcedure U.program p) (W : Written
 
     abbrev source_rest : List (ℕ × Address) → Memory → Outcome Memory SourceFrame
     source_rest params w =
-        then (made_each D (answer_in x.answer ++ variable_numbers os) w) (λ more w. gives [] (begun_frame me (locked_by xs ++ locked) (params ++ more)) w)
+        then (all_others x.answer w) (λ more w. gives [] (begun_frame me (locked_by xs ++ locked) (params ++ more)) w)
 
     source_entry : (w : Memory) → entered_as (runnable_of U) p me locked xs w ≡ then (parameters (runnable_of U) p 0 x.params xs w) source_rest
     source_entry w =
@@ -320,9 +365,16 @@ module _ (U : Upgrade) (p : ℕ) (c : CoveredProcedure U.program p) (W : Written
         then (parameters (runnable_of U) p 0 x.params xs w) (λ params w.
         then (made_each D (answer_in x.answer ++ owned) w) (λ more w.
         then (lay_statics D me (Some x.module_number) statics w) (λ u w. gives [] (begun_frame me (locked_by xs ++ locked) (params ++ more)) w))) in
+        let made = λ (w : Memory). made_each D (answer_in x.answer ++ local_numbers os) w in
+        let laid = λ (w : Memory). lay_statics D me (Some x.module_number) (static_numbers os) w in
+        let grouped = λ (params : List (ℕ × Address)) (w : Memory).
+        then_assoc (made w) (λ more w. then (laid w) (λ u w. gives [] more w)) (λ more w. gives [] (begun_frame me (locked_by xs ++ locked) (params ++ more)) w)
+        ∙ ap (λ j. then (made w) j)
+        (λ i more w. then_assoc (laid w) (λ u w. gives [] more w) (λ more w. gives [] (begun_frame me (locked_by xs ++ locked) (params ++ more)) w) i) in
         ap (λ o. some_of o (λ y w. entry (runnable_of U) p me locked xs y w) w) c.is_procedure
-        ∙ ap (λ ss. from ss (owned_from (is_local_of p) 0 D.vars) w) (no_statics p 0 D.vars c.variables)
-        ∙ ap (λ owned. from [] owned w) (sym c.numbers)
+        ∙ ap (λ ss. from ss (owned_from (is_local_of p) 0 D.vars) w) (sym c.statics)
+        ∙ ap (λ owned. from (static_numbers os) owned w) (sym c.locals)
+        ∙ ap (λ k. then (parameters (runnable_of U) p 0 x.params xs w) k) (λ i params w. let e = sym (grouped params w) in e i)
 
     abbrev target_rest : Option ℕ → List (List ℕ × net.Address) → net.Memory → Outcome net.Memory NetFrame
     target_rest to params t = then (net_others (result_of W.code) to t) (λ more t. gives [] (net_begun to (params ++ more)) t)
@@ -357,8 +409,10 @@ module _ (U : Upgrade) (p : ℕ) (c : CoveredProcedure U.program p) (W : Written
     match_append : (u : World) (ks bs : List Own) (ds es : List (ℕ × Address)) (gs hs : List (List ℕ × net.Address)) → LocalsMatch U K u ks ds gs
         → LocalsMatch U K u bs es hs → LocalsMatch U K u (ks ++ bs) (ds ++ es) (gs ++ hs)
     match_append u _ bs _ es _ hs no_locals m = m
-    match_append u _ bs _ es _ hs (next_variable v y a b os ds gs name one rest) m =
-        next_variable v y a b (os ++ bs) (ds ++ es) (gs ++ hs) name one (match_append u os bs ds es gs hs rest m)
+    match_append u _ bs _ es _ hs (next_variable v y a b os ds gs local name one rest) m =
+        next_variable v y a b (os ++ bs) (ds ++ es) (gs ++ hs) local name one (match_append u os bs ds es gs hs rest m)
+    match_append u _ bs _ es _ hs (next_static v y b os ds gs static name one rest) m =
+        next_static v y b (os ++ bs) (ds ++ es) (gs ++ hs) static name one (match_append u os bs ds es gs hs rest m)
     match_append u _ bs _ es _ hs (next_constant k y b os ds gs name rest) m =
         next_constant k y b (os ++ bs) (ds ++ es) (gs ++ hs) name (match_append u os bs ds es gs hs rest m)
 
@@ -378,7 +432,7 @@ module _ (U : Upgrade) (p : ℕ) (c : CoveredProcedure U.program p) (W : Written
         (target_rest to) h
         (parameters_agree U p H refl W.code.home K made_alike made_with w0 start parameter_sound quiet x.params c.params 0 xs ys args w l low h)
         (λ ds gs u m later.
-        then_agrees U K u (Locals U K others) R (made_each D (answer_in x.answer ++ variable_numbers os) u.src) (net_others (result_of W.code) to u.net)
+        then_agrees U K u (Locals U K others) R (all_others x.answer u.src) (net_others (result_of W.code) to u.net)
         (λ more w. gives [] (begun_frame me (locked_by xs ++ locked) (ds ++ more)) w) (λ more t. gives [] (net_begun to (gs ++ more)) t) later.match
         (others_agree u to result (below_then base (mark w.src) (mark u.src) low later.grows) later.match)
         (λ es hs z n more.

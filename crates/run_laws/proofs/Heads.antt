@@ -1,10 +1,10 @@
 -- What is written for the head of a covered procedure: its parameters take values, and a Function has a result variable.
-use Rattle.std.proofs.Common.{◌≡◌, ◌⊎◌, inl, inr, refl, sym, ap, subst, ◌∙◌, ℕ, Bool, true, false, cond, not, ◌&&◌, nat_eq, true≢false, Option, Some, None, option_map, List, [], ◌∷◌, ◌++◌, map}
+use Rattle.std.proofs.Common.{◌≡◌, ◌⊎◌, inl, inr, refl, sym, ap, ◌∙◌, ℕ, true, false, cond, not, ◌&&◌, nat_eq, true≢false, Option, Some, None, List, [], ◌∷◌, ◌++◌, map}
 use Rattle.std.specs.Prelude.{is_some, slice_get}
 use Rattle.std.specs.Cmp.Lexicographic.{pointwise}
-use Rattle.std.specs.List.{flat_map, list_all}
+use Rattle.std.specs.List.{list_all}
 use Rattle.up_base.proofs.Lists.{all_first, all_rest}
-use Rattle.up_base.proofs.Tests.{both_true, not_true}
+use Rattle.up_base.proofs.Tests.{both_true}
 use Rattle.vb_tree.specs.declared.declared.Owner.{Owner}
 use Rattle.vb_tree.specs.declared.declared.Owner.TheVariants as owner
 use Rattle.vb_tree.specs.declared.declared.ProcId.{ProcId}
@@ -15,16 +15,15 @@ use Rattle.bound_tree.specs.Tree.{Declarations, Procedure, Variable}
 use Rattle.bound_facts.specs.Locks.{is_same_type}
 use Rattle.net_tree.specs.declared.declaration.NetPassing.TheVariants as passing
 use Rattle.net_tree.specs.Tree as net_tree
-use Rattle.net_tree.specs.Types.{TypeName}
 use Rattle.net_run.specs.Calls.{passings}
-use Rattle.net_run.specs.Members.{Code, params_by, params_of, result_by, result_of}
+use Rattle.net_run.specs.Members.{params_of, result_of}
 use Rattle.written_trees.specs.Heads as heads
-use Rattle.written_trees.specs.Heads.{head_of, is_function}
+use Rattle.written_trees.specs.Heads.{is_function}
 use Rattle.written_trees.specs.Names.{Scope}
-use Rattle.run_matches.specs.Callees.{answer_owns, own_at, own_of_some, parameter_owns}
+use Rattle.run_matches.specs.Callees.{answer_owns, own_of_some}
 use Rattle.run_matches.specs.Covered.{covers_parameter, has_answer, has_result, is_answer_of, is_result_in, is_value_in, is_value_of}
 use Rattle.run_matches.specs.Frames.{result_names}
-use Rattle.run_matches.specs.Sites.{Own, Site, own_name, own_variable}
+use Rattle.run_matches.specs.Sites.{Site, own_name}
 use Rattle.run_matches.specs.Upgrades.{Upgrade}
 use Rattle.run_statements.specs.Frames.{is_value}
 use Rattle.run_statements.specs.Written.{WrittenProcedure, site_scope}

@@ -8,12 +8,12 @@ use Rattle.vb_tree.specs.Tree.{CaseItem, Form}
 use Rattle.vb_tree.specs.Tree as source
 use Rattle.bound_tree.specs.Targets.{exit_to}
 use Rattle.bound_tree.specs.Tree.{Expr}
-use Rattle.run_base.specs.Frames.{Handler, none, next_line, at_line, to_line, Kept, keeps_nothing, keeps_limit, keeps_value, keeps_address}
-use Rattle.run_base.specs.Machines.{caught, go, handled, stepped}
+use Rattle.run_base.specs.Frames.{Handler, none, next_line, at_line, to_line, resumed_at, Kept, keeps_nothing, keeps_limit, keeps_value, keeps_address}
+use Rattle.run_base.specs.Machines.{behind_error, caught, go, handled, if_active, line_at, resume_at, stepped}
 use Rattle.run_base.specs.Outcomes.{Output, Outcome, gives, raises, spent, outside, after, then, answered, some_of}
 use Rattle.vb6_run.specs.Expressions.{Context, address_of, scalar_of, scalar_value, value_of, parts_of}
-use Rattle.vb6_run.specs.Forms.{SourceLine, form_does}
-use Rattle.vb6_run.specs.Lines.{branch, case_of, chosen, condition, counted, exit_does, for_does, for_from, goes_if, goes_on, has_passed, items_text, keeping_limit, keeps_at, let_to, line_of_label, next_of, print, some_fits, step_of, sum_of, when_done, with_one}
+use Rattle.vb6_run.specs.Forms.{SourceLine, form_does, idle_machine}
+use Rattle.vb6_run.specs.Lines.{branch, case_of, chosen, condition, counted, exit_does, for_does, for_from, goes_if, goes_on, handles_by, has_passed, items_text, keeping_limit, keeps_at, let_to, line_of_label, next_of, print, some_fits, step_of, sum_of, when_done, with_one}
 use Rattle.vb6_run.specs.Programs.{line_does, machine_of}
 use Rattle.vb6_run.specs.Runnables.{Runnable}
 use Rattle.vb6_run.specs.Store.{Address, Memory, SourceFrame, read, set_err, write}
@@ -108,6 +108,27 @@ some_keeps : (C : Context) (o : Option ℕ) (go : ℕ → Memory → Outcome Mem
 some_keeps C None go w h = tt
 some_keeps C (Some n) go w h = h n
 
+active_keeps : (C : Context) (active : Bool) (go : Memory → Outcome Memory SourceFrame) (w : Memory) → Yields (HasVars C.frame) (go (set_err 0 w))
+    → Yields (HasVars C.frame) (if_active (idle_machine C.runnable) C.frame active go w)
+active_keeps C true go w h = h
+active_keeps C false go w h = tt
+
+at_error_keeps : (C : Context) (place : SourceLine → ℕ) (w : Memory)
+    → Yields (HasVars C.frame)
+    (if_active (idle_machine C.runnable) C.frame C.frame.active
+    (some_of (line_at (idle_machine C.runnable) C.procedure C.frame.resume) (behind_error place C.frame)) w)
+at_error_keeps C place w =
+    active_keeps C C.frame.active (some_of (line_at (idle_machine C.runnable) C.procedure C.frame.resume) (behind_error place C.frame)) w
+    (line_keeps_by (line_at (idle_machine C.runnable) C.procedure C.frame.resume) (set_err 0 w))
+  where
+    by : (b : Bool) (n : ℕ) (w : Memory) → Yields (HasVars C.frame) (cond b (outside []) (gives [] (resumed_at n C.frame) w))
+    by true n w = tt
+    by false n w = refl
+
+    line_keeps_by : (o : Option SourceLine) (w : Memory) → Yields (HasVars C.frame) (some_of o (behind_error place C.frame) w)
+    line_keeps_by None w = tt
+    line_keeps_by (Some m) w = by m.tests (place m) w
+
 call_keeps : (C : Context) (uses : Uses) (es : List Expr) (w : Memory) → covers_call uses es ≡ true
     → Yields (HasVars C.frame) (with_one es (λ e w. when_done C (parts_of C e w)) w)
 call_keeps C uses [] w h = absurd (true≢false (sym h))
@@ -152,6 +173,14 @@ form_keeps C uses (source.while_head e) es w h = condition_keeps C uses (Some C.
 form_keeps C uses source.wend es w h = leads_keep C C.aims.back w
 form_keeps C uses (source.goto a) es w h = leads_keep C (line_of_label C a) w
 form_keeps C uses (source.label a) es w h = refl
+form_keeps C uses (source.on_error_goto a) es w h = some_keeps C (line_of_label C a) (λ n w. handles_by C (at_line n) w) w (λ n. refl)
+form_keeps C uses source.on_error_goto_zero es w h = refl
+form_keeps C uses source.on_error_resume_next es w h = refl
+form_keeps C uses source.resume es w h = at_error_keeps C (λ m. C.frame.resume) w
+form_keeps C uses source.resume_next es w h = at_error_keeps C (λ m. m.aims.after) w
+form_keeps C uses (source.resume_at a) es w h =
+    some_keeps C (line_of_label C a) (λ n w. resume_at (idle_machine C.runnable) n C.frame w) w
+    (λ n. active_keeps C C.frame.active (λ w. gives [] (resumed_at n C.frame) w) w refl)
 form_keeps C uses (source.exit kind) es w h = exit_keeps C kind w
 form_keeps C uses _ es w h = absurd (true≢false (sym h))
 

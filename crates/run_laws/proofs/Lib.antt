@@ -1,11 +1,14 @@
 pub mod Covered
 pub mod Keeping
 pub mod Dims
+pub mod StaticOrder
+pub mod StaticKeys
 pub mod Locals
 pub mod Owns
 pub mod Names
 pub mod Heads
 pub mod Parameters
+pub mod Standing
 pub mod Entries
 pub mod Pledged
 pub mod Reaching

@@ -1,5 +1,5 @@
 -- What is written for a line of a procedure does the same.
-use Rattle.std.proofs.Common.{◌≡◌, sym, ap, subst, ◌∙◌, ℕ, zero, suc, true, Option, Some, option_map, List}
+use Rattle.std.proofs.Common.{◌≡◌, sym, ap, subst, ◌∙◌, ℕ, zero, suc, true, true≢false, Option, Some, option_map, List}
 use Rattle.std.specs.Prelude.{slice_get}
 use Rattle.std.specs.List.{Contains, list_all}
 use Rattle.std.proofs.lemmas.Option.{slice_get-map}
@@ -12,9 +12,9 @@ use Rattle.vb6_run.specs.Programs as source
 use Rattle.net_run.specs.Lines.{NetFrame, NetLine, scope_of}
 use Rattle.net_run.specs.Program as target
 use Rattle.run_matches.specs.CleanLines.{IsCleanLine, or_none, lines_at}
-use Rattle.run_matches.specs.Covered.{IsCoveredLine, covers_in_block, covers_line, covers_names, covers_use, jump_of, keeps_blocks}
+use Rattle.run_matches.specs.Covered.{IsCoveredLine, covers_in_block, covers_line, covers_names, covers_use, jump_of, keeps_blocks, resumes}
 use Rattle.run_matches.specs.Frames.{HasNames, lines_of}
-use Rattle.run_matches.specs.Runs.{LineDoesTheSame, SameLine, CallsAgree}
+use Rattle.run_matches.specs.Runs.{LineDoesTheSame, CallsAgree}
 use Rattle.run_matches.specs.Sites.{Site, site_of}
 use Rattle.run_matches.specs.Upgrades.{Upgrade, code_of, runnable_of}
 use Rattle.run_statements.specs.Frames.{IsOpen, IsReadable}
@@ -53,7 +53,7 @@ module _ (U : Upgrade) (lines_written : LinesAreWritten U) (names_open : NamesAr
   pub line_same : (k : ℕ) (l : SourceLine) → line_at (source.machine_of (runnable_of U)) p (suc k) ≡ Some l → list_all keeps_blocks lines ≡ true
       → IsUnreplaced U p s k → covers_names U.program.declarations ≡ true → covers_line U.program p l.form ≡ true
       → ((v : VarId) → covers_use U.program p l.form.bindings.mentions v ≡ true → IsReadable U v.0) → UsesArePlaced U p s W.code l.form → StoresAreOwn U p l.form
-      → ((q : ℕ) → Contains (line_calls U.program.declarations p l.form) (p, q) → CanCallFrom U p s W.code q) → LineStands U p s W.code (suc k) l
+      → ((q : ℕ) → Contains (line_calls U.program.declarations p l.form) (p, q) → CanCallFrom U p s W.code q) → LineStands U p s W.number W.code (suc k) l
       → LineSame U p W.number (suc k) l
   line_same k l e blocks unreplaced names covers readable placed own can there =
       let L : WrittenLine U p s W.number (suc k) l = lines_written p s x stands W k l e (blocks_in blocks) unreplaced in
@@ -99,6 +99,7 @@ module _ (U : Upgrade) (h : LinePremises U) where
         is_there = here;
         in_block = subst (λ ls. covers_in_block U.program p ls l ≡ true) (sym lines_are) (c.stands l found.1);
         label = λ a e. absurd (not_none (sym (ap (λ (m : Line). jump_of m.source.form) form ∙ c.stays) ∙ e));
+        ways = λ e. absurd (true≢false (sym e ∙ (ap (λ (m : Line). resumes m.source.form) form ∙ c.no_resume)));
       }) in
       record {
         written = W.number;

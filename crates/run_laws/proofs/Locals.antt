@@ -8,13 +8,13 @@ use Rattle.up_base.specs.Names.{is_same_name}
 use Rattle.bound_tree.specs.Tree.{Declarations, Variable}
 use Rattle.run_base.specs.Outcomes.{Outcome, gives, raises, spent, outside, then}
 use Rattle.run_base.specs.Positions.{Position, Root, made, shared, field, whole}
-use Rattle.vb6_run.specs.Programs.{is_local_of, made_each, owned_from}
+use Rattle.vb6_run.specs.Programs.{is_local_of, owned_from}
 use Rattle.vb6_run.specs.Shapes.{Shape, variable_shape}
 use Rattle.vb6_run.specs.Store.{Address, Memory, constant, item, laid, make, provided, root}
 use Rattle.vb6_run.specs.Values.{is_makeable}
 use Rattle.net_run.specs.Members.{Code}
-use Rattle.net_run.specs.Names.{var_in}
-use Rattle.net_run.specs.Program.{dim_made, dims_made}
+use Rattle.net_run.specs.Names.{is_class, var_in}
+use Rattle.net_run.specs.Program.{dim_made, dims_made, made_once, static_key}
 use Rattle.net_run.specs.Shapes as shape
 use Rattle.net_run.specs.Store as net
 use Rattle.net_tree.specs.Types.{TypeName}
@@ -26,19 +26,22 @@ use Rattle.run_matches.specs.Frames.{IsOwnAddress, is_own_of, is_place, stands_i
 use Rattle.run_matches.specs.Maps.{Below, IsMade, World, mark}
 use Rattle.run_matches.specs.Match.{MemoryMatch}
 use Rattle.run_matches.specs.Pledges.{IsOld, Later, Pledge}
-use Rattle.run_matches.specs.Sites.{Own, own_constant, own_name, own_variable, variable_numbers}
+use Rattle.run_matches.specs.Sites.{Own, own_constant, own_name, own_variable, local_numbers}
 use Rattle.run_matches.specs.Upgrades.{Upgrade}
-use Rattle.run_statements.specs.Frames.{IsReadable, MadeMatch}
+use Rattle.run_statements.specs.Frames.{AnyUnits, IsReadable, MadeMatch}
+use Rattle.written_trees.specs.Prologues.{is_static}
 use Rattle.run_statements.specs.Kept.{own_dim}
 use Rattle.agreeing_laws.specs.Promises.{Yields}
 use Rattle.agreeing_laws.proofs.Agreeing.{agrees_gives, agrees_yields, right_alone, then_agrees}
 use Rattle.agreeing_laws.proofs.Made.{below_then, more}
 use Rattle.agreeing_laws.proofs.Moves.{address_later, matched_whole}
 use Rattle.agreeing_laws.proofs.Outputs.{outputs_then}
-use Rattle.run_laws.specs.Entered.{LocalMatch, LocalsMatch, no_locals, next_constant, next_variable, AllSound}
+use Rattle.run_laws.specs.Entered.{LocalMatch, LocalsMatch, StaticMatch, KeyAt, AllKeyed, no_locals, next_constant, next_static, next_variable, AllSound}
 use Rattle.run_laws.specs.Premises.{LocalsAreMadeBy}
 use Rattle.run_laws.proofs.Covered.{not_none, same_name, some_is}
-use Rattle.run_laws.proofs.Dims.{ConstantMade, constant_made, ScalarMade, variable_made}
+use Rattle.memory_laws.proofs.Statics.{static_is_laid}
+use Rattle.run_laws.proofs.Dims.{ConstantMade, constant_made, ScalarMade, StaticMade, static_made, variable_made}
+use Rattle.run_laws.proofs.StaticOrder.{laid_once, made_own, made_in_order}
 
 -- ---- places
 
@@ -111,10 +114,15 @@ local_listed p v k (suc i) (x ∷ xs) h e = by (is_local_of p x.owner) (local_li
     by false more = more
 
 -- and so it is behind others
-pub listed_behind : (v : ℕ) (os more : List Own) → list_any (nat_eq v) (variable_numbers more) ≡ true
-    → list_any (nat_eq v) (variable_numbers (os ++ more)) ≡ true
+pub listed_behind : (v : ℕ) (os more : List Own) → list_any (nat_eq v) (local_numbers more) ≡ true
+    → list_any (nat_eq v) (local_numbers (os ++ more)) ≡ true
 listed_behind v [] more h = h
-listed_behind v (own_variable u x ∷ os) more h = or_more (nat_eq v u) (list_any (nat_eq v) (variable_numbers (os ++ more))) (listed_behind v os more h)
+listed_behind v (own_variable u x ∷ os) more h = by (is_static x.owner) (listed_behind v os more h)
+  where
+    by : (t : Bool) → list_any (nat_eq v) (local_numbers (os ++ more)) ≡ true
+        → list_any (nat_eq v) (cond t [] (u ∷ []) ++ local_numbers (os ++ more)) ≡ true
+    by true m = m
+    by false m = or_more (nat_eq v u) (list_any (nat_eq v) (local_numbers (os ++ more))) m
 listed_behind v (own_constant c x ∷ os) more h = listed_behind v os more h
 
 -- ---- finding a variable
@@ -150,7 +158,7 @@ module _ (U : Upgrade) (S : Scope) (K : Pledge) (w : World) where
   pub local_found : (os : List Own) (xs : List (ℕ × Address)) (ys : List (List ℕ × net.Address)) → LocalsMatch U K w os xs ys → AllSound U S os
       → are_different (map own_name os) ≡ true → (v : ℕ) (a : Address) → lookup (nat_eq v) xs ≡ Some a → Found U K w v a os ys
   local_found _ _ _ no_locals sound different v a e = absurd (not_none e)
-  local_found _ _ _ (next_variable u x c b os xs ys name m rest) sound different v a e =
+  local_found _ _ _ (next_variable u x c b os xs ys local name m rest) sound different v a e =
       by (nat_eq v u) refl e (λ z. local_found os xs ys rest sound.1 (first_differs (own_variable u x) os different).1 v a z)
     where
       by : (t : Bool) → nat_eq v u ≡ t → cond t (Some c) (lookup (nat_eq v) xs) ≡ Some a → (lookup (nat_eq v) xs ≡ Some a → Found U K w v a os ys)
@@ -168,28 +176,37 @@ module _ (U : Upgrade) (S : Scope) (K : Pledge) (w : World) where
                 ap (λ (y : Variable). is_same_name n y.name) sound.0.1 ∙ (neither (is_same_name n x.name) (is_named_in n (map own_name os)) h).0;
           })
       by false same z more = found_behind (own_variable u x) b v a os ys name (first_differs (own_variable u x) os different).0 (more z)
+  local_found _ _ _ (next_static u x b os xs ys static name m rest) sound different v a e =
+      found_behind (own_variable u x) b v a os ys name (first_differs (own_variable u x) os different).0
+      (local_found os xs ys rest sound.1 (first_differs (own_variable u x) os different).1 v a e)
   local_found _ _ _ (next_constant c x b os xs ys name rest) sound different v a e =
       found_behind (own_constant c x) b v a os ys name (first_differs (own_constant c x) os different).0
       (local_found os xs ys rest sound.1 (first_differs (own_constant c x) os different).1 v a e)
 
   -- each variable is there
   pub local_there : (os : List Own) (xs : List (ℕ × Address)) (ys : List (List ℕ × net.Address)) → LocalsMatch U K w os xs ys → (v : ℕ)
-      → list_any (nat_eq v) (variable_numbers os) ≡ true → (a : Address) × (lookup (nat_eq v) xs ≡ Some a)
+      → list_any (nat_eq v) (local_numbers os) ≡ true → (a : Address) × (lookup (nat_eq v) xs ≡ Some a)
   local_there _ _ _ no_locals v h = absurd (true≢false (sym h))
-  local_there _ _ _ (next_variable u x a b os xs ys name m rest) v h = by (nat_eq v u) h (local_there os xs ys rest v)
+  local_there _ _ _ (next_variable u x a b os xs ys local name m rest) v h =
+      by (nat_eq v u) (sym (ap (λ t. list_any (nat_eq v) (cond t [] (u ∷ []) ++ local_numbers os)) local) ∙ h) (local_there os xs ys rest v)
     where
-      by : (t : Bool) → t || list_any (nat_eq v) (variable_numbers os) ≡ true
-          → (list_any (nat_eq v) (variable_numbers os) ≡ true → (a : Address) × (lookup (nat_eq v) xs ≡ Some a))
+      by : (t : Bool) → t || list_any (nat_eq v) (local_numbers os) ≡ true
+          → (list_any (nat_eq v) (local_numbers os) ≡ true → (a : Address) × (lookup (nat_eq v) xs ≡ Some a))
           → (d : Address) × (cond t (Some a) (lookup (nat_eq v) xs) ≡ Some d)
       by true e more = (a, refl)
       by false e more = more e
+  local_there _ _ _ (next_static u x b os xs ys static name m rest) v h =
+      local_there os xs ys rest v (sym (ap (λ t. list_any (nat_eq v) (cond t [] (u ∷ []) ++ local_numbers os)) static) ∙ h)
   local_there _ _ _ (next_constant c x b os xs ys name rest) v h = local_there os xs ys rest v h
 
   -- the target has all names
   pub local_names : (os : List Own) (xs : List (ℕ × Address)) (ys : List (List ℕ × net.Address)) → LocalsMatch U K w os xs ys
       → map (λ (y : List ℕ × net.Address). y.0) ys ≡ map own_name os
   local_names _ _ _ no_locals = refl
-  local_names _ _ _ (next_variable v x a b os xs ys name m rest) =
+  local_names _ _ _ (next_variable v x a b os xs ys local name m rest) =
+      let more = local_names os xs ys rest in
+      λ i. name i ∷ more i
+  local_names _ _ _ (next_static v x b os xs ys static name m rest) =
       let more = local_names os xs ys rest in
       λ i. name i ∷ more i
   local_names _ _ _ (next_constant c x b os xs ys name rest) =
@@ -200,7 +217,7 @@ module _ (U : Upgrade) (S : Scope) (K : Pledge) (w : World) where
   pub local_places : (p : ℕ) (os : List Own) (xs : List (ℕ × Address)) (ys : List (List ℕ × net.Address)) → LocalsMatch U K w os xs ys → (n : ℕ)
       → list_any (λ (x : ℕ × Address). is_own_of U p x.0 && stands_in n x.1) xs ≡ true → IsOld K (made n) → ⊥
   local_places p _ _ _ no_locals n h old = true≢false (sym h)
-  local_places p _ _ _ (next_variable v x a b os xs ys name m rest) n h old =
+  local_places p _ _ _ (next_variable v x a b os xs ys local name m rest) n h old =
       by (either (is_own_of U p v && stands_in n a) (list_any (λ (x : ℕ × Address). is_own_of U p x.0 && stands_in n x.1) xs) h)
       (λ z. local_places p os xs ys rest n z old)
     where
@@ -208,13 +225,16 @@ module _ (U : Upgrade) (S : Scope) (K : Pledge) (w : World) where
           → (list_any (λ (x : ℕ × Address). is_own_of U p x.0 && stands_in n x.1) xs ≡ true → ⊥) → ⊥
       by (inl z) more = stands_new K n a (both_true (is_own_of U p v) (stands_in n a) z).1 m.own old
       by (inr z) more = more z
+  local_places p _ _ _ (next_static v x b os xs ys static name m rest) n h old = local_places p os xs ys rest n h old
   local_places p _ _ _ (next_constant c x b os xs ys name rest) n h old = local_places p os xs ys rest n h old
 
 pub locals_later : (U : Upgrade) (K : Pledge) (w0 w1 : World) (os : List Own) (xs : List (ℕ × Address)) (ys : List (List ℕ × net.Address)) → Later U K w0 w1
     → LocalsMatch U K w0 os xs ys → LocalsMatch U K w1 os xs ys
 locals_later U K w0 w1 _ _ _ l no_locals = no_locals
-locals_later U K w0 w1 _ _ _ l (next_variable v x a b os xs ys name m rest) =
-    next_variable v x a b os xs ys name (local_later U K w0 w1 v a b.1 l m) (locals_later U K w0 w1 os xs ys l rest)
+locals_later U K w0 w1 _ _ _ l (next_static v x b os xs ys static name m rest) =
+    next_static v x b os xs ys static name m (locals_later U K w0 w1 os xs ys l rest)
+locals_later U K w0 w1 _ _ _ l (next_variable v x a b os xs ys local name m rest) =
+    next_variable v x a b os xs ys local name (local_later U K w0 w1 v a b.1 l m) (locals_later U K w0 w1 os xs ys l rest)
 locals_later U K w0 w1 _ _ _ l (next_constant c x b os xs ys name rest) =
     next_constant c x b os xs ys name (locals_later U K w0 w1 os xs ys l rest)
 
@@ -252,11 +272,11 @@ module _ (U : Upgrade) (K : Pledge) (made_alike : LocalsAreMadeBy U K) (S : Scop
   abbrev Named : (v : ℕ) → List ℕ → World → Address → List ℕ × net.Address → Type 0
   Named v name u a b = (b.0 ≡ name) × LocalMatch U K u v a b.1
 
-  one_agrees : (w : World) (i v : ℕ) (r : IsReadable U v) → Below K.base (mark w.src) → MemoryMatch U w
+  one_agrees : (w : World) (i v : ℕ) (r : IsReadable U v) → is_static r.variable.owner ≡ false → Below K.base (mark w.src) → MemoryMatch U w
       → Agrees U K w (Named v r.variable.name) (make (variable_shape U.program.declarations v) w.src)
       (dim_made U.written c me i (own_dim S (own_variable v r.variable)) w.net)
-  one_agrees w i v r low h =
-      let m : ScalarMade U S c v r = variable_made U S facts c v r in
+  one_agrees w i v r local low h =
+      let m : ScalarMade U S c v r = variable_made U S facts c v r local in
       let s : Shape = variable_shape U.program.declarations v in
       subst (λ x. Agrees U K w (Named v r.variable.name) (make s w.src) x) (sym (m.is_made me i w.net))
       (then_gives U K w (MadeNext w v r m.word) (Named v r.variable.name) (λ b. (r.variable.name, b)) (make s w.src)
@@ -266,31 +286,78 @@ module _ (U : Upgrade) (K : Pledge) (made_alike : LocalsAreMadeBy U K) (S : Scop
       (net.made_with (shape.scalar m.word) (shape.default_of (shape.scalar m.word)) w.net) (makes_next s w.src)
       (made_alike w v r m.word m.is_word h)))
 
-  pub locals_agree : (w : World) (i : ℕ) (os : List Own) → AllSound U S os → Below K.base (mark w.src) → MemoryMatch U w
-      → Agrees U K w (Locals U K os) (made_each U.program.declarations (variable_numbers os) w.src) (dims_made U.written c me i (map (own_dim S) os) w.net)
-  locals_agree w i [] sound low h = agrees_gives U K w (Locals U K []) [] [] h no_locals
-  locals_agree w i (own_variable v x ∷ os) sound low h =
-      let D : Declarations = U.program.declarations in
-      let ds = map (own_dim S) os in
-      then_agrees U K w (Named v x.name) (Locals U K (own_variable v x ∷ os)) (make (variable_shape D v) w.src)
-      (dim_made U.written c me i (own_dim S (own_variable v x)) w.net)
-      (λ a s. then (made_each D (variable_numbers os) s) (λ rest s. gives [] ((v, a) ∷ rest) s))
-      (λ b t. then (dims_made U.written c me (suc i) ds t) (λ rest t. gives [] (b ∷ rest) t)) h
-      (subst (λ (y : Variable). Agrees U K w (Named v y.name) (make (variable_shape D v) w.src) (dim_made U.written c me i (own_dim S (own_variable v y)) w.net))
-      sound.0.1 (one_agrees w i v sound.0.0 low h))
-      (λ a b u m lat. then_agrees U K u (Locals U K os) (Locals U K (own_variable v x ∷ os)) (made_each D (variable_numbers os) u.src)
-      (dims_made U.written c me (suc i) ds u.net) (λ rest s. gives [] ((v, a) ∷ rest) s) (λ rest t. gives [] (b ∷ rest) t) lat.match
-      (locals_agree u (suc i) os sound.1 (below_then K.base (mark w.src) (mark u.src) low lat.grows) lat.match)
-      (λ xs ys z rest later. agrees_gives U K z (Locals U K (own_variable v x ∷ os)) ((v, a) ∷ xs) (b ∷ ys) later.match
-      (next_variable v x a b os xs ys m.0 (local_later U K u z v a b.1 later m.1) rest)))
-  locals_agree w i (own_constant d x ∷ os) sound low h =
-      let m : ConstantMade U S c d x = constant_made U S c d x sound.0 in
-      let ds = map (own_dim S) os in
-      subst (λ r. Agrees U K w (Locals U K (own_constant d x ∷ os)) (made_each U.program.declarations (variable_numbers os) w.src)
-      (then r (λ b t. then (dims_made U.written c me (suc i) ds t) (λ rest t. gives [] (b ∷ rest) t)))) (sym (m.is_made me i w.net))
-      (right_alone U K w (Locals U K (own_constant d x ∷ os)) (made_each U.program.declarations (variable_numbers os) w.src)
-      (then (dims_made U.written c me (suc i) ds w.net) (λ rest t. gives [] ((x.name, m.address) ∷ rest) t))
-      (then_gives U K w (Locals U K os) (Locals U K (own_constant d x ∷ os)) (λ rest. (x.name, m.address) ∷ rest)
-      (made_each U.program.declarations (variable_numbers os) w.src) (dims_made U.written c me (suc i) ds w.net)
-      (λ u xs ys rest. next_constant d x (x.name, m.address) os xs ys refl rest)
-      (locals_agree w (suc i) os sound.1 low h)))
+  -- ---- Statics
+
+  abbrev NamedStatic : (v : ℕ) → List ℕ → World → Unit {0} → List ℕ × net.Address → Type 0
+  NamedStatic v name u a b = (b.0 ≡ name) × StaticMatch U v b.1
+
+  static_agrees : is_class U.written c.home ≡ false → (w : World) (i v : ℕ) (r : IsReadable U v) → is_static r.variable.owner ≡ true → KeyAt U c i v → MemoryMatch U w
+      → Agrees U K w (NamedStatic v r.variable.name) (laid_once U.program.declarations v w.src)
+      (dim_made U.written c me i (own_dim S (own_variable v r.variable)) w.net)
+  static_agrees outer w i v r static key h =
+      let m : StaticMade U S c v r = static_made U S facts c outer v r static in
+      let b : net.Address = net.root (shape.scalar m.word) (whole (shared (static_key c i))) in
+      subst (λ x. Agrees U K w (NamedStatic v r.variable.name) (laid_once U.program.declarations v w.src) x) (sym (m.is_made me i w.net))
+      (then_gives U K w AnyUnits (NamedStatic v r.variable.name) (λ u. (r.variable.name, b)) (laid_once U.program.declarations v w.src)
+      (made_once U.written c.home (shared (static_key c i)) m.made (w.net.cell (whole (shared (static_key c i)))) w.net)
+      (λ u a t x. (refl, record { readable = r; word = m.word; is_word = m.is_word; key = static_key c i; is_key = key.0; stands = refl }))
+      (static_is_laid U K w v r m.word m.is_word h (static_key c i) key.0 key.1 U.written c.home m.made m.plain m.shaped))
+
+  -- ---- all of them
+
+  module _ (outer : is_class U.written c.home ≡ false) where
+    abbrev Ends : List Own → World → ℕ → (Memory → Outcome Memory (List (ℕ × Address))) → Type 0
+    Ends os w i does = Agrees U K w (Locals U K os) (does w.src) (dims_made U.written c me i (map (own_dim S) os) w.net)
+
+    variable_by : (v : ℕ) (x : Variable) (os : List Own) (b : Bool) → is_static x.owner ≡ b → (r : IsReadable U v) → r.variable ≡ x
+        → (w : World) (i : ℕ) → (is_static x.owner ≡ true → KeyAt U c i v)
+        → ((u : World) → Below K.base (mark u.src) → MemoryMatch U u → Ends os u (suc i) (made_in_order U.program.declarations os))
+        → Below K.base (mark w.src) → MemoryMatch U w
+        → Ends (own_variable v x ∷ os) w i (made_own U.program.declarations b v (made_in_order U.program.declarations os))
+    variable_by v x os true static r same w i key more low h =
+        let D : Declarations = U.program.declarations in
+        let ds = map (own_dim S) os in
+        let static_r : is_static r.variable.owner ≡ true = ap (λ (y : Variable). is_static y.owner) same ∙ static in
+        then_agrees U K w (NamedStatic v x.name) (Locals U K (own_variable v x ∷ os)) (laid_once D v w.src)
+        (dim_made U.written c me i (own_dim S (own_variable v x)) w.net)
+        (λ a s. made_in_order D os s)
+        (λ b t. then (dims_made U.written c me (suc i) ds t) (λ rest t. gives [] (b ∷ rest) t)) h
+        (subst (λ (y : Variable). Agrees U K w (NamedStatic v y.name) (laid_once D v w.src) (dim_made U.written c me i (own_dim S (own_variable v y)) w.net)) same
+        (static_agrees outer w i v r static_r (key static) h))
+        (λ a b u m lat. then_gives U K u (Locals U K os) (Locals U K (own_variable v x ∷ os)) (λ rest. b ∷ rest) (made_in_order D os u.src)
+        (dims_made U.written c me (suc i) ds u.net) (λ z xs ys rest. next_static v x b os xs ys static m.0 m.1 rest)
+        (more u (below_then K.base (mark w.src) (mark u.src) low lat.grows) lat.match))
+    variable_by v x os false local r same w i key more low h =
+        let D : Declarations = U.program.declarations in
+        let ds = map (own_dim S) os in
+        let local_r : is_static r.variable.owner ≡ false = ap (λ (y : Variable). is_static y.owner) same ∙ local in
+        then_agrees U K w (Named v x.name) (Locals U K (own_variable v x ∷ os)) (make (variable_shape D v) w.src)
+        (dim_made U.written c me i (own_dim S (own_variable v x)) w.net)
+        (λ a s. then (made_in_order D os s) (λ rest s. gives [] ((v, a) ∷ rest) s))
+        (λ b t. then (dims_made U.written c me (suc i) ds t) (λ rest t. gives [] (b ∷ rest) t)) h
+        (subst (λ (y : Variable). Agrees U K w (Named v y.name) (make (variable_shape D v) w.src) (dim_made U.written c me i (own_dim S (own_variable v y)) w.net))
+        same (one_agrees w i v r local_r low h))
+        (λ a b u m lat. then_agrees U K u (Locals U K os) (Locals U K (own_variable v x ∷ os)) (made_in_order D os u.src)
+        (dims_made U.written c me (suc i) ds u.net) (λ rest s. gives [] ((v, a) ∷ rest) s) (λ rest t. gives [] (b ∷ rest) t) lat.match
+        (more u (below_then K.base (mark w.src) (mark u.src) low lat.grows) lat.match)
+        (λ xs ys z rest later. agrees_gives U K z (Locals U K (own_variable v x ∷ os)) ((v, a) ∷ xs) (b ∷ ys) later.match
+        (next_variable v x a b os xs ys local m.0 (local_later U K u z v a b.1 later m.1) rest)))
+
+    pub locals_agree : (w : World) (i : ℕ) (os : List Own) → AllSound U S os → AllKeyed U c i os → Below K.base (mark w.src) → MemoryMatch U w
+        → Ends os w i (made_in_order U.program.declarations os)
+    locals_agree w i [] sound keyed low h = agrees_gives U K w (Locals U K []) [] [] h no_locals
+    locals_agree w i (own_variable v x ∷ os) sound keyed low h =
+        variable_by v x os (is_static x.owner) refl sound.0.0 sound.0.1 w i keyed.0
+        (λ u l m. locals_agree u (suc i) os sound.1 keyed.1 l m) low h
+    locals_agree w i (own_constant d x ∷ os) sound keyed low h =
+        let m : ConstantMade U S c d x = constant_made U S c d x sound.0 in
+        let ds = map (own_dim S) os in
+        let D : Declarations = U.program.declarations in
+        subst (λ r. Agrees U K w (Locals U K (own_constant d x ∷ os)) (made_in_order D os w.src)
+        (then r (λ b t. then (dims_made U.written c me (suc i) ds t) (λ rest t. gives [] (b ∷ rest) t)))) (sym (m.is_made me i w.net))
+        (right_alone U K w (Locals U K (own_constant d x ∷ os)) (made_in_order D os w.src)
+        (then (dims_made U.written c me (suc i) ds w.net) (λ rest t. gives [] ((x.name, m.address) ∷ rest) t))
+        (then_gives U K w (Locals U K os) (Locals U K (own_constant d x ∷ os)) (λ rest. (x.name, m.address) ∷ rest)
+        (made_in_order D os w.src) (dims_made U.written c me (suc i) ds w.net)
+        (λ u xs ys rest. next_constant d x (x.name, m.address) os xs ys refl rest)
+        (locals_agree w (suc i) os sound.1 keyed low h)))

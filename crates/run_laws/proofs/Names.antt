@@ -1,5 +1,5 @@
 -- The written procedure that stands for one of the source, and the names of its frames.
-use Rattle.std.proofs.Common.{◌≡◌, ap, subst, ◌∙◌, ℕ, Option, Some}
+use Rattle.std.proofs.Common.{◌≡◌, ap, subst, ◌∙◌, ℕ, Some}
 use Rattle.std.specs.Prelude.{option_and_then}
 use Rattle.bound_tree.specs.Tree.{Procedure}
 use Rattle.net_run.specs.Lines.{NetFrame}

@@ -1,32 +1,32 @@
 -- The parameters and the result variable of an entry are made on both sides.
-use Rattle.std.proofs.Common.{◌≡◌, refl, sym, ap, subst, ◌∙◌, ℕ, suc, Bool, true, false, cond, not, ◌&&◌, nat_eq, true≢false, Option, Some, None, List, [], ◌∷◌, ◌++◌}
+use Rattle.std.proofs.Common.{◌≡◌, refl, sym, ap, subst, ◌∙◌, ℕ, suc, Bool, true, false, not, ◌&&◌, true≢false, Option, Some, None, List, [], ◌∷◌, ◌++◌}
 use Rattle.std.specs.Prelude.{slice_get}
 use Rattle.std.specs.List.{list_all}
 use Rattle.up_base.proofs.Lists.{all_first, all_rest}
 use Rattle.up_base.proofs.Tests.{both_true}
 use Rattle.vb_tree.specs.BoundTree.{Ty}
-use Rattle.vb_tree.specs.declared.declared.Owner.{Owner}
 use Rattle.vb_tree.specs.declared.declared.Owner.TheVariants as owner
 use Rattle.vb_tree.specs.declared.declared.VarId.{VarId}
 use Rattle.bound_tree.specs.Tree.{Declarations, Procedure, Variable}
 use Rattle.bound_facts.specs.Effects.{params_at}
-use Rattle.bound_facts.specs.Facts.{is_quiet, is_quiet_owner, is_quiet_variable}
+use Rattle.bound_facts.specs.Facts.{is_quiet_owner, is_quiet_variable}
 use Rattle.net_tree.specs.declared.declaration.NetPassing.TheVariants as passing
 use Rattle.net_tree.specs.Tree as net_tree
 use Rattle.net_tree.specs.Types.{TypeName}
-use Rattle.run_base.specs.Frames.{Given, by_address, by_value}
-use Rattle.run_base.specs.Outcomes.{Outcome, after, gives, outside, some_of, then}
+use Rattle.run_base.specs.Frames.{by_address, by_value}
+use Rattle.run_base.specs.Outcomes.{Outcome, after, gives, some_of, then}
 use Rattle.run_base.specs.Positions.{made, whole}
 use Rattle.vb6_run.specs.Programs.{bound_to, parameters}
 use Rattle.vb6_run.specs.Shapes.{Shape, variable_shape}
-use Rattle.vb6_run.specs.Store.{Address, Memory, SourceGiven, lay, locked_by, make, make_with, root, write}
-use Rattle.vb6_run.specs.Values.{Value, is_makeable}
+use Rattle.vb6_run.specs.Store.{Address, Memory, SourceGiven, locked_by, make, make_with, root, write}
+use Rattle.vb6_run.specs.Values.{Value}
 use Rattle.net_run.specs.Program as target
 use Rattle.net_run.specs.Shapes as shape
 use Rattle.net_run.specs.Store as net
 use Rattle.net_run.specs.Values as net_value
 use Rattle.written_trees.specs.Heads as heads
 use Rattle.written_trees.specs.Names.{Scope}
+use Rattle.written_trees.specs.Prologues.{is_static}
 use Rattle.run_matches.specs.Addresses.{ArgsMatch, address_args, no_args, source_bound, target_bound, value_args}
 use Rattle.run_matches.specs.Agreeing.{Agrees}
 use Rattle.run_matches.specs.Callees.{own_of_some, parameter_owns}
@@ -35,8 +35,8 @@ use Rattle.run_matches.specs.Likeness.{LikeV, scalar_word}
 use Rattle.run_matches.specs.Maps.{Below, World, mark}
 use Rattle.run_matches.specs.Match.{MemoryMatch, StoreMatch}
 use Rattle.run_matches.specs.Pledges.{Later, NetGiven, Pledge}
-use Rattle.run_matches.specs.Sites.{Own, own_variable}
-use Rattle.run_matches.specs.Upgrades.{Upgrade, is_quiet_id, is_quiet_place, runnable_of}
+use Rattle.run_matches.specs.Sites.{own_variable}
+use Rattle.run_matches.specs.Upgrades.{Upgrade, is_quiet_id, runnable_of}
 use Rattle.run_statements.specs.Frames.{IsReadable, MadeMatch}
 use Rattle.agreeing_laws.specs.Promises.{Yields}
 use Rattle.row_laws.proofs.Composing.{then_assoc}
@@ -45,7 +45,7 @@ use Rattle.agreeing_laws.proofs.Lasting.{later_from, weaker_self}
 use Rattle.agreeing_laws.proofs.Made.{below_then}
 use Rattle.run_laws.specs.Entered.{LocalMatch, LocalsMatch, next_variable, no_locals}
 use Rattle.run_laws.specs.Premises.{LocalsAreMadeBy, ValuesAreMadeBy}
-use Rattle.run_laws.proofs.Covered.{all_at, not_none, some_is}
+use Rattle.run_laws.proofs.Covered.{all_at}
 use Rattle.run_laws.proofs.Dims.{WordOf, word_of}
 use Rattle.run_laws.proofs.Heads.{Parameter, parameter_is}
 use Rattle.run_laws.proofs.Keeping.{yields_after, yields_then}
@@ -210,7 +210,7 @@ module _ (U : Upgrade) (p : ℕ) (S : Scope) (same : S.declarations ≡ U.progra
         (λ ks bs z ms more.
         agrees_gives U K z R ((v.0, a) ∷ ks) ((name, b) ∷ bs) more.match (
           subst (λ os. LocalsMatch U K z os ((v.0, a) ∷ ks) ((name, b) ∷ bs)) (sym (owns_is v q vs))
-              (next_variable v.0 q.variable a (name, b) (parameter_owns D vs) ks bs refl (local_later U K u z v.0 a b more n) ms.0),
+              (next_variable v.0 q.variable a (name, b) (parameter_owns D vs) ks bs (ap is_static q.owner) refl (local_later U K u z v.0 a b more n) ms.0),
           ms.1,
         ))))))))
 

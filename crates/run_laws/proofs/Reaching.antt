@@ -1,21 +1,21 @@
 -- What a line calls: its procedure reaches it, and promises no more than it keeps.
-use Rattle.std.proofs.Common.{◌≡◌, ◌⊎◌, inl, inr, refl, sym, ap, subst, ◌∙◌, ℕ, zero, suc, ◌+◌, ◌<◌, Bool, true, false, cond, not, ◌&&◌, ◌||◌, nat_eq, true≢false, Option, Some, None, List, [], ◌∷◌, ◌++◌, map, length, eq-eqb, arith}
-use Rattle.std.specs.Prelude.{IsTrue, filter, is_some, nat_lt, slice_get}
+use Rattle.std.proofs.Common.{◌≡◌, ◌⊎◌, inl, inr, refl, sym, ap, subst, ◌∙◌, ℕ, zero, suc, ◌+◌, Bool, true, false, cond, not, ◌&&◌, ◌||◌, nat_eq, true≢false, Option, Some, None, List, [], ◌∷◌, ◌++◌, map, eq-eqb, arith}
+use Rattle.std.specs.Prelude.{filter, is_some, nat_lt, slice_get}
 use Rattle.std.specs.List.{Contains, flat_map, list_any}
 use Rattle.vb_tree.specs.BoundTree.{Ty}
 use Rattle.bound_tree.specs.declared.marks.Marks.{Marks}
 use Rattle.bound_tree.specs.Tree.{Declarations, Expr, Line, Procedure, Program}
 use Rattle.reach_table.specs.Chains.{Chain, empty, longer}
 use Rattle.bound_facts.specs.Calls.{Reaches, calls, count_procedures, initialized, initializer_of, line_calls, node_calls, pair_to}
-use Rattle.bound_facts.specs.Clean.{Arrow, IsClean, Path, Point, arrows, call_arrow, captured_arrows, constant_arrows, goes, line_arrows, point_broken, procedure, procedure_arrows, stays, type_arrows, variable_arrows}
+use Rattle.bound_facts.specs.Clean.{Arrow, IsClean, Path, Point, arrows, call_arrow, captured_arrows, constant_arrows, goes, line_arrows, procedure, procedure_arrows, stays, type_arrows, variable_arrows}
 use Rattle.bound_facts.specs.Facts.{AreFacts, Known}
 use Rattle.bound_facts.specs.Items.{items_from, project_items}
 use Rattle.bound_facts.specs.Leading.{LeadsTo, is_in, is_within, within}
 use Rattle.bound_facts.specs.Locks.{Keeps}
 use Rattle.bound_facts.specs.Node.{asks, called, created}
 use Rattle.bound_facts.specs.Parts.{line_uses}
-use Rattle.bound_facts.specs.SelfMade.{enters, is_plain_line, is_plain_store, unplain, unplain_items}
-use Rattle.run_matches.specs.Covered.{IsCovered, covers_procedure}
+use Rattle.bound_facts.specs.SelfMade.{enters, is_plain_store, unplain, unplain_items}
+use Rattle.run_matches.specs.Covered.{IsCovered}
 use Rattle.run_matches.specs.Pledges.{is_inward, is_self_made, stands_in_class}
 use Rattle.run_matches.specs.Upgrades.{Upgrade}
 use Rattle.bound_facts.specs.SelfMade.{module_of}

@@ -1,23 +1,20 @@
 -- What a covered procedure is left with: a Sub gives nothing, a Function what its result variable holds.
-use Rattle.std.proofs.Common.{◌≡◌, ◌⊎◌, inl, inr, refl, sym, ap, subst, ◌∙◌, ℕ, zero, suc, Bool, true, false, cond, not, ◌&&◌, ◌||◌, nat_eq, true≢false, Option, Some, None, option_map, List, [], ◌∷◌, ◌++◌, map, length, eq-eqb, eqb-true}
+use Rattle.std.proofs.Common.{◌≡◌, ◌⊎◌, inl, inr, refl, sym, ap, subst, ◌∙◌, ℕ, zero, suc, Bool, true, false, cond, not, ◌||◌, nat_eq, true≢false, Option, Some, None, option_map, List, [], ◌∷◌, ◌++◌, map, length, eq-eqb, eqb-true}
 use Rattle.std.specs.Prelude.{slice_get}
 use Rattle.std.specs.Map.{lookup}
 use Rattle.std.proofs.lemmas.List.{length-map}
 use Rattle.std.proofs.lemmas.Option.{slice_get-map}
 use Rattle.up_base.proofs.Tests.{both_true, not_true}
 use Rattle.up_base.specs.Names.{is_same_name}
-use Rattle.vb_tree.specs.BoundTree.{Ty}
-use Rattle.bound_tree.specs.Tree.{Declarations, Procedure, Variable}
+use Rattle.bound_tree.specs.Tree.{Declarations, Procedure}
 use Rattle.bound_facts.specs.Effects.{is_own_owner, is_own_variable}
 use Rattle.bound_facts.specs.Facts.{is_quiet}
 use Rattle.net_tree.specs.Tree as net_tree
-use Rattle.run_base.specs.Outcomes.{Outcome, gives, outside, some_of, then}
-use Rattle.run_base.specs.Positions.{Position, made, whole}
+use Rattle.run_base.specs.Outcomes.{gives, some_of, then}
+use Rattle.run_base.specs.Positions.{made, whole}
 use Rattle.vb6_run.specs.Programs.{answer_of, result_of}
 use Rattle.vb6_run.specs.Runnables.{declared_address, owned_address, variable_address}
-use Rattle.vb6_run.specs.Shapes.{declared_shape, simple, user_shapes, variable_shape}
 use Rattle.vb6_run.specs.Store.{Address, Memory, SourceFrame, SourceGiven, read, root}
-use Rattle.vb6_run.specs.Values.{Value, scalar}
 use Rattle.net_run.specs.Expressions as expressions
 use Rattle.net_run.specs.Lines.{NetFrame}
 use Rattle.net_run.specs.Members.{params_of}
@@ -32,13 +29,12 @@ use Rattle.written_trees.specs.Names.{variable_name_of}
 use Rattle.run_matches.specs.Addresses.{Bound, Same, images, mirrored}
 use Rattle.run_matches.specs.Agreeing.{Agrees, ResultMatch}
 use Rattle.run_matches.specs.Covered.{are_different, is_named_in}
-use Rattle.run_matches.specs.Frames.{FrameMatch, HasNames, HasPlace, SameVariable, declared_names, dim_name, is_own_of, result_names}
+use Rattle.run_matches.specs.Frames.{FrameMatch, HasPlace, SameVariable, declared_names, dim_name, is_own_of, result_names}
 use Rattle.run_matches.specs.Likeness.{LikeV}
 use Rattle.run_matches.specs.Maps.{Mark, World}
 use Rattle.run_matches.specs.Match.{MemoryMatch}
 use Rattle.run_matches.specs.Pledges.{NetGiven, Pledge, arrays_in}
 use Rattle.run_matches.specs.Runs.{call_pledge}
-use Rattle.run_matches.specs.Sites.{own_name}
 use Rattle.run_matches.specs.Upgrades.{Upgrade, runnable_of}
 use Rattle.run_statements.specs.Frames.{IsReadable, ScalarMatch}
 use Rattle.run_statements.specs.Written.{WrittenProcedure}
@@ -46,7 +42,7 @@ use Rattle.agreeing_laws.proofs.Agreeing.{agrees_gives, agrees_outside, then_agr
 use Rattle.expression_laws.specs.Statements.{VariablesAreReadBy}
 use Rattle.expression_laws.proofs.Arguments.{loose_in_none, no_arrays, once_in_none}
 use Rattle.run_laws.proofs.Covered.{CoveredProcedure, not_none, same_name, some_is}
-use Rattle.run_laws.proofs.Entries.{readable_exact}
+use Rattle.run_laws.proofs.Standing.{readable_exact}
 use Rattle.run_laws.proofs.Heads.{HasAnswer, HasNone, a_result, answer_parts, no_result}
 use Rattle.run_laws.proofs.Names.{names_in_code}
 use Rattle.run_laws.proofs.Parameters.{readable_type}

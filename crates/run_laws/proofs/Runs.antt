@@ -23,7 +23,7 @@ use Rattle.net_run.specs.Store as net
 use Rattle.run_matches.specs.Addresses.{AllLocked, ArgsMatch}
 use Rattle.run_matches.specs.Agreeing.{Agrees, ResultMatch}
 use Rattle.run_matches.specs.CleanLines.{lines_at, or_none}
-use Rattle.run_matches.specs.Covered.{covers_in_block, covers_line, covers_procedure, covers_use, has_sound_label, are_different, belongs_to, covers_calls}
+use Rattle.run_matches.specs.Covered.{covers_in_block, covers_line, covers_procedure, covers_use, has_sound_label, keeps_blocks, are_different, belongs_to, covers_calls}
 use Rattle.run_matches.specs.Frames.{is_exact_head, lines_of, declared_names}
 use Rattle.run_matches.specs.Maps.{World, mark, Below, Mark}
 use Rattle.run_matches.specs.Match.{MemoryMatch, StoreMatch}
@@ -31,8 +31,8 @@ use Rattle.run_matches.specs.Pledges.{Later, NetGiven, Pledge}
 use Rattle.run_matches.specs.Runs.{CallsAgree, IsObject, SameRun, call_pledge}
 use Rattle.run_matches.specs.Upgrades.{Upgrade, runnable_of}
 use Rattle.run_statements.specs.Frames.{IsReadable, LocalsAreMade, ValuesAreMade}
-use Rattle.run_statements.specs.Kept.{CanCallFrom, OwnsAreKept}
-use Rattle.run_statements.specs.Written.{Passes, SameRuns, WrittenProcedure}
+use Rattle.run_statements.specs.Kept.{CanCallFrom, OwnsAreKept, SameWays}
+use Rattle.run_statements.specs.Written.{Passes, SameRuns, WrittenLine, WrittenProcedure}
 use Rattle.agreeing_laws.specs.Beside.{beside, with_steps}
 use Rattle.agreeing_laws.proofs.Agreeing.{agrees_from, agrees_spent, then_agrees}
 use Rattle.agreeing_laws.proofs.Beside.{later_start}
@@ -106,6 +106,18 @@ module _ (U : Upgrade) (h : RunPremises U) where
           covered_called U.program p q c.procedure c.is_procedure within l stands call pass.1,
         )
 
+    -- no line is replaced, so each line and the written one of its number go the same ways
+    same_ways : (n : ℕ) (o : Option SourceLine) → line_at (source.machine_of R) p n ≡ o → SameWays o (line_at (target.machine_of N) (written p pass).number n)
+    same_ways n None e =
+        subst (λ k. SameWays None k) (sym (h.no_further p c.site c.procedure c.is_site c.is_procedure W n e)) tt
+    same_ways zero (Some l) e = absurd (not_none (sym (line_is U p c.lines zero c.are_lines) ∙ e))
+    same_ways (suc k) (Some l) e =
+        let L : WrittenLine U p c.site W.number (suc k) l =
+        h.lines p c.site c.procedure c.is_site W k l e
+        (λ lines same. subst (λ ls. list_all keeps_blocks ls ≡ true) (some_is (sym c.are_lines ∙ same)) (blocks_are_kept U.program p c.lines c.covers))
+        (h.unreplaced p c.site c.procedure c.is_site c.is_procedure W pass.0 covered k) in
+        subst (λ z. SameWays (Some l) z) (sym L.is_line) (L.aims, L.tests)
+
     one_line : (n : ℕ) (l : SourceLine) → line_at (source.machine_of R) p n ≡ Some l → LineRuns U p (written p pass).number n l
     one_line zero l e = absurd (not_none (sym (line_is U p c.lines zero c.are_lines) ∙ e))
     one_line (suc k) l e =
@@ -128,6 +140,7 @@ module _ (U : Upgrade) (h : RunPremises U) where
               h.labels p c.site c.procedure c.is_site W
               (λ lines same. subst (λ ls. list_all has_sound_label ls ≡ true) (some_is (sym c.are_lines ∙ same)) (labels_are_sound U.program p c.lines c.covers))
               (h.unreplaced p c.site c.procedure c.is_site c.is_procedure W pass.0 covered) a (jumps_soundly U.program p l.form a covers jump);
+          ways = λ e n. same_ways n (line_at (source.machine_of R) p n) refl;
         }) in
         record {
           line = z.line;

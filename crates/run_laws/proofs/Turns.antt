@@ -1,5 +1,5 @@
 -- One more turn: a covered procedure does the same as what is written for it, where calls and the rest with fewer turns do.
-use Rattle.std.proofs.Common.{◌≡◌, refl, sym, ap, subst, ◌∙◌, ℕ, zero, suc, true, Option, Some, None, List, []}
+use Rattle.std.proofs.Common.{◌≡◌, refl, sym, ap, subst, ◌∙◌, ℕ, zero, suc, true, Option, Some, None, List}
 use Rattle.std.specs.Prelude.{slice_get}
 use Rattle.std.specs.List.{list_all}
 use Rattle.run_base.specs.Machines.{body_turn, go, handled, line_at, line_in, line_turn, nth_line, runs, stepped, Machine}

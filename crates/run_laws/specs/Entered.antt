@@ -1,21 +1,26 @@
 -- The variables that an entry makes, and frames that run.
-use Rattle.std.specs.Prelude.{◌≡◌, ℕ, true, false, ◌&&◌, Option, Some, List, [], ◌∷◌, nat_eq}
+use Rattle.std.specs.Prelude.{◌≡◌, ℕ, suc, true, false, ◌&&◌, Option, Some, List, [], ◌∷◌, nat_eq}
 use Rattle.std.specs.List.{list_any}
 use Rattle.std.specs.Map.{lookup}
 use Rattle.bound_tree.specs.Tree.{Constant, Variable}
 use Rattle.bound_facts.specs.Facts.{is_quiet}
-use Rattle.run_base.specs.Positions.{made}
+use Rattle.net_tree.specs.Types.{TypeName}
+use Rattle.run_base.specs.Positions.{Key, made, shared, whole}
 use Rattle.vb6_run.specs.Store.{Address, SourceFrame}
 use Rattle.net_run.specs.Lines.{NetFrame}
+use Rattle.net_run.specs.Members.{Code}
+use Rattle.net_run.specs.Program.{static_key}
+use Rattle.net_run.specs.Shapes as shape
 use Rattle.net_run.specs.Store as net
 use Rattle.written_trees.specs.Names.{Scope}
-use Rattle.written_trees.specs.Prologues.{constant_dim}
+use Rattle.written_trees.specs.Prologues.{constant_dim, is_static}
 use Rattle.run_matches.specs.Addresses.{Same}
 use Rattle.run_matches.specs.Frames.{HasPlace, IsOwnAddress, NextMatch, is_own_of, stands_in}
+use Rattle.run_matches.specs.Likeness.{scalar_word}
 use Rattle.run_matches.specs.Maps.{World}
 use Rattle.run_matches.specs.Pledges.{Pledge, IsOld}
 use Rattle.run_matches.specs.Sites.{Own, own_variable, own_constant}
-use Rattle.run_matches.specs.Upgrades.{Upgrade}
+use Rattle.run_matches.specs.Upgrades.{Upgrade, variable_key}
 use Rattle.run_statements.specs.Frames.{IsReadable}
 use Rattle.run_statements.specs.Kept.{IsConstantDim}
 
@@ -27,11 +32,22 @@ pub record LocalMatch (U : Upgrade) (K : Pledge) (w : World) (v : ℕ) (a : Addr
   pub same : Same U K w a b
   pub own : IsOwnAddress K a
 
--- what a procedure declares, with the variables of both frames: a constant has a name in the target's alone
+-- a Static of a procedure, which the target finds at its key
+pub record StaticMatch (U : Upgrade) (v : ℕ) (b : net.Address) : Type 0 where
+  pub readable : IsReadable U v
+  pub word : TypeName
+  pub is_word : scalar_word readable.variable.ty ≡ Some word
+  pub key : Key
+  pub is_key : variable_key U v ≡ Some key
+  pub stands : b ≡ net.root (shape.scalar word) (whole (shared key))
+
+-- what a procedure declares, with the variables of both frames: a constant and a Static have a name in the target's alone
 pub data LocalsMatch (U : Upgrade) (K : Pledge) (w : World) : List Own → List (ℕ × Address) → List (List ℕ × net.Address) → Type 0 where
   no_locals : LocalsMatch U K w [] [] []
   next_variable : (v : ℕ) (x : Variable) (a : Address) (b : List ℕ × net.Address) (os : List Own) (xs : List (ℕ × Address)) (ys : List (List ℕ × net.Address))
-      → b.0 ≡ x.name → LocalMatch U K w v a b.1 → LocalsMatch U K w os xs ys → LocalsMatch U K w (own_variable v x ∷ os) ((v, a) ∷ xs) (b ∷ ys)
+      → is_static x.owner ≡ false → b.0 ≡ x.name → LocalMatch U K w v a b.1 → LocalsMatch U K w os xs ys → LocalsMatch U K w (own_variable v x ∷ os) ((v, a) ∷ xs) (b ∷ ys)
+  next_static : (v : ℕ) (x : Variable) (b : List ℕ × net.Address) (os : List Own) (xs : List (ℕ × Address)) (ys : List (List ℕ × net.Address))
+      → is_static x.owner ≡ true → b.0 ≡ x.name → StaticMatch U v b.1 → LocalsMatch U K w os xs ys → LocalsMatch U K w (own_variable v x ∷ os) xs (b ∷ ys)
   next_constant : (c : ℕ) (x : Constant) (b : List ℕ × net.Address) (os : List Own) (xs : List (ℕ × Address)) (ys : List (List ℕ × net.Address))
       → b.0 ≡ x.name → LocalsMatch U K w os xs ys → LocalsMatch U K w (own_constant c x ∷ os) xs (b ∷ ys)
 
@@ -43,6 +59,17 @@ IsSound U S (own_constant c x) = IsConstantDim (constant_dim S (c, x))
 abbrev pub AllSound : Upgrade → Scope → List Own → Type 0
 AllSound U S [] = Unit {0}
 AllSound U S (o ∷ os) = IsSound U S o × AllSound U S os
+
+-- ---- Statics
+
+-- a Static has the key of its place among the declarations, and no other variable has it
+abbrev pub KeyAt : Upgrade → Code → (place variable : ℕ) → Type 0
+KeyAt U c i v = (variable_key U v ≡ Some (static_key c i)) × ((u : ℕ) → variable_key U u ≡ Some (static_key c i) → v ≡ u)
+
+abbrev pub AllKeyed : Upgrade → Code → (place : ℕ) → List Own → Type 0
+AllKeyed U c i [] = Unit {0}
+AllKeyed U c i (own_variable v x ∷ os) = (is_static x.owner ≡ true → KeyAt U c i v) × AllKeyed U c (suc i) os
+AllKeyed U c i (own_constant d x ∷ os) = AllKeyed U c (suc i) os
 
 -- ---- frames
 

@@ -1,9 +1,9 @@
 -- What the laws on runs need of declarations, names, memories and lines.
-use Rattle.std.specs.Prelude.{◌≡◌, ℕ, suc, true, Option, Some, [], slice_get, None, List}
+use Rattle.std.specs.Prelude.{◌≡◌, ℕ, suc, true, Option, Some, slice_get, List}
 use Rattle.vb_tree.specs.declared.declared.VarId.{VarId}
 use Rattle.bound_tree.specs.Tree.{Line, Procedure, Variable}
 use Rattle.bound_facts.specs.Clean.{IsClean}
-use Rattle.run_base.specs.Machines.{nth_line, go, line_at}
+use Rattle.run_base.specs.Machines.{nth_line, go}
 use Rattle.bound_facts.specs.Facts.{AreFacts}
 use Rattle.net_tree.specs.Types.{TypeName}
 use Rattle.vb6_run.specs.Shapes.{variable_shape}

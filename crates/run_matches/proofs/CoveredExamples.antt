@@ -1,13 +1,13 @@
 -- Procedures that are covered, group by group: other lines of Main in the small program.
 use Rattle.std.proofs.Common.{◌≡◌, refl, pos, true, false, [], ◌∷◌, codes, List, None}
-use Rattle.vb_tree.specs.BoundTree.{boolean, currency, long}
+use Rattle.vb_tree.specs.BoundTree.{boolean, currency, long, nothing}
 use Rattle.vb_tree.specs.declared.expression.BinOp.TheVariants as b
 use Rattle.vb_tree.specs.declared.form_parts.ExitKind.TheVariants as leaving
 use Rattle.vb_tree.specs.declared.form_parts.Label6.TheVariants as label6
 use Rattle.vb_tree.specs.declared.value.Value6.TheVariants as v
 use Rattle.vb_tree.specs.Tree as source
 use Rattle.bound_tree.specs.declared.expression.Origin.TheVariants.{Literal}
-use Rattle.bound_tree.specs.Tree.{Expr, typed, constant, binary, Line}
+use Rattle.bound_tree.specs.Tree.{Expr, typed, constant, binary, err_clear, err_raise, Line}
 use Rattle.vb_tree.specs.declared.value.Value6.{Value6}
 use Rattle.run_matches.specs.Covered.{covers_procedure}
 use Rattle.run_matches.proofs.Samples.{any, c_of, code, program_with}
@@ -81,6 +81,33 @@ counting =
 
 count_covered : covers_procedure (program_with long counting) 2 ≡ true
 count_covered = refl
+
+--     Dim c As Currency
+--     On Error GoTo failed
+--     c = c + 8
+--     Err.Raise 3
+--     On Error GoTo 0
+--     Exit Sub
+-- failed:
+--     Err.Clear
+--     On Error Resume Next
+--     Resume Next
+
+abbrev handling : List Line
+handling =
+    code (source.on_error_goto (label6.Word (codes "failed"))) []
+    ∷ code (source.assign any any) (the_c ∷ typed currency (binary b.Add the_c amount) ∷ [])
+    ∷ code (source.call any) (typed nothing (err_raise three) ∷ [])
+    ∷ code source.on_error_goto_zero []
+    ∷ code (source.exit leaving.Sub) []
+    ∷ code (source.label (label6.Word (codes "failed"))) []
+    ∷ code (source.call any) (typed nothing err_clear ∷ [])
+    ∷ code source.on_error_resume_next []
+    ∷ code source.resume_next []
+    ∷ []
+
+handler_covered : covers_procedure (program_with currency handling) 2 ≡ true
+handler_covered = refl
 
 -- a Case of another type than its Select Case isn't
 abbrev mixed : List Line

@@ -1,12 +1,13 @@
--- Procedures that use variables of modules, their own and another one.
+-- Procedures that use Statics and variables of modules, their own and another one.
 use Rattle.std.proofs.Common.{◌≡◌, refl, ℕ, true, false, List, [], ◌∷◌, codes, None}
 use Rattle.vb_tree.specs.BoundTree.{long, nothing}
+use Rattle.vb_tree.specs.declared.declared.Owner.{Owner}
 use Rattle.vb_tree.specs.declared.declared.Owner.TheVariants as owner
 use Rattle.vb_tree.specs.declared.declared.ProcKind.TheVariants as kind
 use Rattle.vb_tree.specs.declared.expression.BinOp.TheVariants as b
 use Rattle.vb_tree.specs.declared.form_parts.VarWord.TheVariants as var_word
 use Rattle.vb_tree.specs.declared.project.ProjectKind.TheVariants.{Exe}
-use Rattle.vb_tree.specs.Tree.{Form, Member}
+use Rattle.vb_tree.specs.Tree.{Member}
 use Rattle.vb_tree.specs.Tree as source
 use Rattle.bound_tree.specs.declared.body.Mention.TheVariants as mention
 use Rattle.bound_tree.specs.RuleSets.{none}
@@ -27,11 +28,11 @@ use Rattle.run_matches.proofs.Samples.{var_id, proc_id, declared, procedure, any
 --         Counter.n = c + k
 --     End Sub
 
-abbrev vars : (local : List ℕ) → List Variable
-vars local =
+abbrev vars : (local : List ℕ) → Owner → List Variable
+vars local of =
     declared (codes "n") 1 0 (owner.Module 1) long  -- 0
     ∷ declared (codes "k") 2 0 (owner.Module 2) long  -- 1
-    ∷ declared local 2 2 (owner.Local (proc_id 0)) long  -- 2
+    ∷ declared local 2 2 of long  -- 2
     ∷ []
 
 abbrev counter : List Member
@@ -59,9 +60,9 @@ lines =
     ∷ code (typed long (variable (var_id 0) true) ∷ typed long (binary b.Add (the 2) (the 1)) ∷ [])
     ∷ []
 
--- the program with a local variable of a name
-abbrev program : (local : List ℕ) → Program
-program local = record {
+-- the program with a local variable of a name, or a Static
+abbrev program : (local : List ℕ) → Owner → Program
+program local of = record {
   declarations = record {
     project = record {
       file = record { kind = Exe; startup = None; entries = []; dropped = [] };
@@ -71,7 +72,7 @@ program local = record {
           ∷ [];
     };
     names = [];
-    vars = vars local;
+    vars = vars local of;
     consts = [];
     procs = procedure (codes "Main") 2 kind.Sub [] nothing None 0 ∷ [];
     types = [];
@@ -81,9 +82,12 @@ program local = record {
   bodies = lines ∷ [];
 }
 
-uses_are_covered : covers_procedure (program (codes "c")) 0 ≡ true
+uses_are_covered : covers_procedure (program (codes "c") (owner.Local (proc_id 0))) 0 ≡ true
 uses_are_covered = refl
 
+statics_are_covered : covers_procedure (program (codes "c") (owner.Static (proc_id 0))) 0 ≡ true
+statics_are_covered = refl
+
 -- a local variable that is named as the other module would be found in its place
-captured_is_not : covers_procedure (program (codes "counter")) 0 ≡ false
+captured_is_not : covers_procedure (program (codes "counter") (owner.Local (proc_id 0))) 0 ≡ false
 captured_is_not = refl

@@ -6,7 +6,7 @@ use Rattle.up_base.specs.Names.{is_same_name, lower_case}
 use Rattle.vb_tree.specs.declared.declared.VarId.{VarId}
 use Rattle.vb_tree.specs.Tree.{Module, Member, alone, group, proc}
 use Rattle.vb_tree.specs.Tree as source
-use Rattle.bound_tree.specs.Tree.{Variable, Constant, Procedure, Declarations}
+use Rattle.bound_tree.specs.Tree.{Variable, Procedure, Declarations}
 use Rattle.written_trees.specs.Arguments.{is_property_kind}
 use Rattle.written_trees.specs.Names.{first_name, is_foreign, module_name, procedure_name}
 use Rattle.written_trees.specs.Placing.{Numbers, Placed, behind_members, is_type_head, placed_members}

@@ -30,12 +30,12 @@ use Rattle.bound_facts.specs.Node.{type_at}
 use Rattle.run_base.specs.Machines.{nth_line}
 use Rattle.written_trees.specs.Prologues.{variables_of, constants_of}
 use Rattle.vb6_run.specs.Forms.{SourceLine, body_of}
-use Rattle.vb6_run.specs.Programs.{is_local_of, owned_from, answer_in}
+use Rattle.vb6_run.specs.Programs.{is_local_of, owned_from, answer_in, is_static_of}
 use Rattle.vb6_run.specs.Runnables.{is_class_file}
 use Rattle.run_matches.specs.Callees.{frame_owns, is_found}
 use Rattle.run_matches.specs.Formed.{is_formed}
-use Rattle.run_matches.specs.Shared.{names_lead}
-use Rattle.run_matches.specs.Sites.{Site, site_of, Own, own_variable, own_constant, own_name, owns_of, variable_numbers, statement_of}
+use Rattle.run_matches.specs.Shared.{names_lead, others_differ, is_alone_static}
+use Rattle.run_matches.specs.Sites.{Site, site_of, Own, own_variable, own_constant, own_name, owns_of, local_numbers, static_numbers, statement_of}
 
 -- ---- types
 
@@ -58,11 +58,11 @@ covers_type types.unknown = false
 
 -- ---- variables
 
--- local variables, parameters by value, result variables, and variables of modules
+-- local variables and Statics, parameters by value, result variables, and variables of modules
 abbrev pub covers_owner : Owner → Bool
 covers_owner (owner.Module file) = true
 covers_owner (owner.Local p) = true
-covers_owner (owner.Static p) = false
+covers_owner (owner.Static p) = true
 covers_owner (owner.Value p) = true
 covers_owner (owner.Reference p) = false
 covers_owner (owner.Answer p) = true
@@ -87,6 +87,7 @@ is_foreign_name D p name = list_all (λ (x : Variable). not (belongs_to p x.owne
 -- a variable of the procedure, or one of a standard module to which names lead
 abbrev pub is_reached : Declarations → (procedure variable : ℕ) → (name : List ℕ) → Owner → Bool
 is_reached D p v name (owner.Module file) = names_lead D p v name file && is_foreign_name D p name
+is_reached D p v name (owner.Static q) = nat_eq p q.0 && is_alone_static D p v name
 is_reached D p v name of = belongs_to p of
 
 abbrev pub covers_some : Declarations → (procedure variable : ℕ) → Option Variable → Bool
@@ -97,7 +98,7 @@ abbrev pub is_mention_of : VarId → Mention → Bool
 is_mention_of v (mention.Var u) = nat_eq v.0 u.0
 is_mention_of v _ = false
 
--- variables of the procedure, and those of standard modules to which names lead, which the line that uses them mentions
+-- variables of the procedure, but for Statics in classes, and those of standard modules to which names lead; the line that uses them mentions them
 abbrev pub covers_use : Program → (procedure : ℕ) → List Mention → VarId → Bool
 covers_use P p mentions v = list_any (is_mention_of v) mentions && covers_some P.declarations p v.0 (slice_get P.declarations.vars v.0)
 
@@ -278,10 +279,12 @@ abbrev pub covers_box : Uses → Term → Bool
 covers_box uses (library f args) = is_box f && covers_term uses (library f args)
 covers_box uses t = false
 
--- a call without an object, whose arguments go by value, or of MsgBox
+-- a call without an object, whose arguments go by value, of MsgBox, or of Err.Raise or Err.Clear
 abbrev pub covers_called_in : Uses → Term → Bool
 covers_called_in uses (call p qualified of args) = is_without_object of && covers_passed uses args
 covers_called_in uses (library f args) = covers_box uses (library f args)
+covers_called_in uses (err_raise e) = covers_expr uses e
+covers_called_in uses err_clear = true
 covers_called_in uses t = false
 
 abbrev pub covers_called : Uses → Expr → Bool
@@ -292,7 +295,7 @@ abbrev pub covers_call : Uses → List Expr → Bool
 covers_call uses (e ∷ []) = covers_called uses e
 covers_call uses es = false
 
--- assignments to variables, calls, Debug.Print, If, Select Case, For, Do, While, labels, GoTo and Exit
+-- assignments to variables, calls, Debug.Print, If, Select Case, For, Do, While, labels, GoTo, On Error, Resume and Exit
 abbrev pub covers_form : Uses → Form → List Expr → Bool
 covers_form uses (source.assign target value) es = covers_store uses es
 covers_form uses (source.set target value) es = false
@@ -323,12 +326,12 @@ covers_form uses (source.with_head e) es = false
 covers_form uses source.end_with es = false
 covers_form uses (source.goto l) es = covers_label (label_of l)
 covers_form uses (source.label l) es = covers_label (label_of l)
-covers_form uses (source.on_error_goto l) es = false
-covers_form uses source.on_error_goto_zero es = false
-covers_form uses source.on_error_resume_next es = false
-covers_form uses source.resume es = false
-covers_form uses source.resume_next es = false
-covers_form uses (source.resume_at l) es = false
+covers_form uses (source.on_error_goto l) es = covers_label (label_of l)
+covers_form uses source.on_error_goto_zero es = true
+covers_form uses source.on_error_resume_next es = true
+covers_form uses source.resume es = true
+covers_form uses source.resume_next es = true
+covers_form uses (source.resume_at l) es = covers_label (label_of l)
 covers_form uses (source.exit kind) es = true
 covers_form uses (source.redim preserve items) es = false
 covers_form uses (source.erase target) es = false
@@ -409,6 +412,12 @@ jump_of (source.goto l) = Some l
 jump_of (source.on_error_goto l) = Some l
 jump_of (source.resume_at l) = Some l
 jump_of _ = None
+
+-- goes on where an error was, at that line or behind it
+abbrev pub resumes : Form → Bool
+resumes source.resume = true
+resumes source.resume_next = true
+resumes _ = false
 
 -- a line that is a label is a covered one
 abbrev pub has_sound_label_in : Form → Bool
@@ -507,13 +516,16 @@ abbrev pub are_different : List (List ℕ) → Bool
 are_different [] = true
 are_different (name ∷ names) = not (is_named_in name names) && are_different names
 
-abbrev pub covers_own : (procedure : ℕ) → Own → Bool
-covers_own p (own_variable v x) = true
-covers_own p (own_constant c x) = belongs_to p x.owner && is_some x.value
+abbrev pub covers_own : Declarations → (procedure : ℕ) → Own → Bool
+covers_own D p (own_variable v x) = others_differ (is_static_of p) v x.name 0 D.vars
+covers_own D p (own_constant c x) = belongs_to p x.owner && is_some x.value
 
--- its lines declare its variables, and constants with values
+-- its lines declare its variables, Statics under names of their own, and constants with values
 abbrev pub covers_owns : Declarations → (procedure : ℕ) → List Own → Bool
-covers_owns D p os = pointwise nat_eq (variable_numbers os) (owned_from (is_local_of p) 0 D.vars) && list_all (covers_own p) os
+covers_owns D p os =
+    (pointwise nat_eq (local_numbers os) (owned_from (is_local_of p) 0 D.vars)
+    && pointwise nat_eq (static_numbers os) (owned_from (is_static_of p) 0 D.vars))
+    && list_all (covers_own D p) os
 
 -- in a standard module, where all that its frame has is named differently
 abbrev pub covers_site : Declarations → (procedure : ℕ) → Option Site → Bool
@@ -597,6 +609,8 @@ pub record IsCoveredLine (P : Program) (p number : ℕ) : Type 0 where
   pub covers : covers_line P p line ≡ true
   -- no jump: the line of its label could be replaced, whose label is then missing
   pub stays : jump_of line.source.form ≡ None
+  -- no Resume or Resume Next: the line of the error could be replaced
+  pub no_resume : resumes line.source.form ≡ false
   -- a Case and a Next suit their block
   pub stands : (l : SourceLine) → nth_line (body_of lines) number ≡ Some l → covers_in_block P p lines l ≡ true
   pub site : Site

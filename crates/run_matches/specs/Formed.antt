@@ -96,8 +96,8 @@ abbrev mutual
   is_formed_term ty me = false
   is_formed_term ty (with_object root) = false
   is_formed_term ty err_number = false
-  is_formed_term ty (err_raise e) = false
-  is_formed_term ty err_clear = false
+  is_formed_term ty (err_raise e) = is_same_type (type_at e) types.long && is_formed e
+  is_formed_term ty err_clear = true
   is_formed_term ty (is_same d e) = false
   is_formed_term ty (loose e rules) = false
 

@@ -17,6 +17,7 @@ use Rattle.written_trees.specs.Placing.{Numbers, Placed, placed_members, behind_
 use Rattle.written_trees.specs.Projects.{first_numbers, next_module}
 use Rattle.written_trees.specs.Prologues.{variables_of, constants_of}
 use Rattle.written_trees.specs.Properties.{separate_name}
+use Rattle.vb6_run.specs.Programs.{is_static_of}
 use Rattle.vb6_run.specs.Runnables.{is_class_file}
 use Rattle.net_run.specs.Shapes.{first_from}
 use Rattle.run_matches.specs.Sites.{Site, site_of, Own, own_variable, own_constant, own_name, own_variables, own_constants, owns_of}
@@ -100,10 +101,10 @@ is_of_module file (owner.Reference p) = false
 is_of_module file (owner.Answer p) = false
 is_of_module file (owner.Field t) = false
 
--- no other variable of the module, of variables that are numbered from k, has the name
-abbrev pub others_differ : (variable file : ℕ) → (name : List ℕ) → (k : ℕ) → List Variable → Bool
-others_differ v file name k [] = true
-others_differ v file name k (x ∷ xs) = (nat_eq v k || not (is_of_module file x.owner && is_same_name x.name name)) && others_differ v file name (suc k) xs
+-- no other variable whose owner passes, of variables that are numbered from k, has the name
+abbrev pub others_differ : (Owner → Bool) → (variable : ℕ) → (name : List ℕ) → (k : ℕ) → List Variable → Bool
+others_differ test v name k [] = true
+others_differ test v name k (x ∷ xs) = (nat_eq v k || not (test x.owner && is_same_name x.name name)) && others_differ test v name (suc k) xs
 
 -- ---- procedures
 
@@ -143,7 +144,7 @@ leads_to_member D p v name file home (Some m) =
     not (is_class_file D file)
     && (declares_alone D v name m
     && (is_module home (first_from (λ (n : Module). is_same_name n.name m.0.name) 0 D.project.modules)
-    && (others_differ v file name 0 D.vars && leads_from D name m.0.name file home (site_of D p) (slice_get D.procs p))))
+    && (others_differ (is_of_module file) v name 0 D.vars && leads_from D name m.0.name file home (site_of D p) (slice_get D.procs p))))
 
 abbrev pub leads_to_home : Declarations → (procedure variable : ℕ) → (name : List ℕ) → (file : ℕ) → Option ℕ → Bool
 leads_to_home D p v name file None = false
@@ -154,3 +155,13 @@ abbrev pub names_lead : Declarations → (procedure variable : ℕ) → (name : 
 names_lead D p v name file =
     (is_standard_module (module_at D.project file) && not (is_reserved (module_name D file)))
     && leads_to_home D p v name file (position (λ (m : Module). nat_eq m.file file) D.project.modules)
+
+-- ---- Statics
+
+abbrev pub is_outer : Declarations → Option Procedure → Bool
+is_outer D None = false
+is_outer D (Some q) = not (is_class_file D q.module_number)
+
+-- the procedure stands in a standard module, and no other Static of it has the name
+abbrev pub is_alone_static : Declarations → (procedure variable : ℕ) → (name : List ℕ) → Bool
+is_alone_static D p v name = is_outer D (slice_get D.procs p) && others_differ (is_static_of p) v name 0 D.vars

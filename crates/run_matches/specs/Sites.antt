@@ -8,7 +8,7 @@ use Rattle.bound_tree.specs.Tree.{Variable, Constant, Declarations}
 use Rattle.vb_tree.specs.Blocks.{is_code}
 use Rattle.written_trees.specs.Placing.{Numbers, Placed, placed_members, behind_members}
 use Rattle.written_trees.specs.Projects.{first_numbers, next_module}
-use Rattle.written_trees.specs.Prologues.{variables_of, constants_of, declares}
+use Rattle.written_trees.specs.Prologues.{variables_of, constants_of, declares, is_static}
 
 -- ---- procedures
 
@@ -93,3 +93,18 @@ variable_number (own_constant c x) = []
 
 abbrev pub variable_numbers : List Own → List ℕ
 variable_numbers os = flat_map variable_number os
+
+-- the variables but Statics, and the Statics
+abbrev pub local_number : Own → List ℕ
+local_number (own_variable v x) = cond (is_static x.owner) [] (v ∷ [])
+local_number (own_constant c x) = []
+
+abbrev pub static_number : Own → List ℕ
+static_number (own_variable v x) = cond (is_static x.owner) (v ∷ []) []
+static_number (own_constant c x) = []
+
+abbrev pub local_numbers : List Own → List ℕ
+local_numbers os = flat_map local_number os
+
+abbrev pub static_numbers : List Own → List ℕ
+static_numbers os = flat_map static_number os

@@ -1,9 +1,8 @@
 -- What variables, expressions and assignments do in frames that match.
-use Rattle.std.specs.Prelude.{◌≡◌, ◌⊎◌, ℕ, Bool, true, false, Some, [], ◌∷◌, slice_get, suc, nat_eq, Option, None, List}
+use Rattle.std.specs.Prelude.{◌≡◌, ◌⊎◌, ℕ, Bool, true, false, Some, [], ◌∷◌, slice_get, None}
 use Rattle.vb_tree.specs.BoundTree.{Ty}
 use Rattle.vb_tree.specs.declared.declared.Owner.TheVariants as owner
 use Rattle.std.specs.List.{list_all}
-use Rattle.std.specs.Map.{lookup}
 use Rattle.vb_tree.specs.declared.declared.ProcId.{ProcId}
 use Rattle.vb_tree.specs.declared.declared.VarId.{VarId}
 use Rattle.vb_tree.specs.declared.value.Value6.{Value6}
@@ -18,6 +17,8 @@ use Rattle.run_base.specs.Positions.{Key, Position, whole, made, shared}
 use Rattle.vb6_run.specs.Expressions as source
 use Rattle.vb6_run.specs.Expressions.{Context}
 use Rattle.vb6_run.specs.Forms.{SourceLine}
+use Rattle.bound_facts.specs.SelfMade.{module_of}
+use Rattle.vb6_run.specs.Programs.{is_static_of}
 use Rattle.vb6_run.specs.Runnables.{is_class_file}
 use Rattle.vb6_run.specs.Shapes as source_shape
 use Rattle.vb6_run.specs.Shapes.{simple, variable_shape}
@@ -34,7 +35,7 @@ use Rattle.net_run.specs.Store as net
 use Rattle.net_run.specs.Values as net_value
 use Rattle.written_trees.specs.Exprs.{exp_of, passed_of}
 use Rattle.written_trees.specs.Names.{Scope, variable_path, procedure_path}
-use Rattle.run_matches.specs.Addresses.{Same, position_of}
+use Rattle.run_matches.specs.Addresses.{Same}
 use Rattle.written_trees.specs.Arguments.{is_property, takes_reference}
 use Rattle.run_matches.specs.Agreeing.{Agrees}
 use Rattle.run_matches.specs.Formed.{passed_are_formed, is_formed}
@@ -78,9 +79,19 @@ pub record IsShared (U : Upgrade) (S : net_names.Scope) (T : Scope) (v : ℕ) : 
       ≡ net_names.starts (net_names.at_place (net.root (shape.scalar word) (whole (shared key)))) []
   pub differs : (u : ℕ) → variable_key U u ≡ Some key → v ≡ u
 
--- the procedure's own, or one of a standard module
+-- A Static of the procedure stands in its standard module, and no other variable is written with its key.
+pub record IsOwnStatic (U : Upgrade) (p v : ℕ) : Type 0 where
+  pub variable : Variable
+  pub is_variable : slice_get U.program.declarations.vars v ≡ Some variable
+  pub is_static : is_static_of p variable.owner ≡ true
+  pub file : ℕ
+  pub is_file : module_of (slice_get U.program.declarations.procs p) ≡ Some file
+  pub standard : is_class_file U.program.declarations file ≡ false
+  pub differs : (key : Key) (u : ℕ) → variable_key U v ≡ Some key → variable_key U u ≡ Some key → v ≡ u
+
+-- the procedure's own, a Static of it, or one of a standard module
 abbrev pub IsPlaced : Upgrade → (procedure : ℕ) → net_names.Scope → Scope → (variable : ℕ) → Type 0
-IsPlaced U p S T v = (is_own_of U p v ≡ true) ⊎ IsShared U S T v
+IsPlaced U p S T v = (is_own_of U p v ≡ true) ⊎ (IsOwnStatic U p v ⊎ IsShared U S T v)
 
 abbrev pub ArePlaced : Upgrade → (procedure : ℕ) → net_names.Scope → Scope → Uses → Type 0
 ArePlaced U p S T uses = (v : VarId) → uses v ≡ true → IsPlaced U p S T v.0
@@ -130,7 +141,7 @@ ScalarsAreRead U =
     (K : Pledge) (w : World) (a : Address) (b : net.Address) (ty : Ty) → covers_type ty ≡ true → MemoryMatch U w → Same U K w a b
     → ((q : Position) × (a ≡ root (simple ty) q)) → Agrees U K w (ScalarMatch U ty) (read a w.src) (target.read b w.net)
 
--- the address of a variable of a standard module that is written with a key of its own
+-- the address of a variable of a standard module, or of a Static in one, that is written with a key of its own
 pub record HasOwnKey (U : Upgrade) (a : Address) : Type 0 where
   pub variable : ℕ
   pub key : Key
@@ -139,7 +150,7 @@ pub record HasOwnKey (U : Upgrade) (a : Address) : Type 0 where
   pub is_key : variable_key U variable ≡ Some key
   pub differs : (u : ℕ) → variable_key U u ≡ Some key → variable ≡ u
 
--- where a scalar can be written: a place, or a variable of a standard module
+-- where a scalar can be written: a place, or such a variable
 abbrev pub IsTarget : Upgrade → Address → Type 0
 IsTarget U a = IsInPlace a ⊎ HasOwnKey U a
 
@@ -186,7 +197,7 @@ abbrev mutual
   AllCalledIn Q me = Unit {0}
   AllCalledIn Q (with_object of) = Unit {0}
   AllCalledIn Q err_number = Unit {0}
-  AllCalledIn Q (err_raise e) = Unit {0}
+  AllCalledIn Q (err_raise e) = AllCalled Q e
   AllCalledIn Q err_clear = Unit {0}
   AllCalledIn Q (is_same d e) = Unit {0}
   AllCalledIn Q (loose e rules) = Unit {0}

@@ -7,7 +7,6 @@ use Rattle.bound_tree.specs.declared.rule_set.RuleSet.{RuleSet}
 use Rattle.bound_tree.specs.Labels.{label_of, label_at, labels}
 use Rattle.bound_tree.specs.Tree.{Procedure, Constant, Variable, Line, Expr}
 use Rattle.bound_facts.specs.Calls.{line_calls}
-use Rattle.bound_facts.specs.Clean.{IsClean}
 use Rattle.bound_facts.specs.Effects.{is_outside}
 use Rattle.bound_facts.specs.Node.{root}
 use Rattle.bound_facts.specs.Parts.{line_stores}
@@ -26,15 +25,14 @@ use Rattle.vb6_run.specs.Store.{SourceFrame}
 use Rattle.net_run.specs.Members.{Code, code_at}
 use Rattle.net_run.specs.Names as net_names
 use Rattle.net_run.specs.Program as net_program
-use Rattle.run_matches.specs.CleanLines.{IsCleanLine}
-use Rattle.run_matches.specs.Covered.{IsCoveredLine, covers_in_block, covers_label, covers_line, covers_names, covers_procedure, covers_use, has_sound_label, jump_of, keeps_blocks}
+use Rattle.run_matches.specs.Covered.{covers_in_block, covers_label, covers_line, covers_names, covers_use, has_sound_label, jump_of, keeps_blocks, resumes}
 use Rattle.run_matches.specs.Frames.{HasNames, lines_of, FrameMatch, NextMatch, frame_pledge}
 use Rattle.run_matches.specs.Pledges.{is_inward, is_self_made}
-use Rattle.run_matches.specs.Runs.{SameLine, CallsAgree, line_result}
+use Rattle.run_matches.specs.Runs.{CallsAgree, line_result}
 use Rattle.run_matches.specs.Sites.{Own, own_variable, own_constant, Site, site_of, site_lines, first_statement, owns_of}
 use Rattle.run_matches.specs.Upgrades.{Upgrade, code_of, runnable_of}
 use Rattle.run_statements.specs.Frames.{IsOpen, IsReadable, ArePlaced, CanCall}
-use Rattle.run_statements.specs.Written.{WrittenProcedure, WrittenLine, site_scope, IsWritten, Passes}
+use Rattle.run_statements.specs.Written.{WrittenProcedure, WrittenLine, site_scope, Passes}
 use Rattle.run_matches.specs.Agreeing.{Agrees}
 use Rattle.run_matches.specs.Callees.{is_found}
 use Rattle.run_matches.specs.Maps.{World}
@@ -130,13 +128,29 @@ LabelsAreFound U =
 abbrev pub LabelIsKept : Upgrade → (procedure : ℕ) → Site → Code → SourceLine → Type 0
 LabelIsKept U p s c l = (a : Label6) → jump_of l.form.source.form ≡ Some a → IsFoundLabel U p s c a
 
+-- ---- the lines round a line
+
+-- control goes from both where it goes from one, and there is none where there is no other
+abbrev pub SameWays : Option SourceLine → Option NetLine → Type 0
+SameWays None None = Unit {0}
+SameWays None (Some k) = ⊥
+SameWays (Some l) None = ⊥
+SameWays (Some l) (Some k) = (k.aims ≡ l.aims) × (k.tests ≡ l.tests)
+
+-- at each number of a procedure and of the written one
+abbrev pub AllSameWays : Upgrade → (p written : ℕ) → Type 0
+AllSameWays U p written =
+    (n : ℕ) → SameWays (line_at (machine_of (runnable_of U)) p n) (line_at (net_program.machine_of U.written) written n)
+
 -- ---- what a line does
 
 -- the line of a number, in a block that suits it
-pub record LineStands (U : Upgrade) (p : ℕ) (s : Site) (c : Code) (number : ℕ) (l : SourceLine) : Type 0 where
+pub record LineStands (U : Upgrade) (p : ℕ) (s : Site) (written : ℕ) (c : Code) (number : ℕ) (l : SourceLine) : Type 0 where
   pub is_there : nth_line (lines_of U p) number ≡ Some l.form
   pub in_block : covers_in_block U.program p (lines_of U p) l ≡ true
   pub label : LabelIsKept U p s c l
+  -- where it goes on at the line of an error, these go the same ways
+  pub ways : resumes l.form.source.form ≡ true → AllSameWays U p written
 
 -- a line and the written line do the same, with so many turns for what they call
 abbrev pub SameLineIn : Upgrade → (p q number turns : ℕ) → SourceLine → NetLine → Type 0
@@ -162,5 +176,5 @@ LinesAgree U =
     → CallsAgree U (Passes U) (go (machine_of (runnable_of U)) turns) (go (net_program.machine_of U.written) turns)
     → ((q : ℕ) → Contains (line_calls U.program.declarations p l.form) (p, q) → CanCallFrom U p s c q)
     → covers_line U.program p l.form ≡ true
-    → LineStands U p s c number l
+    → LineStands U p s written c number l
     → SameLineIn U p written number turns l L.line

@@ -1,5 +1,5 @@
 -- What is known of a bound program, and what is written for its procedures and their lines.
-use Rattle.std.specs.Prelude.{◌≡◌, ◌↔◌, ◌+◌, ◌&&◌, IsTrue, ℕ, true, false, nat_lt, Some, None, List, map, slice_get}
+use Rattle.std.specs.Prelude.{◌≡◌, ◌+◌, ℕ, true, false, Some, None, List, map, slice_get}
 use Rattle.vb_tree.specs.Blocks.{is_code}
 use Rattle.vb_tree.specs.FlatLines.{code_lines}
 use Rattle.vb_tree.specs.Tree as source
@@ -7,10 +7,7 @@ use Rattle.bound_tree.specs.declared.marks.Marks.{Marks}
 use Rattle.bound_tree.specs.RuleSets.{none}
 use Rattle.bound_tree.specs.Tree.{Procedure, Line, Declarations, Program}
 use Rattle.bound_facts.specs.Clean.{IsClean}
-use Rattle.bound_facts.specs.Calls.{count_procedures}
-use Rattle.bound_facts.specs.Facts.{Known, ReachesOutward, AreFacts}
-use Rattle.bound_facts.specs.Leading.{is_in}
-use Rattle.bound_facts.specs.SelfMade.{unplain}
+use Rattle.bound_facts.specs.Facts.{AreFacts}
 use Rattle.net_tree.specs.declared.declaration.NetClose.{NetClose}
 use Rattle.written_trees.specs.Arguments.{is_property_kind}
 use Rattle.written_trees.specs.Bodies.{procedure_with, inside_procedure}

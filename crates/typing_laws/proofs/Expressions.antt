@@ -26,7 +26,7 @@ use Rattle.run_base.specs.Positions.{Position}
 use Rattle.vb6_run.specs.Expressions.{Context, Parts, at_address, declared, value_in, scalar_of, answer_as, left_operand, then_row, made_for, as_new, parts_of, term_parts, value_of, scalar_value, type_shape}
 use Rattle.vb6_run.specs.Shapes.{simple}
 use Rattle.vb6_run.specs.Store as store
-use Rattle.vb6_run.specs.Store.{Held, Address, root, Memory, provided, read, single_in, value_if}
+use Rattle.vb6_run.specs.Store.{Address, root, Memory, provided, read, single_in, value_if}
 use Rattle.vb6_run.specs.Values.{Value, scalar, is_of_shape}
 use Rattle.run_matches.specs.Covered.{covers_operator, covers_type}
 use Rattle.typing_laws.specs.Simple.{is_simple_expr, is_simple_term, is_simple_use}
@@ -241,8 +241,8 @@ module _ (C : Context) (mentions : List Mention) (w : Memory) (locals : Locals (
   value_ends (typed ty me) covers formed typing = absurd (true≢false (sym formed))
   value_ends (typed ty (with_object r)) covers formed typing = absurd (true≢false (sym formed))
   value_ends (typed ty err_number) covers formed typing = absurd (true≢false (sym formed))
-  value_ends (typed ty (err_raise e)) covers formed typing = absurd (true≢false (sym formed))
-  value_ends (typed ty err_clear) covers formed typing = absurd (true≢false (sym formed))
+  value_ends (typed ty (err_raise e)) covers formed typing = absurd (true≢false (sym (both_true (covers_type ty) false covers).1))
+  value_ends (typed ty err_clear) covers formed typing = absurd (true≢false (sym (both_true (covers_type ty) false covers).1))
   value_ends (typed ty (is_same d e)) covers formed typing = absurd (true≢false (sym formed))
   value_ends (typed ty (loose e rules)) covers formed typing = absurd (true≢false (sym formed))
 

@@ -1,0 +1,107 @@
+-- What holds of the variables of a frame that an entry makes: those in places, and Statics.
+use Rattle.std.proofs.Common.{◌≡◌, refl, sym, ap, subst, ◌∙◌, ℕ, ◌<◌, ◌≤◌, arith, true, false, cond, not, ◌&&◌, Option, Some, None, List, [], ◌∷◌, ◌++◌, map, zero, suc, Bool}
+use Rattle.std.specs.Prelude.{slice_get}
+use Rattle.up_base.proofs.Tests.{both_true}
+use Rattle.vb_tree.specs.Tree.{Form}
+use Rattle.vb_tree.specs.Tree as source_form
+use Rattle.bound_tree.specs.Tree.{Expr, Procedure, Variable}
+use Rattle.bound_facts.specs.Facts.{Known, is_quiet, is_quiet_variable}
+use Rattle.bound_facts.specs.SelfMade.{module_of}
+use Rattle.net_tree.specs.Tree as net_tree
+use Rattle.run_base.specs.Frames.{Kept, keeps_address, keeps_nothing}
+use Rattle.run_base.specs.Positions.{Position, Root, made, shared, whole}
+use Rattle.vb6_run.specs.Programs.{entry, is_static_of}
+use Rattle.vb6_run.specs.Runnables.{is_class_file, object_root, static_root}
+use Rattle.vb6_run.specs.Values.{Value}
+use Rattle.vb6_run.specs.Shapes.{variable_shape}
+use Rattle.vb6_run.specs.Store.{Address}
+use Rattle.net_run.specs.Program as target
+use Rattle.net_run.specs.Shapes as shape
+use Rattle.net_run.specs.Shapes.{module_in}
+use Rattle.net_run.specs.Store as net
+use Rattle.written_trees.specs.Heads as heads
+use Rattle.written_trees.specs.Names.{Scope}
+use Rattle.run_matches.specs.Addresses.{IsPlain}
+use Rattle.run_matches.specs.Covered.{are_different, covers_owner, covers_type, is_named_in}
+use Rattle.run_matches.specs.Frames.{HasPlace, KeptBy, is_static_in, static_of}
+use Rattle.run_matches.specs.Maps.{World, is_auto_root, is_auto_variable}
+use Rattle.run_matches.specs.Runs.{IsObject}
+use Rattle.run_matches.specs.Sites.{Own, own_variable, own_constant}
+use Rattle.run_matches.specs.Upgrades.{Upgrade, is_auto}
+use Rattle.run_statements.specs.Frames.{IsReadable}
+use Rattle.agreeing_laws.proofs.Made.{more}
+use Rattle.memory_laws.proofs.Making.{readable_shape}
+use Rattle.run_laws.specs.Entered.{AllSound}
+use Rattle.run_laws.proofs.Covered.{not_none, some_is}
+use Rattle.run_laws.proofs.Dims.{no_quiet}
+use Rattle.run_laws.proofs.StaticOrder.{AllSimple}
+use Rattle.run_laws.proofs.Locals.{position_is}
+
+-- ---- the frames of an entry
+
+pub nothing_kept : (a : Address) → ◌≡◌ {A = Kept Value Address} keeps_nothing (keeps_address a) → ⊥
+nothing_kept a e = cc e
+
+pub nothing_by : (vars : List (ℕ × Address)) (form : Form) (es : List Expr) → KeptBy vars form es keeps_nothing keeps_nothing
+nothing_by vars (source_form.for_head counter start limit step) es = tt
+nothing_by vars (source_form.select e) es = tt
+nothing_by vars _ es = tt
+
+pub made_object : (w u : World) (me : Option ℕ) → w.src.next_object ≤ u.src.next_object → IsObject w me → (o : ℕ) → me ≡ Some o → o < u.src.next_object
+made_object w u None le h o e = absurd (not_none e)
+made_object w u (Some m) le h o e = more o w.src.next_object u.src.next_object le (subst (λ n. n < w.src.next_object) (some_is e) h)
+
+-- a variable in a place has no As New declaration where it isn't known by one
+pub plain_place : (U : Upgrade) (w : World) (v : ℕ) (a : Address) → HasPlace U w v a → is_auto U v ≡ false → IsPlain U w a
+plain_place U w v a h auto q e =
+    subst (λ (z : Position). is_auto_root U w.map z.root ≡ false) (position_is a (variable_shape U.program.declarations v) (whole (made h.place)) q h.stands e)
+    (ap (is_auto_variable U) h.declared ∙ auto)
+
+quiet_by : (F : Known) (o : Option Variable) (x : Variable) → o ≡ Some x → covers_owner x.owner ≡ true → is_quiet_variable F o ≡ false
+quiet_by F o x e h = ap (is_quiet_variable F) e ∙ no_quiet F x.owner h
+
+-- a variable that can be read is no quiet parameter
+pub readable_exact : (U : Upgrade) (v : ℕ) → IsReadable U v → is_quiet U.program.declarations U.known v ≡ false
+readable_exact U v r =
+    let a = both_true (covers_owner r.variable.owner) (covers_type r.variable.ty && not r.variable.auto) r.covers in
+    ap (λ b. b && not (U.known.touched v)) (quiet_by U.known (slice_get U.program.declarations.vars v) r.variable r.is_variable a.0)
+
+-- ---- Statics
+
+pub simple_owns : (U : Upgrade) (S : Scope) (os : List Own) → AllSound U S os → AllSimple U.program.declarations os
+simple_owns U S [] h = tt
+simple_owns U S (own_variable v x ∷ os) h = ((h.0.0.variable.ty, readable_shape U v h.0.0), simple_owns U S os h.1)
+simple_owns U S (own_constant d x ∷ os) h = simple_owns U S os h.1
+
+pub module_in_is : (ms : List net_tree.Module) (k : ℕ) → module_in ms k ≡ slice_get ms k
+module_in_is [] k = refl
+module_in_is (m ∷ ms) zero = refl
+module_in_is (m ∷ ms) (suc k) = module_in_is ms k
+
+-- the root of a Static of a standard module
+pub static_root_is : (U : Upgrade) (p : ℕ) (x : Procedure) (me : Option ℕ) (v : ℕ) (r : Root) (o : Option Variable) → slice_get U.program.declarations.vars v ≡ o
+    → slice_get U.program.declarations.procs p ≡ Some x → is_class_file U.program.declarations x.module_number ≡ false → static_of U p me v ≡ Some r
+    → (y : Variable) × (slice_get U.program.declarations.vars v ≡ Some y) × (is_static_of p y.owner ≡ true) × (shared (v ∷ []) ≡ r)
+static_root_is U p x me v r None e is outer h =
+    absurd (not_none (sym (ap (λ o. cond (is_static_in p o) (static_root U.program.declarations me v (module_of (slice_get U.program.declarations.procs p))) None) e) ∙ h))
+static_root_is U p x me v r (Some y) e is outer h =
+    by (is_static_of p y.owner) refl
+    (sym (ap (λ o. cond (is_static_in p o) (static_root U.program.declarations me v (module_of (slice_get U.program.declarations.procs p))) None) e) ∙ h)
+  where
+    by : (b : Bool) → is_static_of p y.owner ≡ b
+        → cond b (static_root U.program.declarations me v (module_of (slice_get U.program.declarations.procs p))) None ≡ Some r
+        → (z : Variable) × (slice_get U.program.declarations.vars v ≡ Some z) × (is_static_of p z.owner ≡ true) × (shared (v ∷ []) ≡ r)
+    by true static k = (
+      y,
+      e,
+      static,
+      some_is
+          (sym (ap (λ q. static_root U.program.declarations me v (module_of q)) is
+          ∙ ap (λ c. cond c (object_root me v) (Some (shared (v ∷ [])))) outer) ∙ k),
+    )
+    by false static k = absurd (not_none k)
+
+-- names that differ still do behind others
+pub different_behind : (ns ms : List (List ℕ)) → are_different (ns ++ ms) ≡ true → are_different ms ≡ true
+different_behind [] ms h = h
+different_behind (n ∷ ns) ms h = different_behind ns ms (both_true (not (is_named_in n (ns ++ ms))) (are_different (ns ++ ms)) h).1
