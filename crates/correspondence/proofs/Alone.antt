@@ -16,8 +16,8 @@ use Rattle.written_trees.specs.Prologues.{declares, is_statement, variables_from
 use Rattle.vb6_run.specs.Programs.{answer_in, is_local_of, owned_from, is_static_of}
 use Rattle.vb6_run.specs.Runnables.{is_class_file}
 use Rattle.run_matches.specs.Callees.{answer_owns, frame_owns, own_of_some, parameter_owns}
-use Rattle.run_matches.specs.Covered.{are_different, belongs_to, covers_body, covers_all_calls, covers_head, covers_kind, covers_names, covers_own, covers_owner, covers_owns, covers_parameter, covers_procedure, covers_result, covers_site, covers_type, covers_variable, covers_variables, has_result, is_answer_of, is_named_in, is_value_of}
-use Rattle.run_matches.specs.Sites.{Own, own_variable, own_constant, own_name, own_variables, own_constants, statement_owns, owns_from, owns_of, Site, site_of, site_lines, first_statement, local_numbers, static_numbers}
+use Rattle.run_matches.specs.Covered.{are_different, belongs_to, covers_body, covers_all_calls, covers_head, covers_kind, covers_names, covers_own, covers_owner, covers_owns, covers_parameter, covers_procedure, covers_result, covers_site, covers_type, covers_variable, covers_variables, has_result, is_answer_of, is_named_in, is_value_of, is_parameter_of}
+use Rattle.run_matches.specs.Sites.{Own, own_variable, own_constant, own_name, own_variables, own_constants, statement_owns, owns_from, owns_of, Site, site_of, site_lines, first_statement, local_numbers, static_numbers, variable_numbers}
 use Rattle.correspondence.specs.Lists.{In}
 use Rattle.correspondence.specs.Uses.{IsAlone}
 use Rattle.correspondence.proofs.Among.{has_any, in_either, in_left, in_map, in_right, from_map}
@@ -163,7 +163,7 @@ record Covers (P : Program) (p : ℕ) (s : Site) : Type 0 where
   locals : pointwise nat_eq (local_numbers (owns_of P.declarations s)) (owned_from (is_local_of p) 0 P.declarations.vars) ≡ true
   statics : pointwise nat_eq (static_numbers (owns_of P.declarations s)) (owned_from (is_static_of p) 0 P.declarations.vars) ≡ true
   procedure : Procedure
-  params : pointwise nat_eq (map (λ (v : VarId). v.0) procedure.params) (owned_from (is_value_of p) 0 P.declarations.vars) ≡ true
+  params : pointwise nat_eq (map (λ (v : VarId). v.0) procedure.params) (owned_from (is_parameter_of p) 0 P.declarations.vars) ≡ true
   answer : pointwise nat_eq (answer_in procedure.answer) (owned_from (is_answer_of p) 0 P.declarations.vars) ≡ true
   apart : are_different (map own_name (frame_owns P.declarations (Some procedure) s)) ≡ true
   vars : covers_variables P p ≡ true
@@ -196,10 +196,10 @@ covered_parts P p s e h =
     by (Some x) h names locals statics vars =
         let D = P.declarations in
         let outer = not (is_class_file D x.module_number) in
-        let params = pointwise nat_eq (map (λ (v : VarId). v.0) x.params) (owned_from (is_value_of p) 0 D.vars) in
+        let params = pointwise nat_eq (map (λ (v : VarId). v.0) x.params) (owned_from (is_parameter_of p) 0 D.vars) in
         let answer = pointwise nat_eq (answer_in x.answer) (owned_from (is_answer_of p) 0 D.vars) in
-        let a = both_true (covers_kind x.kind) (list_all (covers_parameter D p) x.params && (covers_result D p x && outer)) h in
-        let b = both_true (list_all (covers_parameter D p) x.params) (covers_result D p x && outer) a.1 in
+        let a = both_true (covers_kind x.kind) (list_all (covers_parameter P p) x.params && (covers_result D p x && outer)) h in
+        let b = both_true (list_all (covers_parameter P p) x.params) (covers_result D p x && outer) a.1 in
         let c = both_true (covers_result D p x) outer b.1 in
         let d = both_true (has_result D p x x.kind) (params && answer) c.0 in
         let e = both_true params answer d.1 in
@@ -260,6 +260,14 @@ module _ (P : Program) (p : ℕ) (s : Site) (C : Covers P p s) (v : ℕ) (x : Va
       declared_among (static_of_number (owns_of D s) v
       (subst (In v) (sym (same_list (static_numbers (owns_of D s)) (owned_from (is_static_of p) 0 D.vars) C.statics)) (number_of (is_static_of p) static)))
 
+  given_among : is_parameter_of p x.owner ≡ true → In (own_variable v x) (params ++ rest)
+  given_among h =
+      in_left params rest (own_variable v x)
+      (parameter_among D C.procedure.params (record { 0 = v }) x e
+      (id_of_number C.procedure.params v
+      (subst (In v) (sym (same_list (map (λ (i : VarId). i.0) C.procedure.params) (owned_from (is_parameter_of p) 0 D.vars) C.params))
+      (number_of (is_parameter_of p) h))))
+
   among_by : (o : Owner) → x.owner ≡ o → belongs_to p o ≡ true → covers_owner o ≡ true → In (own_variable v x) (params ++ rest)
   among_by (owner.Module file) is h c = absurd (cc h)
   among_by (owner.Local q) is h c =
@@ -268,13 +276,8 @@ module _ (P : Program) (p : ℕ) (s : Site) (C : Covers P p s) (v : ℕ) (x : Va
   among_by (owner.Static q) is h c =
       in_right params rest (own_variable v x)
       (in_right (answer_owns D C.procedure.answer) (owns_of D s) (own_variable v x) (static_among (ap (is_static_of p) is ∙ h)))
-  among_by (owner.Value q) is h c =
-      in_left params rest (own_variable v x)
-      (parameter_among D C.procedure.params (record { 0 = v }) x e
-      (id_of_number C.procedure.params v
-      (subst (In v) (sym (same_list (map (λ (i : VarId). i.0) C.procedure.params) (owned_from (is_value_of p) 0 D.vars) C.params))
-      (number_of (is_value_of p) (ap (is_value_of p) is ∙ h)))))
-  among_by (owner.Reference q) is h c = absurd (cc c)
+  among_by (owner.Value q) is h c = given_among (ap (is_parameter_of p) is ∙ h)
+  among_by (owner.Reference q) is h c = given_among (ap (is_parameter_of p) is ∙ h)
   among_by (owner.Answer q) is h c =
       in_right params rest (own_variable v x)
       (in_left (answer_owns D C.procedure.answer) (owns_of D s) (own_variable v x)

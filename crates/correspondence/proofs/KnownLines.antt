@@ -18,7 +18,7 @@ use Rattle.net_tree.specs.declared.expression.NetBin.TheVariants as op
 use Rattle.net_tree.specs.Spelling.{is_same_text}
 use Rattle.net_tree.specs.Tree.{Exp}
 use Rattle.net_tree.specs.Tree as net
-use Rattle.written_trees.specs.Arguments.{argument_exp, copy_by, has_address, in_parentheses, is_copied, kept, takes_reference}
+use Rattle.written_trees.specs.Arguments.{argument_exp, copy_by, has_address, in_parentheses, is_copied, kept, takes_reference, has_reference, temporary_exp}
 use Rattle.written_trees.specs.Exprs.{called, exp_of, is_bare, passed_of, term_exp, exps_of}
 use Rattle.written_trees.specs.Lines.{case_items, first_exp, for_line, printed_item, joined_items, items_exp, line_of, flagged_line, print_name, step_exp, as_call, call_line}
 use Rattle.written_trees.specs.Literals.{is_hexadecimal}
@@ -32,7 +32,7 @@ use Rattle.correspondence.proofs.Naming.{no_variant, neither_variant, covered_ty
 use Rattle.correspondence.proofs.KnownLibrary.{library_known}
 use Rattle.correspondence.proofs.KnownPaths.{AreKnown, HasKnown, IsFunction, constant_known, converted_known, is_err_clear, is_not_upgraded, is_raise, is_print_line, is_print_part, known_append, operand_known, operator_known, printed_known, unary_known, IsKnown, path_known}
 use Rattle.correspondence.proofs.NamedCalls.{no_copy}
-use Rattle.correspondence.proofs.Variables.{IsVariablePath, covered_at, path_is, variable_exp}
+use Rattle.correspondence.proofs.Variables.{IsVariablePath, used_at, path_is, variable_exp}
 
 -- ---- calls
 
@@ -53,6 +53,15 @@ argument_known S true e h k =
 argument_known S false e h k =
     subst (λ (b : Bool). HasKnown (cond b (copy_by (type_at e) (exp_of S e)) (exp_of S e))) (sym (no_copy S.facts (type_at e) (is_copied e) h)) k
 
+-- and one by reference
+reference_known : (S : Scope) (by_address : Bool) (e : Expr) → covers_type (type_at e) ≡ true → HasKnown (exp_of S e)
+    → HasKnown (argument_exp S by_address (by_reference e) (exp_of S e))
+reference_known S by_address e h k = by (has_reference e)
+  where
+    by : (b : Bool) → HasKnown (cond b (exp_of S e) (temporary_exp S e (exp_of S e)))
+    by true = k
+    by false = argument_known S true e h k
+
 -- ---- covered lines
 
 known_path : (path : Path) → IsVariablePath path → IsKnown path
@@ -72,7 +81,7 @@ module _ (P : Program) (S : Scope) (same : S.declarations ≡ P.declarations) (f
 
   use_known : (k : VarId) (q : Bool) (ty : Ty) → covers_use P p mentions k ≡ true → HasKnown (exp_of S (typed ty (variable k q)))
   use_known k q ty h =
-      let found = covered_at P p k.0 (both_true (list_any (is_mention_of k) mentions) (covers_some P.declarations p k.0 (slice_get P.declarations.vars k.0)) h).1 in
+      let found = used_at P p mentions k h in
       subst (λ (e : Exp). HasKnown e) (sym (variable_exp P S same p k q ty found.0 found.1))
       (known_path (owner_path S q found.0.name found.0.owner) (path_is P S same p k.0 q found.0 found.1), tt)
 
@@ -117,7 +126,11 @@ module _ (P : Program) (S : Scope) (same : S.declarations ≡ P.declarations) (f
 
     passed_known : (q i : ℕ) (args : Passed) → covers_passed (covers_use P p mentions) args ≡ true → AreKnown (paths_of_exps (passed_of S q i args))
     passed_known q i no_passed h = tt
-    passed_known q i (next_passed (by_reference e) rest) h = absurd (cc h)
+    passed_known q i (next_passed (by_reference e) rest) h =
+        let both = both_true (covers_expr (covers_use P p mentions) e) (covers_passed (covers_use P p mentions) rest) h in
+        known_append (paths_of_exp (argument_exp S (takes_reference S.declarations q i) (by_reference e) (exp_of S e))) (paths_of_exps (passed_of S q (suc i) rest))
+        (reference_known S (takes_reference S.declarations q i) e (covered_type (covers_use P p mentions) e both.0) (expr_known e both.0))
+        (passed_known q (suc i) rest both.1)
     passed_known q i (next_passed (by_value e) rest) h =
         let both = both_true (covers_expr (covers_use P p mentions) e) (covers_passed (covers_use P p mentions) rest) h in
         known_append (paths_of_exp (argument_exp S (takes_reference S.declarations q i) (by_value e) (exp_of S e))) (paths_of_exps (passed_of S q (suc i) rest))

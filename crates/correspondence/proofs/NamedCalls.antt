@@ -6,10 +6,10 @@ use Rattle.up_base.specs.Names.{is_same_name, lower_case}
 use Rattle.up_base.proofs.Lists.{by_test}
 use Rattle.vb_tree.specs.BoundTree as types
 use Rattle.vb_tree.specs.BoundTree.{Ty}
-use Rattle.bound_tree.specs.Tree.{Declarations, Expr, Procedure, by_value}
+use Rattle.bound_tree.specs.Tree.{Declarations, Expr, Procedure, by_value, by_reference}
 use Rattle.bound_facts.specs.Node.{type_at}
 use Rattle.net_tree.specs.Tree.{Exp, Exps, no_exps}
-use Rattle.written_trees.specs.Arguments.{argument_exp, copy_by, has_address, in_parentheses, is_copied, kept}
+use Rattle.written_trees.specs.Arguments.{argument_exp, copy_by, has_address, in_parentheses, is_copied, kept, has_reference, temporary_exp}
 use Rattle.written_trees.specs.Exprs.{called, exp_of}
 use Rattle.written_trees.specs.Facts.{Facts, holds_array}
 use Rattle.written_trees.specs.Names.{Path, Scope, first_name, is_foreign, is_standard_module, module_at, module_name, procedure_name, procedure_path, procedure_path_of}
@@ -117,6 +117,15 @@ argument_names S count true e h =
     by false = refl
 argument_names S count false e h =
     ap {B = ℕ} (λ b. names count (cond b (copy_by (type_at e) (exp_of S e)) (exp_of S e))) (no_copy S.facts (type_at e) (is_copied e) h)
+
+-- and one by reference
+pub reference_names : (S : Scope) (count : Path → ℕ) (by_address : Bool) (e : Expr) → covers_type (type_at e) ≡ true
+    → names count (argument_exp S by_address (by_reference e) (exp_of S e)) ≡ names count (exp_of S e)
+reference_names S count by_address e h = by (has_reference e)
+  where
+    by : (b : Bool) → names count (cond b (exp_of S e) (temporary_exp S e (exp_of S e))) ≡ names count (exp_of S e)
+    by true = refl
+    by false = argument_names S count true e h
 
 -- ---- calls
 

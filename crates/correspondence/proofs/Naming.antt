@@ -38,7 +38,7 @@ use Rattle.written_trees.specs.Prologues.{one_if}
 use Rattle.run_matches.specs.Covered.{covers_type, covers_use, covers_library, covers_operator, covers_expr, covers_term, covers_exprs, covers_passed}
 use Rattle.run_matches.specs.Formed.{is_formed, is_formed_term, is_row_of_one, is_row_of_two, is_row_of_call, is_conversion_to, types_of, are_formed, passed_are_formed}
 use Rattle.correspondence.specs.Uses.{uses, term_uses, exprs_uses, passed_uses, names, exps_name, total}
-use Rattle.correspondence.proofs.NamedCalls.{argument_names, bare_names, full_names, neither, none_before, none_of_both}
+use Rattle.correspondence.proofs.NamedCalls.{argument_names, bare_names, full_names, neither, none_before, none_of_both, reference_names}
 
 module _ (count : Path → ℕ) (no_support : (name : List ℕ) → count (support name) ≡ 0) (no_strings : (name : List ℕ) → count (strings name) ≡ 0) where
   -- ---- constants name nothing
@@ -293,7 +293,14 @@ module _ (P : Program) (S : Scope) (p v : ℕ) (count : Path → ℕ) (test : Ex
     passed_names : (q i : ℕ) (args : Passed) → covers_passed (covers_use P p mentions) args ≡ true → passed_are_formed args ≡ true
         → Free (nodes_of_passed args) → passed_uses v args ≡ exps_name count (passed_of S q i args)
     passed_names q i no_passed h f free = refl
-    passed_names q i (next_passed (by_reference e) rest) h f free = absurd (cc h)
+    passed_names q i (next_passed (by_reference e) rest) h f free =
+        let both = both_true (covers_expr (covers_use P p mentions) e) (covers_passed (covers_use P p mentions) rest) h in
+        let forms = both_true (is_formed e) (passed_are_formed rest) f in
+        let parted = none_of_both test (nodes e) (nodes_of_passed rest) free in
+        let here = expr_names e both.0 forms.0 parted.0 in
+        let written = reference_names S count (takes_reference S.declarations q i) e (covered_type (covers_use P p mentions) e both.0) in
+        let more = passed_names q (suc i) rest both.1 forms.1 parted.1 in
+        omega (arith, here, written, more)
     passed_names q i (next_passed (by_value e) rest) h f free =
         let both = both_true (covers_expr (covers_use P p mentions) e) (covers_passed (covers_use P p mentions) rest) h in
         let forms = both_true (is_formed e) (passed_are_formed rest) f in

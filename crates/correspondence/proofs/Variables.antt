@@ -19,7 +19,7 @@ use Rattle.net_tree.specs.Tree as net
 use Rattle.written_trees.specs.Exprs.{exp_of, made_if}
 use Rattle.written_trees.specs.Names.{Path, Scope, module_at, is_standard_module, module_name, is_foreign, variable_path_of, owner_path, support}
 use Rattle.written_trees.specs.Prologues.{one_if}
-use Rattle.run_matches.specs.Covered.{covers_type, covers_owner, covers_variable, belongs_to, is_foreign_name, is_reached, covers_some, covers_use, is_mention_of}
+use Rattle.run_matches.specs.Covered.{covers_type, covers_owner, covers_variable, belongs_to, is_foreign_name, is_reached, covers_some, covers_use, is_mention_of, is_loud}
 use Rattle.run_matches.specs.Shared.{names_lead, leads_to_home, is_alone_static}
 use Rattle.correspondence.specs.Uses.{path_names, shared_names, names, IsAlone, IsSharedAlone}
 
@@ -48,7 +48,9 @@ covered_at P p k h = by (slice_get P.declarations.vars k) refl h
 
 pub used_at : (P : Program) (p : ℕ) (mentions : List Mention) (k : VarId) → covers_use P p mentions k ≡ true → (y : Variable) × IsCoveredAt P p k.0 y
 used_at P p mentions k h =
-    covered_at P p k.0 (both_true (list_any (is_mention_of k) mentions) (covers_some P.declarations p k.0 (slice_get P.declarations.vars k.0)) h).1
+    let o : Option Variable = slice_get P.declarations.vars k.0 in
+    let both = both_true (list_any (is_mention_of k) mentions) (covers_some P.declarations p k.0 o && is_loud P k.0 o) h in
+    covered_at P p k.0 (both_true (covers_some P.declarations p k.0 o) (is_loud P k.0 o) both.1).0
 
 -- a use of it is written as its path
 pub variable_exp : (P : Program) (S : Scope) → S.declarations ≡ P.declarations → (p : ℕ) (v : VarId) (q : Bool) (ty : Ty) (y : Variable) → IsCoveredAt P p v.0 y
@@ -89,7 +91,7 @@ path_is P S same p k q y is = by y.owner is.1 is.2
     by (owner.Local q) h c = tt
     by (owner.Static q) h c = tt
     by (owner.Value q) h c = tt
-    by (owner.Reference p) h c = absurd (cc c)
+    by (owner.Reference q) h c = tt
     by (owner.Answer q) h c = tt
     by (owner.Field t) h c = absurd (cc c)
 
@@ -148,7 +150,7 @@ module _ (P : Program) (S : Scope) (same : S.declarations ≡ P.declarations) (p
   other k y q is (owner.Static r) e h c n =
       other_own k y is (ap (belongs_to p) e ∙ (both_true (nat_eq p r.0) (is_alone_static P.declarations p k y.name) h).0) n
   other k y q is (owner.Value r) e h c n = other_own k y is (ap (belongs_to p) e ∙ h) n
-  other k y q is (owner.Reference r) e h c n = absurd (cc c)
+  other k y q is (owner.Reference r) e h c n = other_own k y is (ap (belongs_to p) e ∙ h) n
   other k y q is (owner.Answer r) e h c n = other_own k y is (ap (belongs_to p) e ∙ h) n
   other k y q is (owner.Field t) e h c n = absurd (cc c)
 
@@ -253,7 +255,7 @@ module _ (P : Program) (S : Scope) (same : S.declarations ≡ P.declarations) (p
   other_shared k y q is (owner.Local r) e h c n = own_shared k y is (ap (belongs_to p) e ∙ h)
   other_shared k y q is (owner.Static r) e h c n = own_shared k y is (ap (belongs_to p) e ∙ (both_true (nat_eq p r.0) (is_alone_static D p k y.name) h).0)
   other_shared k y q is (owner.Value r) e h c n = own_shared k y is (ap (belongs_to p) e ∙ h)
-  other_shared k y q is (owner.Reference r) e h c n = absurd (cc c)
+  other_shared k y q is (owner.Reference r) e h c n = own_shared k y is (ap (belongs_to p) e ∙ h)
   other_shared k y q is (owner.Answer r) e h c n = own_shared k y is (ap (belongs_to p) e ∙ h)
   other_shared k y q is (owner.Field t) e h c n = absurd (cc c)
 

@@ -1,8 +1,9 @@
--- Scalars that are given by value: they go on to match, and are arguments of a call that promises enough.
+-- Scalars that are given by value and variables by reference: they are arguments of a call that promises enough.
 use Rattle.std.proofs.Common.{◌≡◌, refl, sym, ap, ◌∙◌, ℕ, suc, ◌<◌, Bool, true, false, cond, ◌||◌, Option, Some, None, List, [], ◌∷◌, ◌++◌, arith}
 use Rattle.std.specs.List.{AllPairs, Contains}
 use Rattle.vb_tree.specs.BoundTree.{Ty}
 use Rattle.vb_tree.specs.declared.value.Value6.{Value6}
+use Rattle.bound_tree.specs.Tree.{Passed}
 use Rattle.net_meaning.specs.declared.value.ValueN.{ValueN}
 use Rattle.net_meaning.specs.ValueMatch.{Matches, booleans}
 use Rattle.run_base.specs.Positions.{Root, shared, made, field}
@@ -12,7 +13,7 @@ use Rattle.net_run.specs.Lines.{NetFrame}
 use Rattle.net_run.specs.Names as net_names
 use Rattle.net_run.specs.Values as net_value
 use Rattle.written_trees.specs.Names.{Scope}
-use Rattle.run_matches.specs.Addresses.{ArgsMatch, ArgsOk, no_args, value_args}
+use Rattle.run_matches.specs.Addresses.{ArgsMatch, ArgsOk, no_args, value_args, address_args}
 use Rattle.run_matches.specs.Frames.{FrameMatch}
 use Rattle.run_matches.specs.Likeness.{LikeV, like_scalar}
 use Rattle.run_matches.specs.Maps.{World, mark}
@@ -22,9 +23,9 @@ use Rattle.run_matches.specs.Upgrades.{Upgrade}
 use Rattle.run_statements.specs.Frames.{CanCall}
 use Rattle.agreeing_laws.specs.Promises.{Weaker}
 use Rattle.agreeing_laws.proofs.Made.{more}
-use Rattle.agreeing_laws.proofs.Moves.{locks_later}
-use Rattle.agreeing_laws.proofs.Scalars.{object_later, scalar_later}
-use Rattle.expression_laws.specs.Calls.{Stands, ValuesMatch, no_values, next_value}
+use Rattle.agreeing_laws.proofs.Moves.{address_promised, locks_later}
+use Rattle.agreeing_laws.proofs.Scalars.{object_later}
+use Rattle.expression_laws.specs.Calls.{ArgumentsMatch, Stands, next_address, next_value, no_arguments}
 
 -- ---- the frames of a caller
 
@@ -73,28 +74,28 @@ loose_in_none ks k e c = absurd (none_in k ks e c)
 pub once_in_none : (ks : List ℕ) → ks ≡ [] → AllPairs (λ j k. j ≡ k → ⊥) ks
 once_in_none ks e = no_pairs ks e
 
--- ---- values
+-- ---- arguments
 
-pub values_later : (U : Upgrade) (K : Pledge) (w0 w1 : World) (xs : List SourceGiven) (ys : List NetGiven) → Later U K w0 w1 → ValuesMatch U w0 xs ys
-    → ValuesMatch U w1 xs ys
-values_later U K w0 w1 _ _ l no_values = no_values
-values_later U K w0 w1 _ _ l (next_value ty z y xs ys h rest) =
-    next_value ty z y xs ys (scalar_later U K w0 w1 ty z y l h) (values_later U K w0 w1 xs ys l rest)
+taken_none : (U : Upgrade) (K : Pledge) (w : World) (xs : List SourceGiven) (ys : List NetGiven) → ArgumentsMatch U K w xs ys → taken_by xs ys ≡ []
+taken_none U K w _ _ no_arguments = refl
+taken_none U K w _ _ (next_value ty z y xs ys h rest) =
+    ap (λ ks. ks ++ taken_by xs ys) (no_arrays U w ty z y h) ∙ taken_none U K w xs ys rest
+taken_none U K w _ _ (next_address a b xs ys same target plain rest) = taken_none U K w xs ys rest
 
-taken_none : (U : Upgrade) (w : World) (xs : List SourceGiven) (ys : List NetGiven) → ValuesMatch U w xs ys → taken_by xs ys ≡ []
-taken_none U w _ _ no_values = refl
-taken_none U w _ _ (next_value ty z y xs ys h rest) =
-    ap (λ ks. ks ++ taken_by xs ys) (no_arrays U w ty z y h) ∙ taken_none U w xs ys rest
+arguments_match : (U : Upgrade) (K L : Pledge) (w : World) (q i : ℕ) (xs : List SourceGiven) (ys : List NetGiven) → Weaker w K L → ArgumentsMatch U K w xs ys
+    → ArgsMatch U L w q i xs ys
+arguments_match U K L w q i _ _ weaker no_arguments = no_args i
+arguments_match U K L w q i _ _ weaker (next_value ty z y xs ys h rest) =
+    value_args i (scalar ty z) y xs ys h (arguments_match U K L w q (suc i) xs ys weaker rest)
+arguments_match U K L w q i _ _ weaker (next_address a b xs ys same target plain rest) =
+    address_args i a b xs ys (address_promised U K L w w a b weaker same) target plain (arguments_match U K L w q (suc i) xs ys weaker rest)
 
-values_match : (U : Upgrade) (K : Pledge) (w : World) (q i : ℕ) (xs : List SourceGiven) (ys : List NetGiven) → ValuesMatch U w xs ys → ArgsMatch U K w q i xs ys
-values_match U K w q i _ _ no_values = no_args i
-values_match U K w q i _ _ (next_value ty z y xs ys h rest) = value_args i (scalar ty z) y xs ys h (values_match U K w q (suc i) xs ys rest)
-
-pub values_ok : (U : Upgrade) (K : Pledge) (w : World) (q : ℕ) (xs : List SourceGiven) (ys : List NetGiven) → ValuesMatch U w xs ys → ArgsOk U K w q xs ys
-values_ok U K w q xs ys h = record {
-  match = values_match U K w q 0 xs ys h;
-  loose = λ k c. loose_in_none (taken_by xs ys) k (taken_none U w xs ys h) c;
-  once = once_in_none (taken_by xs ys) (taken_none U w xs ys h);
+pub arguments_ok : (U : Upgrade) (K L : Pledge) (w : World) (q : ℕ) (xs : List SourceGiven) (ys : List NetGiven) → Weaker w K L → ArgumentsMatch U K w xs ys
+    → ArgsOk U L w q xs ys
+arguments_ok U K L w q xs ys weaker h = record {
+  match = arguments_match U K L w q 0 xs ys weaker h;
+  loose = λ k c. loose_in_none (taken_by xs ys) k (taken_none U K w xs ys h) c;
+  once = once_in_none (taken_by xs ys) (taken_none U K w xs ys h);
 }
 
 -- ---- what a call promises
@@ -108,11 +109,11 @@ inward_foreign U q me (shared k) h = refl
 inward_foreign U q me (made n) h = refl
 inward_foreign U q me (field o k) h = ap (λ b. is_that_object (cond b None (cond (is_self_made U q) me None)) o) h
 
-pub callee_is_weaker : (U : Upgrade) (K : Pledge) (S : net_names.Scope) (T : Scope) (q : ℕ) (w : World) (me : Option ℕ) (xs : List SourceGiven)
-    (ys : List NetGiven) → CanCall U K S T q → ValuesMatch U w xs ys → Weaker w K (call_pledge U q (mark w.src) me xs ys)
-callee_is_weaker U K S T q w me xs ys c h = record {
+pub callee_is_weaker : (U : Upgrade) (K : Pledge) (S : net_names.Scope) (T : Scope) (q : ℕ) (args : Passed) (w : World) (me : Option ℕ)
+    (xs : List SourceGiven) (ys : List NetGiven) → CanCall U K S T q args → ArgumentsMatch U K w xs ys → Weaker w K (call_pledge U q (mark w.src) me xs ys)
+callee_is_weaker U K S T q args w me xs ys c h = record {
   keeps = c.keeps;
   steady = λ s. either_first (is_inward U q) (is_self_made U q) (c.inward s);
   old = λ r m s o. record { is_made = m; foreign = inward_foreign U q me r (c.inward s) };
-  takes = λ k lt x. loose_in_none (taken_by xs ys) k (taken_none U w xs ys h) x;
+  takes = λ k lt x. loose_in_none (taken_by xs ys) k (taken_none U K w xs ys h) x;
 }

@@ -1,6 +1,5 @@
 -- Calls with arguments by value: how both sides come to their arguments, to the callee, and to what it gives.
 use Rattle.std.proofs.Common.{◌≡◌, refl, sym, ap, subst, ◌∙◌, ℕ, Bool, true, false, cond, not, ◌&&◌, Option, Some, None, List, [], ◌∷◌}
-use Rattle.std.specs.List.{list_all}
 use Rattle.vb_tree.specs.BoundTree as types
 use Rattle.vb_tree.specs.BoundTree.{Ty}
 use Rattle.vb_tree.specs.declared.declared.ProcId.{ProcId}
@@ -11,14 +10,15 @@ use Rattle.net_tree.specs.declared.declaration.NetPassing.{NetPassing}
 use Rattle.net_tree.specs.declared.declaration.NetPassing.TheVariants as passing
 use Rattle.net_meaning.specs.declared.value.ValueN.TheVariants as net_scalar
 use Rattle.net_tree.specs.Tree.{Exp, Exps, call_of, path}
-use Rattle.run_base.specs.Frames.{by_value}
+use Rattle.run_base.specs.Frames.{Given, by_address, by_value}
+use Rattle.run_matches.specs.Addresses.{IsPlain, IsTarget, Same}
 use Rattle.run_base.specs.Machines.{enters}
 use Rattle.run_base.specs.Outcomes.{Outcome, gives, after, then}
 use Rattle.vb6_run.specs.Expressions as source
 use Rattle.vb6_run.specs.Expressions.{Context, Parts, at_address, declared, result_parts, type_shape}
 use Rattle.vb6_run.specs.Forms.{SourceLine}
 use Rattle.vb6_run.specs.Shapes.{Shape, simple}
-use Rattle.vb6_run.specs.Store.{Memory, SourceCalls, SourceFrame, SourceGiven, provided}
+use Rattle.vb6_run.specs.Store.{Memory, SourceCalls, SourceFrame, SourceGiven, provided, Address}
 use Rattle.vb6_run.specs.Values.{Value, fields, elements, is_of_shape}
 use Rattle.net_run.specs.Calls.{Arguments, passings_at, result_address, result_shape_of}
 use Rattle.net_run.specs.Expressions as target
@@ -44,29 +44,30 @@ use Rattle.run_matches.specs.Match.{MemoryMatch}
 use Rattle.run_matches.specs.Pledges.{Later, NetGiven, Pledge}
 use Rattle.run_matches.specs.Runs.{CallsAgree, call_pledge}
 use Rattle.run_matches.specs.Upgrades.{Upgrade}
-use Rattle.run_statements.specs.Frames.{CanCall, ScalarMatch, context_of, is_value}
+use Rattle.run_statements.specs.Frames.{CanCall, ScalarMatch, context_of}
 use Rattle.run_statements.specs.Written.{Passes}
 use Rattle.row_laws.proofs.Composing.{after_nil, then_assoc, then_gives}
 use Rattle.agreeing_laws.specs.Promises.{Weaker}
 use Rattle.agreeing_laws.proofs.Agreeing.{agrees_gives, agrees_outside, agrees_promised, left_alone, right_alone, then_agrees}
 use Rattle.agreeing_laws.proofs.Made.{below_self}
-use Rattle.agreeing_laws.proofs.Moves.{locks_promised}
+use Rattle.agreeing_laws.proofs.Moves.{address_later, locks_promised}
 use Rattle.agreeing_laws.proofs.Scalars.{scalar_later}
-use Rattle.expression_laws.specs.Calls.{GivenMatch, Stands, ValuesMatch, next_value}
-use Rattle.expression_laws.proofs.Arguments.{callee_is_weaker, stands_later, values_ok}
+use Rattle.expression_laws.specs.Calls.{ArgumentsMatch, GivenMatch, Stands, next_address, next_value}
+use Rattle.expression_laws.proofs.Arguments.{arguments_ok, callee_is_weaker, stands_later}
+use Rattle.expression_laws.proofs.Images.{plain_later}
 use Rattle.expression_laws.proofs.Checks.{checked_agrees}
 use Rattle.expression_laws.proofs.Types.{covered_shape}
 
 -- ---- what is written for an argument
 
-no_copy : (F : Facts) (ty : Ty) (copied : Bool) → covers_type ty ≡ true → (holds_array F ty && copied) ≡ false
+pub no_copy : (F : Facts) (ty : Ty) (copied : Bool) → covers_type ty ≡ true → (holds_array F ty && copied) ≡ false
 no_copy F (types.user t) copied h = absurd (cc h)
 no_copy F _ copied h = refl
 
 -- an argument by value stands as it is written
-pub argument_is : (T : written_names.Scope) (by_address : Bool) (e : Expr) → by_address ≡ false → covers_type (type_at e) ≡ true
-    → argument_exp T by_address (tree.by_value e) (exp_of T e) ≡ exp_of T e
-argument_is T by_address e h covers =
+pub argument_is : (T : written_names.Scope) (referred : Bool) (e : Expr) → referred ≡ false → covers_type (type_at e) ≡ true
+    → argument_exp T referred (tree.by_value e) (exp_of T e) ≡ exp_of T e
+argument_is T referred e h covers =
     ap (λ b. cond b (temporary_exp T e (exp_of T e)) (value_exp T.facts e (exp_of T e))) h
     ∙ ap (λ b. cond b (copy_by (type_at e) (exp_of T e)) (exp_of T e)) (no_copy T.facts (type_at e) (is_copied e) covers)
 
@@ -107,6 +108,11 @@ call_address S oracle names n args h w =
     ∙ ap (λ k. then A k) (λ i gs w. after_nil (then (then (call_does S oracle n gs w) at_parts) target.finished) i)
     ∙ ap (λ k. then A k) (λ i gs w. through_parts (call_does S oracle n gs w) i)
 
+-- the target takes a value where the callee does
+pub given_is : (S : Scope) (oracle : Jobs) (mode : NetPassing) (e : Exp) (w : net.Memory) → mode ≡ passing.Value
+    → target.given S oracle mode (target.reach S oracle false e w) ≡ then (target.value_of S oracle e w) (λ v w. gives [] (by_value v) w)
+given_is S oracle mode e w h = ap (λ m. target.given S oracle m (target.reach S oracle false e w)) h
+
 -- ---- arguments on both sides
 
 module _ (U : Upgrade) (K : Pledge) where
@@ -114,41 +120,59 @@ module _ (U : Upgrade) (K : Pledge) where
   pub argument_agrees : (w : World) (ty : Ty) (r : Outcome Memory Value) (r' : Outcome net.Memory net_value.Value)
       (rest : Memory → Outcome Memory (List SourceGiven)) (rest' : net.Memory → Outcome net.Memory Arguments) → MemoryMatch U w
       → Agrees U K w (ScalarMatch U ty) r r'
-      → ((v : World) → Later U K w v → Agrees U K v (ValuesMatch U) (rest v.src) (rest' v.net))
-      → Agrees U K w (ValuesMatch U) (then (then r (λ x w. gives [] (by_value x) w)) (λ g w. then (rest w) (λ gs w. gives [] (g ∷ gs) w)))
+      → ((v : World) → Later U K w v → Agrees U K v (ArgumentsMatch U K) (rest v.src) (rest' v.net))
+      → Agrees U K w (ArgumentsMatch U K) (then (then r (λ x w. gives [] (by_value x) w)) (λ g w. then (rest w) (λ gs w. gives [] (g ∷ gs) w)))
       (then (then r' (λ v w. gives [] (by_value v) w)) (λ g w. then (rest' w) (λ gs w. gives [] (g ∷ gs) w)))
   argument_agrees w ty r r' rest rest' start first more =
-      subst (λ z. Agrees U K w (ValuesMatch U) z
+      subst (λ z. Agrees U K w (ArgumentsMatch U K) z
       (then (then r' (λ v w. gives [] (by_value v) w)) (λ g w. then (rest' w) (λ gs w. gives [] (g ∷ gs) w))))
       (sym (then_assoc r (λ x w. gives [] (by_value x) w) (λ g w. then (rest w) (λ gs w. gives [] (g ∷ gs) w))))
-      (subst (λ z. Agrees U K w (ValuesMatch U) (then r (λ x w. after [] (then (rest w) (λ gs w. gives [] (by_value x ∷ gs) w)))) z)
+      (subst (λ z. Agrees U K w (ArgumentsMatch U K) (then r (λ x w. after [] (then (rest w) (λ gs w. gives [] (by_value x ∷ gs) w)))) z)
       (sym (then_assoc r' (λ v w. gives [] (by_value v) w) (λ g w. then (rest' w) (λ gs w. gives [] (g ∷ gs) w))))
-      (then_agrees U K w (ScalarMatch U ty) (ValuesMatch U) r r' (λ x w. after [] (then (rest w) (λ gs w. gives [] (by_value x ∷ gs) w)))
+      (then_agrees U K w (ScalarMatch U ty) (ArgumentsMatch U K) r r' (λ x w. after [] (then (rest w) (λ gs w. gives [] (by_value x ∷ gs) w)))
       (λ v w. after [] (then (rest' w) (λ gs w. gives [] (by_value v ∷ gs) w))) start first
       (λ x y v m l.
-      left_alone U K v (ValuesMatch U) (then (rest v.src) (λ gs w. gives [] (by_value x ∷ gs) w))
+      left_alone U K v (ArgumentsMatch U K) (then (rest v.src) (λ gs w. gives [] (by_value x ∷ gs) w))
       (after [] (then (rest' v.net) (λ gs w. gives [] (by_value y ∷ gs) w)))
-      (right_alone U K v (ValuesMatch U) (then (rest v.src) (λ gs w. gives [] (by_value x ∷ gs) w))
+      (right_alone U K v (ArgumentsMatch U K) (then (rest v.src) (λ gs w. gives [] (by_value x ∷ gs) w))
       (then (rest' v.net) (λ gs w. gives [] (by_value y ∷ gs) w))
-      (then_agrees U K v (ValuesMatch U) (ValuesMatch U) (rest v.src) (rest' v.net) (λ gs w. gives [] (by_value x ∷ gs) w)
+      (then_agrees U K v (ArgumentsMatch U K) (ArgumentsMatch U K) (rest v.src) (rest' v.net) (λ gs w. gives [] (by_value x ∷ gs) w)
       (λ gs w. gives [] (by_value y ∷ gs) w) l.match (more v l)
       (λ xs ys u given later.
-      agrees_gives U K u (ValuesMatch U) (by_value x ∷ xs) (by_value y ∷ ys) later.match
-      (subst (λ z. ValuesMatch U u (by_value z ∷ xs) (by_value y ∷ ys)) (sym m.1)
+      agrees_gives U K u (ArgumentsMatch U K) (by_value x ∷ xs) (by_value y ∷ ys) later.match
+      (subst (λ z. ArgumentsMatch U K u (by_value z ∷ xs) (by_value y ∷ ys)) (sym m.1)
       (next_value ty m.0 y xs ys (scalar_later U K v u ty m.0 y later m.2) given))))))))
 
-  -- the target takes a value where the callee does
-  pub given_is : (S : Scope) (oracle : Jobs) (modes : List NetPassing) (e : Exp) (w : net.Memory) → list_all is_value modes ≡ true
-      → target.given S oracle (target.first_passing modes) (target.reach S oracle false e w)
-      ≡ then (target.value_of S oracle e w) (λ v w. gives [] (by_value v) w)
-  given_is S oracle [] e w h = refl
-  given_is S oracle (passing.Value ∷ modes) e w h = refl
-  given_is S oracle (passing.Reference ∷ modes) e w h = absurd (cc h)
+  -- one that both sides give as a value
+  pub taken_agrees : (w : World) (ty : Ty) (r : Outcome Memory Value) (r' : Outcome net.Memory net_value.Value) (s : Outcome Memory SourceGiven)
+      (t : Outcome net.Memory (Given net_value.Value net.Address)) (rest : Memory → Outcome Memory (List SourceGiven))
+      (rest' : net.Memory → Outcome net.Memory Arguments) → s ≡ then r (λ x w. gives [] (by_value x) w) → t ≡ then r' (λ y w. gives [] (by_value y) w)
+      → MemoryMatch U w → Agrees U K w (ScalarMatch U ty) r r'
+      → ((v : World) → Later U K w v → Agrees U K v (ArgumentsMatch U K) (rest v.src) (rest' v.net))
+      → Agrees U K w (ArgumentsMatch U K) (then s (λ g w. then (rest w) (λ gs w. gives [] (g ∷ gs) w))) (then t (λ g w. then (rest' w) (λ gs w. gives [] (g ∷ gs) w)))
+  taken_agrees w ty r r' s t rest rest' e e' start first more =
+      subst (λ z. Agrees U K w (ArgumentsMatch U K) (then z (λ g w. then (rest w) (λ gs w. gives [] (g ∷ gs) w)))
+      (then t (λ g w. then (rest' w) (λ gs w. gives [] (g ∷ gs) w)))) (sym e)
+      (subst (λ z. Agrees U K w (ArgumentsMatch U K) (then (then r (λ x w. gives [] (by_value x) w)) (λ g w. then (rest w) (λ gs w. gives [] (g ∷ gs) w)))
+      (then z (λ g w. then (rest' w) (λ gs w. gives [] (g ∷ gs) w)))) (sym e')
+      (argument_agrees w ty r r' rest rest' start first more))
 
-  pub rest_are_values : (modes : List NetPassing) → list_all is_value modes ≡ true → list_all is_value (target.rest_passings modes) ≡ true
-  rest_are_values [] h = refl
-  rest_are_values (passing.Value ∷ modes) h = h
-  rest_are_values (passing.Reference ∷ modes) h = absurd (cc h)
+  -- one more variable by reference
+  pub address_agrees : (w : World) (a : Address) (b : net.Address) (rest : Memory → Outcome Memory (List SourceGiven))
+      (rest' : net.Memory → Outcome net.Memory Arguments) → MemoryMatch U w → Same U K w a b → IsTarget U a → IsPlain U w a
+      → Agrees U K w (ArgumentsMatch U K) (rest w.src) (rest' w.net)
+      → Agrees U K w (ArgumentsMatch U K) (then (gives [] (by_address a) w.src) (λ g w. then (rest w) (λ gs w. gives [] (g ∷ gs) w)))
+      (then (gives [] (by_address b) w.net) (λ g w. then (rest' w) (λ gs w. gives [] (g ∷ gs) w)))
+  address_agrees w a b rest rest' start same target plain more =
+      left_alone U K w (ArgumentsMatch U K) (then (rest w.src) (λ gs w. gives [] (by_address a ∷ gs) w))
+      (after [] (then (rest' w.net) (λ gs w. gives [] (by_address b ∷ gs) w)))
+      (right_alone U K w (ArgumentsMatch U K) (then (rest w.src) (λ gs w. gives [] (by_address a ∷ gs) w))
+      (then (rest' w.net) (λ gs w. gives [] (by_address b ∷ gs) w))
+      (then_agrees U K w (ArgumentsMatch U K) (ArgumentsMatch U K) (rest w.src) (rest' w.net) (λ gs w. gives [] (by_address a ∷ gs) w)
+      (λ gs w. gives [] (by_address b ∷ gs) w) start more
+      (λ xs ys u given later.
+      agrees_gives U K u (ArgumentsMatch U K) (by_address a ∷ xs) (by_address b ∷ ys) later.match
+      (next_address a b xs ys (address_later U K w u a b later same) target (plain_later U K w u a b later same plain) given))))
 
 -- ---- the call
 
@@ -164,25 +188,25 @@ module _ (U : Upgrade) (K : Pledge) (p : ℕ) (f : SourceFrame) (g : NetFrame) (
   back x w = gives [] (result_parts x) w
 
   -- a call with values that match
-  entered_agrees : (q : ℕ) (can : CanCall U K S T q) (w : World) (xs : List SourceGiven) (ys : List NetGiven) → Stands U K w f g → MemoryMatch U w
-      → ValuesMatch U w xs ys
+  entered_agrees : (q : ℕ) (args : Passed) (can : CanCall U K S T q args) (w : World) (xs : List SourceGiven) (ys : List NetGiven) → Stands U K w f g → MemoryMatch U w
+      → ArgumentsMatch U K w xs ys
       → Agrees U K w (GivenMatch U) (then (oracle (enters q f.me f.env xs) w.src) back) (call_does S net_oracle can.number ys w.net)
-  entered_agrees q can w xs ys stands start h =
+  entered_agrees q args can w xs ys stands start h =
       let L : Pledge = call_pledge U q (mark w.src) f.me xs ys in
-      let weaker : Weaker w K L = callee_is_weaker U K S T q w f.me xs ys can h in
+      let weaker : Weaker w K L = callee_is_weaker U K S T q args w f.me xs ys can h in
       let shaped = result_shape_of U.written (code_at U.written can.number) in
       then_agrees U K w (ResultMatch U) (GivenMatch U) (oracle (enters q f.me f.env xs) w.src) (net_oracle (enters can.number g.me tt ys) w.net) back
       (λ r w. gives [] (result_address shaped r) w) start
       (agrees_promised U K L w (ResultMatch U) (oracle (enters q f.me f.env xs) w.src) (net_oracle (enters can.number g.me tt ys) w.net) start weaker
       (subst (λ m. Agrees U L w (ResultMatch U) (oracle (enters q f.me f.env xs) w.src) (net_oracle (enters can.number m tt ys) w.net)) (sym stands.me)
       (agree q can.number f.me (mark w.src) f.env xs ys w can.passes can.is_number (below_self (mark w.src)) stands.object
-      (locks_promised U K L w w f.env weaker stands.locks) (values_ok U L w q xs ys h) start)))
+      (locks_promised U K L w w f.env weaker stands.locks) (arguments_ok U K L w q xs ys weaker h) start)))
       (λ x r v m later. agrees_gives U K v (GivenMatch U) (result_parts x) (result_address shaped r) later.match
       (record { given = x; net_given = r; shape = shaped; is_given = refl; is_net_given = refl; match = m }))
 
   -- a call whose arguments agree
-  pub call_agrees : (ty : Ty) (q : ProcId) (qualified : Bool) (args : Passed) (can : CanCall U K S T q.0) (w : World) → Stands U K w f g → MemoryMatch U w
-      → Agrees U K w (ValuesMatch U) (source.args_of C q.0 0 args w.src)
+  pub call_agrees : (ty : Ty) (q : ProcId) (qualified : Bool) (args : Passed) (can : CanCall U K S T q.0 args) (w : World) → Stands U K w f g → MemoryMatch U w
+      → Agrees U K w (ArgumentsMatch U K) (source.args_of C q.0 0 args w.src)
       (target.args_of S net_oracle (passings_at U.written (Some can.number)) (passed_of T q.0 0 args) w.net)
       → Agrees U K w (GivenMatch U) (source.term_parts C ty (call q qualified no_object args) w.src)
       (target.address_of S net_oracle (call_of (path (procedure_path T qualified q.0)) (passed_of T q.0 0 args)) w.net)
@@ -194,8 +218,8 @@ module _ (U : Upgrade) (K : Pledge) (p : ℕ) (f : SourceFrame) (g : NetFrame) (
       subst (λ z. Agrees U K w (GivenMatch U) (after [] (then r go)) z)
       (sym (call_address S net_oracle (procedure_path T qualified q.0) can.number (passed_of T q.0 0 args) (can.found qualified) w.net))
       (left_alone U K w (GivenMatch U) (then r go) (then r' go')
-      (then_agrees U K w (ValuesMatch U) (GivenMatch U) r r' go go' start given
-      (λ xs ys v m later. entered_agrees q.0 can v xs ys (stands_later U K w v f g later stands) later.match m)))
+      (then_agrees U K w (ArgumentsMatch U K) (GivenMatch U) r r' go go' start given
+      (λ xs ys v m later. entered_agrees q.0 args can v xs ys (stands_later U K w v f g later stands) later.match m)))
 
   -- ---- what it gives, as a value
 

@@ -20,7 +20,7 @@ use Rattle.net_meaning.specs.WrittenRows.{Row, evaluate, write_conversion}
 use Rattle.meaning_laws.proofs.ConversionRows.{conversion}
 use Rattle.run_base.specs.Outcomes.{Outcome, gives, after, then}
 use Rattle.vb6_run.specs.Expressions as source
-use Rattle.vb6_run.specs.Expressions.{Context, Parts, at_address, declared, type_shape}
+use Rattle.vb6_run.specs.Expressions.{Context, at_address, declared, type_shape}
 use Rattle.vb6_run.specs.Store as store
 use Rattle.vb6_run.specs.Store.{Memory, provided}
 use Rattle.vb6_run.specs.Values.{scalar, is_of_shape}

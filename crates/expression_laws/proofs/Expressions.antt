@@ -1,6 +1,5 @@
 -- Covered expressions do the same as what is written for them.
-use Rattle.std.proofs.Common.{◌≡◌, ◌∙◌, refl, sym, ap, subst, ℕ, suc, Bool, true, false, cond, ◌&&◌, ◌||◌, List, [], ◌∷◌, Option, Some, None, IfSome}
-use Rattle.std.specs.List.{list_all}
+use Rattle.std.proofs.Common.{◌≡◌, ◌∙◌, refl, sym, ap, subst, ℕ, suc, ◌+◌, arith, Bool, true, false, cond, ◌&&◌, ◌||◌, List, [], Option, Some, None, IfSome}
 use Rattle.std.specs.Prelude.{is_some}
 use Rattle.vb_tree.specs.BoundTree as types
 use Rattle.vb_tree.specs.BoundTree.{Ty}
@@ -15,8 +14,10 @@ use Rattle.bound_tree.specs.Tree.{Expr, typed, constant, variable, field, elemen
 use Rattle.bound_facts.specs.Folded.{binary_row, unary_row}
 use Rattle.bound_facts.specs.Locks.{is_same_type}
 use Rattle.bound_facts.specs.Node.{type_at, is_variant}
+use Rattle.up_base.proofs.Tests.{by_test}
 use Rattle.net_tree.specs.declared.declaration.NetPassing.{NetPassing}
-use Rattle.net_tree.specs.Tree.{Exp, call_of, path, next_exp}
+use Rattle.net_tree.specs.declared.declaration.NetPassing.TheVariants as passing
+use Rattle.net_tree.specs.Tree.{Exp, call_of, path}
 use Rattle.net_meaning.specs.declared.value.ValueN.{ValueN}
 use Rattle.net_meaning.specs.declared.value.ValueN.TheVariants as net_scalar
 use Rattle.net_meaning.specs.SameValues.{IsSame, IsSameOperator, IsSameUnary}
@@ -24,8 +25,7 @@ use Rattle.net_meaning.specs.SameValues as values
 use Rattle.net_meaning.specs.WrittenRows.{Written, evaluate, write_operator, write_unary, write_conversion}
 use Rattle.meaning_laws.proofs.SameRows as same
 use Rattle.meaning_laws.proofs.ConversionRows.{minus, turn}
-use Rattle.run_base.specs.Frames.{Given}
-use Rattle.run_base.specs.Outcomes.{Outcome, gives, after, then, answered}
+use Rattle.run_base.specs.Outcomes.{Outcome, after, then, answered}
 use Rattle.vb6_run.specs.Expressions as source
 use Rattle.vb6_run.specs.Expressions.{Context}
 use Rattle.vb6_run.specs.Forms.{SourceLine}
@@ -38,20 +38,20 @@ use Rattle.net_run.specs.Members.{Code}
 use Rattle.net_run.specs.Names as net_names
 use Rattle.net_run.specs.Store as net
 use Rattle.net_run.specs.Values as net_value
-use Rattle.written_trees.specs.Arguments.{is_property, takes_reference}
+use Rattle.written_trees.specs.Arguments.{argument_exp, is_conversion, is_property, takes_reference}
 use Rattle.written_trees.specs.Exprs.{exp_of, passed_of}
 use Rattle.written_trees.specs.Names.{Scope, procedure_path}
 use Rattle.written_trees.specs.Operators.{binary_exp, unary_exp}
 use Rattle.run_matches.specs.Agreeing.{Agrees}
-use Rattle.run_matches.specs.Covered.{Uses, covers_type, covers_term, covers_operator, covers_expr, covers_passed}
+use Rattle.run_matches.specs.Covered.{Uses, covers_type, covers_term, covers_operator, covers_expr, covers_passed, is_referred, is_temporary, is_variable, suits_passed}
 use Rattle.run_matches.specs.Frames.{frame_pledge}
 use Rattle.run_matches.specs.Likeness.{are_same}
 use Rattle.run_matches.specs.Maps.{World}
 use Rattle.run_matches.specs.Match.{MemoryMatch}
 use Rattle.run_matches.specs.Pledges.{Pledge, Later}
-use Rattle.run_matches.specs.Upgrades.{Upgrade}
+use Rattle.run_matches.specs.Upgrades.{Upgrade, runnable_of}
 use Rattle.run_matches.specs.Runs.{CallsAgree}
-use Rattle.run_statements.specs.Frames.{AllCalled, AllCalledFor, AnyParts, CallsAreMade, CanCall, ScalarMatch, PlainMatch, IsOpen, context_of, AreReadable, ExpressionsAgree, is_value}
+use Rattle.run_statements.specs.Frames.{AllCalled, AllCalledFor, AnyParts, CallsAreMade, CanCall, ScalarMatch, PlainMatch, IsOpen, context_of, AreReadable, ExpressionsAgree, passing_at, passing_by}
 use Rattle.run_statements.specs.Written.{Passes}
 use Rattle.row_laws.specs.Constants.{IsHeld}
 use Rattle.row_laws.specs.Follows.{Any, RowOfOne, RowOfTwo}
@@ -59,16 +59,18 @@ use Rattle.row_laws.specs.Rows.{IsOf, Fits, operand_of, is_direct, is_ready}
 use Rattle.row_laws.proofs.Stated as rows
 use Rattle.run_matches.specs.Formed.{is_row_of_one, is_row_of_two, passed_are_formed, is_formed}
 use Rattle.agreeing_laws.proofs.Agreeing.{agrees_gives, agrees_weaker}
-use Rattle.expression_laws.specs.Calls.{GivenMatch, Stands, ValuesMatch, no_values}
+use Rattle.expression_laws.specs.Calls.{ArgumentsMatch, GivenMatch, Stands, no_arguments}
 use Rattle.expression_laws.specs.Images.{HaveImages}
 use Rattle.expression_laws.specs.Statements.{VariablesAreReadBy, FormedExpressionsAgreeBy, FormedScalarsAgreeBy, VariablesAreRead, FormedScalarsAgree}
 use Rattle.expression_laws.proofs.Types.{both_true, same_as, covered_typed}
 use Rattle.expression_laws.proofs.Checks.{TermMatch, term_agrees, plain_agrees}
 use Rattle.expression_laws.proofs.Conversions.{IsConstant, formed_constant, constant_agrees, conversion_agrees}
 use Rattle.expression_laws.proofs.Arguments.{stands_now, stands_later}
-use Rattle.expression_laws.proofs.Calls.{argument_agrees, argument_is, call_agrees, call_value_agrees, callee_is, given_is, rest_are_values}
+use Rattle.expression_laws.proofs.Calls.{call_agrees, call_value_agrees, callee_is, taken_agrees}
 use Rattle.expression_laws.proofs.Images.{images_now, images_later}
 use Rattle.expression_laws.proofs.Library.{library_agrees}
+use Rattle.expression_laws.proofs.References.{first, further, here, reference_agrees}
+use Rattle.expression_laws.proofs.Temporaries.{conversion_given, conversion_goes, value_goes}
 use Rattle.expression_laws.proofs.Variables.{variable_agrees}
 use Rattle.expression_laws.proofs.RowsAgree.{any_same, At, one_agrees, two_agree}
 
@@ -187,8 +189,12 @@ module _ (U : Upgrade) (K : Pledge) (reads : VariablesAreReadBy U K) (p : ℕ) (
   abbrev written : Expr → World → Outcome net.Memory net_value.Value
   written e w = target.value_of S net_oracle (exp_of T e) w.net
 
-  abbrev Can : ℕ → Type 0
-  Can q = CanCall U K (scope_of U.written c g k) T q
+  abbrev Can : ℕ → Passed → Type 0
+  Can q called_with = CanCall U K (scope_of U.written c g k) T q called_with
+
+  from_first : {q : ℕ} {called_with : Passed} (can : Can q called_with) (n : ℕ)
+      → passing_at (passings_at U.written (Some can.number)) n ≡ passing_by (takes_reference U.program.declarations q (0 + n))
+  from_first {q} can n = can.passings n ∙ ap (λ m. passing_by (takes_reference U.program.declarations q m)) (first n)
 
   mutual
     pub expression_agrees : (e : Expr) (w : World) → MemoryMatch U w → HaveImages U K w f S T uses → Stands U K w f g → AllCalled Can e
@@ -250,7 +256,7 @@ module _ (U : Upgrade) (K : Pledge) (reads : VariablesAreReadBy U K) (p : ℕ) (
         let both = both_true (covers_type ty) (covers_passed uses args) covers in
         let parted = call_of (path (procedure_path T qualified q.0)) (passed_of T q.0 0 args) in
         let called = call_agrees U K p f g oracle net_oracle l k c T agree ty q qualified args can.0 w stands start
-        (passed_agree q.0 can.0.values 0 args (passings_at U.written (Some can.0.number)) w can.0.net_values start have stands can.1 both.1 formed) in
+        (passed_agree q.0 can.0.loud 0 args (passings_at U.written (Some can.0.number)) w (from_first can.0) can.0.suits start have stands can.1 both.1 formed) in
         subst (λ x. Agrees U K w (ScalarMatch U ty) (source.value_of C (typed ty (call q qualified no_object args)) w.src) (target.value_of S net_oracle x w.net))
         (sym (callee_is T ty q qualified args (ap (λ D. is_property D q.0) same_declarations ∙ can.0.plain)))
         (call_value_agrees U K p f g oracle net_oracle l k c T agree ty q qualified args both.0 w (target.address_of S net_oracle parted w.net) start called)
@@ -281,29 +287,63 @@ module _ (U : Upgrade) (K : Pledge) (reads : VariablesAreReadBy U K) (p : ℕ) (
     expression_agrees (typed ty (is_same d e)) w start have stands can covers formed = absurd (cc formed)
     expression_agrees (typed ty (loose e rules)) w start have stands can covers formed = absurd (cc formed)
 
-    -- the values of arguments
-    pub passed_agree : (q : ℕ) → ((i : ℕ) → takes_reference U.program.declarations q i ≡ false) → (i : ℕ) (args : Passed) (modes : List NetPassing) (w : World)
-        → list_all is_value modes ≡ true → MemoryMatch U w → HaveImages U K w f S T uses → Stands U K w f g → AllCalledFor Can args
-        → covers_passed uses args ≡ true → passed_are_formed args ≡ true
-        → Agrees U K w (ValuesMatch U) (source.args_of C q i args w.src) (target.args_of S net_oracle modes (passed_of T q i args) w.net)
-    passed_agree q values i no_passed modes w takes start have stands can covers formed = agrees_gives U K w (ValuesMatch U) [] [] start no_values
-    passed_agree q values i (next_passed (by_reference e) rest) modes w takes start have stands can covers formed = absurd (cc covers)
-    passed_agree q values i (next_passed (by_value e) rest) modes w takes start have stands can covers formed =
+    -- arguments from a place on, as they are taken
+    pub passed_agree : (q : ℕ) → ((i : ℕ) → (runnable_of U).quiet q i ≡ false) → (i : ℕ) (args : Passed) (modes : List NetPassing) (w : World)
+        → ((n : ℕ) → passing_at modes n ≡ passing_by (takes_reference U.program.declarations q (i + n))) → suits_passed U.program.declarations q i args ≡ true
+        → MemoryMatch U w → HaveImages U K w f S T uses → Stands U K w f g → AllCalledFor Can args → covers_passed uses args ≡ true
+        → passed_are_formed args ≡ true
+        → Agrees U K w (ArgumentsMatch U K) (source.args_of C q i args w.src) (target.args_of S net_oracle modes (passed_of T q i args) w.net)
+    passed_agree q loud i no_passed modes w takes suits start have stands can covers formed = agrees_gives U K w (ArgumentsMatch U K) [] [] start no_arguments
+    passed_agree q loud i (next_passed (by_reference e) rest) modes w takes suits start have stands can covers formed =
+        let D = U.program.declarations in
         let both = both_true (covers_expr uses e) (covers_passed uses rest) covers in
+        let fit = both_true (takes_reference D q i && is_referred D e) (suits_passed D q (suc i) rest) suits in
+        let one = both_true (takes_reference D q i) (is_referred D e) fit.0 in
         let forms = both_true (is_formed e) (passed_are_formed rest) formed in
-        let whole = λ (x : Exp). target.args_of S net_oracle modes (next_exp x (passed_of T q (suc i) rest)) w.net in
-        let goes = λ (r : Outcome net.Memory (Given net_value.Value net.Address)).
-        then r (λ y t. then (target.args_of S net_oracle (target.rest_passings modes) (passed_of T q (suc i) rest) t) (λ ys t. gives [] (y ∷ ys) t)) in
-        subst (λ x. Agrees U K w (ValuesMatch U) (source.args_of C q i (next_passed (by_value e) rest) w.src) (whole x))
-        (sym (argument_is T (takes_reference T.declarations q i) e (ap (λ D. takes_reference D q i) same_declarations ∙ values i) (covered_type uses e both.0)))
-        (subst (λ r. Agrees U K w (ValuesMatch U) (source.args_of C q i (next_passed (by_value e) rest) w.src) (goes r))
-        (sym (given_is U K S net_oracle modes (exp_of T e) w.net takes))
-        (argument_agrees U K w (type_at e) (source.value_of C e w.src) (target.value_of S net_oracle (exp_of T e) w.net) (source.args_of C q (suc i) rest)
-        (target.args_of S net_oracle (target.rest_passings modes) (passed_of T q (suc i) rest)) start
+        let next = λ (n : ℕ). takes (suc n) ∙ ap (λ m. passing_by (takes_reference D q m)) (further i n) in
+        let mode : target.first_passing modes ≡ passing.Reference =
+        takes 0 ∙ ap (λ n. passing_by (takes_reference D q n)) (here i) ∙ ap passing_by one.0 in
+        let covered : covers_type (type_at e) ≡ true = covered_type uses e both.0 in
+        by_test (is_variable e) (λ b. is_variable e ≡ b → (b || (is_conversion e && is_temporary D e)) ≡ true
+        → Agrees U K w (ArgumentsMatch U K) (source.args_of C q i (next_passed (by_reference e) rest) w.src)
+        (target.args_of S net_oracle modes (passed_of T q i (next_passed (by_reference e) rest)) w.net))
+        (λ yes is h.
+        reference_agrees U K p f g oracle net_oracle l k c T uses same_declarations readable w ((runnable_of U).quiet q i) (target.first_passing modes)
+        (takes_reference T.declarations q i) e (source.args_of C q (suc i) rest) (target.args_of S net_oracle (target.rest_passings modes) (passed_of T q (suc i) rest))
+        (loud i) mode is both.0 start have
+        (passed_agree q loud (suc i) rest (target.rest_passings modes) w next fit.1 start have stands can.1 both.1 forms.1))
+        (λ no is h.
+        let parts = both_true (is_conversion e) (is_temporary D e) h in
+        taken_agrees U K w (type_at e) (source.value_of C e w.src) (target.value_of S net_oracle (exp_of T e) w.net)
+        (source.argument_of C ((runnable_of U).quiet q i) (by_reference e) w.src)
+        (target.given S net_oracle (target.first_passing modes)
+        (target.reach S net_oracle false (argument_exp T (takes_reference T.declarations q i) (by_reference e) (exp_of T e)) w.net))
+        (source.args_of C q (suc i) rest) (target.args_of S net_oracle (target.rest_passings modes) (passed_of T q (suc i) rest))
+        (conversion_given C ((runnable_of U).quiet q i) e w.src covered parts.0)
+        (conversion_goes S net_oracle T e covered w.net (target.first_passing modes) (takes_reference T.declarations q i) mode parts.0
+        (ap (λ E. is_temporary E e) same_declarations ∙ parts.1)) start
         (expression_agrees e w start have stands can.0 both.0 forms.0)
         (λ v later.
-        passed_agree q values (suc i) rest (target.rest_passings modes) v (rest_are_values U K modes takes) later.match
-        (images_later U K w v f S T uses later have) (stands_later U K w v f g later stands) can.1 both.1 forms.1)))
+        passed_agree q loud (suc i) rest (target.rest_passings modes) v next fit.1 later.match (images_later U K w v f S T uses later have)
+        (stands_later U K w v f g later stands) can.1 both.1 forms.1)) refl one.1
+    passed_agree q loud i (next_passed (by_value e) rest) modes w takes suits start have stands can covers formed =
+        let D = U.program.declarations in
+        let both = both_true (covers_expr uses e) (covers_passed uses rest) covers in
+        let forms = both_true (is_formed e) (passed_are_formed rest) formed in
+        let fit = both_true (cond (takes_reference D q i) (is_temporary D e) true) (suits_passed D q (suc i) rest) suits in
+        let next = λ (n : ℕ). takes (suc n) ∙ ap (λ m. passing_by (takes_reference D q m)) (further i n) in
+        taken_agrees U K w (type_at e) (source.value_of C e w.src) (target.value_of S net_oracle (exp_of T e) w.net)
+        (source.argument_of C ((runnable_of U).quiet q i) (by_value e) w.src)
+        (target.given S net_oracle (target.first_passing modes)
+        (target.reach S net_oracle false (argument_exp T (takes_reference T.declarations q i) (by_value e) (exp_of T e)) w.net))
+        (source.args_of C q (suc i) rest) (target.args_of S net_oracle (target.rest_passings modes) (passed_of T q (suc i) rest)) refl
+        (value_goes S net_oracle T e (covered_type uses e both.0) w.net (takes_reference D q i) (target.first_passing modes) (takes_reference T.declarations q i)
+        (takes 0 ∙ ap (λ n. passing_by (takes_reference D q n)) (here i)) (ap (λ E. takes_reference E q i) same_declarations)
+        (ap (λ E. cond (takes_reference D q i) (is_temporary E e) true) same_declarations ∙ fit.0)) start
+        (expression_agrees e w start have stands can.0 both.0 forms.0)
+        (λ v later.
+        passed_agree q loud (suc i) rest (target.rest_passings modes) v next fit.1 later.match (images_later U K w v f S T uses later have)
+        (stands_later U K w v f g later stands) can.1 both.1 forms.1)
 
 -- ---- the laws
 
@@ -332,8 +372,9 @@ calls_are_made U reads K w p f g oracle net_oracle l k c T uses ty q qualified a
     let r' = target.address_of S net_oracle (call_of (path (procedure_path T qualified q.0)) (passed_of T q.0 0 args)) w.net in
     agrees_weaker U K w (GivenMatch U) AnyParts (source.term_parts C ty (call q qualified no_object args) w.src) r' (λ v x a l m. tt)
     (call_agrees U K p f g oracle net_oracle l k c T agree ty q qualified args can.0 w stands start
-    (passed_agree U K (reads K) p f g oracle net_oracle l k c T uses declarations opened readable agree q.0 can.0.values 0 args
-    (passings_at U.written (Some can.0.number)) w can.0.net_values start
+    (passed_agree U K (reads K) p f g oracle net_oracle l k c T uses declarations opened readable agree q.0 can.0.loud 0 args
+    (passings_at U.written (Some can.0.number)) w
+    (from_first U K (reads K) p f g oracle net_oracle l k c T uses declarations opened readable agree can.0) can.0.suits start
     (images_now U K w p f g (scope_of U.written c g k) refl T declarations frames uses readable placed) stands can.1 covers formed))
 
 -- under the pledge of a frame

@@ -8,8 +8,9 @@ use Rattle.vb_tree.specs.declared.declared.Owner.TheVariants as owner
 use Rattle.bound_tree.specs.Tree.{Variable, Declarations}
 use Rattle.bound_facts.specs.Effects.{is_own_owner, is_own_variable}
 use Rattle.bound_facts.specs.SelfMade.{module_of}
-use Rattle.bound_facts.specs.Facts.{Known, is_quiet, is_quiet_owner, is_quiet_variable}
-use Rattle.run_base.specs.Positions.{Position, made, shared, whole}
+use Rattle.bound_facts.specs.Facts.{is_quiet}
+use Rattle.bound_facts.specs.Node.{auto_class, class_in}
+use Rattle.run_base.specs.Positions.{Key, Position, made, shared, whole}
 use Rattle.written_trees.specs.Names.{Scope, alone, owner_path, variable_path, variable_path_of, variable_name_of}
 use Rattle.vb6_run.specs.Runnables.{is_class_file, owned_address, declared_address, variable_address, object_root, root_address, static_root}
 use Rattle.vb6_run.specs.Programs.{is_static_of}
@@ -20,27 +21,18 @@ use Rattle.net_run.specs.Names as net_names
 use Rattle.net_run.specs.Names.{path_start, starts, at_place, frame_start, var_in}
 use Rattle.net_run.specs.Shapes as net_shapes
 use Rattle.net_run.specs.Store as net
-use Rattle.run_matches.specs.Addresses.{Same, same_root, Bound, images, mirrored}
-use Rattle.run_matches.specs.Covered.{Uses, covers_owner, covers_type, covers_variable}
-use Rattle.run_matches.specs.Frames.{FrameMatch, SameVariable, SameStatic, HasPlace, is_own_of, is_static_in, static_of}
+use Rattle.run_matches.specs.Addresses.{Same, same_root, Bound, images, mirrored, IsPlain, position_of, same_item}
+use Rattle.run_matches.specs.Covered.{Uses, covers_owner, covers_type, covers_variable, is_reference_in, is_reference_owner_of}
+use Rattle.run_matches.specs.Frames.{FrameMatch, SameVariable, SameStatic, HasPlace, is_own_of, is_static_in, static_of, GivenPlace, is_reference_of}
 use Rattle.run_matches.specs.Likeness.{same_scalar}
-use Rattle.run_matches.specs.Maps.{World, IsMatched, key_or_none, moved_at}
+use Rattle.run_matches.specs.Maps.{World, IsMade, IsMatched, is_auto_root, is_auto_variable, key_or_none, mark, moved_at}
 use Rattle.run_matches.specs.Pledges.{Pledge, Later}
-use Rattle.run_matches.specs.Upgrades.{Upgrade, variable_key}
-use Rattle.run_statements.specs.Frames.{IsReadable, IsOwnStatic, IsShared, IsPlaced, ArePlaced, AreReadable}
-use Rattle.agreeing_laws.proofs.Moves.{address_later}
+use Rattle.run_matches.specs.Upgrades.{Upgrade, is_auto, variable_key}
+use Rattle.run_statements.specs.Frames.{IsReadable, IsOwnStatic, IsShared, IsGiven, IsPlaced, ArePlaced, AreReadable}
+use Rattle.agreeing_laws.proofs.Made.{same_variable}
+use Rattle.agreeing_laws.proofs.Moves.{address_later, matched_whole}
 use Rattle.expression_laws.specs.Images.{HasImage, HaveImages}
 use Rattle.expression_laws.proofs.Types.{both_true, simple_type}
-
--- a covered variable is no quiet parameter
-unquiet_owner : (F : Known) (o : Owner) → covers_owner o ≡ true → is_quiet_owner F o ≡ false
-unquiet_owner F (owner.Module file) h = refl
-unquiet_owner F (owner.Local p) h = refl
-unquiet_owner F (owner.Static p) h = refl
-unquiet_owner F (owner.Value p) h = refl
-unquiet_owner F (owner.Reference p) h = absurd (cc h)
-unquiet_owner F (owner.Answer p) h = refl
-unquiet_owner F (owner.Field t) h = absurd (cc h)
 
 pub owner_covered : (x : Variable) → covers_variable x ≡ true → covers_owner x.owner ≡ true
 owner_covered x h = (both_true (covers_owner x.owner) (covers_type x.ty && not x.auto) h).0
@@ -49,14 +41,24 @@ type_covered : (x : Variable) → covers_variable x ≡ true → covers_type x.t
 type_covered x h =
     (both_true (covers_type x.ty) (not x.auto) (both_true (covers_owner x.owner) (covers_type x.ty && not x.auto) h).1).0
 
+not_true : (b : Bool) → not b ≡ true → b ≡ false
+not_true true e = absurd (cc e)
+not_true false e = refl
+
+-- a covered variable is no As New one
+not_auto : (U : Upgrade) (v : ℕ) → IsReadable U v → is_auto U v ≡ false
+not_auto U v r =
+    let x : Variable = r.variable in
+    let rest = both_true (covers_owner x.owner) (covers_type x.ty && not x.auto) r.covers in
+    ap (λ o. is_some (auto_class o)) r.is_variable
+    ∙ ap (λ b. is_some (cond b (class_in x.ty) None)) (not_true x.auto (both_true (covers_type x.ty) (not x.auto) rest.1).1)
+
 exact_same : (U : Upgrade) (K : Pledge) (w : World) (exact : Bool) (a : Address) (b : net.Address) → exact ≡ true → Bound U K w exact a b → Same U K w a b
 exact_same U K w _ _ _ e (images exact a b same) = same
 exact_same U K w _ _ _ e (mirrored a b m) = absurd (cc e)
 
 readable_exact : (U : Upgrade) (v : ℕ) → IsReadable U v → not (is_quiet U.program.declarations U.known v) ≡ true
-readable_exact U v r =
-    ap (λ x. not (is_quiet_variable U.known x && not (U.known.touched v))) r.is_variable
-    ∙ ap (λ q. not (q && not (U.known.touched v))) (unquiet_owner U.known r.variable.owner (owner_covered r.variable r.covers))
+readable_exact U v r = ap not r.exact
 
 -- ---- the procedure's own
 
@@ -84,6 +86,20 @@ own_is U p v x e h = sym (ap (is_own_variable p) e) ∙ h
 -- a name that stands for a variable of the frame leads to it
 named_start : (S : net_names.Scope) (name : List ℕ) (b : net.Address) → var_in S.vars name ≡ Some b → path_start S false (name ∷ []) ≡ starts (at_place b) []
 named_start S name b h = ap (frame_start S name []) h
+
+-- ---- parameters by reference
+
+given_address : (D : Declarations) (f : SourceFrame) (p v : ℕ) (o : Owner) → is_reference_owner_of p o ≡ true → owned_address D f v o ≡ lookup (nat_eq v) f.vars
+given_address D f p v (owner.Reference q) h = refl
+given_address D f p v _ h = absurd (cc h)
+
+given_path : (T : Scope) (qualified : Bool) (name : List ℕ) (p : ℕ) (o : Owner) → is_reference_owner_of p o ≡ true → owner_path T qualified name o ≡ alone name
+given_path T qualified name p (owner.Reference q) h = refl
+given_path T qualified name p _ h = absurd (cc h)
+
+given_is : (U : Upgrade) (p v : ℕ) (x : Variable) → slice_get U.program.declarations.vars v ≡ Some x → is_reference_of U p v ≡ true
+    → is_reference_owner_of p x.owner ≡ true
+given_is U p v x e h = sym (ap (is_reference_in p) e) ∙ h
 
 -- ---- those of standard modules
 
@@ -113,11 +129,11 @@ module _ (U : Upgrade) (K : Pledge) (w : World) (f : SourceFrame) (S : net_names
   abbrev D : Declarations
   D = U.program.declarations
 
-  same_variable : s.variable ≡ r.variable
-  same_variable = some_is s.variable r.variable (sym s.is_variable ∙ r.is_variable)
+  is_that : s.variable ≡ r.variable
+  is_that = some_is s.variable r.variable (sym s.is_variable ∙ r.is_variable)
 
   covers_shared : covers_type s.variable.ty ≡ true
-  covers_shared = subst (λ (x : Variable). covers_type x.ty ≡ true) (sym same_variable) (type_covered r.variable r.covers)
+  covers_shared = subst (λ (x : Variable). covers_type x.ty ≡ true) (sym is_that) (type_covered r.variable r.covers)
 
   shape_is : variable_shape D v ≡ simple s.variable.ty
   shape_is = ap (declared_shape (user_shapes D)) s.is_variable ∙ shared_shape D s.variable covers_shared
@@ -144,12 +160,27 @@ module _ (U : Upgrade) (K : Pledge) (w : World) (f : SourceFrame) (S : net_names
         address = there;
         found = λ q. s.leads q ∙ ap (λ b. starts (at_place b) []) (sym stands_there);
         same = subst (λ z. Same U K w z there) (sym stands) shared_same;
+        target =
+            inr (record {
+              variable = v;
+              key = s.key;
+              of_shape = simple s.variable.ty;
+              stands = stands;
+              is_key = s.is_key;
+              differs = s.differs;
+            });
+        plain = λ q e.
+            subst (λ (z : Position). is_auto_root U w.map z.root ≡ false) (some_is (at_key v) q (sym (ap position_of stands) ∙ e)) (not_auto U v r);
         shape = simple s.variable.ty;
         position = at_key v;
         stands = stands;
       }
 
 -- ---- Statics of the procedure
+
+key_present : (o : Option Key) → is_some o ≡ true → o ≡ Some (key_or_none o)
+key_present None h = absurd (cc h)
+key_present (Some k) h = refl
 
 static_path : (T : Scope) (qualified : Bool) (name : List ℕ) (p : ℕ) (o : Owner) → is_static_of p o ≡ true → owner_path T qualified name o ≡ alone name
 static_path T qualified name p (owner.Static q) h = refl
@@ -184,6 +215,8 @@ module _ (U : Upgrade) (K : Pledge) (w : World) (p : ℕ) (f : SourceFrame) (g :
         address = same.address;
         found = λ q. ap (path_start S false) (path q) ∙ named_start S r.variable.name same.address name;
         same = exact_same U K w (not (is_quiet U.program.declarations U.known v)) a same.address (readable_exact U v r) same.bound;
+        target = inl (record { place = place.place; shape = variable_shape U.program.declarations v; path = []; stands = place.stands });
+        plain = same.plain (not_auto U v r);
         shape = variable_shape U.program.declarations v;
         position = whole (made place.place);
         stands = place.stands;
@@ -217,19 +250,65 @@ module _ (U : Upgrade) (K : Pledge) (w : World) (p : ℕ) (f : SourceFrame) (g :
         found = λ q. ap (path_start S false) (path q) ∙ named_start S s.variable.name address name;
         same = subst (λ z. Same U K w z address) (sym stands)
             (same_root (variable_shape U.program.declarations v) x.written (at_key v) x.same x.is_matched x.ranked);
+        target =
+            inr (record {
+              variable = v;
+              key = key_or_none (variable_key U v);
+              of_shape = variable_shape U.program.declarations v;
+              stands = stands;
+              is_key = key_present (variable_key U v) (matched_whole U w (variable_shape U.program.declarations v) (at_key v) x.is_matched).counterpart;
+              differs =
+                  λ u e. s.differs (key_or_none (variable_key U v)) u
+                  (key_present (variable_key U v) (matched_whole U w (variable_shape U.program.declarations v) (at_key v) x.is_matched).counterpart) e;
+            });
+        plain = λ q e.
+            subst (λ (z : Position). is_auto_root U w.map z.root ≡ false) (some_is (at_key v) q (sym (ap position_of stands) ∙ e)) (not_auto U v r);
         shape = variable_shape U.program.declarations v;
         position = at_key v;
         stands = stands;
       }
 
+  given_image : (v : ℕ) → IsReadable U v → IsGiven U p f v → (a : Address) → variable_address U.program.declarations f v ≡ Some a → HasImage U K w S T v a
+  given_image v r x a is =
+      let of : is_reference_owner_of p r.variable.owner ≡ true = given_is U p v r.variable r.is_variable x.reference in
+      let at : lookup (nat_eq v) f.vars ≡ Some a =
+      sym (ap (declared_address U.program.declarations f v) r.is_variable ∙ given_address U.program.declarations f p v r.variable.owner of) ∙ is in
+      let same : SameVariable U K w v a g = h.vars v a at r.sound in
+      let there : GivenPlace U v a = x.stands a at in
+      let name : var_in S.vars r.variable.name ≡ Some same.address =
+      ap (λ xs. var_in xs r.variable.name) vars ∙ ap (λ o. var_in g.vars (variable_name_of o)) (sym r.is_variable) ∙ same.found in
+      let path : (q : Bool) → variable_path T q v ≡ r.variable.name ∷ [] =
+      λ q. ap (λ (E : Declarations). variable_path_of T q (slice_get E.vars v)) same_declarations ∙ ap (variable_path_of T q) r.is_variable
+      ∙ given_path T q r.variable.name p r.variable.owner of in
+      record {
+        address = same.address;
+        found = λ q. ap (path_start S false) (path q) ∙ named_start S r.variable.name same.address name;
+        same = exact_same U K w (not (is_quiet U.program.declarations U.known v)) a same.address (readable_exact U v r) same.bound;
+        target = there.target;
+        plain = same.plain (not_auto U v r);
+        shape = variable_shape U.program.declarations v;
+        position = there.position;
+        stands = there.stands;
+      }
+
   -- variables that are used have images in frames that match
-  pub images_now : (uses : Uses) → AreReadable U uses → ArePlaced U p S T uses → HaveImages U K w f S T uses
+  pub images_now : (uses : Uses) → AreReadable U uses → ArePlaced U p f S T uses → HaveImages U K w f S T uses
   images_now uses readable placed v a used is = by (placed v used)
     where
-      by : IsPlaced U p S T v.0 → HasImage U K w S T v.0 a
+      by : IsPlaced U p f S T v.0 → HasImage U K w S T v.0 a
       by (inl own) = own_image v.0 (readable v used) own a is
       by (inr (inl s)) = static_image v.0 (readable v used) s a is
-      by (inr (inr s)) = shared_image U K w f S T v.0 (readable v used) s a is
+      by (inr (inr (inl s))) = shared_image U K w f S T v.0 (readable v used) s a is
+      by (inr (inr (inr x))) = given_image v.0 (readable v used) x a is
+
+address_made : (U : Upgrade) (K : Pledge) (w : World) (a : Address) (b : net.Address) → Same U K w a b → (q : Position) → position_of a ≡ Some q
+    → IsMade (mark w.src) q.root
+address_made U K w _ _ (same_root s d p sh m r) q e = subst (λ (z : Position). IsMade (mark w.src) z.root) (some_is p q e) (matched_whole U w s p m).is_made
+address_made U K w _ _ (same_item x s d p k j path keeps m has part sh) q e = subst (λ (z : Position). IsMade (mark w.src) z.root) (some_is p q e) m.is_made
+
+pub plain_later : (U : Upgrade) (K : Pledge) (w0 w1 : World) (a : Address) (b : net.Address) → Later U K w0 w1 → Same U K w0 a b → IsPlain U w0 a → IsPlain U w1 a
+plain_later U K w0 w1 a b l same h q e =
+    subst (λ v. is_auto_variable U v ≡ false) (sym (same_variable U w0 w1 l.extends q.root (address_made U K w0 a b same q e))) (h q e)
 
 pub images_later : (U : Upgrade) (K : Pledge) (w0 w1 : World) (f : SourceFrame) (S : net_names.Scope) (T : Scope) (uses : Uses) → Later U K w0 w1
     → HaveImages U K w0 f S T uses → HaveImages U K w1 f S T uses
@@ -239,6 +318,8 @@ images_later U K w0 w1 f S T uses l h v a used is =
       address = x.address;
       found = x.found;
       same = address_later U K w0 w1 a x.address l x.same;
+      target = x.target;
+      plain = plain_later U K w0 w1 a x.address l x.same x.plain;
       shape = x.shape;
       position = x.position;
       stands = x.stands;

@@ -9,5 +9,9 @@ mod Inputs
 pub mod Library
 pub mod Arguments
 pub mod Calls
+pub mod References
+pub mod Temporaries
+pub mod NoPlaces
+pub mod Handed
 pub mod Expressions
 mod Examples

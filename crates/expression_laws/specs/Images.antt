@@ -9,7 +9,7 @@ use Rattle.vb6_run.specs.Store.{Address, root, SourceFrame}
 use Rattle.net_run.specs.Names as net_names
 use Rattle.net_run.specs.Names.{path_start, starts, at_place}
 use Rattle.net_run.specs.Store as net
-use Rattle.run_matches.specs.Addresses.{Same}
+use Rattle.run_matches.specs.Addresses.{IsPlain, IsTarget, Same}
 use Rattle.run_matches.specs.Covered.{Uses}
 use Rattle.run_matches.specs.Maps.{World}
 use Rattle.run_matches.specs.Pledges.{Pledge}
@@ -20,6 +20,8 @@ pub record HasImage (U : Upgrade) (K : Pledge) (w : World) (S : net_names.Scope)
   pub address : net.Address
   pub found : (qualified : Bool) → path_start S false (variable_path T qualified v) ≡ starts (at_place address) []
   pub same : Same U K w a address
+  pub target : IsTarget U a
+  pub plain : IsPlain U w a
   pub shape : Shape
   pub position : Position
   pub stands : a ≡ root shape position

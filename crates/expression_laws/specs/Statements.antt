@@ -42,7 +42,7 @@ abbrev pub FormedExpressionsAgreeBy : Upgrade → Pledge → Type 0
 FormedExpressionsAgreeBy U K =
     (w : World) (p : ℕ) (f : SourceFrame) (g : NetFrame) (oracle : SourceCalls) (net_oracle : Jobs) (l : SourceLine) (k : NetLine) (c : Code)
     (T : Scope) (uses : Uses) (e : Expr) → MemoryMatch U w → FrameMatch U K w p f g → T.declarations ≡ U.program.declarations
-    → IsOpen (scope_of U.written c g k) → AreReadable U uses → ArePlaced U p (scope_of U.written c g k) T uses → CallsAgree U (Passes U) oracle net_oracle
+    → IsOpen (scope_of U.written c g k) → AreReadable U uses → ArePlaced U p f (scope_of U.written c g k) T uses → CallsAgree U (Passes U) oracle net_oracle
     → AllCalled (CanCall U K (scope_of U.written c g k) T) e → covers_expr uses e ≡ true → is_formed e ≡ true
     → Agrees U K w (ScalarMatch U (type_at e))
     (source.value_of (context_of U oracle p f l) e w.src)
@@ -53,7 +53,7 @@ abbrev pub FormedScalarsAgreeBy : Upgrade → Pledge → Type 0
 FormedScalarsAgreeBy U K =
     (w : World) (p : ℕ) (f : SourceFrame) (g : NetFrame) (oracle : SourceCalls) (net_oracle : Jobs) (l : SourceLine) (k : NetLine) (c : Code)
     (T : Scope) (uses : Uses) (e : Expr) → MemoryMatch U w → FrameMatch U K w p f g → T.declarations ≡ U.program.declarations
-    → IsOpen (scope_of U.written c g k) → AreReadable U uses → ArePlaced U p (scope_of U.written c g k) T uses → CallsAgree U (Passes U) oracle net_oracle
+    → IsOpen (scope_of U.written c g k) → AreReadable U uses → ArePlaced U p f (scope_of U.written c g k) T uses → CallsAgree U (Passes U) oracle net_oracle
     → AllCalled (CanCall U K (scope_of U.written c g k) T) e → covers_expr uses e ≡ true → is_formed e ≡ true
     → Agrees U K w (PlainMatch U (type_at e))
     (source.scalar_value (context_of U oracle p f l) e w.src)

@@ -26,7 +26,7 @@ some_is a b e = ap (or_that a) e
 -- ---- what was made
 
 module _ (U : Upgrade) (K : Pledge) (w : World) where
-  same_made : (a : Address) (b : net.Address) → Same U K w a b → (q : Position) → position_of a ≡ Some q → IsMade (mark w.src) q.root
+  pub same_made : (a : Address) (b : net.Address) → Same U K w a b → (q : Position) → position_of a ≡ Some q → IsMade (mark w.src) q.root
   same_made _ _ (same_root s d p sh m r) q e =
       subst (λ (z : Position). IsMade (mark w.src) z.root) (some_is p q e) (matched_whole U w s p m).is_made
   same_made _ _ (same_item x s d p k j path keeps m has part sh) q e = subst (λ (z : Position). IsMade (mark w.src) z.root) (some_is p q e) m.is_made

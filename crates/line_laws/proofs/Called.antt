@@ -7,7 +7,7 @@ use Rattle.vb_tree.specs.Tree.{Form}
 use Rattle.vb_tree.specs.Tree as source_form
 use Rattle.bound_tree.specs.Tree.{Declarations, Expr, typed, constant, variable, field, element, call, library, unary, binary, convert, new_object, me, with_object, err_number, err_raise, err_clear, is_same, loose, Exprs, no_exprs, next_expr, by_value, by_reference, Passed, no_passed, next_passed, Line}
 use Rattle.bound_facts.specs.Calls.{initialized, line_calls, node_calls, pair_to}
-use Rattle.bound_facts.specs.Node.{called}
+use Rattle.bound_facts.specs.Node.{args_at, called}
 use Rattle.bound_facts.specs.Nodes.{nodes, nodes_in, nodes_of_all, nodes_of_object, nodes_of_passed}
 use Rattle.bound_facts.specs.Parts.{line_uses, used_nodes}
 use Rattle.run_matches.specs.Covered.{Uses, covers_form}
@@ -33,9 +33,9 @@ contains_flat f (z ∷ zs) x y (suc k) lt e h = Contains-append_right (f z) (fla
 
 -- ---- nodes
 
-module _ (Q : ℕ → Type 0) where
+module _ (Q : ℕ → Passed → Type 0) where
   abbrev OfNodes : List Expr → Type 0
-  OfNodes es = (d : Expr) (q : ℕ) → Contains es d → called d ≡ Some q → Q q
+  OfNodes es = (d : Expr) (q : ℕ) → Contains es d → called d ≡ Some q → Q q (args_at d)
 
   of_left : (xs ys : List Expr) → OfNodes (xs ++ ys) → OfNodes xs
   of_left xs ys h d q c e = h d q (Contains-append_left xs ys d c) e
@@ -98,12 +98,14 @@ uses_are : (uses : Uses) (f : Form) (es : List Expr) → covers_form uses f es �
 uses_are uses (source_form.set target value) es h = absurd (true≢false (sym h))
 uses_are uses _ es h = refl
 
+-- what a line uses is among what it calls
+pub use_calls : (D : Declarations) (p q : ℕ) (l : Line) (d : Expr) → Contains (line_uses l) d → called d ≡ Some q → Contains (line_calls D p l) (p, q)
+use_calls D p q l d m e =
+    contains_flat (node_calls D p) (line_uses l) d (p, q) m.0 m.1 m.2 (called_first D p q (called d) (pair_to p (initialized D d) []) e)
+
 -- what holds of the calls of a covered line holds of those of its expressions
-pub line_called : (Q : ℕ → Type 0) (D : Declarations) (p : ℕ) (uses : Uses) (l : Line) → covers_form uses l.source.form l.bindings.exprs ≡ true
-    → ((q : ℕ) → Contains (line_calls D p l) (p, q) → Q q) → AllIn (AllCalled Q) l.bindings.exprs
-line_called Q D p uses l covers h =
+pub line_called : (Q : ℕ → Passed → Type 0) (uses : Uses) (l : Line) → covers_form uses l.source.form l.bindings.exprs ≡ true
+    → ((d : Expr) (q : ℕ) → Contains (line_uses l) d → called d ≡ Some q → Q q (args_at d)) → AllIn (AllCalled Q) l.bindings.exprs
+line_called Q uses l covers h =
     all_called Q l.bindings.exprs
-    (λ d q c e.
-    h q
-    (let m : Contains (line_uses l) d = subst (λ ns. Contains ns d) (sym (uses_are uses l.source.form l.bindings.exprs covers)) c in
-    contains_flat (node_calls D p) (line_uses l) d (p, q) m.0 m.1 m.2 (called_first D p q (called d) (pair_to p (initialized D d) []) e)))
+    (λ d q c e. h d q (subst (λ ns. Contains ns d) (sym (uses_are uses l.source.form l.bindings.exprs covers)) c) e)

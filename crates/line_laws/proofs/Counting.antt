@@ -39,11 +39,11 @@ use Rattle.run_matches.specs.Maps.{World}
 use Rattle.run_matches.specs.Likeness.{LikeV}
 use Rattle.run_matches.specs.Match.{MemoryMatch}
 use Rattle.run_matches.specs.Pledges.{Pledge, Later}
-use Rattle.run_matches.specs.Addresses.{Same, both_limits}
+use Rattle.run_matches.specs.Addresses.{Same, both_limits, IsInPlace}
 use Rattle.run_matches.specs.Agreeing.{Agrees}
 use Rattle.run_matches.specs.Formed.{is_formed}
 use Rattle.run_matches.specs.Covered.{Uses, covers_counter, covers_counting, covers_expr, covers_step, covers_type, covers_value, is_counter, is_local, is_local_term, is_variable}
-use Rattle.run_matches.specs.Frames.{FrameMatch, HasPlace, IsInPlace, OwnsAll, SameVariable, is_own_of}
+use Rattle.run_matches.specs.Frames.{FrameMatch, HasPlace, OwnsAll, SameVariable, is_own_of}
 use Rattle.run_statements.specs.Frames.{AnyUnits, ArePlaced, ExpressionsAgree, IsOpen, IsReadable, ScalarMatch, ScalarsAreWritten, context_of, AllCalled, CanCall}
 use Rattle.run_statements.specs.Written.{Passes}
 use Rattle.run_matches.specs.Runs.{CallsAgree}
@@ -65,7 +65,7 @@ use Rattle.line_laws.proofs.Uses.{address_found, address_is, is_loud, name_is, o
 module _ (U : Upgrade) (expressions : ExpressionsAgree U) (scalars : ScalarsAreWritten U) (K : Pledge) (p : ℕ) (f : SourceFrame) (g : NetFrame) (l : SourceLine)
     (k : NetLine) (c : Code) (T : Scope) (declared : T.declarations ≡ U.program.declarations) (oracle : SourceCalls) (net_oracle : Jobs)
     (is_open : IsOpen (scope_of U.written c g k)) (uses : Uses) (readable : (v : VarId) → uses v ≡ true → IsReadable U v.0)
-    (placed : ArePlaced U p (scope_of U.written c g k) T uses) (agree : CallsAgree U (Passes U) oracle net_oracle) (R : World → SourceFrame → NetFrame → Type 0) (w : World) (h : MemoryMatch U w)
+    (placed : ArePlaced U p f (scope_of U.written c g k) T uses) (agree : CallsAgree U (Passes U) oracle net_oracle) (R : World → SourceFrame → NetFrame → Type 0) (w : World) (h : MemoryMatch U w)
     (G : GoOnMatching U K p f g w) (owns : OwnsAll U K p f) (aims : k.aims ≡ l.aims) where
   abbrev C : source.Context
   C = context_of U oracle p f l

@@ -139,7 +139,7 @@ module _ (U : Upgrade) (K : Pledge) (S : net_names.Scope) (oracle : Jobs) (free 
 
 module _ (U : Upgrade) (expressions : ExpressionsAgree U) (K : Pledge) (p : ℕ) (f : SourceFrame) (g : NetFrame) (l : SourceLine) (k : NetLine) (c : Code) (T : Scope)
     (declared : T.declarations ≡ U.program.declarations) (oracle : SourceCalls) (net_oracle : Jobs) (is_open : IsOpen (scope_of U.written c g k)) (uses : Uses)
-    (readable : (v : VarId) → uses v ≡ true → IsReadable U v.0) (placed : ArePlaced U p (scope_of U.written c g k) T uses) (agree : CallsAgree U (Passes U) oracle net_oracle)
+    (readable : (v : VarId) → uses v ≡ true → IsReadable U v.0) (placed : ArePlaced U p f (scope_of U.written c g k) T uses) (agree : CallsAgree U (Passes U) oracle net_oracle)
     (w : World) (h : MemoryMatch U w) (F : FrameMatch U K w p f g) where
   abbrev C : source.Context
   C = context_of U oracle p f l

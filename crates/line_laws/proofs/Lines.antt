@@ -98,7 +98,7 @@ not_outside false e = absurd (true≢false e)
 module _ (U : Upgrade) (expressions : ExpressionsAgree U) (calls : CallsAreMade U) (reads : ScalarsAreRead U) (scalars : ScalarsAreWritten U) (K : Pledge) (p q : ℕ) (f : SourceFrame) (g : NetFrame) (l : SourceLine) (k : NetLine) (c : Code) (T : Scope)
     (declared : T.declarations ≡ U.program.declarations) (oracle : SourceCalls) (net_oracle : Jobs)
     (is_open : IsOpen (scope_of U.written c g k)) (uses : Uses) (readable : (v : VarId) → uses v ≡ true → IsReadable U v.0)
-    (placed : ArePlaced U p (scope_of U.written c g k) T uses) (agree : CallsAgree U (Passes U) oracle net_oracle)
+    (placed : ArePlaced U p f (scope_of U.written c g k) T uses) (agree : CallsAgree U (Passes U) oracle net_oracle)
     (R : World → SourceFrame → NetFrame → Type 0) (w : World) (h : MemoryMatch U w)
     (F : SteadyFrame U K w p f g) (owns : OwnsAll U K p f) (aims : k.aims ≡ l.aims)
     (next : (n m : ℕ) → m ≡ n → (w1 : World) → Later U K w w1 → R w1 (to_line n f) (to_line m g)) (place : Places U K w R f g) where
@@ -311,7 +311,7 @@ module _ (U : Upgrade) (expressions : ExpressionsAgree U) (calls : CallsAreMade 
 
 -- A covered line does the same as what is written for it, in frames that go on to match.
 pub steady_lines_agree : (U : Upgrade) → ExpressionsAgree U → CallsAreMade U → ScalarsAreRead U → ScalarsAreWritten U → SteadyLinesAgree U
-steady_lines_agree U expressions calls reads scalars p s written number turns l c L code opens readable placed own agree can covers stands w f g at h F =
+steady_lines_agree U expressions calls reads scalars p s written number turns l c L code opens readable placed own agree can covers stands w f g at h F given =
     let K : Pledge = frame_pledge U p w f in
     let owns : OwnsAll U K p f = owns_now U p f K w w g (F.match w (later_now U K w h)) in
     let R : World → SourceFrame → NetFrame → Type 0 = SteadyNext U K p f.me in
@@ -346,11 +346,11 @@ steady_lines_agree U expressions calls reads scalars p s written number turns l 
     (subst (λ x. Agrees U K w1 R (source_program.line_does (runnable_of U) oracle p f l w1.src)
     (target_lines.form_does (target_program.frames_of U.written) net_oracle written c (scope_of U.written c g L.line) g L.line x w1.net)) (sym L.form)
     (form_agrees U expressions calls reads scalars K p written f g l L.line c T refl oracle net_oracle (opens g L.line now.names)
-    (covers_use U.program p l.form.bindings.mentions) readable (placed g L.line now.names) agree R w1 later.match F1 owns L.aims next
+    (covers_use U.program p l.form.bindings.mentions) readable (placed f g L.line now.names given) agree R w1 later.match F1 owns L.aims next
     (λ n m i j t u d e c w2 more. placed_at U K p f g w1 later.match F1 owns w2 more n m i j t u d e c)
     (labels (site_lines s)) l.form.source.form l.form.bindings.exprs
-    (line_called (CanCall U K (scope_of U.written c g L.line) T) U.program.declarations p (covers_use U.program p l.form.bindings.mentions) l.form both.0
-    (λ i m. can i m w f g L.line now.names))
+    (line_called (CanCall U K (scope_of U.written c g L.line) T) (covers_use U.program p l.form.bindings.mentions) l.form both.0
+    (λ d i m e. can d i m e w f g L.line now.names))
     both.0 both.1 stands.label (λ e m steady. own steady e m) keep stands.in_block stands.ways))))
 
 -- ---- all frames that match go on to match
@@ -363,7 +363,7 @@ steady_now U K w p f g h F = record {
 }
 
 pub lines_agree : (U : Upgrade) → ExpressionsAgree U → CallsAreMade U → ScalarsAreRead U → ScalarsAreWritten U → LinesAgree U
-lines_agree U expressions calls reads scalars p s written number turns l c L code opens readable placed own agree can covers stands w f g at h F =
+lines_agree U expressions calls reads scalars p s written number turns l c L code opens readable placed own agree can covers stands w f g at h F given =
     let K : Pledge = frame_pledge U p w f in
     agrees_weaker U K w (SteadyNext U K p f.me) (NextMatch U K p f.me)
     (line_result (source_program.machine_of (runnable_of U)) turns p f l w.src)
@@ -371,4 +371,4 @@ lines_agree U expressions calls reads scalars p s written number turns l c L cod
     (λ w1 f1 g1 later x.
     record { same_object = x.same_object; frames = x.frames.match w1 (later_now U K w1 later.match); owns = x.owns })
     (steady_lines_agree U expressions calls reads scalars p s written number turns l c L code opens readable placed own agree can covers stands w f g at h
-    (steady_now U K w p f g h F))
+    (steady_now U K w p f g h F) given)

@@ -136,7 +136,7 @@ no_more r = ap (λ k. then r k) (λ i s w. gives [] (append-nil s i) w) ∙ then
 
 module _ (U : Upgrade) (expressions : ExpressionsAgree U) (K : Pledge) (p : ℕ) (f : SourceFrame) (g : NetFrame) (l : SourceLine) (k : NetLine) (c : Code) (T : Scope) (declared : T.declarations ≡ U.program.declarations)
     (oracle : SourceCalls) (net_oracle : Jobs) (is_open : IsOpen (scope_of U.written c g k)) (uses : Uses)
-    (readable : (v : VarId) → uses v ≡ true → IsReadable U v.0) (placed : ArePlaced U p (scope_of U.written c g k) T uses)
+    (readable : (v : VarId) → uses v ≡ true → IsReadable U v.0) (placed : ArePlaced U p f (scope_of U.written c g k) T uses)
     (agree : CallsAgree U (Passes U) oracle net_oracle) where
   abbrev C : source.Context
   C = context_of U oracle p f l

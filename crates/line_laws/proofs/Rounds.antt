@@ -29,11 +29,11 @@ use Rattle.run_matches.specs.Maps.{World}
 use Rattle.run_matches.specs.Likeness.{LikeV}
 use Rattle.run_matches.specs.Match.{MemoryMatch}
 use Rattle.run_matches.specs.Pledges.{Pledge, Later}
-use Rattle.run_matches.specs.Addresses.{KeptMatch, Same, both_nothing, both_limits, both_choices, both_objects, both_arrays, both_addresses}
+use Rattle.run_matches.specs.Addresses.{KeptMatch, Same, both_nothing, both_limits, both_choices, both_objects, both_arrays, both_addresses, IsInPlace}
 use Rattle.run_matches.specs.Agreeing.{Agrees}
 use Rattle.run_matches.specs.Formed.{is_formed}
 use Rattle.run_matches.specs.Covered.{Uses, counts_local, covers_counter, covers_expr, covers_form, covers_line, covers_part, covers_step, covers_use, covers_value, head_line, is_counter, is_local_term, is_variable}
-use Rattle.run_matches.specs.Frames.{CounterKept, FrameMatch, HasPlace, IsCounting, IsInPlace, KeptBy, OwnsAll, is_exact_head, is_own_of, lines_of}
+use Rattle.run_matches.specs.Frames.{CounterKept, FrameMatch, HasPlace, IsCounting, KeptBy, OwnsAll, is_exact_head, is_own_of, lines_of}
 use Rattle.run_statements.specs.Frames.{AnyUnits, ScalarMatch, ScalarsAreRead, ScalarsAreWritten, context_of}
 use Rattle.agreeing_laws.proofs.Agreeing.{agrees_outside, then_agrees}
 use Rattle.agreeing_laws.proofs.Lasting.{later_now, later_then}

@@ -17,13 +17,13 @@ use Rattle.net_run.specs.Names as net_names
 use Rattle.net_run.specs.Names.{path_start, starts, at_place, var_in}
 use Rattle.net_run.specs.Shapes as net_shapes
 use Rattle.net_run.specs.Store as net
-use Rattle.run_matches.specs.Addresses.{Same, same_root}
+use Rattle.run_matches.specs.Addresses.{Same, same_root, HasOwnKey}
 use Rattle.run_matches.specs.Frames.{FrameMatch, SameStatic, is_own_of, is_static_in, static_of}
 use Rattle.run_matches.specs.Likeness.{same_scalar, scalar_word}
 use Rattle.run_matches.specs.Maps.{World, IsMatched, key_or_none, moved_at}
 use Rattle.run_matches.specs.Pledges.{Pledge}
 use Rattle.run_matches.specs.Upgrades.{Upgrade, variable_key}
-use Rattle.run_statements.specs.Frames.{IsReadable, IsOwnStatic, IsShared, HasOwnKey}
+use Rattle.run_statements.specs.Frames.{IsReadable, IsOwnStatic, IsShared}
 use Rattle.agreeing_laws.proofs.Moves.{matched_whole}
 use Rattle.line_laws.proofs.Uses.{shape_is, name_is}
 

@@ -35,18 +35,18 @@ use Rattle.run_matches.specs.Maps.{World}
 use Rattle.run_matches.specs.Likeness.{LikeV}
 use Rattle.run_matches.specs.Match.{MemoryMatch}
 use Rattle.run_matches.specs.Pledges.{Pledge, Later}
-use Rattle.run_matches.specs.Addresses.{Same}
+use Rattle.run_matches.specs.Addresses.{Same, IsTarget}
 use Rattle.run_matches.specs.Agreeing.{Agrees}
 use Rattle.run_matches.specs.Covered.{Uses, covers_type, covers_expr}
-use Rattle.run_matches.specs.Frames.{FrameMatch, OwnsAll, SameVariable, is_own_of}
-use Rattle.run_statements.specs.Frames.{ExpressionsAgree, ScalarsAreWritten, IsOpen, IsReadable, IsShared, IsPlaced, ArePlaced, IsTarget, MayChange, ScalarMatch, AnyUnits, context_of, AllCalled, CanCall, IsOwnStatic}
+use Rattle.run_matches.specs.Frames.{FrameMatch, OwnsAll, SameVariable, is_own_of, GivenPlace}
+use Rattle.run_statements.specs.Frames.{ExpressionsAgree, ScalarsAreWritten, IsOpen, IsReadable, IsShared, IsPlaced, ArePlaced, MayChange, ScalarMatch, AnyUnits, context_of, AllCalled, CanCall, IsOwnStatic, IsGiven}
 use Rattle.run_matches.specs.Runs.{CallsAgree}
 use Rattle.run_statements.specs.Written.{Passes}
 use Rattle.agreeing_laws.proofs.Agreeing.{agrees_outside, left_alone, right_alone, then_agrees}
 use Rattle.agreeing_laws.proofs.Moves.{address_later}
 use Rattle.line_laws.specs.Lasting.{OwnShape}
 use Rattle.line_laws.proofs.Bounds.{exactly}
-use Rattle.line_laws.proofs.Uses.{good_parts, is_good, type_covered, address_found, address_is, own_path, path_is, name_reached, variable_reached, variable_named, is_loud, name_is, scalar_type, shape_is}
+use Rattle.line_laws.proofs.Uses.{good_parts, is_good, type_covered, address_found, address_is, own_path, path_is, name_reached, variable_reached, variable_named, is_loud, name_is, scalar_type, shape_is, given_address_is, given_foreign, given_path}
 use Rattle.line_laws.proofs.Shared.{SharedPlace, shared_place, not_own, StaticPlace, static_place, static_is_not_own}
 
 -- ---- types
@@ -127,7 +127,7 @@ line_is U T d ty v qualified r e c =
 module _ (U : Upgrade) (expressions : ExpressionsAgree U) (scalars : ScalarsAreWritten U) (K : Pledge) (p : ℕ) (f : SourceFrame)
     (g : NetFrame) (l : SourceLine) (k : NetLine) (c : Code) (T : Scope) (declared : T.declarations ≡ U.program.declarations) (oracle : SourceCalls)
     (net_oracle : Jobs) (is_open : IsOpen (scope_of U.written c g k)) (uses : Uses) (readable : (v : VarId) → uses v ≡ true → IsReadable U v.0)
-    (placed : ArePlaced U p (scope_of U.written c g k) T uses)
+    (placed : ArePlaced U p f (scope_of U.written c g k) T uses)
     (agree : CallsAgree U (Passes U) oracle net_oracle)
     (shapes : (v : ℕ) (a : Address) → lookup (nat_eq v) f.vars ≡ Some a → is_own_of U p v ≡ true → OwnShape U v a) where
   abbrev C : source.Context
@@ -244,10 +244,28 @@ module _ (U : Upgrade) (expressions : ExpressionsAgree U) (scalars : ScalarsAreW
         (ap (net_names.path_start S false) (x.path qualified) ∙ variable_named S net_oracle readable_v.variable.name x.net_address x.named) x.same x.stands
         (inr x.own_key) (λ steady. absurd (static_is_not_own U p v.0 s (inward steady)))
 
-    placed_by : IsPlaced U p S T v.0 → Goal
+    given_by : IsGiven U p f v.0 → (o : Option Address) → lookup (nat_eq v.0) f.vars ≡ o → Goal
+    given_by x None none =
+        let y = name_reached S net_oracle readable_v.variable.name w.net in
+        evaluated y.0 (ap (λ names. target.reach S net_oracle false (net.path names) w.net) (given_path U v.0 readable_v p x.reference T declared qualified) ∙ y.1)
+        (λ w1 later. missing y.0 w1 (given_address_is U v.0 readable_v p x.reference f ∙ none))
+    given_by x (Some a) found =
+        let s : SameVariable U K w v.0 a g = F.vars v.0 a found readable_v.sound in
+        let place : GivenPlace U v.0 a = x.stands a found in
+        let same : Same U K w a s.address = exactly U K w (not (is_quiet U.program.declarations U.known v.0)) a s.address (is_loud U v.0 readable_v) s.bound in
+        let name : net_names.var_in g.vars readable_v.variable.name ≡ Some s.address =
+        ap (λ n. net_names.var_in g.vars n) (sym (name_is U v.0 readable_v)) ∙ s.found in
+        stored_there a s.address place.position (given_address_is U v.0 readable_v p x.reference f ∙ found)
+        (ap (net_names.path_start S false) (given_path U v.0 readable_v p x.reference T declared qualified)
+        ∙ variable_named S net_oracle readable_v.variable.name s.address name) same
+        (place.stands ∙ ap (λ d. root d place.position) (shape_is U v.0 readable_v)) place.target
+        (λ steady. absurd (true≢false (sym (inward steady) ∙ given_foreign U v.0 readable_v p x.reference)))
+
+    placed_by : IsPlaced U p f S T v.0 → Goal
     placed_by (inl own) = own_by own (lookup (nat_eq v.0) f.vars) refl
     placed_by (inr (inl s)) = static_by s
-    placed_by (inr (inr s)) = shared_by s
+    placed_by (inr (inr (inl s))) = shared_by s
+    placed_by (inr (inr (inr x))) = given_by x (lookup (nat_eq v.0) f.vars) refl
 
     pub assignment_agrees : Goal
     assignment_agrees = placed_by (placed v use_v)

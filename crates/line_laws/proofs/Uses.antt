@@ -10,7 +10,7 @@ use Rattle.vb_tree.specs.declared.declared.VarId.{VarId}
 use Rattle.bound_tree.specs.Tree.{Declarations, Expr, typed, variable}
 use Rattle.bound_facts.proofs.Chains.{both_true}
 use Rattle.bound_facts.specs.Effects.{is_own_owner, is_own_variable}
-use Rattle.bound_facts.specs.Facts.{Known, is_quiet_owner, is_quiet_variable, is_quiet}
+use Rattle.bound_facts.specs.Facts.{is_quiet}
 use Rattle.bound_facts.specs.Node.{type_at, auto_class, class_in}
 use Rattle.net_tree.specs.Tree as net
 use Rattle.net_tree.specs.Tree.{Member, Module}
@@ -31,8 +31,8 @@ use Rattle.net_run.specs.Shapes.{module_named, module_at, members_of}
 use Rattle.net_run.specs.Store as store
 use Rattle.run_matches.specs.Upgrades.{Upgrade, runnable_of}
 use Rattle.run_matches.specs.Formed.{is_formed}
-use Rattle.run_matches.specs.Covered.{Uses, covers_type, covers_owner, covers_expr, covers_term}
-use Rattle.run_matches.specs.Frames.{is_own_of, name_of}
+use Rattle.run_matches.specs.Covered.{Uses, covers_type, covers_owner, covers_expr, covers_term, is_reference_in, is_reference_owner_of}
+use Rattle.run_matches.specs.Frames.{is_own_of, is_reference_of, name_of}
 use Rattle.run_statements.specs.Frames.{IsReadable}
 
 -- ---- expressions
@@ -54,13 +54,18 @@ own_address D f v p (owner.Value q) h = refl
 own_address D f v p (owner.Answer q) h = refl
 own_address D f v p _ h = absurd (true≢false (sym h))
 
-quiet_owner : (F : Known) (o : Owner) → covers_owner o ≡ true → is_quiet_owner F o ≡ false
-quiet_owner F (owner.Module file) c = refl
-quiet_owner F (owner.Local q) c = refl
-quiet_owner F (owner.Value q) c = refl
-quiet_owner F (owner.Answer q) c = refl
-quiet_owner F (owner.Static q) c = refl
-quiet_owner F _ c = absurd (true≢false (sym c))
+given_owner : (p : ℕ) (o : Owner) → is_reference_owner_of p o ≡ true → (T : Scope) (qualified : Bool) (name : List ℕ) → owner_path T qualified name o ≡ alone name
+given_owner p (owner.Reference q) h T qualified name = refl
+given_owner p _ h T qualified name = absurd (true≢false (sym h))
+
+given_address : (D : Declarations) (f : SourceFrame) (v p : ℕ) (o : Owner) → is_reference_owner_of p o ≡ true → owned_address D f v o ≡ lookup (nat_eq v) f.vars
+given_address D f v p (owner.Reference q) h = refl
+given_address D f v p _ h = absurd (true≢false (sym h))
+
+-- what is given by reference is not the procedure's own
+given_not_own : (p : ℕ) (o : Owner) → is_reference_owner_of p o ≡ true → is_own_owner p o ≡ false
+given_not_own p (owner.Reference q) h = refl
+given_not_own p _ h = absurd (true≢false (sym h))
 
 simple_type : (users : ℕ → Shape) (bounds : List (ℤ × ℤ)) (ty : Ty) → covers_type ty ≡ true → shape_by users bounds ty ≡ simple ty
 simple_type users bounds types.boolean c = refl
@@ -93,9 +98,7 @@ module _ (U : Upgrade) (v : ℕ) (r : IsReadable U v) where
       ∙ ap (λ b. cond b (class_in r.variable.ty) None) (not_true r.variable.auto (both_true (covers_type r.variable.ty) (not r.variable.auto) covered.1).1)
 
   pub is_loud : not (is_quiet D U.known v) ≡ true
-  is_loud =
-      ap (λ o. not (is_quiet_variable U.known o && not (U.known.touched v))) r.is_variable
-      ∙ ap (λ b. not (b && not (U.known.touched v))) (quiet_owner U.known r.variable.owner covered.0)
+  is_loud = ap not r.exact
 
   pub shape_is : variable_shape D v ≡ simple r.variable.ty
   shape_is = ap (declared_shape (user_shapes D)) r.is_variable ∙ simple_type (user_shapes D) r.variable.bounds r.variable.ty scalar_type
@@ -117,6 +120,22 @@ module _ (U : Upgrade) (v : ℕ) (r : IsReadable U v) where
   own_path p own T e qualified =
       ap (λ (E : Declarations). variable_path_of T qualified (slice_get E.vars v)) e ∙ ap (variable_path_of T qualified) r.is_variable
       ∙ own_owner p r.variable.owner (own_is p own) T qualified r.variable.name
+
+  -- where it is given by reference
+
+  given_is : (p : ℕ) → is_reference_of U p v ≡ true → is_reference_owner_of p r.variable.owner ≡ true
+  given_is p h = sym (ap (is_reference_in p) r.is_variable) ∙ h
+
+  pub given_address_is : (p : ℕ) → is_reference_of U p v ≡ true → (f : SourceFrame) → variable_address D f v ≡ lookup (nat_eq v) f.vars
+  given_address_is p given f = ap (declared_address D f v) r.is_variable ∙ given_address D f v p r.variable.owner (given_is p given)
+
+  pub given_path : (p : ℕ) → is_reference_of U p v ≡ true → (T : Scope) → T.declarations ≡ D → (qualified : Bool) → variable_path T qualified v ≡ r.variable.name ∷ []
+  given_path p given T e qualified =
+      ap (λ (E : Declarations). variable_path_of T qualified (slice_get E.vars v)) e ∙ ap (variable_path_of T qualified) r.is_variable
+      ∙ given_owner p r.variable.owner (given_is p given) T qualified r.variable.name
+
+  pub given_foreign : (p : ℕ) → is_reference_of U p v ≡ true → is_own_of U p v ≡ false
+  given_foreign p given = ap (is_own_variable p) r.is_variable ∙ given_not_own p r.variable.owner (given_is p given)
 
 address_by : (C : Context) (o : Option Address) (m : Option ℕ) → m ≡ None → (s : Memory)
     → then (then (some_of o (λ a w. gives [] (at_address a) w) s) (made_for C m)) finished ≡ some_of o (λ a w. gives [] a w) s

@@ -4,7 +4,9 @@ use Rattle.std.specs.Map.{lookup}
 use Rattle.vb_tree.specs.declared.declared.VarId.{VarId}
 use Rattle.run_base.specs.Positions.{made, whole}
 use Rattle.std.specs.List.{Contains}
-use Rattle.bound_facts.specs.Calls.{line_calls}
+use Rattle.bound_tree.specs.Tree.{Expr}
+use Rattle.bound_facts.specs.Node.{args_at, called}
+use Rattle.bound_facts.specs.Parts.{line_uses}
 use Rattle.run_base.specs.Machines.{go}
 use Rattle.vb6_run.specs.Shapes.{variable_shape}
 use Rattle.vb6_run.specs.Forms.{SourceLine}
@@ -19,7 +21,7 @@ use Rattle.run_matches.specs.Match.{MemoryMatch}
 use Rattle.run_matches.specs.Pledges.{Pledge, Later}
 use Rattle.run_matches.specs.Agreeing.{Agrees}
 use Rattle.run_matches.specs.Covered.{covers_use, covers_line}
-use Rattle.run_matches.specs.Frames.{HasNames, FrameMatch, OwnsAll, is_own_of, frame_pledge}
+use Rattle.run_matches.specs.Frames.{HasNames, FrameMatch, OwnsAll, is_own_of, frame_pledge, GivenStand, HasPlace}
 use Rattle.run_matches.specs.Runs.{line_result, CallsAgree}
 use Rattle.run_matches.specs.Sites.{Site}
 use Rattle.run_statements.specs.Frames.{IsOpen, IsReadable}
@@ -53,6 +55,7 @@ pub record SteadyNext (U : Upgrade) (K : Pledge) (p : ℕ) (me : Option ℕ) (w 
 abbrev pub SameSteadyLine : Upgrade → (p q number turns : ℕ) → SourceLine → NetLine → Type 0
 SameSteadyLine U p q number turns l k =
     (w : World) (f : SourceFrame) (g : NetFrame) → f.line ≡ number → MemoryMatch U w → SteadyFrame U (frame_pledge U p w f) w p f g
+    → GivenStand U p f l.form
     → Agrees U (frame_pledge U p w f) w (SteadyNext U (frame_pledge U p w f) p f.me)
     (line_result (source.machine_of (runnable_of U)) turns p f l w.src)
     (line_result (target.machine_of U.written) turns q g k w.net)
@@ -65,7 +68,7 @@ SteadyLinesAgree U =
     → ((v : VarId) → covers_use U.program p l.form.bindings.mentions v ≡ true → IsReadable U v.0)
     → UsesArePlaced U p s c l.form → StoresAreOwn U p l.form
     → CallsAgree U (Passes U) (go (source.machine_of (runnable_of U)) turns) (go (target.machine_of U.written) turns)
-    → ((q : ℕ) → Contains (line_calls U.program.declarations p l.form) (p, q) → CanCallFrom U p s c q)
+    → ((d : Expr) (q : ℕ) → Contains (line_uses l.form) d → called d ≡ Some q → CanCallFrom U p s c q (args_at d))
     → covers_line U.program p l.form ≡ true
     → LineStands U p s written c number l
     → SameSteadyLine U p written number turns l L.line

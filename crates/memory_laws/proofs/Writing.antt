@@ -1,4 +1,5 @@
 -- A scalar is written to a variable on both sides.
+use Rattle.run_matches.specs.Addresses.{IsInPlace, IsTarget}
 use Rattle.std.proofs.Common.{◌≡◌, refl, sym, subst, ◌∙◌, inl, inr, ℕ, true, cond, Some, [], ◌∷◌}
 use Rattle.up_base.proofs.Tests.{by_test}
 use Rattle.vb_tree.specs.BoundTree.{Ty}
@@ -22,8 +23,8 @@ use Rattle.run_matches.specs.Match.{Holds, holds_blank, holds_single, holds_tabl
 use Rattle.run_matches.specs.Pledges.{Pledge, Later, IsLasting, IsHeld}
 use Rattle.run_matches.specs.Agreeing.{Agrees}
 use Rattle.run_matches.specs.Covered.{covers_type}
-use Rattle.run_matches.specs.Frames.{HasPlace, IsInPlace, IsOwnAddress}
-use Rattle.run_statements.specs.Frames.{AnyUnits, ScalarsAreWritten, IsTarget, MayChange}
+use Rattle.run_matches.specs.Frames.{HasPlace, IsOwnAddress}
+use Rattle.run_statements.specs.Frames.{AnyUnits, ScalarsAreWritten, MayChange}
 use Rattle.agreeing_laws.proofs.Agreeing.{agrees_outside}
 use Rattle.memory_laws.specs.Changes.{changed, IsNoTable, GoesAlone}
 use Rattle.memory_laws.specs.Statements.{ScalarsAreWrittenInPlaces}

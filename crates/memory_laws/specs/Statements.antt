@@ -11,7 +11,7 @@ use Rattle.net_run.specs.Expressions as target
 use Rattle.net_run.specs.Shapes as shape
 use Rattle.net_run.specs.Store as net
 use Rattle.net_run.specs.Values as net_value
-use Rattle.run_matches.specs.Addresses.{Bound, Same}
+use Rattle.run_matches.specs.Addresses.{Bound, Same, IsTarget}
 use Rattle.run_matches.specs.Agreeing.{Agrees}
 use Rattle.run_matches.specs.Covered.{covers_type}
 use Rattle.run_matches.specs.Likeness.{LikeV, scalar_word}
@@ -19,7 +19,7 @@ use Rattle.run_matches.specs.Maps.{World}
 use Rattle.run_matches.specs.Match.{MemoryMatch}
 use Rattle.run_matches.specs.Pledges.{Pledge}
 use Rattle.run_matches.specs.Upgrades.{Upgrade, variable_key, is_flagged}
-use Rattle.run_statements.specs.Frames.{ScalarMatch, AnyUnits, IsReadable, MadeMatch, IsTarget, MayChange}
+use Rattle.run_statements.specs.Frames.{ScalarMatch, AnyUnits, IsReadable, MadeMatch, MayChange}
 
 -- ---- by a pledge
 

@@ -5,7 +5,7 @@ use Rattle.std.specs.List.{list_all}
 use Rattle.vb_tree.specs.declared.declared.VarId.{VarId}
 use Rattle.vb_tree.specs.declared.value.Value6.{Value6}
 use Rattle.vb_tree.specs.Blocks.{is_code}
-use Rattle.vb_tree.specs.Tree.{Form, Nodes}
+use Rattle.vb_tree.specs.Tree.{Form}
 use Rattle.vb_tree.specs.Tree as source
 use Rattle.bound_tree.specs.Tree.{Variable, Constant, Procedure}
 use Rattle.net_tree.specs.Tree as net

@@ -24,7 +24,7 @@ use Rattle.run_base.specs.Machines.{nth_line}
 use Rattle.vb6_run.specs.Programs.{is_static_of}
 use Rattle.vb6_run.specs.Runnables.{is_class_file}
 use Rattle.run_matches.specs.CleanLines.{lines_at}
-use Rattle.run_matches.specs.Covered.{Uses, covers_owner, covers_type, is_foreign_name, is_reached, covers_some, is_mention_of, covers_use, covers_expr, covers_term, covers_form, covers_line, is_variable, is_variable_in}
+use Rattle.run_matches.specs.Covered.{Uses, covers_owner, covers_type, is_foreign_name, is_reached, covers_use, covers_expr, covers_term, covers_form, covers_line, is_variable, is_variable_in}
 use Rattle.run_matches.specs.Formed.{is_formed}
 use Rattle.run_matches.specs.Pledges.{stands_in_class}
 use Rattle.run_matches.specs.Shared.{names_lead, is_alone_static, is_outer, others_differ}
@@ -35,7 +35,7 @@ use Rattle.name_laws.proofs.Lists.{both_true, same_number, Among, among, among_a
 use Rattle.name_laws.proofs.Looked.{not_true}
 use Rattle.name_laws.proofs.Led.{led}
 use Rattle.name_laws.proofs.Arrows.{project_items_there}
-use Rattle.name_laws.proofs.Uses.{HasLine, has_line, CoveredUse, use_is}
+use Rattle.name_laws.proofs.Uses.{HasLine, has_line, CoveredUse, used_parts}
 
 -- ---- lists
 
@@ -134,14 +134,13 @@ module _ (P : Program) (p : ℕ) (x : Procedure) (is_procedure : slice_get P.dec
       not_true (is_class_file D x.module_number) (sym (ap (is_outer D) is_procedure) ∙ a.0) in
       absurd (true≢false (sym in_class ∙ outer))
   mine_owner v name (owner.Value q) c h e = refl
-  mine_owner v name (owner.Reference q) c h e = absurd (cc c)
+  mine_owner v name (owner.Reference q) c h e = refl
   mine_owner v name (owner.Answer q) c h e = refl
   mine_owner v name (owner.Field t) c h e = absurd (cc c)
 
   mine_variable : (v : VarId) → uses v ≡ true → is_own_variable p (slice_get D.vars v.0) ≡ false → is_mine_variable D p (slice_get D.vars v.0) ≡ false
   mine_variable v h e =
-      let b = both_true (list_any (is_mention_of v) mentions) (covers_some D p v.0 (slice_get D.vars v.0)) h in
-      let u : CoveredUse P p v.0 = use_is P p v.0 b.1 in
+      let u : CoveredUse P p v.0 = (used_parts P p mentions v h).1 in
       let covers = both_true (covers_owner u.used.owner) (covers_type u.used.ty && not u.used.auto) u.covers in
       let other : is_own_owner p u.used.owner ≡ false = sym (ap (is_own_variable p) u.is_used) ∙ e in
       ap (is_mine_variable D p) u.is_used ∙ ap (λ o. is_mine_owner p (module_of o) u.used.owner) is_procedure

@@ -1,6 +1,6 @@
 -- What a covered, clean procedure declares is written as it is declared.
 use Rattle.std.proofs.Common.{◌≡◌, refl, ap, sym, subst, ◌∙◌, ℕ, nat_eq, Bool, true, false, cond, not, ◌&&◌, List, [], ◌∷◌, map, Option, Some, None, slice_get, inl, inr}
-use Rattle.std.specs.Prelude.{is_some, ◌⊎◌}
+use Rattle.std.specs.Prelude.{is_some, ◌⊎◌, ◌||◌}
 use Rattle.std.specs.Cmp.Lexicographic.{pointwise}
 use Rattle.std.specs.List.{list_all}
 use Rattle.vb_tree.specs.BoundTree as types
@@ -10,13 +10,15 @@ use Rattle.vb_tree.specs.declared.declared.Owner.{Owner}
 use Rattle.vb_tree.specs.declared.declared.Owner.TheVariants as owner
 use Rattle.vb_tree.specs.declared.value.Value6.{Value6}
 use Rattle.bound_tree.specs.Tree.{Variable, Constant, Declarations, Program}
+use Rattle.reach_table.specs.Chains.{empty}
 use Rattle.bound_facts.specs.Clean.{variable, point_broken, IsClean}
+use Rattle.bound_facts.specs.Facts.{AreFacts, acts, is_quiet, is_quiet_owner, is_quiet_variable}
 use Rattle.written_trees.specs.Bodies.{inside_procedure}
 use Rattle.written_trees.specs.Facts.{is_flagged_variable, is_flagged_constant}
 use Rattle.written_trees.specs.Names.{Scope}
 use Rattle.written_trees.specs.Prologues.{declares, constant_dim_by, constant_dim, is_static}
 use Rattle.vb6_run.specs.Programs.{is_local_of, owned_from, is_static_of}
-use Rattle.run_matches.specs.Covered.{covers_type, covers_owner, covers_variable, belongs_to, covers_head, covers_variables, covers_body, covers_names, are_different, covers_all_calls, covers_own, covers_owns, covers_site, covers_procedure}
+use Rattle.run_matches.specs.Covered.{covers_type, covers_owner, covers_variable, belongs_to, covers_head, covers_variables, covers_body, covers_names, are_different, covers_all_calls, covers_own, covers_owns, covers_site, covers_procedure, is_loud_owner, is_touched}
 use Rattle.run_matches.specs.Callees.{frame_owns}
 use Rattle.run_matches.specs.Sites.{Site, site_of, site_lines, first_statement, Own, own_variable, own_constant, own_name, owns_from, owns_of, local_number, local_numbers, static_number, static_numbers}
 use Rattle.run_matches.specs.Upgrades.{Upgrade, is_unknown, type_of_some, type_of}
@@ -48,10 +50,45 @@ type_known types.unknown h = absurd (cc h)
 pub covered_type : (x : Variable) → covers_variable x ≡ true → covers_type x.ty ≡ true
 covered_type x h = (both_true (covers_type x.ty) (not x.auto) (both_true (covers_owner x.owner) (covers_type x.ty && not x.auto) h).1).0
 
+-- ---- quiet parameters
+
+touched_exact : (a b c d : Bool) → (a || b) ≡ true → d ≡ a → (b ≡ true → c ≡ true) → (not c && not d) ≡ false
+touched_exact true b true d h e f = refl
+touched_exact true b false d h e f = ap not e
+touched_exact false true c d h e f = ap (λ z. not z && not d) (f refl)
+touched_exact false false c d h e f = absurd (cc h)
+
+loud_owner : (U : Upgrade) → AreFacts U.program U.known → (v : ℕ) (o : Owner) → is_loud_owner U.program v o ≡ true
+    → (is_quiet_owner U.known o && not (U.known.touched v)) ≡ false
+loud_owner U known v (owner.Module file) h = refl
+loud_owner U known v (owner.Local p) h = refl
+loud_owner U known v (owner.Static p) h = refl
+loud_owner U known v (owner.Value p) h = refl
+loud_owner U known v (owner.Reference p) h =
+    touched_exact (is_touched U.program v) (acts U.program p.0) (U.known.outward p.0) (U.known.touched v) h (known.touched_are v)
+    (λ a. (known.outward_are p.0).1 (p.0, a, empty p.0))
+loud_owner U known v (owner.Answer p) h = refl
+loud_owner U known v (owner.Field t) h = refl
+
+-- such a variable is none
+pub loud_exact : (U : Upgrade) → AreFacts U.program U.known → (v : ℕ) (x : Variable) → slice_get U.program.declarations.vars v ≡ Some x
+    → is_loud_owner U.program v x.owner ≡ true → is_quiet U.program.declarations U.known v ≡ false
+loud_exact U known v x e h =
+    ap (λ o. is_quiet_variable U.known o && not (U.known.touched v)) e ∙ loud_owner U known v x.owner h
+
+local_loud : (P : Program) (p v : ℕ) (o : Owner) → is_local_of p o ≡ true → is_loud_owner P v o ≡ true
+local_loud P p v (owner.Local q) h = refl
+local_loud P p v _ h = absurd (cc h)
+
+static_loud : (P : Program) (p v : ℕ) (o : Owner) → is_static_of p o ≡ true → is_loud_owner P v o ≡ true
+static_loud P p v (owner.Static q) h = refl
+static_loud P p v _ h = absurd (cc h)
+
 -- a covered variable whose statement breaks no rule
-pub readable : (U : Upgrade) (v : ℕ) (x : Variable) → slice_get U.program.declarations.vars v ≡ Some x → covers_variable x ≡ true
+pub readable : (U : Upgrade) → AreFacts U.program U.known → (v : ℕ) (x : Variable) → slice_get U.program.declarations.vars v ≡ Some x
+    → covers_variable x ≡ true → is_loud_owner U.program v x.owner ≡ true
     → point_broken U.program.declarations U.facts.marks (variable v) ≡ false → IsReadable U v
-readable U v x e h unbroken =
+readable U known_are v x e h loud unbroken =
     let ty = both_true (covers_type x.ty) (not x.auto) (both_true (covers_owner x.owner) (covers_type x.ty && not x.auto) h).1 in
     let known : is_unknown (type_of U v) ≡ false = ap (λ (o : Option Variable). is_unknown (type_of_some o)) e ∙ type_known x.ty ty.0 in
     record {
@@ -60,6 +97,7 @@ readable U v x e h unbroken =
       covers = h;
       sound =
           none_of_both (is_flagged_variable U.facts v) (is_unknown (type_of U v)) (variable_unflagged U.program.declarations U.facts v x e unbroken) known;
+      exact = loud_exact U known_are v x e loud;
     }
 
 -- ---- the parts of what covers a procedure
@@ -133,30 +171,34 @@ own_is D s o h =
     by (inl m) = lines_own D s.source_module.file declares (first_statement s) (site_lines s) o m
     by (inr m) = lines_own D s.source_module.file is_code (first_statement s) (site_lines s) o m
 
-pub own_readable : (U : Upgrade) (p : ℕ) (s : Site) → Covers U.program p s → IsClean U.program U.facts.marks p → (v : ℕ) (y : Variable)
+pub own_readable : (U : Upgrade) → AreFacts U.program U.known → (p : ℕ) (s : Site) → Covers U.program p s → IsClean U.program U.facts.marks p → (v : ℕ) (y : Variable)
     → Among (owns_of U.program.declarations s) (own_variable v y) → IsReadable U v
-own_readable U p s C clean v y h =
+own_readable U known p s C clean v y h =
     let D = U.program.declarations in
     let stands : slice_get D.vars v ≡ Some y = own_is D s (own_variable v y) h in
-    let owned : belongs_to p y.owner ≡ true = by (is_static y.owner) refl stands in
+    let own = by (is_static y.owner) refl stands in
+    let owned : belongs_to p y.owner ≡ true = own.0 in
     let covers : covers_variable y ≡ true =
     own_covers (belongs_to p y.owner) (covers_variable y)
     (all_at (λ (x : Variable). cond (belongs_to p x.owner) (covers_variable x) true) D.vars v y C.vars stands) owned in
-    readable U v y stands covers (variable_unbroken U.program U.facts.marks p v y clean stands owned)
+    readable U known v y stands covers own.1 (variable_unbroken U.program U.facts.marks p v y clean stands owned)
   where
-    by : (b : Bool) → is_static y.owner ≡ b → slice_get U.program.declarations.vars v ≡ Some y → belongs_to p y.owner ≡ true
+    by : (b : Bool) → is_static y.owner ≡ b → slice_get U.program.declarations.vars v ≡ Some y
+        → (belongs_to p y.owner ≡ true) × (is_loud_owner U.program v y.owner ≡ true)
     by true e stands =
         let D = U.program.declarations in
         let number : Among (owned_from (is_static_of p) 0 D.vars) v =
         subst (λ (ns : List ℕ). Among ns v) (same_numbers (static_numbers (owns_of D s)) (owned_from (is_static_of p) 0 D.vars) C.statics)
         (flat_among static_number (owns_of D s) (own_variable v y) v h (number_if (is_static y.owner) v e)) in
-        static_belongs p y.owner (owned_is (is_static_of p) D.vars v y number stands)
+        let static = owned_is (is_static_of p) D.vars v y number stands in
+        (static_belongs p y.owner static, static_loud U.program p v y.owner static)
     by false e stands =
         let D = U.program.declarations in
         let number : Among (owned_from (is_local_of p) 0 D.vars) v =
         subst (λ (ns : List ℕ). Among ns v) (same_numbers (local_numbers (owns_of D s)) (owned_from (is_local_of p) 0 D.vars) C.locals)
         (flat_among local_number (owns_of D s) (own_variable v y) v h (number_unless (is_static y.owner) v e)) in
-        local_belongs p y.owner (owned_is (is_local_of p) D.vars v y number stands)
+        let local = owned_is (is_local_of p) D.vars v y number stands in
+        (local_belongs p y.owner local, local_loud U.program p v y.owner local)
 
 pub own_unflagged : (U : Upgrade) (p : ℕ) (s : Site) → Covers U.program p s → IsClean U.program U.facts.marks p → (c : ℕ) (y : Constant)
     → Among (owns_of U.program.declarations s) (own_constant c y) → is_flagged_constant U.facts c ≡ false

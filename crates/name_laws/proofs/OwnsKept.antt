@@ -52,6 +52,6 @@ owns_are_kept U I p s x e f W clean h =
     let C = covered_parts U.program p s e h in
     record {
       prologue = prologue_kept U p s x W (site_procedure U.program.declarations p s e) (clean_lines_are_unreplaced U I p s x e f W clean h);
-      variables = λ v y m. own_readable U p s C clean v y (among (owns_of U.program.declarations s) (own_variable v y) m);
+      variables = λ v y m. own_readable U I.known p s C clean v y (among (owns_of U.program.declarations s) (own_variable v y) m);
       constants = λ c y m. own_constant_dim U p s C clean c y (among (owns_of U.program.declarations s) (own_constant c y) m);
     }

@@ -1,17 +1,19 @@
 -- The variables that clean, covered lines use can be read.
-use Rattle.std.proofs.Common.{◌≡◌, refl, ap, sym, subst, ◌∙◌, ℕ, zero, suc, true, false, List, [], ◌∷◌, map, Option, Some, None, slice_get}
+use Rattle.std.proofs.Common.{◌≡◌, refl, ap, sym, subst, ◌∙◌, ◌&&◌, ℕ, zero, suc, true, false, List, [], ◌∷◌, map, Option, Some, None, slice_get}
 use Rattle.std.specs.List.{Contains, list_any}
 use Rattle.vb_tree.specs.declared.declared.VarId.{VarId}
 use Rattle.bound_tree.specs.declared.marks.Marks.{Marks}
 use Rattle.bound_tree.specs.Targets.{Aims, aims_of, steps}
 use Rattle.bound_tree.specs.Tree.{Variable, Line, Program}
+use Rattle.bound_tree.specs.declared.body.Mention.{Mention}
+use Rattle.bound_facts.specs.Facts.{AreFacts}
 use Rattle.bound_facts.specs.Clean.{variable, stays, point_broken, IsClean}
 use Rattle.run_base.specs.Machines.{nth_line, line_in, line_at}
 use Rattle.vb6_run.specs.Forms.{SourceLine, with_aims, body_of}
 use Rattle.vb6_run.specs.Lines.{source_lines}
 use Rattle.vb6_run.specs.Programs.{machine_of}
 use Rattle.run_matches.specs.CleanLines.{IsCleanLine, lines_at, or_none, line_points}
-use Rattle.run_matches.specs.Covered.{covers_variable, is_reached, covers_some, is_mention_of, covers_use}
+use Rattle.run_matches.specs.Covered.{covers_variable, is_reached, covers_some, is_loud, is_loud_owner, is_mention_of, covers_use}
 use Rattle.run_matches.specs.Upgrades.{Upgrade, runnable_of}
 use Rattle.run_statements.specs.Frames.{IsReadable}
 use Rattle.name_laws.proofs.Lists.{both_true, some_same, any_among}
@@ -24,15 +26,31 @@ pub record CoveredUse (P : Program) (p v : ℕ) : Type 0 where
   pub is_used : slice_get P.declarations.vars v ≡ Some used
   pub reached : is_reached P.declarations p v used.name used.owner ≡ true
   pub covers : covers_variable used ≡ true
+  pub loud : is_loud_owner P v used.owner ≡ true
 
-pub use_is : (P : Program) (p v : ℕ) → covers_some P.declarations p v (slice_get P.declarations.vars v) ≡ true → CoveredUse P p v
-use_is P p v h = by (slice_get P.declarations.vars v) refl h
+use_of : (P : Program) (p v : ℕ) → covers_some P.declarations p v (slice_get P.declarations.vars v) ≡ true
+    → is_loud P v (slice_get P.declarations.vars v) ≡ true → CoveredUse P p v
+use_of P p v h loud = by (slice_get P.declarations.vars v) refl h loud
   where
-    by : (o : Option Variable) → slice_get P.declarations.vars v ≡ o → covers_some P.declarations p v o ≡ true → CoveredUse P p v
-    by None e k = absurd (cc k)
-    by (Some x) e k =
+    by : (o : Option Variable) → slice_get P.declarations.vars v ≡ o → covers_some P.declarations p v o ≡ true → is_loud P v o ≡ true → CoveredUse P p v
+    by None e k l = absurd (cc k)
+    by (Some x) e k l =
         let b = both_true (is_reached P.declarations p v x.name x.owner) (covers_variable x) k in
-        record { used = x; is_used = e; reached = b.0; covers = b.1 }
+        record { used = x; is_used = e; reached = b.0; covers = b.1; loud = l }
+
+pub use_is : (P : Program) (p v : ℕ)
+    → (covers_some P.declarations p v (slice_get P.declarations.vars v) && is_loud P v (slice_get P.declarations.vars v)) ≡ true → CoveredUse P p v
+use_is P p v h =
+    let b = both_true (covers_some P.declarations p v (slice_get P.declarations.vars v)) (is_loud P v (slice_get P.declarations.vars v)) h in
+    use_of P p v b.0 b.1
+
+-- what a line mentions, and what is covered of it
+pub used_parts : (P : Program) (p : ℕ) (mentions : List Mention) (v : VarId) → covers_use P p mentions v ≡ true
+    → (list_any (is_mention_of v) mentions ≡ true) × CoveredUse P p v.0
+used_parts P p mentions v h =
+    let b = both_true (list_any (is_mention_of v) mentions)
+    (covers_some P.declarations p v.0 (slice_get P.declarations.vars v.0) && is_loud P v.0 (slice_get P.declarations.vars v.0)) h in
+    (b.0, use_is P p v.0 b.1)
 
 -- the lines of the procedure with a line
 pub record HasLine (P : Program) (p k : ℕ) (l : Line) : Type 0 where
@@ -48,14 +66,14 @@ has_line P p k l h = by (slice_get P.bodies p) refl h
     by (Some lines) e f = record { lines = lines; are_lines = e; is_line = f }
 
 -- in a clean procedure
-pub uses_are_readable : (U : Upgrade) (p k : ℕ) (l : Line) → IsClean U.program U.facts.marks p → nth_line (lines_at U.program p) (suc k) ≡ Some l
+pub uses_are_readable : (U : Upgrade) → AreFacts U.program U.known → (p k : ℕ) (l : Line) → IsClean U.program U.facts.marks p → nth_line (lines_at U.program p) (suc k) ≡ Some l
     → (v : VarId) → covers_use U.program p l.bindings.mentions v ≡ true → IsReadable U v.0
-uses_are_readable U p k l clean e v h =
-    let b = both_true (list_any (is_mention_of v) l.bindings.mentions) (covers_some U.program.declarations p v.0 (slice_get U.program.declarations.vars v.0)) h in
-    let used : CoveredUse U.program p v.0 = use_is U.program p v.0 b.1 in
+uses_are_readable U known p k l clean e v h =
+    let b = used_parts U.program p l.bindings.mentions v h in
+    let used : CoveredUse U.program p v.0 = b.1 in
     let at : HasLine U.program p k l = has_line U.program p k l e in
     let m = any_among (is_mention_of v) l.bindings.mentions b.0 in
-    readable U v.0 used.used used.is_used used.covers
+    readable U known v.0 used.used used.is_used used.covers used.loud
     (mentioned_by_clean U.program U.facts.marks p k at.lines l v m.0 clean at.are_lines at.is_line m.1 m.2)
 
 -- the line that is clean by itself
@@ -73,12 +91,12 @@ mentioned_unbroken P M p number l v C e h =
     (variable v.0) (stays (variable v.0))
 
 -- in a line that is clean by itself
-pub line_uses_are_readable : (U : Upgrade) (p number : ℕ) (l : Line) → IsCleanLine U.program U.facts.marks p number → nth_line (lines_at U.program p) number ≡ Some l
+pub line_uses_are_readable : (U : Upgrade) → AreFacts U.program U.known → (p number : ℕ) (l : Line) → IsCleanLine U.program U.facts.marks p number → nth_line (lines_at U.program p) number ≡ Some l
     → (v : VarId) → covers_use U.program p l.bindings.mentions v ≡ true → IsReadable U v.0
-line_uses_are_readable U p number l C e v h =
-    let b = both_true (list_any (is_mention_of v) l.bindings.mentions) (covers_some U.program.declarations p v.0 (slice_get U.program.declarations.vars v.0)) h in
-    let used = use_is U.program p v.0 b.1 in
-    readable U v.0 used.used used.is_used used.covers (mentioned_unbroken U.program U.facts.marks p number l v C e b.0)
+line_uses_are_readable U known p number l C e v h =
+    let b = used_parts U.program p l.bindings.mentions v h in
+    let used : CoveredUse U.program p v.0 = b.1 in
+    readable U known v.0 used.used used.is_used used.covers used.loud (mentioned_unbroken U.program U.facts.marks p number l v C e b.0)
 
 -- ---- the lines of the machine
 

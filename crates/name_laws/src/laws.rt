@@ -3,6 +3,7 @@ ghost use Rattle.std.specs.Prelude.{◌≡◌, ℕ, suc, true, Some, slice_get};
 ghost use Rattle.vb_tree.specs.declared.declared.VarId.{VarId};
 ghost use Rattle.bound_tree.specs.Tree.{Line, Procedure};
 ghost use Rattle.bound_facts.specs.Clean.{IsClean};
+ghost use Rattle.bound_facts.specs.Facts.{AreFacts};
 ghost use Rattle.run_base.specs.Machines.{nth_line};
 ghost use Rattle.run_matches.specs.CleanLines.{IsCleanLine, lines_at};
 ghost use Rattle.run_matches.specs.Covered.{IsCoveredLine, covers_line, covers_procedure, covers_use};
@@ -39,13 +40,13 @@ pub fn clean_line_is_unreplaced()
 
 /// A law: the variables that the lines of a clean procedure use can be read.
 pub fn uses_are_readable()
-    ensures { (U : Upgrade) (p k : ℕ) (l : Line) → IsClean U.program U.facts.marks p → nth_line (lines_at U.program p) (suc k) ≡ Some l
+    ensures { (U : Upgrade) → AreFacts U.program U.known → (p k : ℕ) (l : Line) → IsClean U.program U.facts.marks p → nth_line (lines_at U.program p) (suc k) ≡ Some l
         → (v : VarId) → covers_use U.program p l.bindings.mentions v ≡ true → IsReadable U v.0 }
 {}
 
 /// A law: and those that a line uses which is clean by itself.
 pub fn line_uses_are_readable()
-    ensures { (U : Upgrade) (p number : ℕ) (l : Line) → IsCleanLine U.program U.facts.marks p number → nth_line (lines_at U.program p) number ≡ Some l
+    ensures { (U : Upgrade) → AreFacts U.program U.known → (p number : ℕ) (l : Line) → IsCleanLine U.program U.facts.marks p number → nth_line (lines_at U.program p) number ≡ Some l
         → (v : VarId) → covers_use U.program p l.bindings.mentions v ≡ true → IsReadable U v.0 }
 {}
 

@@ -22,7 +22,7 @@ use Rattle.vb6_run.specs.Programs.{answer_in, is_static_of, is_local_of, owned_f
 use Rattle.vb6_run.specs.Runnables.{is_class_file}
 use Rattle.written_trees.specs.Arguments.{is_property_kind}
 use Rattle.run_matches.specs.Formed.{is_formed}
-use Rattle.run_matches.specs.Covered.{Uses, belongs_to, covers_body, covers_form, covers_head, covers_in_block, covers_kind, covers_label, covers_line, covers_names, covers_owns, covers_procedure, covers_site, covers_use, covers_variable, covers_variables, has_sound_label, has_sound_label_in, is_plain, is_plain_kind, jump_of, keeps_blocks, keeps_blocks_in, are_different, covers_own, covers_all_calls, covers_calls, covers_parameter, covers_result, has_result, is_answer_of, is_value_of}
+use Rattle.run_matches.specs.Covered.{Uses, belongs_to, covers_body, covers_form, covers_head, covers_in_block, covers_kind, covers_label, covers_line, covers_names, covers_owns, covers_procedure, covers_site, covers_use, covers_variable, covers_variables, has_sound_label, has_sound_label_in, is_plain, is_plain_kind, jump_of, keeps_blocks, keeps_blocks_in, are_different, covers_own, covers_all_calls, covers_calls, covers_parameter, covers_result, has_result, is_answer_of, is_value_of, covers_owner, covers_type, is_parameter_of}
 use Rattle.run_matches.specs.Callees.{frame_owns}
 use Rattle.run_matches.specs.Frames.{is_exact_head, is_own_head, is_own_line, is_quiet_head}
 use Rattle.run_matches.specs.Sites.{Site, own_name, owns_of, site_of, local_numbers, static_numbers}
@@ -70,7 +70,7 @@ record Head (P : Program) (p : ℕ) (o : Option Procedure) : Type 0 where
   procedure : Procedure
   is_procedure : o ≡ Some procedure
   kind : covers_kind procedure.kind ≡ true
-  params : list_all (covers_parameter P.declarations p) procedure.params ≡ true
+  params : list_all (covers_parameter P p) procedure.params ≡ true
   result : has_result P.declarations p procedure procedure.kind ≡ true
   outer : is_class_file P.declarations procedure.module_number ≡ false
 
@@ -79,10 +79,10 @@ head_parts P p None h = absurd (true≢false (sym h))
 head_parts P p (Some x) h =
     let D : Declarations = P.declarations in
     let outer = not (is_class_file D x.module_number) in
-    let numbers = pointwise nat_eq (map (λ (v : VarId). v.0) x.params) (owned_from (is_value_of p) 0 D.vars)
+    let numbers = pointwise nat_eq (map (λ (v : VarId). v.0) x.params) (owned_from (is_parameter_of p) 0 D.vars)
     && pointwise nat_eq (answer_in x.answer) (owned_from (is_answer_of p) 0 D.vars) in
-    let a = both_true (covers_kind x.kind) (list_all (covers_parameter D p) x.params && (covers_result D p x && outer)) h in
-    let b = both_true (list_all (covers_parameter D p) x.params) (covers_result D p x && outer) a.1 in
+    let a = both_true (covers_kind x.kind) (list_all (covers_parameter P p) x.params && (covers_result D p x && outer)) h in
+    let b = both_true (list_all (covers_parameter P p) x.params) (covers_result D p x && outer) a.1 in
     let c = both_true (covers_result D p x) outer b.1 in
     record {
       procedure = x;
@@ -126,7 +126,7 @@ pub record CoveredProcedure (P : Program) (p : ℕ) : Type 0 where
   pub procedure : Procedure
   pub is_procedure : slice_get P.declarations.procs p ≡ Some procedure
   pub kind : covers_kind procedure.kind ≡ true
-  pub params : list_all (covers_parameter P.declarations p) procedure.params ≡ true
+  pub params : list_all (covers_parameter P p) procedure.params ≡ true
   pub result : has_result P.declarations p procedure procedure.kind ≡ true
   pub outer : is_class_file P.declarations procedure.module_number ≡ false
   pub site : Site

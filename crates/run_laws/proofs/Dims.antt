@@ -60,10 +60,6 @@ word_of _ h = absurd (true≢false (sym h))
 abbrev plain_variable : List ℕ → TypeName → net_tree.Variable
 plain_variable name t = record { name = name; ty = t; value = None }
 
-pub no_quiet : (F : Known) (o : Owner) → covers_owner o ≡ true → is_quiet_owner F o ≡ false
-no_quiet F (owner.Reference p) h = absurd (true≢false (sym h))
-no_quiet F _ h = refl
-
 static_dim_by : (b c : Bool) (x y : net_tree.Variable) → b ≡ true → c ≡ false
     → cond b (net_tree.static_local (cond c x y)) (net_tree.local (cond c x y)) ≡ net_tree.static_local y
 static_dim_by true true x y d e = absurd (true≢false e)

@@ -1,5 +1,5 @@
 -- The entry of a covered procedure makes frames that match.
-use Rattle.std.proofs.Common.{◌≡◌, refl, sym, ap, subst, ◌∙◌, ℕ, arith, true, false, not, nat_eq, Option, Some, None, option_map, List, [], ◌∷◌, ◌++◌, map, ◌⊎◌, inl, inr}
+use Rattle.std.proofs.Common.{◌≡◌, refl, sym, ap, subst, ◌∙◌, ℕ, arith, true, false, not, nat_eq, Option, Some, None, option_map, List, [], ◌∷◌, ◌++◌, map, ◌⊎◌, inl, inr, true≢false}
 use Rattle.std.specs.Prelude.{slice_get, is_some}
 use Rattle.std.specs.List.{list_any, list_all}
 use Rattle.written_trees.specs.Prologues.{is_static}
@@ -28,10 +28,10 @@ use Rattle.written_trees.specs.Bodies.{inside_procedure}
 use Rattle.written_trees.specs.Heads as heads
 use Rattle.written_trees.specs.Names.{Scope, variable_name_of}
 use Rattle.written_trees.specs.Types.{type_with}
-use Rattle.run_matches.specs.Addresses.{ArgsMatch, both_nothing, images, AllLocked, AllMatched, AllRanked}
+use Rattle.run_matches.specs.Addresses.{ArgsMatch, both_nothing, images, AllLocked, AllMatched, AllRanked, IsPlain}
 use Rattle.run_matches.specs.Agreeing.{Agrees}
-use Rattle.run_matches.specs.Covered.{are_different, covers_type, belongs_to, covers_parameter, covers_own}
-use Rattle.run_matches.specs.Frames.{FrameMatch, HasNames, SameVariable, declared_names, dim_name, result_names, static_of, SameStatic, name_of}
+use Rattle.run_matches.specs.Covered.{are_different, covers_type, belongs_to, covers_parameter, covers_own, is_loud_owner}
+use Rattle.run_matches.specs.Frames.{FrameMatch, HasNames, SameVariable, declared_names, dim_name, result_names, static_of, SameStatic, name_of, GivenPlace, is_own_of}
 use Rattle.run_matches.specs.Callees.{answer_owns, own_of_some, parameter_owns}
 use Rattle.run_matches.specs.Likeness.{scalar_word, SameShape, same_scalar}
 use Rattle.run_matches.specs.Maps.{Below, Mark, World, mark, IsMatched, key_or_none, moved_at}
@@ -39,7 +39,7 @@ use Rattle.run_matches.specs.Match.{MemoryMatch, StoreMatch}
 use Rattle.run_matches.specs.Pledges.{Later, NetGiven, Pledge}
 use Rattle.run_matches.specs.Runs.{IsObject, call_pledge}
 use Rattle.run_matches.specs.Sites.{Own, own_name, own_variable, owns_of, own_constant, local_numbers, static_number, static_numbers}
-use Rattle.run_matches.specs.Upgrades.{Upgrade, runnable_of}
+use Rattle.run_matches.specs.Upgrades.{Upgrade, runnable_of, is_auto}
 use Rattle.run_statements.specs.Frames.{IsReadable}
 use Rattle.run_statements.specs.Kept.{OwnsAreKept, own_dim}
 use Rattle.run_statements.specs.Written.{WrittenProcedure, site_scope}
@@ -55,22 +55,23 @@ use Rattle.name_laws.proofs.FrameNames.{own_names, parameter_names, params_are}
 use Rattle.name_laws.proofs.Lists.{Among, all_among, among_right, flat_among, map_append}
 use Rattle.name_laws.proofs.Owned.{owned_is}
 use Rattle.name_laws.proofs.Owns.{number_if, own_is}
-use Rattle.run_laws.specs.Entered.{AllKeyed, AllSound, LocalsMatch, RunMatch, StaticMatch, next_constant, next_static, next_variable, no_locals}
+use Rattle.run_laws.specs.Entered.{AllKeyed, AllSound, GivenVariable, LocalsMatch, OwnPlace, RunMatch, StaticMatch, next_constant, next_static, next_variable, no_locals}
 use Rattle.run_laws.specs.Premises.{LocalsAreMadeBy, ValuesAreMadeBy}
 use Rattle.run_laws.proofs.Covered.{CoveredProcedure, some_is}
 use Rattle.run_laws.proofs.Dims.{WordOf, word_of}
-use Rattle.run_laws.proofs.Heads.{HasAnswer, HasNone, Parameter, a_result, answer_names, answer_parts, no_result, parameter_is}
+use Rattle.run_laws.proofs.Heads.{HasAnswer, HasNone, Parameter, a_result, answer_names, answer_parts, no_result, parameter_belongs, parameter_is}
 use Rattle.run_laws.proofs.Names.{code_is}
 use Rattle.run_laws.proofs.Owns.{owns_sound}
 use Rattle.run_laws.proofs.StaticOrder.{each_next, in_order, laid_as_statics, made_in_order}
 use Rattle.run_laws.proofs.StaticKeys.{IsDeclaredOwn, StaticFound, all_keyed, static_found, static_there}
 use Rattle.run_laws.proofs.Locals.{Found, Locals, listed_behind, local_found, local_later, local_listed, local_names, local_places, local_there, locals_agree, locals_later}
-use Rattle.run_laws.proofs.Parameters.{Local, Parameters, local_is_made, none_quiet, parameters_agree, readable_type}
-use Rattle.run_laws.proofs.Standing.{different_behind, made_object, module_in_is, nothing_by, nothing_kept, plain_place, readable_exact, simple_owns, static_root_is}
+use Rattle.run_laws.proofs.Parameters.{AreParameters, Local, Parameters, local_is_made, none_quiet, parameters_agree, readable_type}
+use Rattle.run_laws.proofs.Standing.{different_behind, made_object, module_in_is, nothing_by, nothing_kept, plain_place, simple_owns, static_root_is}
 
 module _ (U : Upgrade) (p : ℕ) (c : CoveredProcedure U.program p) (W : WrittenProcedure U p c.site c.procedure)
     (kept : OwnsAreKept U p c.site c.procedure W)
-    (readable : (v : ℕ) (x : Variable) → slice_get U.program.declarations.vars v ≡ Some x → belongs_to p x.owner ≡ true → IsReadable U v) where
+    (readable : (v : ℕ) (x : Variable) → slice_get U.program.declarations.vars v ≡ Some x → belongs_to p x.owner ≡ true
+    → is_loud_owner U.program v x.owner ≡ true → IsReadable U v) where
   abbrev D : Declarations
   D = U.program.declarations
 
@@ -102,23 +103,23 @@ module _ (U : Upgrade) (p : ℕ) (c : CoveredProcedure U.program p) (W : Written
   sound_append [] bs h k = k
   sound_append (a ∷ ks) bs h k = (h.0, sound_append ks bs h.1 k)
 
-  pub parameter_sound : (v : VarId) (q : Parameter D p v) → (r : IsReadable U v.0) × (r.variable ≡ q.variable)
+  pub parameter_sound : AreParameters U p
   parameter_sound v q =
-      let r : IsReadable U v.0 = readable v.0 q.variable q.is_variable (ap (belongs_to p) q.owner ∙ q.own) in
+      let r : IsReadable U v.0 = readable v.0 q.variable q.is_variable (parameter_belongs p q.variable.owner q.parameter) q.loud in
       (r, some_is (sym r.is_variable ∙ q.is_variable))
 
   answer_sound : (h : HasAnswer D p x) → (r : IsReadable U h.id.0) × (r.variable ≡ h.variable)
   answer_sound h =
-      let r : IsReadable U h.id.0 = readable h.id.0 h.variable h.is_variable (ap (belongs_to p) h.owner ∙ h.own) in
+      let r : IsReadable U h.id.0 = readable h.id.0 h.variable h.is_variable (ap (belongs_to p) h.owner ∙ h.own) (ap (is_loud_owner U.program h.id.0) h.owner) in
       (r, some_is (sym r.is_variable ∙ h.is_variable))
 
-  parameters_sound : (vs : List VarId) → list_all (covers_parameter D p) vs ≡ true → AllSound U S (parameter_owns D vs)
+  parameters_sound : (vs : List VarId) → list_all (covers_parameter U.program p) vs ≡ true → AllSound U S (parameter_owns D vs)
   parameters_sound [] h = tt
   parameters_sound (v ∷ vs) h =
-      let q : Parameter D p v = parameter_is D p v (all_first (covers_parameter D p) v vs h) in
+      let q : Parameter U.program p v = parameter_is U.program p v (all_first (covers_parameter U.program p) v vs h) in
       sound_append (own_of_some v.0 (slice_get D.vars v.0)) (parameter_owns D vs)
       (subst (λ o. AllSound U S (own_of_some v.0 o)) (sym q.is_variable) (parameter_sound v q, tt))
-      (parameters_sound vs (all_rest (covers_parameter D p) v vs h))
+      (parameters_sound vs (all_rest (covers_parameter U.program p) v vs h))
 
   answers_sound : HasNone x ⊎ HasAnswer D p x → AllSound U S (answer_owns D x.answer)
   answers_sound (inl h) = subst (λ a. AllSound U S (answer_owns D a)) (sym h.is_answer) tt
@@ -163,6 +164,22 @@ module _ (U : Upgrade) (p : ℕ) (c : CoveredProcedure U.program p) (W : Written
       found_at : (v : ℕ) (a : Address) → lookup (nat_eq v) ks ≡ Some a → Found U K u v a all bs
       found_at v a e = local_found U S K u all ks bs m all_sound c.different v a e
 
+      plain_of : (v : ℕ) (a : Address) → OwnPlace U K u v a ⊎ GivenVariable U u v a → is_auto U v ≡ false → IsPlain U u a
+      plain_of v a (inl k) auto = plain_place U u v a k.place auto
+      plain_of v a (inr k) auto = k.plain
+
+      place_of : (v : ℕ) (a : Address) → OwnPlace U K u v a ⊎ GivenVariable U u v a → is_own_of U p v ≡ true → OwnPlace U K u v a
+      place_of v a (inl k) own = k
+      place_of v a (inr k) own = absurd (true≢false (sym own ∙ k.foreign p))
+
+      given_of : (v : ℕ) (a : Address) → OwnPlace U K u v a ⊎ GivenVariable U u v a → GivenPlace U v a
+      given_of v a (inl k) = record {
+        position = whole (made k.place.place);
+        stands = k.place.stands;
+        target = inl (record { place = k.place.place; shape = variable_shape U.program.declarations v; path = []; stands = k.place.stands });
+      }
+      given_of v a (inr k) = k.given
+
       variable_at : (v : ℕ) (a : Address) → lookup (nat_eq v) ks ≡ Some a → SameVariable U K u v a g
       variable_at v a e =
           let z : Found U K u v a all bs = found_at v a e in
@@ -170,7 +187,7 @@ module _ (U : Upgrade) (p : ℕ) (c : CoveredProcedure U.program p) (W : Written
             address = z.address;
             found = ap (λ o. var_in bs (variable_name_of o)) z.readable.is_variable ∙ z.found;
             bound = images (not (is_quiet D U.known v)) a z.address z.match.same;
-            plain = plain_place U u v a z.match.place;
+            plain = plain_of v a z.match.standing;
           }
 
       static_there_is : (v : ℕ) (r : Root) → static_of U p me v ≡ Some r → SameStatic U u v r g
@@ -205,7 +222,7 @@ module _ (U : Upgrade) (p : ℕ) (c : CoveredProcedure U.program p) (W : Written
         names = subst (λ o. HasNames o g) (sym (code_is U p c.site x W)) (local_names U S K u all ks bs m ∙ all_names);
         vars = λ v a e flag. variable_at v a e;
         statics = λ v r e flag. static_there_is v r e;
-        own = λ v a e is. (found_at v a e).match.place;
+        own = λ v a e is. (place_of v a (found_at v a e).match.standing is).place;
         own_heads = λ h l a e is k. absurd (nothing_kept a k);
         kept = λ h. both_nothing;
         covered_heads = λ h l is covers. nothing_by ks l.source.form l.bindings.exprs;
@@ -224,12 +241,13 @@ module _ (U : Upgrade) (p : ℕ) (c : CoveredProcedure U.program p) (W : Written
           same_object = refl;
           frames = frames_match;
           owns = record {
-            variables = λ v a e is. (found_at v a e).match.own;
+            variables = λ v a e is. (place_of v a (found_at v a e).match.standing is).own;
             heads = λ h l a e is k. absurd (nothing_kept a k);
           };
         };
-        exact = λ v a e. readable_exact U v (found_at v a e).readable;
+        exact = λ v a e. (found_at v a e).readable.exact;
         places = local_places U S K u p all ks bs m;
+        given = λ v a e is. given_of v a (found_at v a e).match.standing;
       }
 
     -- ---- the Statics of the entry
@@ -423,7 +441,7 @@ module _ (U : Upgrade) (p : ℕ) (c : CoveredProcedure U.program p) (W : Written
     entries_agree w0 w start args l obj held low h =
         let to = option_map w.map.objects me in
         let R = RunMatch U K p me in
-        let quiet = none_quiet U p x c.is_procedure c.params in
+        let quiet = none_quiet U p x c.is_procedure c.params parameter_sound in
         let r = parameters (runnable_of U) p 0 x.params xs w.src in
         let r' = target.parameters U.written W.code.home (heads.params_of H false x.params) ys w.net in
         subst (λ z. Agrees U K w R z (enter U.written W.number to tt ys w.net)) (sym (source_entry w.src))

@@ -1,5 +1,5 @@
--- What is written for the head of a covered procedure: its parameters take values, and a Function has a result variable.
-use Rattle.std.proofs.Common.{◌≡◌, ◌⊎◌, inl, inr, refl, sym, ap, ◌∙◌, ℕ, true, false, cond, not, ◌&&◌, nat_eq, true≢false, Option, Some, None, List, [], ◌∷◌, ◌++◌, map}
+-- What is written for the head of a covered procedure: its parameters, and the result variable of a Function.
+use Rattle.std.proofs.Common.{◌≡◌, ◌⊎◌, inl, inr, refl, sym, ap, subst, ◌∙◌, ℕ, zero, suc, Bool, true, false, cond, not, ◌&&◌, nat_eq, true≢false, Option, Some, None, option_map, List, [], ◌∷◌, ◌++◌, map}
 use Rattle.std.specs.Prelude.{is_some, slice_get}
 use Rattle.std.specs.Cmp.Lexicographic.{pointwise}
 use Rattle.std.specs.List.{list_all}
@@ -11,45 +11,49 @@ use Rattle.vb_tree.specs.declared.declared.ProcId.{ProcId}
 use Rattle.vb_tree.specs.declared.declared.ProcKind.{ProcKind}
 use Rattle.vb_tree.specs.declared.declared.ProcKind.TheVariants as kind
 use Rattle.vb_tree.specs.declared.declared.VarId.{VarId}
-use Rattle.bound_tree.specs.Tree.{Declarations, Procedure, Variable}
+use Rattle.bound_tree.specs.Tree.{Declarations, Procedure, Program, Variable}
 use Rattle.bound_facts.specs.Locks.{is_same_type}
 use Rattle.net_tree.specs.declared.declaration.NetPassing.TheVariants as passing
 use Rattle.net_tree.specs.Tree as net_tree
 use Rattle.net_run.specs.Calls.{passings}
-use Rattle.net_run.specs.Members.{params_of, result_of}
+use Rattle.net_run.specs.Members.{params_of, result_of, Code, params_by, result_by}
+use Rattle.written_trees.specs.Arguments.{is_reference_owner, takes_reference_at, takes_reference_of}
 use Rattle.written_trees.specs.Heads as heads
 use Rattle.written_trees.specs.Heads.{is_function}
 use Rattle.written_trees.specs.Names.{Scope}
-use Rattle.run_matches.specs.Callees.{answer_owns, own_of_some}
-use Rattle.run_matches.specs.Covered.{covers_parameter, has_answer, has_result, is_answer_of, is_result_in, is_value_in, is_value_of}
+use Rattle.run_matches.specs.Callees.{answer_owns, own_of_some, own_at, parameter_owns}
+use Rattle.run_matches.specs.Covered.{covers_parameter, has_answer, has_result, is_answer_of, is_result_in, is_value_in, is_value_of, belongs_to, is_loud, is_loud_owner, is_parameter_in, is_parameter_of}
 use Rattle.run_matches.specs.Frames.{result_names}
 use Rattle.run_matches.specs.Sites.{Site, own_name}
 use Rattle.run_matches.specs.Upgrades.{Upgrade}
-use Rattle.run_statements.specs.Frames.{is_value}
+use Rattle.run_statements.specs.Frames.{passing_at, passing_by}
 use Rattle.run_statements.specs.Written.{WrittenProcedure, site_scope}
 use Rattle.name_laws.proofs.FrameNames.{result_are}
 use Rattle.run_laws.proofs.Covered.{same_numbers}
 
 -- ---- parameters
 
--- a parameter that takes a value
-pub record Parameter (D : Declarations) (p : ℕ) (v : VarId) : Type 0 where
+-- a parameter
+pub record Parameter (P : Program) (p : ℕ) (v : VarId) : Type 0 where
   pub variable : Variable
-  pub is_variable : slice_get D.vars v.0 ≡ Some variable
-  pub id : ProcId
-  pub owner : variable.owner ≡ owner.Value id
-  pub own : nat_eq p id.0 ≡ true
+  pub is_variable : slice_get P.declarations.vars v.0 ≡ Some variable
+  pub parameter : is_parameter_of p variable.owner ≡ true
+  pub loud : is_loud_owner P v.0 variable.owner ≡ true
 
-pub parameter_is : (D : Declarations) (p : ℕ) (v : VarId) → covers_parameter D p v ≡ true → Parameter D p v
-parameter_is D p v h = by (slice_get D.vars v.0) refl h
+pub parameter_is : (P : Program) (p : ℕ) (v : VarId) → covers_parameter P p v ≡ true → Parameter P p v
+parameter_is P p v h = by (slice_get P.declarations.vars v.0) refl h
   where
-    owned : (y : Variable) (o : Owner) → slice_get D.vars v.0 ≡ Some y → y.owner ≡ o → is_value_of p o ≡ true → Parameter D p v
-    owned y (owner.Value q) e is k = record { variable = y; is_variable = e; id = q; owner = is; own = k }
-    owned y _ e is k = absurd (true≢false (sym k))
-
-    by : (o : Option Variable) → slice_get D.vars v.0 ≡ o → is_value_in p o ≡ true → Parameter D p v
+    by : (o : Option Variable) → slice_get P.declarations.vars v.0 ≡ o → (is_parameter_in p o && is_loud P v.0 o) ≡ true → Parameter P p v
     by None e k = absurd (true≢false (sym k))
-    by (Some y) e k = owned y y.owner e refl k
+    by (Some y) e k =
+        let both = both_true (is_parameter_of p y.owner) (is_loud_owner P v.0 y.owner) k in
+        record { variable = y; is_variable = e; parameter = both.0; loud = both.1 }
+
+-- it belongs to its procedure
+pub parameter_belongs : (p : ℕ) (o : Owner) → is_parameter_of p o ≡ true → belongs_to p o ≡ true
+parameter_belongs p (owner.Value q) h = h
+parameter_belongs p (owner.Reference q) h = h
+parameter_belongs p _ h = absurd (true≢false (sym h))
 
 -- ---- the result variable
 
@@ -127,32 +131,31 @@ module _ (U : Upgrade) (p : ℕ) (s : Site) (x : Procedure) (W : WrittenProcedur
 
 -- ---- what is written for parameters
 
-passing_is : (o : Owner) (q : ProcId) → o ≡ owner.Value q → heads.passing_of o ≡ passing.Value
-passing_is o q e = ap heads.passing_of e
+passing_is : (o : Owner) → heads.passing_of o ≡ passing_by (is_reference_owner o)
+passing_is (owner.Reference q) = refl
+passing_is _ = refl
 
-value_by : (S : Scope) (p : ℕ) (v : ℕ) (o : Option Variable) → is_value_in p o ≡ true → list_all is_value (passings (heads.param_by S false v o)) ≡ true
-value_by S p v None h = refl
-value_by S p v (Some y) h = one y.owner h
+none_at : (i : ℕ) → passing_at [] i ≡ passing.Value
+none_at zero = refl
+none_at (suc i) = none_at i
+
+-- each is passed as it is in the source
+pub params_pass : (U : Upgrade) (s : Site) (q : ℕ) (vs : List VarId) → list_all (covers_parameter U.program q) vs ≡ true → (i : ℕ)
+    → passing_at (passings (heads.params_of (site_scope U s) false vs)) i ≡ passing_by (takes_reference_of U.program.declarations (slice_get vs i))
+params_pass U s q [] h i = none_at i
+params_pass U s q (v ∷ vs) h i =
+    let k : Parameter U.program q v = parameter_is U.program q v (all_first (covers_parameter U.program q) v vs h) in
+    by k.variable k.is_variable i (λ n. params_pass U s q vs (all_rest (covers_parameter U.program q) v vs h) n)
   where
-    one : (o : Owner) → is_value_of p o ≡ true → (is_value (heads.passing_of o) && true) ≡ true
-    one (owner.Value q) k = refl
-    one _ k = absurd (true≢false (sym k))
-
-values_append : (ks bs : List net_tree.Param) → list_all is_value (passings ks) ≡ true → list_all is_value (passings bs) ≡ true
-    → list_all is_value (passings (ks ++ bs)) ≡ true
-values_append [] bs h k = k
-values_append (a ∷ ks) bs h k =
-    let both = both_true (is_value a.passing) (list_all is_value (passings ks)) h in
-    ap (λ b. b && list_all is_value (passings (ks ++ bs))) both.0 ∙ values_append ks bs both.1 k
-
--- all are passed by value
-pub params_take : (S : Scope) (p : ℕ) (vs : List VarId) → list_all (covers_parameter S.declarations p) vs ≡ true
-    → list_all is_value (passings (heads.params_of S false vs)) ≡ true
-params_take S p [] h = refl
-params_take S p (v ∷ vs) h =
-    values_append (heads.param_by S false v.0 (slice_get S.declarations.vars v.0)) (heads.params_of S false vs)
-    (value_by S p v.0 (slice_get S.declarations.vars v.0) (all_first (covers_parameter S.declarations p) v vs h))
-    (params_take S p vs (all_rest (covers_parameter S.declarations p) v vs h))
+    by : (y : Variable) → slice_get U.program.declarations.vars v.0 ≡ Some y → (n : ℕ)
+        → ((m : ℕ) → passing_at (passings (heads.params_of (site_scope U s) false vs)) m ≡ passing_by (takes_reference_of U.program.declarations (slice_get vs m)))
+        → passing_at (passings (heads.param_by (site_scope U s) false v.0 (slice_get U.program.declarations.vars v.0) ++ heads.params_of (site_scope U s) false vs)) n
+        ≡ passing_by (takes_reference_of U.program.declarations (slice_get (v ∷ vs) n))
+    by y e zero more =
+        ap (λ o. passing_at (passings (heads.param_by (site_scope U s) false v.0 o ++ heads.params_of (site_scope U s) false vs)) 0) e
+        ∙ passing_is y.owner ∙ ap (λ o. passing_by (takes_reference_at o)) (sym e)
+    by y e (suc n) more =
+        ap (λ o. passing_at (passings (heads.param_by (site_scope U s) false v.0 o ++ heads.params_of (site_scope U s) false vs)) (suc n)) e ∙ more n
 
 -- ---- names
 

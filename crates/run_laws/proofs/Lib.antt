@@ -7,6 +7,7 @@ pub mod Locals
 pub mod Owns
 pub mod Names
 pub mod Heads
+pub mod Given
 pub mod Parameters
 pub mod Standing
 pub mod Entries

@@ -4,8 +4,10 @@ use Rattle.std.specs.Prelude.{slice_get}
 use Rattle.std.specs.List.{Contains, list_all}
 use Rattle.std.proofs.lemmas.Option.{slice_get-map}
 use Rattle.vb_tree.specs.declared.declared.VarId.{VarId}
-use Rattle.bound_tree.specs.Tree.{Line, Procedure}
+use Rattle.bound_tree.specs.Tree.{Expr, Line, Procedure}
 use Rattle.bound_facts.specs.Calls.{line_calls}
+use Rattle.bound_facts.specs.Node.{args_at, called}
+use Rattle.bound_facts.specs.Parts.{line_uses}
 use Rattle.run_base.specs.Machines.{go, line_at, line_in, nth_line}
 use Rattle.vb6_run.specs.Forms.{SourceLine, body_of}
 use Rattle.vb6_run.specs.Programs as source
@@ -22,7 +24,8 @@ use Rattle.run_statements.specs.Kept.{IsUnreplaced, LineStands, LinesAgree, Line
 use Rattle.run_statements.specs.Written.{SameLines, WrittenLine, WrittenProcedure, Passes}
 use Rattle.run_laws.specs.Premises.{LinePremises}
 use Rattle.run_laws.proofs.Covered.{PlainProcedure, bound_line, not_none, plain_parts, some_is}
-use Rattle.run_laws.proofs.Callees.{callee_covered, called_clean, can_call}
+use Rattle.line_laws.proofs.Called.{use_calls}
+use Rattle.run_laws.proofs.Callees.{call_suits, callee_covered, called_clean, can_call}
 use Rattle.run_laws.proofs.Names.{code_is}
 
 -- the bound lines of a procedure, as its lines
@@ -53,7 +56,7 @@ module _ (U : Upgrade) (lines_written : LinesAreWritten U) (names_open : NamesAr
   pub line_same : (k : ℕ) (l : SourceLine) → line_at (source.machine_of (runnable_of U)) p (suc k) ≡ Some l → list_all keeps_blocks lines ≡ true
       → IsUnreplaced U p s k → covers_names U.program.declarations ≡ true → covers_line U.program p l.form ≡ true
       → ((v : VarId) → covers_use U.program p l.form.bindings.mentions v ≡ true → IsReadable U v.0) → UsesArePlaced U p s W.code l.form → StoresAreOwn U p l.form
-      → ((q : ℕ) → Contains (line_calls U.program.declarations p l.form) (p, q) → CanCallFrom U p s W.code q) → LineStands U p s W.number W.code (suc k) l
+      → ((d : Expr) (q : ℕ) → Contains (line_uses l.form) d → called d ≡ Some q → CanCallFrom U p s W.code q (args_at d)) → LineStands U p s W.number W.code (suc k) l
       → LineSame U p W.number (suc k) l
   line_same k l e blocks unreplaced names covers readable placed own can there =
       let L : WrittenLine U p s W.number (suc k) l = lines_written p s x stands W k l e (blocks_in blocks) unreplaced in
@@ -69,12 +72,14 @@ module _ (U : Upgrade) (lines_written : LinesAreWritten U) (names_open : NamesAr
 module _ (U : Upgrade) (h : LinePremises U) where
   -- what the line calls passes
   can_call_from : (p k : ℕ) (clean : IsCleanLine U.program U.facts.marks p (suc k)) (c : IsCoveredLine U.program p (suc k))
-      (x : PlainProcedure (slice_get U.program.declarations.procs p)) (W : WrittenProcedure U p c.site x.procedure) (q : ℕ)
-      → Contains (line_calls U.program.declarations p c.line) (p, q) → CanCallFrom U p c.site W.code q
-  can_call_from p k clean c x W q call =
+      (x : PlainProcedure (slice_get U.program.declarations.procs p)) (W : WrittenProcedure U p c.site x.procedure) (d : Expr) (q : ℕ)
+      → Contains (line_uses c.line) d → called d ≡ Some q → CanCallFrom U p c.site W.code q (args_at d)
+  can_call_from p k clean c x W d q m e =
+      let call : Contains (line_calls U.program.declarations p c.line) (p, q) = use_calls U.program.declarations p q c.line d m e in
       can_call U h.known h.procedures h.found p q c.site x.procedure c.is_site x.is_procedure x.kind W c.line
       (record { lines = c.lines; are_lines = c.are_lines; place = k; stands = c.is_line }) call (callee_covered U p q c.line c.calls call)
       (called_clean U p (suc k) c.line clean (ap (λ o. nth_line (or_none o) (suc k)) c.are_lines ∙ c.is_line) q call, c.entered q call)
+      (args_at d) (call_suits U p q c.line d c.calls m e)
 
   one_line : (p k : ℕ) → IsCleanLine U.program U.facts.marks p (suc k) → IsCoveredLine U.program p (suc k) → LineDoesTheSame U p (suc k)
   one_line p k clean c =
@@ -94,7 +99,7 @@ module _ (U : Upgrade) (h : LinePremises U) where
       line_same U h.lines h.names h.agree p c.site x.procedure c.is_site W c.lines c.are_lines k l is c.blocks
       (h.unreplaced p k c.site c.is_site clean c) c.names covers readable
       (h.placed p c.site x.procedure c.is_site x.is_procedure W l.form readable) (h.stores p x.procedure x.is_procedure k l.form here covers)
-      (λ q call. can_call_from p k clean c x W q (subst (λ (m : Line). Contains (line_calls U.program.declarations p m) (p, q)) form call))
+      (λ d q m e. can_call_from p k clean c x W d q (subst (λ (n : Line). Contains (line_uses n) d) form m) e)
       (record {
         is_there = here;
         in_block = subst (λ ls. covers_in_block U.program p ls l ≡ true) (sym lines_are) (c.stands l found.1);
@@ -108,7 +113,7 @@ module _ (U : Upgrade) (h : LinePremises U) where
         is_line = is;
         written_line = z.line;
         is_written_line = z.is_line;
-        same = λ w f g turns at m F. z.same turns (h.calls turns) w f g at m F;
+        same = λ w f g turns at m F given. z.same turns (h.calls turns) w f g at m F given;
       }
 
   pub same_lines : SameLines U U.facts.marks

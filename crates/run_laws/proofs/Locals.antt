@@ -1,5 +1,5 @@
 -- The variables of a procedure are made on both sides, in the order of their declarations.
-use Rattle.std.proofs.Common.{◌≡◌, ◌++◌, ◌⊎◌, inl, inr, refl, sym, ap, subst, ◌∙◌, ℕ, zero, suc, ◌+◌, ◌<◌, ◌≤◌, Bool, true, false, cond, not, ◌&&◌, nat_eq, true≢false, Option, Some, None, List, [], ◌∷◌, map, arith, append-nil, eq-eqb, eqb-true}
+use Rattle.std.proofs.Common.{◌≡◌, ◌++◌, ◌⊎◌, ⊎_elim, inl, inr, refl, sym, ap, subst, ◌∙◌, ℕ, zero, suc, ◌+◌, ◌<◌, ◌≤◌, Bool, true, false, cond, not, ◌&&◌, nat_eq, true≢false, Option, Some, None, List, [], ◌∷◌, map, arith, append-nil, eq-eqb, eqb-true}
 use Rattle.std.specs.Prelude.{◌||◌, slice_get}
 use Rattle.std.specs.List.{list_any}
 use Rattle.std.specs.Map.{lookup}
@@ -36,7 +36,9 @@ use Rattle.agreeing_laws.proofs.Agreeing.{agrees_gives, agrees_yields, right_alo
 use Rattle.agreeing_laws.proofs.Made.{below_then, more}
 use Rattle.agreeing_laws.proofs.Moves.{address_later, matched_whole}
 use Rattle.agreeing_laws.proofs.Outputs.{outputs_then}
-use Rattle.run_laws.specs.Entered.{LocalMatch, LocalsMatch, StaticMatch, KeyAt, AllKeyed, no_locals, next_constant, next_static, next_variable, AllSound}
+use Rattle.run_laws.specs.Entered.{LocalMatch, LocalsMatch, StaticMatch, KeyAt, AllKeyed, no_locals, next_constant, next_static, next_variable, AllSound, GivenVariable, OwnPlace}
+use Rattle.line_laws.proofs.Bounds as bounds
+use Rattle.line_laws.proofs.Bounds.{plain_later}
 use Rattle.run_laws.specs.Premises.{LocalsAreMadeBy}
 use Rattle.run_laws.proofs.Covered.{not_none, same_name, some_is}
 use Rattle.memory_laws.proofs.Statics.{static_is_laid}
@@ -82,16 +84,23 @@ new_place K w a s low e q is old =
 
 pub local_later : (U : Upgrade) (K : Pledge) (w0 w1 : World) (v : ℕ) (a : Address) (b : net.Address) → Later U K w0 w1 → LocalMatch U K w0 v a b
     → LocalMatch U K w1 v a b
-local_later U K w0 w1 v a b l m = record {
-  place = record {
-    place = m.place.place;
-    stands = m.place.stands;
-    is_made = more m.place.place w0.src.next w1.src.next l.grows.places m.place.is_made;
-    declared = l.extends.same_declared m.place.place m.place.is_made ∙ m.place.declared;
-  };
-  same = address_later U K w0 w1 a b l m.same;
-  own = m.own;
-}
+local_later U K w0 w1 v a b l m = record { same = address_later U K w0 w1 a b l m.same; standing = by m.standing }
+  where
+    by : OwnPlace U K w0 v a ⊎ GivenVariable U w0 v a → OwnPlace U K w1 v a ⊎ GivenVariable U w1 v a
+    by (inl x) = inl (record {
+      place = record {
+        place = x.place.place;
+        stands = x.place.stands;
+        is_made = more x.place.place w0.src.next w1.src.next l.grows.places x.place.is_made;
+        declared = l.extends.same_declared x.place.place x.place.is_made ∙ x.place.declared;
+      };
+      own = x.own;
+    })
+    by (inr x) = inr (record {
+      given = x.given;
+      plain = plain_later U w0 w1 a l.extends (λ q e. bounds.same_made U K w0 a b m.same q e) x.plain;
+      foreign = x.foreign;
+    })
 
 -- ---- the numbers of local variables
 
@@ -223,7 +232,10 @@ module _ (U : Upgrade) (S : Scope) (K : Pledge) (w : World) where
     where
       by : (is_own_of U p v && stands_in n a ≡ true) ⊎ (list_any (λ (x : ℕ × Address). is_own_of U p x.0 && stands_in n x.1) xs ≡ true)
           → (list_any (λ (x : ℕ × Address). is_own_of U p x.0 && stands_in n x.1) xs ≡ true → ⊥) → ⊥
-      by (inl z) more = stands_new K n a (both_true (is_own_of U p v) (stands_in n a) z).1 m.own old
+      by (inl z) more =
+          let both = both_true (is_own_of U p v) (stands_in n a) z in
+          ⊎_elim (λ (x : OwnPlace U K w v a). stands_new K n a both.1 x.own old)
+          (λ (x : GivenVariable U w v a). true≢false (sym both.0 ∙ x.foreign p)) m.standing
       by (inr z) more = more z
   local_places p _ _ _ (next_static v x b os xs ys static name m rest) n h old = local_places p os xs ys rest n h old
   local_places p _ _ _ (next_constant c x b os xs ys name rest) n h old = local_places p os xs ys rest n h old
@@ -281,7 +293,7 @@ module _ (U : Upgrade) (K : Pledge) (made_alike : LocalsAreMadeBy U K) (S : Scop
       subst (λ x. Agrees U K w (Named v r.variable.name) (make s w.src) x) (sym (m.is_made me i w.net))
       (then_gives U K w (MadeNext w v r m.word) (Named v r.variable.name) (λ b. (r.variable.name, b)) (make s w.src)
       (net.made_with (shape.scalar m.word) (shape.default_of (shape.scalar m.word)) w.net)
-      (λ u a b x. (refl, record { place = x.0.place; same = x.0.same; own = new_place K w a s low x.1 }))
+      (λ u a b x. (refl, record { same = x.0.same; standing = inl (record { place = x.0.place; own = new_place K w a s low x.1 }) }))
       (agrees_yields U K w (MadeMatch U K v r.variable.ty m.word) (λ (a : Address) (u : Memory). a ≡ root s (whole (made w.src.next))) (make s w.src)
       (net.made_with (shape.scalar m.word) (shape.default_of (shape.scalar m.word)) w.net) (makes_next s w.src)
       (made_alike w v r m.word m.is_word h)))

@@ -136,6 +136,7 @@ module _ (U : Upgrade) (p : ℕ) (base : Mark) (me : Option ℕ) (xs : List Sour
       };
     };
     exact = exact;
+    given = λ v a e is. r.given v a (subst (λ vars. lookup (nat_eq v) vars ≡ Some a) same e) is;
     places = λ n h. r.places n (subst (λ vars. list_any (λ (x : ℕ × Address). is_own_of U p x.0 && stands_in n x.1) vars ≡ true) same h);
   }
     where

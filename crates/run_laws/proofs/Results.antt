@@ -42,7 +42,6 @@ use Rattle.agreeing_laws.proofs.Agreeing.{agrees_gives, agrees_outside, then_agr
 use Rattle.expression_laws.specs.Statements.{VariablesAreReadBy}
 use Rattle.expression_laws.proofs.Arguments.{loose_in_none, no_arrays, once_in_none}
 use Rattle.run_laws.proofs.Covered.{CoveredProcedure, not_none, same_name, some_is}
-use Rattle.run_laws.proofs.Standing.{readable_exact}
 use Rattle.run_laws.proofs.Heads.{HasAnswer, HasNone, a_result, answer_parts, no_result}
 use Rattle.run_laws.proofs.Names.{names_in_code}
 use Rattle.run_laws.proofs.Parameters.{readable_type}
@@ -173,7 +172,7 @@ module _ (U : Upgrade) (p : ℕ) (c : CoveredProcedure U.program p) (W : Written
         subst (λ n. var_in g.vars n ≡ Some s.address) (ap variable_name_of h.is_variable ∙ h.name) s.found in
         let same_address : there.0.1 ≡ s.address = some_is (sym first_there ∙ name) in
         let same : Same U K w a s.address =
-        exact_is U K w (not (is_quiet D U.known h.id.0)) a s.address (ap not (readable_exact U h.id.0 r)) s.bound in
+        exact_is U K w (not (is_quiet D U.known h.id.0)) a s.address (ap not r.exact) s.bound in
         subst (λ b. Agrees U K w (ResultMatch U) (then (read a w.src) (λ x w. gives [] (Some x) w)) (gives [] (Some (net.looked_up b w.net)) w.net)) (sym same_address)
         (then_agrees U K w (ScalarMatch U r.variable.ty) (ResultMatch U) (read a w.src) (expressions.read s.address w.net) (λ x w. gives [] (Some x) w)
         (λ y t. gives [] (Some y) t) m

@@ -4,9 +4,11 @@ use Rattle.std.specs.Prelude.{nat_lt, slice_get}
 use Rattle.std.specs.List.{Contains, list_all}
 use Rattle.std.proofs.lemmas.Option.{slice_get-map}
 use Rattle.bound_tree.specs.Targets.{aims_of, steps}
-use Rattle.bound_tree.specs.Tree.{Line, Variable}
+use Rattle.bound_tree.specs.Tree.{Expr, Line, Variable}
 use Rattle.reach_table.specs.Chains.{empty}
 use Rattle.bound_facts.specs.Calls.{count_procedures, line_calls}
+use Rattle.bound_facts.specs.Node.{args_at, called}
+use Rattle.bound_facts.specs.Parts.{line_uses}
 use Rattle.net_tree.specs.Tree.{Project}
 use Rattle.run_base.specs.Machines.{enters, go, line_at, nth_line, runs, stepped}
 use Rattle.run_base.specs.Outcomes.{then}
@@ -23,7 +25,7 @@ use Rattle.net_run.specs.Store as net
 use Rattle.run_matches.specs.Addresses.{AllLocked, ArgsMatch}
 use Rattle.run_matches.specs.Agreeing.{Agrees, ResultMatch}
 use Rattle.run_matches.specs.CleanLines.{lines_at, or_none}
-use Rattle.run_matches.specs.Covered.{covers_in_block, covers_line, covers_procedure, covers_use, has_sound_label, keeps_blocks, are_different, belongs_to, covers_calls}
+use Rattle.run_matches.specs.Covered.{covers_in_block, covers_line, covers_procedure, covers_use, has_sound_label, keeps_blocks, are_different, belongs_to, covers_calls, is_loud_owner}
 use Rattle.run_matches.specs.Frames.{is_exact_head, lines_of, declared_names}
 use Rattle.run_matches.specs.Maps.{World, mark, Below, Mark}
 use Rattle.run_matches.specs.Match.{MemoryMatch, StoreMatch}
@@ -44,7 +46,8 @@ use Rattle.run_laws.specs.Entered.{RunMatch}
 use Rattle.run_laws.specs.Premises.{LocalsAreMadeInCalls, RunPremises, ValuesAreMadeInCalls}
 use Rattle.run_laws.proofs.Covered.{CoveredProcedure, all_at, blocks_are_kept, covered_parts, exact_head, form_at, form_covered, jumps_soundly, labels_are_sound, no_property, not_none, some_is, own_covered_at}
 use Rattle.run_laws.proofs.Entries.{all_names, entries_agree}
-use Rattle.run_laws.proofs.Callees.{callee_covered, callee_within, can_call}
+use Rattle.line_laws.proofs.Called.{use_calls}
+use Rattle.run_laws.proofs.Callees.{call_suits, callee_covered, callee_within, can_call}
 use Rattle.run_laws.proofs.Heads.{HasAnswer}
 use Rattle.run_laws.proofs.Keeping.{line_keeps}
 use Rattle.run_laws.proofs.Lines.{LineSame, body_is, line_is, line_same}
@@ -83,11 +86,12 @@ module _ (U : Upgrade) (h : RunPremises U) where
     kept = h.owns p c.site c.procedure c.is_site c.is_procedure W pass.0 covered
 
     -- what it owns can be read
-    readable : (v : ℕ) (x : Variable) → slice_get U.program.declarations.vars v ≡ Some x → belongs_to p x.owner ≡ true → IsReadable U v
-    readable v x e owned = h.owned p v x pass.0 e owned (own_covered_at U.program p v x c.variables e owned)
+    readable : (v : ℕ) (x : Variable) → slice_get U.program.declarations.vars v ≡ Some x → belongs_to p x.owner ≡ true
+        → is_loud_owner U.program v x.owner ≡ true → IsReadable U v
+    readable v x e owned loud = h.owned p v x pass.0 e owned (own_covered_at U.program p v x c.variables e owned) loud
 
     answer_readable : (a : HasAnswer U.program.declarations p (parts p pass).procedure) → IsReadable U a.id.0
-    answer_readable a = readable a.id.0 a.variable a.is_variable (ap (belongs_to p) a.owner ∙ a.own)
+    answer_readable a = readable a.id.0 a.variable a.is_variable (ap (belongs_to p) a.owner ∙ a.own) (ap (is_loud_owner U.program a.id.0) a.owner)
 
     -- ---- lines
 
@@ -95,16 +99,18 @@ module _ (U : Upgrade) (h : RunPremises U) where
     lines_are = ap or_none c.are_lines
 
     -- what it calls passes too
-    can_call_from : (k : ℕ) (l : Line) → slice_get c.lines k ≡ Some l → (q : ℕ) → Contains (line_calls U.program.declarations p l) (p, q)
-        → CanCallFrom U p (parts p pass).site (written p pass).code q
-    can_call_from k l at q call =
+    can_call_from : (k : ℕ) (l : Line) → slice_get c.lines k ≡ Some l → (d : Expr) (q : ℕ) → Contains (line_uses l) d → called d ≡ Some q
+        → CanCallFrom U p (parts p pass).site (written p pass).code q (args_at d)
+    can_call_from k l at d q m e =
+        let call : Contains (line_calls U.program.declarations p l) (p, q) = use_calls U.program.declarations p q l d m e in
+        let calls : covers_calls U.program p l ≡ true = all_at (covers_calls U.program p) c.lines k l c.calls at in
         let stands : IsLineOf U.program p l = record { lines = c.lines; are_lines = c.are_lines; place = k; stands = at } in
-        let test = callee_covered U p q l (all_at (covers_calls U.program p) c.lines k l c.calls at) call in
+        let test = callee_covered U p q l calls call in
         let within : nat_lt q (count_procedures U.program) ≡ true = callee_within U p q c.site c.is_site test in
         can_call U h.known h.procedures h.found p q c.site c.procedure c.is_site c.is_procedure (no_property c.procedure.kind c.kind) W l stands call test (
           clean_called U.program p q c.procedure c.is_procedure within l stands call U.facts.marks pass.0,
           covered_called U.program p q c.procedure c.is_procedure within l stands call pass.1,
-        )
+        ) (args_at d) (call_suits U p q l d calls m e)
 
     -- no line is replaced, so each line and the written one of its number go the same ways
     same_ways : (n : ℕ) (o : Option SourceLine) → line_at (source.machine_of R) p n ≡ o → SameWays o (line_at (target.machine_of N) (written p pass).number n)

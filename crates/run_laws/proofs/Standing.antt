@@ -1,11 +1,11 @@
 -- What holds of the variables of a frame that an entry makes: those in places, and Statics.
-use Rattle.std.proofs.Common.{◌≡◌, refl, sym, ap, subst, ◌∙◌, ℕ, ◌<◌, ◌≤◌, arith, true, false, cond, not, ◌&&◌, Option, Some, None, List, [], ◌∷◌, ◌++◌, map, zero, suc, Bool}
+use Rattle.std.proofs.Common.{◌≡◌, refl, sym, ap, subst, ◌∙◌, ℕ, ◌<◌, ◌≤◌, arith, true, false, cond, not, Option, Some, None, List, [], ◌∷◌, ◌++◌, map, zero, suc, Bool}
 use Rattle.std.specs.Prelude.{slice_get}
 use Rattle.up_base.proofs.Tests.{both_true}
 use Rattle.vb_tree.specs.Tree.{Form}
 use Rattle.vb_tree.specs.Tree as source_form
 use Rattle.bound_tree.specs.Tree.{Expr, Procedure, Variable}
-use Rattle.bound_facts.specs.Facts.{Known, is_quiet, is_quiet_variable}
+use Rattle.bound_facts.specs.Facts.{is_quiet}
 use Rattle.bound_facts.specs.SelfMade.{module_of}
 use Rattle.net_tree.specs.Tree as net_tree
 use Rattle.run_base.specs.Frames.{Kept, keeps_address, keeps_nothing}
@@ -22,7 +22,7 @@ use Rattle.net_run.specs.Store as net
 use Rattle.written_trees.specs.Heads as heads
 use Rattle.written_trees.specs.Names.{Scope}
 use Rattle.run_matches.specs.Addresses.{IsPlain}
-use Rattle.run_matches.specs.Covered.{are_different, covers_owner, covers_type, is_named_in}
+use Rattle.run_matches.specs.Covered.{are_different, is_named_in}
 use Rattle.run_matches.specs.Frames.{HasPlace, KeptBy, is_static_in, static_of}
 use Rattle.run_matches.specs.Maps.{World, is_auto_root, is_auto_variable}
 use Rattle.run_matches.specs.Runs.{IsObject}
@@ -33,7 +33,6 @@ use Rattle.agreeing_laws.proofs.Made.{more}
 use Rattle.memory_laws.proofs.Making.{readable_shape}
 use Rattle.run_laws.specs.Entered.{AllSound}
 use Rattle.run_laws.proofs.Covered.{not_none, some_is}
-use Rattle.run_laws.proofs.Dims.{no_quiet}
 use Rattle.run_laws.proofs.StaticOrder.{AllSimple}
 use Rattle.run_laws.proofs.Locals.{position_is}
 
@@ -57,14 +56,9 @@ plain_place U w v a h auto q e =
     subst (λ (z : Position). is_auto_root U w.map z.root ≡ false) (position_is a (variable_shape U.program.declarations v) (whole (made h.place)) q h.stands e)
     (ap (is_auto_variable U) h.declared ∙ auto)
 
-quiet_by : (F : Known) (o : Option Variable) (x : Variable) → o ≡ Some x → covers_owner x.owner ≡ true → is_quiet_variable F o ≡ false
-quiet_by F o x e h = ap (is_quiet_variable F) e ∙ no_quiet F x.owner h
-
 -- a variable that can be read is no quiet parameter
 pub readable_exact : (U : Upgrade) (v : ℕ) → IsReadable U v → is_quiet U.program.declarations U.known v ≡ false
-readable_exact U v r =
-    let a = both_true (covers_owner r.variable.owner) (covers_type r.variable.ty && not r.variable.auto) r.covers in
-    ap (λ b. b && not (U.known.touched v)) (quiet_by U.known (slice_get U.program.declarations.vars v) r.variable r.is_variable a.0)
+readable_exact U v r = r.exact
 
 -- ---- Statics
 

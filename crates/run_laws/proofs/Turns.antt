@@ -100,7 +100,7 @@ module _ (U : Upgrade) (p q : ℕ) (b : BodyRuns U p q) (base : Mark) (me : Opti
       (then_agrees U K w (GoesOn w f) (ResultMatch U) one one' k k' h
       (agrees_yields U K w (NextMatch U (frame_pledge U p w f) p f.me) (HasVars f) one one' (x.keeps f n w.src)
       (agrees_promised U K (frame_pledge U p w f) w (NextMatch U (frame_pledge U p w f) p f.me) one one' h (call_is_weaker U p base me xs ys w f g b.covers r)
-      (x.same n calls w f g refl h (frame_in_line U p base me xs ys w f g b.covers r b.heads))))
+      (x.same n calls w f g refl h (frame_in_line U p base me xs ys w f g b.covers r b.heads) (λ v a used is e. r.given v.0 a e is))))
       (λ f2 g2 u m lat. rest u f2 g2 (frame_goes_on U p base me xs ys w f g b.covers r b.heads u f2 g2 lat.grows m.1 m.0) lat.match)))
 
   at_agrees : (n : ℕ) → Rest n → Calls n → (w : World) (f : SourceFrame) (g : NetFrame) → RunMatch U K p me w f g → MemoryMatch U w

@@ -1,5 +1,5 @@
 -- The variables that an entry makes, and frames that run.
-use Rattle.std.specs.Prelude.{◌≡◌, ℕ, suc, true, false, ◌&&◌, Option, Some, List, [], ◌∷◌, nat_eq}
+use Rattle.std.specs.Prelude.{◌≡◌, ℕ, suc, true, false, ◌&&◌, Option, Some, List, [], ◌∷◌, nat_eq, ◌⊎◌}
 use Rattle.std.specs.List.{list_any}
 use Rattle.std.specs.Map.{lookup}
 use Rattle.bound_tree.specs.Tree.{Constant, Variable}
@@ -14,8 +14,8 @@ use Rattle.net_run.specs.Shapes as shape
 use Rattle.net_run.specs.Store as net
 use Rattle.written_trees.specs.Names.{Scope}
 use Rattle.written_trees.specs.Prologues.{constant_dim, is_static}
-use Rattle.run_matches.specs.Addresses.{Same}
-use Rattle.run_matches.specs.Frames.{HasPlace, IsOwnAddress, NextMatch, is_own_of, stands_in}
+use Rattle.run_matches.specs.Addresses.{Same, IsPlain}
+use Rattle.run_matches.specs.Frames.{HasPlace, IsOwnAddress, NextMatch, is_own_of, stands_in, GivenPlace, is_reference_of}
 use Rattle.run_matches.specs.Likeness.{scalar_word}
 use Rattle.run_matches.specs.Maps.{World}
 use Rattle.run_matches.specs.Pledges.{Pledge, IsOld}
@@ -26,11 +26,21 @@ use Rattle.run_statements.specs.Kept.{IsConstantDim}
 
 -- ---- variables
 
--- a variable of a procedure, made on both sides
-pub record LocalMatch (U : Upgrade) (K : Pledge) (w : World) (v : ℕ) (a : Address) (b : net.Address) : Type 0 where
+-- it was made on both sides
+pub record OwnPlace (U : Upgrade) (K : Pledge) (w : World) (v : ℕ) (a : Address) : Type 0 where
   pub place : HasPlace U w v a
-  pub same : Same U K w a b
   pub own : IsOwnAddress K a
+
+-- it was given by reference
+pub record GivenVariable (U : Upgrade) (w : World) (v : ℕ) (a : Address) : Type 0 where
+  pub given : GivenPlace U v a
+  pub plain : IsPlain U w a
+  pub foreign : (p : ℕ) → is_own_of U p v ≡ false
+
+-- a variable of a procedure on both sides
+pub record LocalMatch (U : Upgrade) (K : Pledge) (w : World) (v : ℕ) (a : Address) (b : net.Address) : Type 0 where
+  pub same : Same U K w a b
+  pub standing : OwnPlace U K w v a ⊎ GivenVariable U w v a
 
 -- a Static of a procedure, which the target finds at its key
 pub record StaticMatch (U : Upgrade) (v : ℕ) (b : net.Address) : Type 0 where
@@ -73,9 +83,10 @@ AllKeyed U c i (own_constant d x ∷ os) = AllKeyed U c (suc i) os
 
 -- ---- frames
 
--- A frame of a call that runs, with one that stands for it: its variables aren't quiet, and those of its own are in places that the call
--- has made.
+-- A frame of a call that runs, with one that stands for it: its variables aren't quiet, those of its own are in places that the call has
+-- made, and those that are given by reference can be written.
 pub record RunMatch (U : Upgrade) (K : Pledge) (p : ℕ) (me : Option ℕ) (w : World) (f : SourceFrame) (g : NetFrame) : Type 0 where
   pub next : NextMatch U K p me w f g
   pub exact : (v : ℕ) (a : Address) → lookup (nat_eq v) f.vars ≡ Some a → is_quiet U.program.declarations U.known v ≡ false
   pub places : (n : ℕ) → list_any (λ (x : ℕ × Address). is_own_of U p x.0 && stands_in n x.1) f.vars ≡ true → IsOld K (made n) → ⊥
+  pub given : (v : ℕ) (a : Address) → lookup (nat_eq v) f.vars ≡ Some a → is_reference_of U p v ≡ true → GivenPlace U v a

@@ -16,7 +16,7 @@ use Rattle.net_run.specs.Store as net
 use Rattle.net_run.specs.Values as net_value
 use Rattle.run_matches.specs.Agreeing.{Agrees}
 use Rattle.run_matches.specs.CleanLines.{IsCleanLine, lines_at}
-use Rattle.run_matches.specs.Covered.{IsCoveredLine, covers_line, covers_procedure, covers_use, belongs_to, covers_variable}
+use Rattle.run_matches.specs.Covered.{IsCoveredLine, covers_line, covers_procedure, covers_use, belongs_to, covers_variable, is_loud_owner}
 use Rattle.run_matches.specs.Likeness.{scalar_word, LikeV}
 use Rattle.run_matches.specs.Maps.{Mark, World}
 use Rattle.run_matches.specs.Match.{MemoryMatch}
@@ -66,7 +66,7 @@ CoveredStoresAreOwn U =
 abbrev pub OwnedAreReadable : Upgrade → Type 0
 OwnedAreReadable U =
     (p v : ℕ) (x : Variable) → IsClean U.program U.facts.marks p → slice_get U.program.declarations.vars v ≡ Some x → belongs_to p x.owner ≡ true
-    → covers_variable x ≡ true → IsReadable U v
+    → covers_variable x ≡ true → is_loud_owner U.program v x.owner ≡ true → IsReadable U v
 
 -- a local variable is made on both sides, under a pledge and under those of calls
 abbrev pub LocalsAreMadeBy : Upgrade → Pledge → Type 0

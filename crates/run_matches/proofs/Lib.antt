@@ -3,6 +3,7 @@ pub mod Samples
 pub mod UpgradeExamples
 pub mod Examples
 pub mod CallSamples
+mod ReferenceSamples
 pub mod StoreExamples
 mod CoveredExamples
 mod LibraryExamples

@@ -5,7 +5,7 @@ use Rattle.vb_tree.specs.BoundTree.{Ty, class}
 use Rattle.vb_tree.specs.declared.value.Value6.{Value6}
 use Rattle.net_meaning.specs.declared.value.ValueN.TheVariants as n
 use Rattle.run_base.specs.Frames.{by_value, by_address, Kept, keeps_nothing, keeps_limit, keeps_value, keeps_address}
-use Rattle.run_base.specs.Positions.{Key, Position, inner}
+use Rattle.run_base.specs.Positions.{Key, Position, inner, made, shared, whole}
 use Rattle.vb6_run.specs.Expressions as source
 use Rattle.vb6_run.specs.Shapes.{Shape, simple, group, array, endless, Shapes, no_shapes, next_shape, part_shape}
 use Rattle.vb6_run.specs.Store.{Address, root, item, constant, Locked, SourceGiven, held_at}
@@ -81,6 +81,27 @@ pub data Same (U : Upgrade) (K : Pledge) (w : World) : Address → net.Address �
 pub data Bound (U : Upgrade) (K : Pledge) (w : World) : (exact : Bool) → Address → net.Address → Type 0 where
   images : (exact : Bool) (a : Address) (b : net.Address) → Same U K w a b → Bound U K w exact a b
   mirrored : (a : Address) (b : net.Address) → Mirrors U K w a b → Bound U K w false a b
+
+-- ---- where a scalar can be written
+
+pub record IsInPlace (a : Address) : Type 0 where
+  pub place : ℕ
+  pub shape : Shape
+  pub path : List ℕ
+  pub stands : a ≡ root shape (record { root = made place; path = path })
+
+-- the address of a variable of a standard module, or of a Static in one, that is written with a key of its own
+pub record HasOwnKey (U : Upgrade) (a : Address) : Type 0 where
+  pub variable : ℕ
+  pub key : Key
+  pub of_shape : Shape
+  pub stands : a ≡ root of_shape (whole (shared (variable ∷ [])))
+  pub is_key : variable_key U variable ≡ Some key
+  pub differs : (u : ℕ) → variable_key U u ≡ Some key → variable ≡ u
+
+-- where a scalar can be written: a place, or a variable of a standard module
+abbrev pub IsTarget : Upgrade → Address → Type 0
+IsTarget U a = IsInPlace a ⊎ HasOwnKey U a
 
 -- ---- parts of expressions
 
@@ -168,7 +189,7 @@ pub data ArgsMatch (U : Upgrade) (K : Pledge) (w : World) (p : ℕ) : (place : �
       (i : ℕ) (x : Value) (y : net_value.Value) (xs : List SourceGiven) (ys : List NetGiven) → LikeV U w x y → ArgsMatch U K w p (suc i) xs ys
       → ArgsMatch U K w p i (by_value x ∷ xs) (by_value y ∷ ys)
   address_args :
-      (i : ℕ) (a : Address) (b : net.Address) (xs : List SourceGiven) (ys : List NetGiven) → Same U K w a b → IsPlain U w a
+      (i : ℕ) (a : Address) (b : net.Address) (xs : List SourceGiven) (ys : List NetGiven) → Same U K w a b → IsTarget U a → IsPlain U w a
       → ArgsMatch U K w p (suc i) xs ys → ArgsMatch U K w p i (by_address a ∷ xs) (by_address b ∷ ys)
   source_bound :
       (i : ℕ) (a : Address) (s : shape.Shape) (y : net_value.Value) (xs : List SourceGiven) (ys : List NetGiven) → (runnable_of U).quiet p i ≡ true

@@ -1,5 +1,5 @@
 -- Which procedures and lines are proved to do the same: the one file that a form group edits. What isn't covered is translated all the same.
-use Rattle.std.specs.Prelude.{◌≡◌, ℕ, pos, negsuc, Bool, true, false, cond, not, ◌&&◌, nat_eq, Option, Some, None, is_some, List, [], ◌∷◌, map, slice_get, nat_lt}
+use Rattle.std.specs.Prelude.{◌≡◌, ℕ, suc, pos, negsuc, Bool, true, false, cond, not, ◌&&◌, ◌||◌, nat_eq, Option, Some, None, is_some, List, [], ◌∷◌, map, slice_get, nat_lt}
 use Rattle.std.specs.Cmp.Lexicographic.{pointwise}
 use Rattle.std.specs.List.{list_all, list_any, Contains}
 use Rattle.up_base.specs.Names.{is_same_name}
@@ -24,10 +24,18 @@ use Rattle.bound_tree.specs.Labels.{Label, label_of}
 use Rattle.bound_tree.specs.Labels as mark
 use Rattle.bound_tree.specs.Tree.{Variable, Constant, Procedure, Declarations, Program, Expr, typed, Term, constant, variable, field, element, call, library, unary, binary, convert, new_object, me, with_object, err_number, err_raise, err_clear, is_same, loose, Exprs, no_exprs, next_expr, Object, no_object, of_object, Argument, by_value, by_reference, Passed, no_passed, next_passed}
 use Rattle.bound_tree.specs.Tree as tree
-use Rattle.bound_facts.specs.Calls.{Reaches, line_calls, count_procedures}
+use Rattle.bound_facts.specs.Calls.{Reaches, line_calls, count_procedures, count_variables}
+use Rattle.bound_facts.specs.Effects.{touched}
+use Rattle.bound_facts.specs.Facts.{acts}
+use Rattle.bound_facts.specs.Leading.{is_in}
 use Rattle.bound_facts.specs.Locks.{is_same_type}
-use Rattle.bound_facts.specs.Node.{type_at}
+use Rattle.bound_facts.specs.Node.{type_at, called, args_at}
+use Rattle.bound_facts.specs.Parts.{line_uses}
 use Rattle.run_base.specs.Machines.{nth_line}
+use Rattle.net_tree.specs.Tree as net
+use Rattle.written_trees.specs.Arguments.{has_address, is_conversion, kept, takes_reference}
+use Rattle.written_trees.specs.Conversions.{converted}
+use Rattle.written_trees.specs.Operators.{binary_exp, unary_exp}
 use Rattle.written_trees.specs.Prologues.{variables_of, constants_of}
 use Rattle.vb6_run.specs.Forms.{SourceLine, body_of}
 use Rattle.vb6_run.specs.Programs.{is_local_of, owned_from, answer_in, is_static_of}
@@ -58,13 +66,13 @@ covers_type types.unknown = false
 
 -- ---- variables
 
--- local variables and Statics, parameters by value, result variables, and variables of modules
+-- local variables and Statics, parameters, result variables, and variables of modules
 abbrev pub covers_owner : Owner → Bool
 covers_owner (owner.Module file) = true
 covers_owner (owner.Local p) = true
 covers_owner (owner.Static p) = true
 covers_owner (owner.Value p) = true
-covers_owner (owner.Reference p) = false
+covers_owner (owner.Reference p) = true
 covers_owner (owner.Answer p) = true
 covers_owner (owner.Field t) = false
 
@@ -98,9 +106,25 @@ abbrev pub is_mention_of : VarId → Mention → Bool
 is_mention_of v (mention.Var u) = nat_eq v.0 u.0
 is_mention_of v _ = false
 
--- variables of the procedure, but for Statics in classes, and those of standard modules to which names lead; the line that uses them mentions them
+-- a variable that is changed or passed on by reference
+abbrev pub is_touched : Program → (variable : ℕ) → Bool
+is_touched P v = nat_lt v (count_variables P) && is_in (touched P) v
+
+-- No quiet parameter: one by reference is touched, or its procedure has a line that makes it outward.
+abbrev pub is_loud_owner : Program → (variable : ℕ) → Owner → Bool
+is_loud_owner P v (owner.Reference p) = is_touched P v || acts P p.0
+is_loud_owner P v _ = true
+
+abbrev pub is_loud : Program → (variable : ℕ) → Option Variable → Bool
+is_loud P v None = false
+is_loud P v (Some x) = is_loud_owner P v x.owner
+
+-- Variables of the procedure, but for Statics in classes, and those of standard modules to which names lead; the line that uses them mentions
+-- them. A parameter by reference is no quiet one.
 abbrev pub covers_use : Program → (procedure : ℕ) → List Mention → VarId → Bool
-covers_use P p mentions v = list_any (is_mention_of v) mentions && covers_some P.declarations p v.0 (slice_get P.declarations.vars v.0)
+covers_use P p mentions v =
+    list_any (is_mention_of v) mentions
+    && (covers_some P.declarations p v.0 (slice_get P.declarations.vars v.0) && is_loud P v.0 (slice_get P.declarations.vars v.0))
 
 -- ---- operators and the library
 
@@ -166,6 +190,13 @@ abbrev pub is_without_object : Object → Bool
 is_without_object no_object = true
 is_without_object (of_object e) = false
 
+abbrev pub is_variable_in : Term → Bool
+is_variable_in (variable v qualified) = true
+is_variable_in t = false
+
+abbrev pub is_variable : Expr → Bool
+is_variable (typed ty t) = is_variable_in t
+
 -- literals and uses of constants, variables, operators, conversions, calls of the library, and calls without an object
 abbrev mutual
   pub covers_expr : Uses → Expr → Bool
@@ -198,19 +229,12 @@ abbrev mutual
   covers_passed uses no_passed = true
   covers_passed uses (next_passed a rest) = covers_argument uses a && covers_passed uses rest
 
-  -- arguments by value
+  -- arguments by value and by reference
   pub covers_argument : Uses → Argument → Bool
   covers_argument uses (by_value e) = covers_expr uses e
-  covers_argument uses (by_reference e) = false
+  covers_argument uses (by_reference e) = covers_expr uses e
 
 -- ---- lines
-
-abbrev pub is_variable_in : Term → Bool
-is_variable_in (variable v qualified) = true
-is_variable_in t = false
-
-abbrev pub is_variable : Expr → Bool
-is_variable (typed ty t) = is_variable_in t
 
 -- an assignment to a variable
 abbrev pub covers_store : Uses → List Expr → Bool
@@ -279,7 +303,7 @@ abbrev pub covers_box : Uses → Term → Bool
 covers_box uses (library f args) = is_box f && covers_term uses (library f args)
 covers_box uses t = false
 
--- a call without an object, whose arguments go by value, of MsgBox, or of Err.Raise or Err.Clear
+-- a call without an object, of MsgBox, or of Err.Raise or Err.Clear
 abbrev pub covers_called_in : Uses → Term → Bool
 covers_called_in uses (call p qualified of args) = is_without_object of && covers_passed uses args
 covers_called_in uses (library f args) = covers_box uses (library f args)
@@ -456,9 +480,26 @@ abbrev pub is_value_in : (procedure : ℕ) → Option Variable → Bool
 is_value_in p None = false
 is_value_in p (Some x) = is_value_of p x.owner
 
--- parameters by value
-abbrev pub covers_parameter : Declarations → (procedure : ℕ) → VarId → Bool
-covers_parameter D p v = is_value_in p (slice_get D.vars v.0)
+abbrev pub is_parameter_of : (procedure : ℕ) → Owner → Bool
+is_parameter_of p (owner.Value q) = nat_eq p q.0
+is_parameter_of p (owner.Reference q) = nat_eq p q.0
+is_parameter_of p _ = false
+
+abbrev pub is_reference_owner_of : (procedure : ℕ) → Owner → Bool
+is_reference_owner_of p (owner.Reference q) = nat_eq p q.0
+is_reference_owner_of p _ = false
+
+abbrev pub is_reference_in : (procedure : ℕ) → Option Variable → Bool
+is_reference_in p None = false
+is_reference_in p (Some x) = is_reference_owner_of p x.owner
+
+abbrev pub is_parameter_in : (procedure : ℕ) → Option Variable → Bool
+is_parameter_in p None = false
+is_parameter_in p (Some x) = is_parameter_of p x.owner
+
+-- parameters by value, and those by reference that aren't quiet
+abbrev pub covers_parameter : Program → (procedure : ℕ) → VarId → Bool
+covers_parameter P p v = is_parameter_in p (slice_get P.declarations.vars v.0) && is_loud P v.0 (slice_get P.declarations.vars v.0)
 
 abbrev pub is_result_in : (procedure : ℕ) → Procedure → Option Variable → Bool
 is_result_in p x None = false
@@ -477,15 +518,15 @@ has_result D p x _ = false
 abbrev pub covers_result : Declarations → (procedure : ℕ) → Procedure → Bool
 covers_result D p x =
     has_result D p x x.kind
-    && (pointwise nat_eq (map (λ (v : VarId). v.0) x.params) (owned_from (is_value_of p) 0 D.vars)
+    && (pointwise nat_eq (map (λ (v : VarId). v.0) x.params) (owned_from (is_parameter_of p) 0 D.vars)
     && pointwise nat_eq (answer_in x.answer) (owned_from (is_answer_of p) 0 D.vars))
 
--- those whose parameters go by value, of standard modules
+-- those whose parameters are covered, of standard modules
 abbrev pub covers_head : Program → (procedure : ℕ) → Option Procedure → Bool
 covers_head P p None = false
 covers_head P p (Some x) =
     covers_kind x.kind
-    && (list_all (covers_parameter P.declarations p) x.params
+    && (list_all (covers_parameter P p) x.params
     && (covers_result P.declarations p x && not (is_class_file P.declarations x.module_number)))
 
 -- each variable of the procedure is covered
@@ -542,8 +583,55 @@ covers_callee P p (Some s) q =
     nat_lt q (count_procedures P)
     && is_found P.declarations (slice_get P.declarations.procs p) s (slice_get P.declarations.procs q) (site_of P.declarations q)
 
+-- what is written by its outermost part as a value
+abbrev pub is_valued : net.Exp → Bool
+is_valued (net.lit l) = true
+is_valued net.nothing = true
+is_valued (net.cast word e) = true
+is_valued (net.unary op e) = true
+is_valued (net.binary op e f) = true
+is_valued e = false
+
+-- a constant, or an operator or a conversion that is written as one
+abbrev pub is_valued_term : Ty → Term → Bool
+is_valued_term ty (constant x origin) = true
+is_valued_term ty (unary o e) = is_valued (unary_exp o ty e net.me)
+is_valued_term ty (binary o d e) = is_valued (binary_exp o ty d e net.me net.me)
+is_valued_term ty (convert to e) = is_valued (converted to e net.me)
+is_valued_term ty t = false
+
+abbrev pub is_valued_as : Expr → Bool
+is_valued_as (typed ty t) = is_valued_term ty t
+
+-- a temporary: what is written in parentheses, or as such a value
+abbrev pub is_temporary : Declarations → Expr → Bool
+is_temporary D e = has_address D (kept e) || is_valued_as e
+
+-- a variable, or one with a conversion, which is a temporary
+abbrev pub is_referred : Declarations → Expr → Bool
+is_referred D e = is_variable e || (is_conversion e && is_temporary D e)
+
+-- a reference goes to a parameter that takes one, and there a value is a temporary
+abbrev pub suits_argument : Declarations → (procedure place : ℕ) → Argument → Bool
+suits_argument D q i (by_value e) = cond (takes_reference D q i) (is_temporary D e) true
+suits_argument D q i (by_reference e) = takes_reference D q i && is_referred D e
+
+abbrev pub suits_passed : Declarations → (procedure place : ℕ) → Passed → Bool
+suits_passed D q i no_passed = true
+suits_passed D q i (next_passed a rest) = suits_argument D q i a && suits_passed D q (suc i) rest
+
+abbrev pub suits_callee : Declarations → Option ℕ → Passed → Bool
+suits_callee D None args = true
+suits_callee D (Some q) args = suits_passed D q 0 args
+
+abbrev pub suits : Declarations → Expr → Bool
+suits D e = suits_callee D (called e) (args_at e)
+
+-- what a line calls, with arguments that suit its parameters
 abbrev pub covers_calls : Program → (procedure : ℕ) → tree.Line → Bool
-covers_calls P p l = list_all (λ (c : ℕ × ℕ). covers_callee P p (site_of P.declarations p) c.1) (line_calls P.declarations p l)
+covers_calls P p l =
+    list_all (λ (c : ℕ × ℕ). covers_callee P p (site_of P.declarations p) c.1) (line_calls P.declarations p l)
+    && list_all (suits P.declarations) (line_uses l)
 
 abbrev pub covers_all_calls : Program → (procedure : ℕ) → Option (List tree.Line) → Bool
 covers_all_calls P p None = false

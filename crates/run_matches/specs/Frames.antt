@@ -3,6 +3,7 @@ use Rattle.std.specs.Prelude.{◌≡◌, ℕ, suc, ◌<◌, Bool, true, false, n
 use Rattle.std.specs.List.{list_any}
 use Rattle.std.specs.Map.{lookup}
 use Rattle.vb_tree.specs.BoundTree.{Ty}
+use Rattle.vb_tree.specs.declared.declared.VarId.{VarId}
 use Rattle.vb_tree.specs.declared.value.Value6.{Value6}
 use Rattle.vb_tree.specs.Tree.{Form, for_head, select, with_head}
 use Rattle.bound_tree.specs.Tree.{Expr, Line, Variable}
@@ -30,12 +31,12 @@ use Rattle.net_run.specs.Shapes as shape
 use Rattle.net_run.specs.Store as net
 use Rattle.net_run.specs.Values as net_value
 use Rattle.run_matches.specs.CleanLines.{lines_at}
-use Rattle.run_matches.specs.Covered.{covers_line, is_local_in}
+use Rattle.run_matches.specs.Covered.{covers_line, covers_use, is_local_in, is_reference_in}
 use Rattle.run_matches.specs.Upgrades.{Upgrade, code_of, is_flagged, is_auto}
 use Rattle.run_matches.specs.Maps.{World, mark, Below, moved_at}
 use Rattle.run_matches.specs.Likeness.{SameShape}
 use Rattle.run_matches.specs.Pledges.{Own, Pledge, IsOld, pledge, own_object}
-use Rattle.run_matches.specs.Addresses.{AllMatched, AllRanked, Bound, position_of, IsPlain, KeptMatch, AllLocked}
+use Rattle.run_matches.specs.Addresses.{AllMatched, AllRanked, Bound, position_of, IsPlain, IsInPlace, IsTarget, KeptMatch, AllLocked}
 use Rattle.written_trees.specs.Names.{variable_name_of}
 
 -- ---- the variables of a frame
@@ -132,12 +133,6 @@ pub record HasPlace (U : Upgrade) (w : World) (v : ℕ) (a : Address) : Type 0 w
   pub is_made : place < w.src.next
   pub declared : w.map.declares place ≡ Some v
 
-pub record IsInPlace (a : Address) : Type 0 where
-  pub place : ℕ
-  pub shape : Shape
-  pub path : List ℕ
-  pub stands : a ≡ root shape (record { root = made place; path = path })
-
 -- ---- what the heads of blocks keep, where they are covered
 
 -- the counter is a variable of the frame, and limit and step have its type
@@ -207,6 +202,24 @@ pub record FrameMatch (U : Upgrade) (K : Pledge) (w : World) (p : ℕ) (f : Sour
   pub has_locals : (v : ℕ) → is_local_in p (slice_get U.program.declarations.vars v) ≡ true → (a : Address) × (lookup (nat_eq v) f.vars ≡ Some a)
   pub locks : AllLocked U K w f.env
   pub low : Below K.base (mark w.src)
+
+-- ---- parameters by reference
+
+-- a parameter of the procedure that takes a reference
+abbrev pub is_reference_of : Upgrade → (procedure variable : ℕ) → Bool
+is_reference_of U p v = is_reference_in p (slice_get U.program.declarations.vars v)
+
+-- it is bound to a variable of the shape of its declaration, which can be written
+pub record GivenPlace (U : Upgrade) (v : ℕ) (a : Address) : Type 0 where
+  pub position : Position
+  pub stands : a ≡ root (variable_shape U.program.declarations v) position
+  pub target : IsTarget U a
+
+-- So are those that a line uses. No element of an array is one yet: nothing keeps arrays apart that stand in elements.
+abbrev pub GivenStand : Upgrade → (procedure : ℕ) → SourceFrame → Line → Type 0
+GivenStand U p f l =
+    (v : VarId) (a : Address) → covers_use U.program p l.bindings.mentions v ≡ true → is_reference_of U p v.0 ≡ true → lookup (nat_eq v.0) f.vars ≡ Some a
+    → GivenPlace U v.0 a
 
 -- ---- what a frame may change
 

@@ -19,7 +19,7 @@ use Rattle.run_matches.specs.Match.{StoreMatch, MemoryMatch}
 use Rattle.run_matches.specs.Pledges.{Own, Pledge, pledge, own_object, no_places, taken_by, NetGiven}
 use Rattle.run_matches.specs.Addresses.{ArgsOk, AllLocked}
 use Rattle.run_matches.specs.Agreeing.{Agrees, ResultMatch}
-use Rattle.run_matches.specs.Frames.{FrameMatch, NextMatch, frame_pledge}
+use Rattle.run_matches.specs.Frames.{FrameMatch, GivenStand, NextMatch, frame_pledge}
 
 -- ---- calls
 
@@ -70,6 +70,7 @@ line_result machine turns p f l w = stepped machine (machine.left w) (λ w. hand
 abbrev pub SameLine : Upgrade → (p q number : ℕ) → SourceLine → NetLine → Type 0
 SameLine U p q number l k =
     (w : World) (f : SourceFrame) (g : NetFrame) (turns : ℕ) → f.line ≡ number → MemoryMatch U w → FrameMatch U (frame_pledge U p w f) w p f g
+    → GivenStand U p f l.form
     → Agrees U (frame_pledge U p w f) w (NextMatch U (frame_pledge U p w f) p f.me)
     (line_result (source.machine_of (runnable_of U)) turns p f l w.src)
     (line_result (target.machine_of U.written) turns q g k w.net)

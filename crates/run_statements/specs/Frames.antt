@@ -1,12 +1,13 @@
 -- What variables, expressions and assignments do in frames that match.
-use Rattle.std.specs.Prelude.{◌≡◌, ◌⊎◌, ℕ, Bool, true, false, Some, [], ◌∷◌, slice_get, None}
+use Rattle.std.specs.Prelude.{◌≡◌, ◌⊎◌, ℕ, Bool, true, false, Some, [], slice_get, None, zero, suc, nat_eq, List}
 use Rattle.vb_tree.specs.BoundTree.{Ty}
 use Rattle.vb_tree.specs.declared.declared.Owner.TheVariants as owner
-use Rattle.std.specs.List.{list_all}
+use Rattle.std.specs.Map.{lookup}
 use Rattle.vb_tree.specs.declared.declared.ProcId.{ProcId}
 use Rattle.vb_tree.specs.declared.declared.VarId.{VarId}
 use Rattle.vb_tree.specs.declared.value.Value6.{Value6}
 use Rattle.bound_tree.specs.Tree.{Variable, Expr, typed, Term, constant, variable, field, element, call, library, unary, binary, convert, new_object, me, with_object, err_number, err_raise, err_clear, is_same, loose, no_object, Exprs, no_exprs, next_expr, Argument, by_value, by_reference, Passed, no_passed, next_passed}
+use Rattle.bound_facts.specs.Facts.{is_quiet}
 use Rattle.bound_facts.specs.Locks.{Keeps}
 use Rattle.bound_facts.specs.Node.{type_at}
 use Rattle.net_tree.specs.declared.declaration.NetPassing.{NetPassing}
@@ -35,12 +36,12 @@ use Rattle.net_run.specs.Store as net
 use Rattle.net_run.specs.Values as net_value
 use Rattle.written_trees.specs.Exprs.{exp_of, passed_of}
 use Rattle.written_trees.specs.Names.{Scope, variable_path, procedure_path}
-use Rattle.run_matches.specs.Addresses.{Same}
+use Rattle.run_matches.specs.Addresses.{Same, IsTarget}
 use Rattle.written_trees.specs.Arguments.{is_property, takes_reference}
 use Rattle.run_matches.specs.Agreeing.{Agrees}
 use Rattle.run_matches.specs.Formed.{passed_are_formed, is_formed}
-use Rattle.run_matches.specs.Covered.{Uses, covers_type, covers_variable, covers_expr, covers_passed}
-use Rattle.run_matches.specs.Frames.{FrameMatch, HasPlace, IsInPlace, IsOwnAddress, is_own_of}
+use Rattle.run_matches.specs.Covered.{Uses, covers_type, covers_variable, covers_expr, covers_passed, suits_passed}
+use Rattle.run_matches.specs.Frames.{FrameMatch, GivenPlace, HasPlace, IsOwnAddress, is_own_of, is_reference_of}
 use Rattle.run_matches.specs.Likeness.{LikeV, scalar_word}
 use Rattle.run_matches.specs.Maps.{World}
 use Rattle.run_matches.specs.Match.{MemoryMatch}
@@ -58,6 +59,8 @@ pub record IsReadable (U : Upgrade) (v : ℕ) : Type 0 where
   pub is_variable : slice_get U.program.declarations.vars v ≡ Some variable
   pub covers : covers_variable variable ≡ true
   pub sound : is_flagged U v ≡ false
+  -- it is no quiet parameter
+  pub exact : is_quiet U.program.declarations U.known v ≡ false
 
 abbrev pub AreReadable : Upgrade → Uses → Type 0
 AreReadable U uses = (v : VarId) → uses v ≡ true → IsReadable U v.0
@@ -89,12 +92,17 @@ pub record IsOwnStatic (U : Upgrade) (p v : ℕ) : Type 0 where
   pub standard : is_class_file U.program.declarations file ≡ false
   pub differs : (key : Key) (u : ℕ) → variable_key U v ≡ Some key → variable_key U u ≡ Some key → v ≡ u
 
--- the procedure's own, a Static of it, or one of a standard module
-abbrev pub IsPlaced : Upgrade → (procedure : ℕ) → net_names.Scope → Scope → (variable : ℕ) → Type 0
-IsPlaced U p S T v = (is_own_of U p v ≡ true) ⊎ (IsOwnStatic U p v ⊎ IsShared U S T v)
+-- a parameter by reference, which the frame has bound to what can be written
+pub record IsGiven (U : Upgrade) (p : ℕ) (f : SourceFrame) (v : ℕ) : Type 0 where
+  pub reference : is_reference_of U p v ≡ true
+  pub stands : (a : Address) → lookup (nat_eq v) f.vars ≡ Some a → GivenPlace U v a
 
-abbrev pub ArePlaced : Upgrade → (procedure : ℕ) → net_names.Scope → Scope → Uses → Type 0
-ArePlaced U p S T uses = (v : VarId) → uses v ≡ true → IsPlaced U p S T v.0
+-- the procedure's own, a Static of it, one of a standard module, or one that is given by reference
+abbrev pub IsPlaced : Upgrade → (procedure : ℕ) → SourceFrame → net_names.Scope → Scope → (variable : ℕ) → Type 0
+IsPlaced U p f S T v = (is_own_of U p v ≡ true) ⊎ (IsOwnStatic U p v ⊎ (IsShared U S T v ⊎ IsGiven U p f v))
+
+abbrev pub ArePlaced : Upgrade → (procedure : ℕ) → SourceFrame → net_names.Scope → Scope → Uses → Type 0
+ArePlaced U p f S T uses = (v : VarId) → uses v ≡ true → IsPlaced U p f S T v.0
 
 -- ---- values
 
@@ -141,19 +149,6 @@ ScalarsAreRead U =
     (K : Pledge) (w : World) (a : Address) (b : net.Address) (ty : Ty) → covers_type ty ≡ true → MemoryMatch U w → Same U K w a b
     → ((q : Position) × (a ≡ root (simple ty) q)) → Agrees U K w (ScalarMatch U ty) (read a w.src) (target.read b w.net)
 
--- the address of a variable of a standard module, or of a Static in one, that is written with a key of its own
-pub record HasOwnKey (U : Upgrade) (a : Address) : Type 0 where
-  pub variable : ℕ
-  pub key : Key
-  pub of_shape : source_shape.Shape
-  pub stands : a ≡ root of_shape (whole (shared (variable ∷ [])))
-  pub is_key : variable_key U variable ≡ Some key
-  pub differs : (u : ℕ) → variable_key U u ≡ Some key → variable ≡ u
-
--- where a scalar can be written: a place, or such a variable
-abbrev pub IsTarget : Upgrade → Address → Type 0
-IsTarget U a = IsInPlace a ⊎ HasOwnKey U a
-
 -- the pledge lets it change
 abbrev pub MayChange : Pledge → Address → Type 0
 MayChange K a = K.steady → IsOwnAddress K a
@@ -179,16 +174,16 @@ pub record IsOpen (S : net_names.Scope) : Type 0 where
 -- ---- calls
 
 abbrev mutual
-  -- a property of each procedure that a covered expression calls
-  pub AllCalled : (ℕ → Type 0) → Expr → Type 0
+  -- a property of each procedure that a covered expression calls, with its arguments
+  pub AllCalled : (ℕ → Passed → Type 0) → Expr → Type 0
   AllCalled Q (typed ty t) = AllCalledIn Q t
 
-  pub AllCalledIn : (ℕ → Type 0) → Term → Type 0
+  pub AllCalledIn : (ℕ → Passed → Type 0) → Term → Type 0
   AllCalledIn Q (constant x origin) = Unit {0}
   AllCalledIn Q (variable v qualified) = Unit {0}
   AllCalledIn Q (field e k) = Unit {0}
   AllCalledIn Q (element e indexes) = Unit {0}
-  AllCalledIn Q (call p qualified of args) = Q p.0 × AllCalledFor Q args
+  AllCalledIn Q (call p qualified of args) = Q p.0 args × AllCalledFor Q args
   AllCalledIn Q (library f args) = AllCalledAll Q args
   AllCalledIn Q (unary op e) = AllCalled Q e
   AllCalledIn Q (binary op d e) = AllCalled Q d × AllCalled Q e
@@ -202,33 +197,38 @@ abbrev mutual
   AllCalledIn Q (is_same d e) = Unit {0}
   AllCalledIn Q (loose e rules) = Unit {0}
 
-  pub AllCalledAll : (ℕ → Type 0) → Exprs → Type 0
+  pub AllCalledAll : (ℕ → Passed → Type 0) → Exprs → Type 0
   AllCalledAll Q no_exprs = Unit {0}
   AllCalledAll Q (next_expr e rest) = AllCalled Q e × AllCalledAll Q rest
 
-  pub AllCalledFor : (ℕ → Type 0) → Passed → Type 0
+  pub AllCalledFor : (ℕ → Passed → Type 0) → Passed → Type 0
   AllCalledFor Q no_passed = Unit {0}
   AllCalledFor Q (next_passed a rest) = AllCalledBy Q a × AllCalledFor Q rest
 
-  pub AllCalledBy : (ℕ → Type 0) → Argument → Type 0
+  pub AllCalledBy : (ℕ → Passed → Type 0) → Argument → Type 0
   AllCalledBy Q (by_value e) = AllCalled Q e
   AllCalledBy Q (by_reference e) = AllCalled Q e
 
-abbrev pub is_value : NetPassing → Bool
-is_value passing.Value = true
-is_value passing.Reference = false
+abbrev pub passing_at : List NetPassing → (place : ℕ) → NetPassing
+passing_at modes zero = target.first_passing modes
+passing_at modes (suc i) = passing_at (target.rest_passings modes) i
 
--- A procedure that can be called from where something is written: it passes, and promises what is promised there; what is written for it
--- takes values, and is found by its name.
-pub record CanCall (U : Upgrade) (K : Pledge) (S : net_names.Scope) (T : Scope) (q : ℕ) : Type 0 where
+abbrev pub passing_by : (by_reference : Bool) → NetPassing
+passing_by true = passing.Reference
+passing_by false = passing.Value
+
+-- A procedure that can be called with arguments from where something is written: it passes, and promises what is promised there; the
+-- arguments suit its parameters, none of which is quiet; what is written for it takes them as it does, and is found by its name.
+pub record CanCall (U : Upgrade) (K : Pledge) (S : net_names.Scope) (T : Scope) (q : ℕ) (args : Passed) : Type 0 where
   pub passes : Passes U q
   pub keeps : (ty : Ty) → K.keeps ty → Keeps U.program q ty
   pub inward : K.steady → is_inward U q ≡ true
   pub number : ℕ
   pub is_number : written_number U q ≡ Some number
   pub plain : is_property U.program.declarations q ≡ false
-  pub values : (i : ℕ) → takes_reference U.program.declarations q i ≡ false
-  pub net_values : list_all is_value (passings_at U.written (Some number)) ≡ true
+  pub suits : suits_passed U.program.declarations q 0 args ≡ true
+  pub loud : (i : ℕ) → (runnable_of U).quiet q i ≡ false
+  pub passings : (i : ℕ) → passing_at (passings_at U.written (Some number)) i ≡ passing_by (takes_reference U.program.declarations q i)
   pub found :
       (qualified : Bool) → net_names.path_start S true (procedure_path T qualified q) ≡ net_names.starts (net_names.named (net_names.to_procedure None number)) []
 
@@ -237,7 +237,7 @@ abbrev pub ExpressionsAgree : Upgrade → Type 1
 ExpressionsAgree U =
     (K : Pledge) (w : World) (p : ℕ) (f : SourceFrame) (g : NetFrame) (oracle : SourceCalls) (net_oracle : Jobs) (l : SourceLine) (k : NetLine) (c : Code)
     (T : Scope) (uses : Uses) (e : Expr) → MemoryMatch U w → FrameMatch U K w p f g → T.declarations ≡ U.program.declarations
-    → IsOpen (scope_of U.written c g k) → AreReadable U uses → ArePlaced U p (scope_of U.written c g k) T uses → CallsAgree U (Passes U) oracle net_oracle
+    → IsOpen (scope_of U.written c g k) → AreReadable U uses → ArePlaced U p f (scope_of U.written c g k) T uses → CallsAgree U (Passes U) oracle net_oracle
     → AllCalled (CanCall U K (scope_of U.written c g k) T) e → covers_expr uses e ≡ true → is_formed e ≡ true
     → Agrees U K w (ScalarMatch U (type_at e))
     (source.value_of (context_of U oracle p f l) e w.src)
@@ -251,7 +251,7 @@ abbrev pub CallsAreMade : Upgrade → Type 1
 CallsAreMade U =
     (K : Pledge) (w : World) (p : ℕ) (f : SourceFrame) (g : NetFrame) (oracle : SourceCalls) (net_oracle : Jobs) (l : SourceLine) (k : NetLine) (c : Code)
     (T : Scope) (uses : Uses) (ty : Ty) (q : ProcId) (qualified : Bool) (args : Passed) → MemoryMatch U w → FrameMatch U K w p f g
-    → T.declarations ≡ U.program.declarations → IsOpen (scope_of U.written c g k) → AreReadable U uses → ArePlaced U p (scope_of U.written c g k) T uses
+    → T.declarations ≡ U.program.declarations → IsOpen (scope_of U.written c g k) → AreReadable U uses → ArePlaced U p f (scope_of U.written c g k) T uses
     → CallsAgree U (Passes U) oracle net_oracle → AllCalled (CanCall U K (scope_of U.written c g k) T) (typed ty (call q qualified no_object args))
     → covers_passed uses args ≡ true → passed_are_formed args ≡ true
     → Agrees U K w AnyParts

@@ -5,11 +5,10 @@ use Rattle.vb_tree.specs.declared.declared.VarId.{VarId}
 use Rattle.vb_tree.specs.declared.form_parts.Label6.{Label6}
 use Rattle.bound_tree.specs.declared.rule_set.RuleSet.{RuleSet}
 use Rattle.bound_tree.specs.Labels.{label_of, label_at, labels}
-use Rattle.bound_tree.specs.Tree.{Procedure, Constant, Variable, Line, Expr}
-use Rattle.bound_facts.specs.Calls.{line_calls}
+use Rattle.bound_tree.specs.Tree.{Procedure, Constant, Variable, Line, Expr, Passed}
 use Rattle.bound_facts.specs.Effects.{is_outside}
-use Rattle.bound_facts.specs.Node.{root}
-use Rattle.bound_facts.specs.Parts.{line_stores}
+use Rattle.bound_facts.specs.Node.{args_at, called, root}
+use Rattle.bound_facts.specs.Parts.{line_stores, line_uses}
 use Rattle.net_tree.specs.Tree as net
 use Rattle.run_base.specs.Machines.{line_at, nth_line, go}
 use Rattle.written_trees.specs.Bodies.{inside_procedure}
@@ -26,7 +25,7 @@ use Rattle.net_run.specs.Members.{Code, code_at}
 use Rattle.net_run.specs.Names as net_names
 use Rattle.net_run.specs.Program as net_program
 use Rattle.run_matches.specs.Covered.{covers_in_block, covers_label, covers_line, covers_names, covers_use, has_sound_label, jump_of, keeps_blocks, resumes}
-use Rattle.run_matches.specs.Frames.{HasNames, lines_of, FrameMatch, NextMatch, frame_pledge}
+use Rattle.run_matches.specs.Frames.{HasNames, lines_of, FrameMatch, NextMatch, frame_pledge, GivenStand}
 use Rattle.run_matches.specs.Pledges.{is_inward, is_self_made}
 use Rattle.run_matches.specs.Runs.{CallsAgree, line_result}
 use Rattle.run_matches.specs.Sites.{Own, own_variable, own_constant, Site, site_of, site_lines, first_statement, owns_of}
@@ -107,8 +106,8 @@ StoresAreOwn U p l =
 -- the variables that a line uses are found on both sides
 abbrev pub UsesArePlaced : Upgrade → (procedure : ℕ) → Site → Code → Line → Type 0
 UsesArePlaced U p s c l =
-    (g : NetFrame) (k : NetLine) → HasNames (code_of U p) g
-    → ArePlaced U p (scope_of U.written c g k) (inside_procedure (site_scope U s) p) (covers_use U.program p l.bindings.mentions)
+    (f : SourceFrame) (g : NetFrame) (k : NetLine) → HasNames (code_of U p) g → GivenStand U p f l
+    → ArePlaced U p f (scope_of U.written c g k) (inside_procedure (site_scope U s) p) (covers_use U.program p l.bindings.mentions)
 
 -- ---- labels
 
@@ -156,15 +155,16 @@ pub record LineStands (U : Upgrade) (p : ℕ) (s : Site) (written : ℕ) (c : Co
 abbrev pub SameLineIn : Upgrade → (p q number turns : ℕ) → SourceLine → NetLine → Type 0
 SameLineIn U p q number turns l k =
     (w : World) (f : SourceFrame) (g : NetFrame) → f.line ≡ number → MemoryMatch U w → FrameMatch U (frame_pledge U p w f) w p f g
+    → GivenStand U p f l.form
     → Agrees U (frame_pledge U p w f) w (NextMatch U (frame_pledge U p w f) p f.me)
     (line_result (machine_of (runnable_of U)) turns p f l w.src)
     (line_result (net_program.machine_of U.written) turns q g k w.net)
 
 -- a procedure that can be called from the lines of another
-abbrev pub CanCallFrom : Upgrade → (p : ℕ) → Site → Code → (q : ℕ) → Type 0
-CanCallFrom U p s c q =
+abbrev pub CanCallFrom : Upgrade → (p : ℕ) → Site → Code → (q : ℕ) → Passed → Type 0
+CanCallFrom U p s c q args =
     (w : World) (f : SourceFrame) (g : NetFrame) (k : NetLine) → HasNames (code_of U p) g
-    → CanCall U (frame_pledge U p w f) (scope_of U.written c g k) (inside_procedure (site_scope U s) p) q
+    → CanCall U (frame_pledge U p w f) (scope_of U.written c g k) (inside_procedure (site_scope U s) p) q args
 
 -- a covered line does the same as what is written for it, where calls of what it calls agree
 abbrev pub LinesAgree : Upgrade → Type 0
@@ -174,7 +174,7 @@ LinesAgree U =
     → ((v : VarId) → covers_use U.program p l.form.bindings.mentions v ≡ true → IsReadable U v.0)
     → UsesArePlaced U p s c l.form → StoresAreOwn U p l.form
     → CallsAgree U (Passes U) (go (machine_of (runnable_of U)) turns) (go (net_program.machine_of U.written) turns)
-    → ((q : ℕ) → Contains (line_calls U.program.declarations p l.form) (p, q) → CanCallFrom U p s c q)
+    → ((d : Expr) (q : ℕ) → Contains (line_uses l.form) d → called d ≡ Some q → CanCallFrom U p s c q (args_at d))
     → covers_line U.program p l.form ≡ true
     → LineStands U p s written c number l
     → SameLineIn U p written number turns l L.line
