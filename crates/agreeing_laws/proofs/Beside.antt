@@ -10,6 +10,7 @@ use Rattle.run_matches.specs.Match.{HasArray, StoreMatch, MemoryMatch}
 use Rattle.run_matches.specs.Pledges.{Pledge, Later}
 use Rattle.run_matches.specs.Agreeing.{world_of}
 use Rattle.agreeing_laws.specs.Beside.{beside, with_steps}
+use Rattle.agreeing_laws.proofs.SameKinds.{keeps_self}
 use Rattle.agreeing_laws.proofs.Made.{below_self, extends_self, up_self}
 use Rattle.agreeing_laws.proofs.Lasting.{later_now}
 
@@ -35,6 +36,7 @@ module _ (U : Upgrade) (w : World) (e d : ℕ) (i j : List (List ℕ)) (n k : �
     unmade = h.unmade;
     net_unmade = h.net_unmade;
     errors = same;
+    kinds = h.kinds;
   }
 
   pub match_beside : d ≡ e → j ≡ i → k ≡ n → MemoryMatch U w → MemoryMatch U (beside w e d i j n k)
@@ -57,6 +59,7 @@ module _ (U : Upgrade) (w : World) (e d : ℕ) (i j : List (List ℕ)) (n k : �
     grows = l.grows;
     net_grows = l.net_grows;
     arrays_grow = l.arrays_grow;
+    same_kinds = l.same_kinds;
     same_values = l.same_values;
     same_cells = l.same_cells;
     same_elements = l.same_elements;
@@ -95,6 +98,7 @@ module _ (U : Upgrade) where
         grows = below_self (mark w.src);
         net_grows = below_self (net_mark w.net);
         arrays_grow = up_self w.net.next_array;
+        same_kinds = λ q. keeps_self (w.src.held q);
         same_values = λ q l y. refl;
         same_cells = λ q m l y. refl;
         same_elements = λ q k m l e. refl;

@@ -10,6 +10,7 @@ use Rattle.run_matches.specs.Match.{HasArray, StoreMatch, MemoryMatch}
 use Rattle.run_matches.specs.Pledges.{Pledge, IsLasting, IsHeld, Stays, kept_type, lasting, fixed_array, Later}
 use Rattle.run_matches.specs.Agreeing.{world_of}
 use Rattle.agreeing_laws.specs.Promises.{Weaker}
+use Rattle.agreeing_laws.proofs.SameKinds.{keeps_self, keeps_then}
 use Rattle.agreeing_laws.proofs.Made.{up, up_self, more, below_self, below_then, made_more, made_if_held, held_if_array, same_at, same_variable, matched_later, matched_before, fixed_later, still_unmapped, extends_self, extends_then}
 
 pub weaker_self : (w : World) (K : Pledge) → Weaker w K K
@@ -39,6 +40,7 @@ later_now U K w h = record {
   grows = below_self (mark w.src);
   net_grows = below_self (net_mark w.net);
   arrays_grow = up_self w.net.next_array;
+  same_kinds = λ q. keeps_self (w.src.held q);
   same_values = λ q l i. refl;
   same_cells = λ q m l i. refl;
   same_elements = λ q k m l e. refl;
@@ -76,6 +78,7 @@ later_from U L K w0 w1 w2 h f a b =
       grows = below_then (mark w0.src) (mark w1.src) (mark w2.src) a.grows b.grows;
       net_grows = below_then (net_mark w0.net) (net_mark w1.net) (net_mark w2.net) a.net_grows b.net_grows;
       arrays_grow = up w0.net.next_array w1.net.next_array w2.net.next_array a.arrays_grow b.arrays_grow;
+      same_kinds = λ q. keeps_then (w0.src.held q) (w1.src.held q) (w2.src.held q) (a.same_kinds q) (b.same_kinds q);
       same_values = λ q l i. b.same_values q (go q (made_if_held U w0 h q i) l) (held1 q l i) ∙ a.same_values q l i;
       same_cells = λ q m l i.
           ap w2.net.cell (sym (same_at U w0 w1 x q m.is_made))
@@ -123,6 +126,7 @@ later_moved U L K w0 m p s t takes a b = record {
   grows = b.grows;
   net_grows = b.net_grows;
   arrays_grow = b.arrays_grow;
+  same_kinds = b.same_kinds;
   same_values = a.same_values;
   same_cells = a.same_cells;
   same_elements = a.same_elements;

@@ -1,3 +1,4 @@
+pub mod SameKinds
 pub mod Made
 pub mod Lasting
 pub mod Outputs
@@ -7,3 +8,4 @@ pub mod Machines
 pub mod Frames
 pub mod Scalars
 pub mod Moves
+pub mod Indexes

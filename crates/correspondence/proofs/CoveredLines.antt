@@ -1,11 +1,11 @@
 -- Covered lines that no rule replaces name their variables as often as the source uses them.
-use Rattle.std.proofs.Common.{◌≡◌, ℕ, ◌+◌, true, false, ◌&&◌, List, [], ◌∷◌, Option, Some, None, refl, sym, ap, ◌∙◌, subst, arith, Bool, nat_eq}
+use Rattle.std.proofs.Common.{◌≡◌, ℕ, ◌+◌, true, false, ◌&&◌, List, [], ◌∷◌, Option, Some, None, refl, sym, ap, ◌∙◌, subst, arith, Bool, nat_eq, map, inl, inr}
 use Rattle.std.specs.List.{flat_map, list_all, list_any}
-use Rattle.std.specs.Prelude.{option_to_list, slice_get}
+use Rattle.std.specs.Prelude.{◌||◌, ◌⊎◌, option_to_list, slice_get}
 use Rattle.up_base.proofs.Lists.{both_true}
 use Rattle.vb_tree.specs.BoundTree as types
 use Rattle.vb_tree.specs.BoundTree.{Ty}
-use Rattle.vb_tree.specs.Tree.{CaseItem, Form}
+use Rattle.vb_tree.specs.Tree.{CaseItem, Form, ReDimItem}
 use Rattle.vb_tree.specs.Tree as source
 use Rattle.bound_tree.specs.declared.body.Mention.{Mention}
 use Rattle.bound_tree.specs.Labels.{Label}
@@ -14,20 +14,29 @@ use Rattle.vb_tree.specs.declared.bound.LibCall.{LibCall}
 use Rattle.vb_tree.specs.declared.bound.LibCall.TheVariants as lib
 use Rattle.bound_facts.specs.Locks.{is_same_type}
 use Rattle.vb_tree.specs.declared.declared.ProcId.{ProcId}
-use Rattle.bound_facts.specs.Node.{type_at}
+use Rattle.bound_facts.specs.Node.{declared_at, type_at}
 use Rattle.bound_facts.specs.Nodes.{nodes, nodes_in}
+use Rattle.bound_facts.specs.Parts.{resizes}
 use Rattle.net_tree.specs.Tree.{Exp}
 use Rattle.net_tree.specs.Tree as net
 use Rattle.written_trees.specs.Exprs.{called, exp_of, is_bare, passed_of}
-use Rattle.written_trees.specs.Lines.{as_call, case_items, first_exp, items_exp, line_of, step_exp, call_line}
+use Rattle.written_trees.specs.Lines.{as_call, case_items, empty_extents, first_exp, items_exp, line_of, resized_array, step_exp, call_line}
 use Rattle.written_trees.specs.Names.{Scope, Path, module_name, procedure_path}
-use Rattle.written_trees.specs.Puts.{formed, put_type, store_by, store_line, stored_value, target_rank}
-use Rattle.run_matches.specs.Covered.{covers_type, covers_use, covers_expr, covers_term, covers_condition, covers_counter, covers_counting, covers_items, covers_step, covers_store, covers_form, covers_line, covers_value, is_comparison, is_counter, is_variable, covers_library, covers_exprs, covers_box, covers_call, covers_called_in, is_box, is_reached}
+use Rattle.written_trees.specs.Puts.{formed, order_shows, put_type, rank_of, store_by, store_line, target_rank}
+use Rattle.written_trees.specs.Types.{element_type, written_type}
+use Rattle.run_matches.specs.Covered.{covers_type, covers_expr, covers_term, covers_condition, covers_counter, covers_counting, covers_items, covers_step, covers_store, covers_form, covers_line, covers_value, is_comparison, is_counter, is_variable, covers_library, covers_exprs, covers_box, covers_call, covers_called_in, is_box, is_reached, uses_in, is_bound, covers_bounded, covers_erased, covers_resizes}
 use Rattle.run_matches.specs.Formed.{is_formed, is_row_of_call, are_formed}
-use Rattle.correspondence.specs.Uses.{FormCorresponds, SameUses, case_exps, names, total, uses, CallCorresponds, IsAlone, IsSharedAlone, is_call_in, is_call_of, path_names, shared_names}
+use Rattle.correspondence.specs.Uses.{redim_exps, resize_exprs, FormCorresponds, SameUses, case_exps, names, total, uses, CallCorresponds, IsAlone, IsSharedAlone, is_call_in, is_call_of, path_names, shared_names}
 use Rattle.correspondence.proofs.NamedCalls.{neither, none_of_both, path_other, shared_path_other}
-use Rattle.correspondence.proofs.Naming.{IsRight, expr_names, items_names, assigned_names, box_names, raised_names, term_names}
+use Rattle.correspondence.proofs.Among.{or_cases}
+use Rattle.correspondence.proofs.NamedArrays.{IsRight}
+use Rattle.correspondence.proofs.Resizes.{erased_names, resizes_all, resizes_names}
+use Rattle.correspondence.proofs.Naming.{expr_names, items_names, assigned_names, box_names, raised_names, term_names}
 use Rattle.correspondence.proofs.Variables.{no_support, own_use, shared_use}
+
+no_bound : (g : LibCall) → is_box g ≡ true → is_bound g ≡ true → ⊥
+no_bound lib.MsgBox h k = absurd (cc k)
+no_bound _ h k = absurd (cc h)
 
 formed_plain : (S : Scope) (rank : ℕ) (ty : Ty) (a : Exp) → covers_type ty ≡ true → formed S rank ty a ≡ a
 formed_plain S rank (types.array e r) a h = absurd (cc h)
@@ -35,19 +44,14 @@ formed_plain S rank (types.fixed units) a h = absurd (cc h)
 formed_plain S rank (types.user t) a h = absurd (cc h)
 formed_plain S rank _ a h = refl
 
-stored_first : (ty : Option (List ℕ)) (t a : Exp) → store_by false ty t a ≡ net.assign t a
-stored_first None t a = refl
-stored_first (Some ty) t a = refl
+-- a value goes to a variable or an element as it is
+pub stored_plain : (S : Scope) (to e : Expr) → covers_type (type_at to) ≡ true
+    → store_line S to e ≡ store_by (order_shows S.declarations to e) (put_type (type_at to)) (exp_of S to) (exp_of S e)
+stored_plain S to e c =
+    ap (store_by (order_shows S.declarations to e) (put_type (type_at to)) (exp_of S to)) (formed_plain S (target_rank S to) (type_at to) (exp_of S e) c)
 
--- a variable is assigned to
-pub stored_plain : (S : Scope) (to e : Expr) → is_variable to ≡ true → covers_type (type_at to) ≡ true → store_line S to e ≡ net.assign (exp_of S to) (exp_of S e)
-stored_plain S (typed ty (variable k q)) e h c =
-    stored_first (put_type ty) (exp_of S (typed ty (variable k q))) (stored_value S (typed ty (variable k q)) e)
-    ∙ ap (net.assign (exp_of S (typed ty (variable k q)))) (formed_plain S (target_rank S (typed ty (variable k q))) ty (exp_of S e) c)
-stored_plain S (typed ty _) e h c = absurd (cc h)
-
-pub type_covered : (P : Program) (p : ℕ) (mentions : List Mention) (e : Expr) → covers_expr (covers_use P p mentions) e ≡ true → covers_type (type_at e) ≡ true
-type_covered P p mentions (typed ty t) h = (both_true (covers_type ty) (covers_term (covers_use P p mentions) t) h).0
+pub type_covered : (P : Program) (p : ℕ) (mentions : List Mention) (e : Expr) → covers_expr (uses_in P p mentions) e ≡ true → covers_type (type_at e) ≡ true
+type_covered P p mentions (typed ty t) h = (both_true (covers_type ty) (covers_term (uses_in P p mentions) t) h).0
 
 module _ (P : Program) (S : Scope) (same : S.declarations ≡ P.declarations) (p : ℕ) (labels : List (Option Label)) (mentions : List Mention) where
   -- what holds of any count that is right
@@ -90,36 +94,60 @@ module _ (P : Program) (S : Scope) (same : S.declarations ≡ P.declarations) (p
   abbrev IsCall : List Expr → Type 0
   IsCall es = CallCorresponds S p es (call_line S es)
 
-  assigned : (target value : source.Exp) (es : List Expr) → covers_store (covers_use P p mentions) es ≡ true → list_all is_formed es ≡ true
+  stored : (target value : source.Exp) (es : List Expr) (shows : Bool) (o : Option (List ℕ)) (t a : Exp) → SameUses S p es (t ∷ a ∷ [])
+      → FormCorresponds S p (source.assign target value) es (store_by shows o t a)
+  stored target value es shows None t a h = h
+  stored target value es true (Some ty) t a h = (ty, t, a, refl, refl, h)
+  stored target value es false (Some ty) t a h = h
+
+  assigned : (target value : source.Exp) (es : List Expr) → covers_store (uses_in P p mentions) es ≡ true → list_all is_formed es ≡ true
       → FormCorresponds S p (source.assign target value) es (line_of S labels (source.assign target value) es)
   assigned target value [] h f = absurd (cc h)
   assigned target value (to ∷ []) h f = absurd (cc h)
   assigned target value (to ∷ e ∷ d ∷ es) h f = absurd (cc h)
   assigned target value (to ∷ e ∷ []) h f =
-      let cover = covers_use P p mentions in
-      let first = both_true (is_variable to) (covers_expr cover to && covers_expr cover e) h in
+      let cover = uses_in P p mentions in
+      let first = both_true _ (covers_expr cover to && covers_expr cover e) h in
       let both = both_true (covers_expr cover to) (covers_expr cover e) first.1 in
       let forms = both_true (is_formed to) (list_all is_formed (e ∷ [])) f in
       let form = both_true (is_formed e) true forms.1 in
-      subst (FormCorresponds S p (source.assign target value) (to ∷ e ∷ []))
-      (sym (stored_plain S to e first.0 (type_covered P p mentions to both.0)))
+      subst (FormCorresponds S p (source.assign target value) (to ∷ e ∷ [])) (sym (stored_plain S to e (type_covered P p mentions to both.0)))
+      (stored target value (to ∷ e ∷ []) (order_shows S.declarations to e) (put_type (type_at to)) (exp_of S to) (exp_of S e)
       (same_uses (to ∷ e ∷ []) (exp_of S to ∷ exp_of S e ∷ [])
-      (λ v count test right free. assigned_names P S p v count test mentions right to e both.0 both.1 forms.0 form.0 free))
+      (λ v count test right free. assigned_names P S p v count test mentions right to e both.0 both.1 forms.0 form.0 free)))
 
-  condition_uses : (es : List Expr) → covers_condition (covers_use P p mentions) es ≡ true → list_all is_formed es ≡ true
+  resized : (preserve : Bool) (items : List ReDimItem) (es : List Expr) → covers_resizes (uses_in P p mentions) preserve (resizes items es) ≡ true
+      → list_all is_formed es ≡ true → FormCorresponds S p (source.redim preserve items) es (line_of S labels (source.redim preserve items) es)
+  resized preserve items es h f = (
+    refl,
+    same_uses (flat_map resize_exprs (resizes items es)) (flat_map redim_exps (map (resized_array S) (resizes items es)))
+        (λ v count test right free. resizes_names P S p v count test mentions right preserve (resizes items es) h (resizes_all is_formed items es f) free),
+  )
+
+  erased : (array : source.Exp) (es : List Expr) → covers_erased (uses_in P p mentions) es ≡ true
+      → FormCorresponds S p (source.erase array) es (line_of S labels (source.erase array) es)
+  erased array [] h = absurd (cc h)
+  erased array (e ∷ []) h =
+      let ty = written_type S (element_type (type_at e)) in
+      let rank = rank_of S.facts (declared_at S.declarations e) in
+      same_uses (e ∷ []) (exp_of S e ∷ net.new_array ty (empty_extents rank) ∷ [])
+      (λ v count test right free. erased_names P S p v count test mentions right e ty rank h)
+  erased array (d ∷ e ∷ es) h = absurd (cc h)
+
+  condition_uses : (es : List Expr) → covers_condition (uses_in P p mentions) es ≡ true → list_all is_formed es ≡ true
       → Counts es (first_exp S es ∷ [])
   condition_uses [] h f v count test right free = absurd (cc h)
   condition_uses (e ∷ []) h f v count test right free =
       ap {B = ℕ} (λ n. n + 0) (expr_names P S p v count test mentions right e h (both_true (is_formed e) true f).0 (none_of_both test (nodes e) [] free).0)
   condition_uses (e ∷ d ∷ es) h f v count test right free = absurd (cc h)
 
-  items_use : (items : List CaseItem) (es : List Expr) → covers_items (covers_use P p mentions) items es ≡ true → list_all is_formed es ≡ true
+  items_use : (items : List CaseItem) (es : List Expr) → covers_items (uses_in P p mentions) items es ≡ true → list_all is_formed es ≡ true
       → Counts es (flat_map case_exps (case_items S items es))
   items_use [] [] h f v count test right free = refl
   items_use [] (e ∷ es) h f v count test right free = absurd (cc h)
   items_use (source.case_value y ∷ items) [] h f v count test right free = absurd (cc h)
   items_use (source.case_value y ∷ items) (e ∷ es) h f v count test right free =
-      let cover = covers_use P p mentions in
+      let cover = uses_in P p mentions in
       let a = both_true (covers_expr cover e) (covers_items cover items es) h in
       let b = both_true (is_formed e) (list_all is_formed es) f in
       let parted = none_of_both test (nodes e) (flat_map nodes es) free in
@@ -129,7 +157,7 @@ module _ (P : Program) (S : Scope) (same : S.declarations ≡ P.declarations) (p
   items_use (source.case_range y z ∷ items) [] h f v count test right free = absurd (cc h)
   items_use (source.case_range y z ∷ items) (d ∷ []) h f v count test right free = absurd (cc h)
   items_use (source.case_range y z ∷ items) (d ∷ e ∷ es) h f v count test right free =
-      let cover = covers_use P p mentions in
+      let cover = uses_in P p mentions in
       let a = both_true (covers_expr cover d) (covers_expr cover e && covers_items cover items es) h in
       let c = both_true (covers_expr cover e) (covers_items cover items es) a.1 in
       let b = both_true (is_formed d) (list_all is_formed (e ∷ es)) f in
@@ -142,7 +170,7 @@ module _ (P : Program) (S : Scope) (same : S.declarations ≡ P.declarations) (p
       omega (arith, low, high, more)
   items_use (source.case_is o y ∷ items) [] h f v count test right free = absurd (cc h)
   items_use (source.case_is o y ∷ items) (e ∷ es) h f v count test right free =
-      let cover = covers_use P p mentions in
+      let cover = uses_in P p mentions in
       let k = both_true (is_comparison o) (covers_expr cover e && covers_items cover items es) h in
       let a = both_true (covers_expr cover e) (covers_items cover items es) k.1 in
       let b = both_true (is_formed e) (list_all is_formed es) f in
@@ -151,11 +179,11 @@ module _ (P : Program) (S : Scope) (same : S.declarations ≡ P.declarations) (p
       let more = items_use items es a.1 b.1 v count test right parted.1 in
       omega (arith, one, more)
 
-  counted_use : (e start limit : Expr) (steps : List Expr) → covers_counting (covers_use P p mentions) (e ∷ start ∷ limit ∷ steps) ≡ true
+  counted_use : (e start limit : Expr) (steps : List Expr) → covers_counting (uses_in P p mentions) (e ∷ start ∷ limit ∷ steps) ≡ true
       → list_all is_formed (e ∷ start ∷ limit ∷ steps) ≡ true
       → Counts (e ∷ start ∷ limit ∷ steps) (exp_of S e ∷ exp_of S start ∷ exp_of S limit ∷ option_to_list (step_exp S steps))
   counted_use e start limit steps h f v count test right free =
-      let cover = covers_use P p mentions in
+      let cover = uses_in P p mentions in
       let ty = type_at e in
       let a = both_true (covers_counter cover e) (covers_value cover ty start && (covers_value cover ty limit && covers_step cover ty steps)) h in
       let d = both_true (is_variable e) (is_counter ty && covers_expr cover e) a.0 in
@@ -176,17 +204,17 @@ module _ (P : Program) (S : Scope) (same : S.declarations ≡ P.declarations) (p
       let pace = by_step steps j.1 m.1 limit_parts.1 in
       omega (arith, counted, first, last, pace)
     where
-      by_step : (ss : List Expr) → covers_step (covers_use P p mentions) (type_at e) ss ≡ true → list_all is_formed ss ≡ true
+      by_step : (ss : List Expr) → covers_step (uses_in P p mentions) (type_at e) ss ≡ true → list_all is_formed ss ≡ true
           → list_any test (flat_map nodes ss) ≡ false → total (uses v) ss ≡ total (names count) (option_to_list (step_exp S ss))
       by_step [] c g n = refl
       by_step (s ∷ []) c g n =
           let one =
-          expr_names P S p v count test mentions right s (both_true (is_same_type (type_at e) (type_at s)) (covers_expr (covers_use P p mentions) s) c).1
+          expr_names P S p v count test mentions right s (both_true (is_same_type (type_at e) (type_at s)) (covers_expr (uses_in P p mentions) s) c).1
           (both_true (is_formed s) true g).0 (none_of_both test (nodes s) [] n).0 in
           omega (arith, one)
       by_step (s ∷ d ∷ ss) c g n = absurd (cc c)
 
-  counting_uses : (counter from to : source.Exp) (by : Option source.Exp) (es : List Expr) → covers_counting (covers_use P p mentions) es ≡ true
+  counting_uses : (counter from to : source.Exp) (by : Option source.Exp) (es : List Expr) → covers_counting (uses_in P p mentions) es ≡ true
       → list_all is_formed es ≡ true
       → FormCorresponds S p (source.for_head counter from to by) es (line_of S labels (source.for_head counter from to by) es)
   counting_uses counter from to by [] h f = absurd (cc h)
@@ -195,7 +223,7 @@ module _ (P : Program) (S : Scope) (same : S.declarations ≡ P.declarations) (p
   counting_uses counter from to by (e ∷ start ∷ limit ∷ steps) h f =
       same_uses (e ∷ start ∷ limit ∷ steps) (exp_of S e ∷ exp_of S start ∷ exp_of S limit ∷ option_to_list (step_exp S steps)) (counted_use e start limit steps h f)
 
-  boxed : (ty : Ty) (g : LibCall) (args : Exprs) → is_box g ≡ true → covers_exprs (covers_use P p mentions) args ≡ true
+  boxed : (ty : Ty) (g : LibCall) (args : Exprs) → is_box g ≡ true → covers_exprs (uses_in P p mentions) args ≡ true
       → is_formed (typed ty (library g args)) ≡ true → IsCall (typed ty (library g args) ∷ [])
   boxed ty lib.MsgBox no_exprs box h f =
       let call = both_true (is_same_type types.nothing ty && false) true f in
@@ -205,7 +233,7 @@ module _ (P : Program) (S : Scope) (same : S.declarations ≡ P.declarations) (p
       let given = both_true (is_same_type types.nothing ty) (is_same_type (type_at e) types.str && false) call.0 in
       absurd (cc (both_true (is_same_type (type_at e) types.str) false given.1).1)
   boxed ty lib.MsgBox (next_expr e no_exprs) box h f =
-      let both = both_true (covers_expr (covers_use P p mentions) e) true h in
+      let both = both_true (covers_expr (uses_in P p mentions) e) true h in
       let forms = both_true (is_row_of_call lib.MsgBox (type_at e ∷ []) ty) (is_formed e && true) f in
       let form = both_true (is_formed e) true forms.1 in (
         exp_of S e,
@@ -216,14 +244,20 @@ module _ (P : Program) (S : Scope) (same : S.declarations ≡ P.declarations) (p
       )
   boxed ty _ args box h f = absurd (cc box)
 
-  shown : (ty : Ty) (t : Term) → covers_box (covers_use P p mentions) t ≡ true → is_formed (typed ty t) ≡ true → IsCall (typed ty t ∷ [])
+  shown : (ty : Ty) (t : Term) → covers_box (uses_in P p mentions) t ≡ true → is_formed (typed ty t) ≡ true → IsCall (typed ty t ∷ [])
   shown ty (library g args) h f =
-      let both = both_true (is_box g) (covers_term (covers_use P p mentions) (library g args)) h in
-      boxed ty g args both.0 (both_true (covers_library g) (covers_exprs (covers_use P p mentions) args) both.1).1 f
+      let both = both_true (is_box g) (covers_term (uses_in P p mentions) (library g args)) h in
+      by both.0 (or_cases (covers_library g && covers_exprs (uses_in P p mentions) args) (is_bound g && covers_bounded (uses_in P p mentions) args) both.1)
+    where
+      by : is_box g ≡ true
+          → (covers_library g && covers_exprs (uses_in P p mentions) args ≡ true) ⊎ (is_bound g && covers_bounded (uses_in P p mentions) args ≡ true)
+          → IsCall (typed ty (library g args) ∷ [])
+      by b (inl c) = boxed ty g args b (both_true (covers_library g) (covers_exprs (uses_in P p mentions) args) c).1 f
+      by b (inr c) = absurd (no_bound g b (both_true (is_bound g) (covers_bounded (uses_in P p mentions) args) c).0)
   shown ty _ h f = absurd (cc h)
 
   -- a call of a procedure
-  called_one : (ty : Ty) (q : ProcId) (qualified : Bool) (args : Passed) → covers_term (covers_use P p mentions) (call q qualified no_object args) ≡ true
+  called_one : (ty : Ty) (q : ProcId) (qualified : Bool) (args : Passed) → covers_term (uses_in P p mentions) (call q qualified no_object args) ≡ true
       → is_formed (typed ty (call q qualified no_object args)) ≡ true → IsCall (typed ty (call q qualified no_object args) ∷ [])
   called_one ty q qualified args h f = by (is_bare S q.0 qualified no_object args) counted
     where
@@ -240,7 +274,7 @@ module _ (P : Program) (S : Scope) (same : S.declarations ≡ P.declarations) (p
           (λ v count test right free. let m = n v count test right free in omega (arith, m))
       by false n = same_uses (typed ty (call q qualified no_object args) ∷ []) (net.call_of (net.path (procedure_path S qualified q.0)) (passed_of S q.0 0 args) ∷ []) n
 
-  called_in : (ty : Ty) (t : Term) → covers_called_in (covers_use P p mentions) t ≡ true → is_formed (typed ty t) ≡ true → IsCall (typed ty t ∷ [])
+  called_in : (ty : Ty) (t : Term) → covers_called_in (uses_in P p mentions) t ≡ true → is_formed (typed ty t) ≡ true → IsCall (typed ty t ∷ [])
   called_in ty (call q qualified (of_object d) args) h f = absurd (cc h)
   called_in ty (call q qualified no_object args) h f = called_one ty q qualified args h f
   called_in ty (library g args) h f = shown ty (library g args) h f
@@ -255,12 +289,12 @@ module _ (P : Program) (S : Scope) (same : S.declarations ≡ P.declarations) (p
   called_in ty err_clear h f = (refl, refl)
   called_in ty _ h f = absurd (cc h)
 
-  called_line : (es : List Expr) → covers_call (covers_use P p mentions) es ≡ true → list_all is_formed es ≡ true → IsCall es
+  called_line : (es : List Expr) → covers_call (uses_in P p mentions) es ≡ true → list_all is_formed es ≡ true → IsCall es
   called_line [] h f = absurd (cc h)
   called_line (typed ty t ∷ []) h f = called_in ty t h (both_true (is_formed (typed ty t)) true f).0
   called_line (d ∷ e ∷ es) h f = absurd (cc h)
 
-  form_corresponds : (f : Form) (es : List Expr) → covers_form (covers_use P p mentions) f es ≡ true → list_all is_formed es ≡ true
+  form_corresponds : (f : Form) (es : List Expr) → covers_form (uses_in P p mentions) f es ≡ true → list_all is_formed es ≡ true
       → FormCorresponds S p f es (line_of S labels f es)
   form_corresponds (source.assign target value) es h f = assigned target value es h f
   form_corresponds (source.debug_print items ended) es h f = (
@@ -297,6 +331,8 @@ module _ (P : Program) (S : Scope) (same : S.declarations ≡ P.declarations) (p
   form_corresponds source.resume_next es h f = tt
   form_corresponds (source.resume_at l) es h f = tt
   form_corresponds (source.exit kind) es h f = tt
+  form_corresponds (source.redim preserve items) es h f = resized preserve items es h f
+  form_corresponds (source.erase array) es h f = erased array es h
   form_corresponds (source.call callee) es h f = called_line es h f
   form_corresponds (source.invoke callee args) es h f = called_line es h f
   form_corresponds _ es h f = absurd (cc h)
@@ -305,5 +341,5 @@ pub covered_corresponds : (P : Program) (S : Scope) → S.declarations ≡ P.dec
     → FormCorresponds S p l.source.form l.bindings.exprs (line_of S labels l.source.form l.bindings.exprs)
 covered_corresponds P S same p labels l h =
     let es = l.bindings.exprs in
-    let both = both_true (covers_form (covers_use P p l.bindings.mentions) l.source.form es) (list_all is_formed es) h in
+    let both = both_true (covers_form (uses_in P p l.bindings.mentions) l.source.form es) (list_all is_formed es) h in
     form_corresponds P S same p labels l.bindings.mentions l.source.form es both.0 both.1

@@ -2,7 +2,9 @@ mod Heads
 mod Numbers
 mod Variables
 mod NamedCalls
+mod NamedArrays
 mod Naming
+mod Resizes
 mod CoveredLines
 mod Variants
 mod Lines
@@ -19,6 +21,7 @@ mod Among
 mod Support
 mod WalkedPaths
 mod KnownPaths
+mod KnownArrays
 mod KnownLibrary
 mod KnownLines
 mod UsedPaths

@@ -3,17 +3,17 @@ use Rattle.std.proofs.Common.{◌≡◌, ℕ, ◌+◌, Bool, true, false, not, �
 use Rattle.std.specs.List.{list_any}
 use Rattle.std.specs.Prelude.{slice_get, ◌||◌}
 use Rattle.up_base.specs.Names.{is_same_name, lower_case}
-use Rattle.up_base.proofs.Lists.{by_test}
+use Rattle.up_base.proofs.Lists.{both_true, by_test}
 use Rattle.vb_tree.specs.BoundTree as types
 use Rattle.vb_tree.specs.BoundTree.{Ty}
-use Rattle.bound_tree.specs.Tree.{Declarations, Expr, Procedure, by_value, by_reference}
+use Rattle.bound_tree.specs.Tree.{Declarations, Expr, typed, Procedure, by_value, by_reference}
 use Rattle.bound_facts.specs.Node.{type_at}
 use Rattle.net_tree.specs.Tree.{Exp, Exps, no_exps}
 use Rattle.written_trees.specs.Arguments.{argument_exp, copy_by, has_address, in_parentheses, is_copied, kept, has_reference, temporary_exp}
 use Rattle.written_trees.specs.Exprs.{called, exp_of}
 use Rattle.written_trees.specs.Facts.{Facts, holds_array}
 use Rattle.written_trees.specs.Names.{Path, Scope, first_name, is_foreign, is_standard_module, module_at, module_name, procedure_name, procedure_path, procedure_path_of}
-use Rattle.run_matches.specs.Covered.{covers_type}
+use Rattle.run_matches.specs.Covered.{Uses, covers_expr, covers_term, covers_type}
 use Rattle.correspondence.specs.Uses.{exps_name, is_named_there, names, path_names, shared_names, stands_elsewhere}
 use Rattle.correspondence.proofs.Variables.{one_of, same_itself, shared_other}
 
@@ -99,6 +99,9 @@ shared_path_other D S same file name q p h =
     (λ e. of_other S file name q (slice_get S.declarations.procs p) e) h
 
 -- ---- arguments
+
+pub covered_type : (cover : Uses) (e : Expr) → covers_expr cover e ≡ true → covers_type (type_at e) ≡ true
+covered_type cover (typed ty t) h = (both_true (covers_type ty) (covers_term cover t) h).0
 
 pub no_copy : (F : Facts) (ty : Ty) (copied : Bool) → covers_type ty ≡ true → (holds_array F ty && copied) ≡ false
 no_copy F (types.user t) copied h = absurd (cc h)

@@ -1,14 +1,12 @@
 -- What is written for a covered expression names each variable as often as the expression uses it.
-use Rattle.std.proofs.Common.{◌≡◌, ℕ, ◌+◌, Bool, true, false, not, ◌&&◌, cond, List, [], ◌∷◌, ◌++◌, Option, Some, None, refl, sym, ap, ◌∙◌, arith, nat_eq, unwrap_or, codes, suc}
+use Rattle.std.proofs.Common.{◌≡◌, ℕ, ◌+◌, Bool, true, false, not, ◌&&◌, cond, List, [], ◌∷◌, ◌++◌, Option, Some, None, refl, sym, ap, ◌∙◌, arith, unwrap_or, codes, suc, inl, inr}
 use Rattle.std.specs.List.{list_all, list_any, flat_map}
-use Rattle.std.specs.Prelude.{◌||◌, pos, negsuc, is_some, codes}
+use Rattle.std.specs.Prelude.{◌||◌, ◌⊎◌, pos, negsuc, is_some, codes}
 use Rattle.up_base.proofs.Lists.{both_true}
 use Rattle.vb_tree.specs.BoundTree as types
 use Rattle.vb_tree.specs.BoundTree.{Ty}
 use Rattle.vb_tree.specs.declared.bound.LibCall.{LibCall}
 use Rattle.vb_tree.specs.declared.bound.LibCall.TheVariants as lib
-use Rattle.vb_tree.specs.declared.declared.ProcId.{ProcId}
-use Rattle.vb_tree.specs.declared.declared.VarId.{VarId}
 use Rattle.vb_tree.specs.declared.expression.BinOp.{BinOp}
 use Rattle.vb_tree.specs.declared.expression.BinOp.TheVariants as b
 use Rattle.vb_tree.specs.declared.expression.UnOp.{UnOp}
@@ -17,7 +15,7 @@ use Rattle.vb_tree.specs.declared.value.Value6.{Value6}
 use Rattle.vb_tree.specs.declared.value.Value6.TheVariants as v6
 use Rattle.bound_tree.specs.declared.body.Mention.{Mention}
 use Rattle.bound_tree.specs.declared.expression.Origin.{Origin}
-use Rattle.bound_tree.specs.Tree.{Program, Expr, typed, Term, constant, variable, library, unary, binary, convert, Exprs, no_exprs, next_expr, call, no_object, of_object, by_value, by_reference, Passed, no_passed, next_passed, err_raise}
+use Rattle.bound_tree.specs.Tree.{Program, Expr, typed, Term, constant, variable, element, library, unary, binary, convert, Exprs, no_exprs, next_expr, call, no_object, of_object, by_value, by_reference, Passed, no_passed, next_passed, err_number, err_raise}
 use Rattle.bound_facts.specs.Nodes.{nodes, nodes_in, nodes_of_all, nodes_of_passed}
 use Rattle.bound_facts.specs.Node.{type_at, is_variant}
 use Rattle.net_meaning.specs.WrittenRows.{write_operator, write_unary, write_conversion}
@@ -34,11 +32,13 @@ use Rattle.bound_facts.specs.Folded.{converted_value}
 use Rattle.written_trees.specs.Literals.{Piece, quoted, unit, piece_exp, text, joined, pieces_of, constant_exp, written_constant, literal_as, literal_of, spelt, takes_literals, is_whole, is_hexadecimal}
 use Rattle.written_trees.specs.Names.{Path, Scope, support, strings, procedure_path}
 use Rattle.written_trees.specs.Operators.{signed, checked, is_text, typed_operator, typed_unary, operand, is_product_in_currency, variant_operator, variant_unary}
-use Rattle.written_trees.specs.Prologues.{one_if}
-use Rattle.run_matches.specs.Covered.{covers_type, covers_use, covers_library, covers_operator, covers_expr, covers_term, covers_exprs, covers_passed}
-use Rattle.run_matches.specs.Formed.{is_formed, is_formed_term, is_row_of_one, is_row_of_two, is_row_of_call, is_conversion_to, types_of, are_formed, passed_are_formed}
+use Rattle.run_matches.specs.Covered.{covers_type, covers_library, covers_operator, covers_expr, covers_term, covers_exprs, covers_passed, covers_array, covers_bounded, is_bound, uses_in, is_passable}
+use Rattle.run_matches.specs.Formed.{are_longs, has_elements, is_formed, is_formed_term, is_row_of_one, is_row_of_two, is_row_of_call, is_conversion_to, types_of, are_formed, passed_are_formed}
 use Rattle.correspondence.specs.Uses.{uses, term_uses, exprs_uses, passed_uses, names, exps_name, total}
-use Rattle.correspondence.proofs.NamedCalls.{argument_names, bare_names, full_names, neither, none_before, none_of_both, reference_names}
+use Rattle.correspondence.proofs.Among.{or_cases}
+use Rattle.correspondence.proofs.Variables.{passed_cases}
+use Rattle.correspondence.proofs.NamedArrays.{IsRight, array_names, bound_names, given_names, indexes_names}
+use Rattle.correspondence.proofs.NamedCalls.{argument_names, bare_names, covered_type, full_names, neither, none_before, none_of_both}
 
 module _ (count : Path → ℕ) (no_support : (name : List ℕ) → count (support name) ≡ 0) (no_strings : (name : List ℕ) → count (strings name) ≡ 0) where
   -- ---- constants name nothing
@@ -157,9 +157,6 @@ pub no_variant : (ty : Ty) → covers_type ty ≡ true → is_variant ty ≡ fal
 no_variant types.variant h = absurd (cc h)
 no_variant _ h = refl
 
-pub covered_type : (cover : VarId → Bool) (e : Expr) → covers_expr cover e ≡ true → covers_type (type_at e) ≡ true
-covered_type cover (typed ty t) h = (both_true (covers_type ty) (covers_term cover t) h).0
-
 -- ---- calls of the library
 
 module _ (count : Path → ℕ) (no_support : (name : List ℕ) → count (support name) ≡ 0) (no_strings : (name : List ℕ) → count (strings name) ≡ 0)
@@ -207,46 +204,59 @@ module _ (count : Path → ℕ) (no_support : (name : List ℕ) → count (suppo
 
 -- ---- expressions
 
--- A count of paths is right for a variable: it counts the paths of covered uses, none of the run-time library or of the support module, and no
--- path of a procedure whose calls a test doesn't find.
-pub record IsRight (P : Program) (S : Scope) (p : ℕ) (mentions : List Mention) (v : ℕ) (count : Path → ℕ) (test : Expr → Bool) : Type 0 where
-  pub no_support : (name : List ℕ) → count (support name) ≡ 0
-  pub no_strings : (name : List ℕ) → count (strings name) ≡ 0
-  pub no_math : count absolute_path ≡ 0
-  pub used : (k : VarId) (q : Bool) (ty : Ty) → covers_use P p mentions k ≡ true → one_if (nat_eq v k.0) ≡ names count (exp_of S (typed ty (variable k q)))
-  pub uncalled :
-      (ty : Ty) (q : ProcId) (qualified : Bool) (args : Passed) → test (typed ty (call q qualified no_object args)) ≡ false
-      → count (procedure_path S qualified q.0) ≡ 0
-
 module _ (P : Program) (S : Scope) (p v : ℕ) (count : Path → ℕ) (test : Expr → Bool) (mentions : List Mention)
     (right : IsRight P S p mentions v count test) where
   -- the test finds no node
   abbrev Free : List Expr → Type 0
   Free es = list_any test es ≡ false
 
+  -- a call on values, which name what they use, or one that asks for a bound
+  call_names : (ty : Ty) (g : LibCall) (args : Exprs)
+      → (covers_library g && covers_exprs (uses_in P p mentions) args ≡ true) ⊎ (is_bound g && covers_bounded (uses_in P p mentions) args ≡ true)
+      → is_row_of_call g (types_of args) ty ≡ true
+      → (covers_exprs (uses_in P p mentions) args ≡ true → exprs_uses v args ≡ exps_name count (exps_of S args))
+      → exprs_uses v args ≡ names count (library_of S ty g args)
+  call_names ty g args (inl h) row values =
+      let both = both_true (covers_library g) (covers_exprs (uses_in P p mentions) args) h in
+      values both.1 ∙ sym (library_names count right.no_support right.no_strings right.no_math S g ty args both.0 row)
+  call_names ty g args (inr h) row values =
+      let both = both_true (is_bound g) (covers_bounded (uses_in P p mentions) args) h in
+      bound_names P S p v count test mentions right ty g args both.0 both.1
+
   mutual
-    pub expr_names : (e : Expr) → covers_expr (covers_use P p mentions) e ≡ true → is_formed e ≡ true → Free (nodes e) → uses v e ≡ names count (exp_of S e)
+    pub expr_names : (e : Expr) → covers_expr (uses_in P p mentions) e ≡ true → is_formed e ≡ true → Free (nodes e) → uses v e ≡ names count (exp_of S e)
     expr_names (typed ty t) h f free =
         let both = neither (test (typed ty t)) (list_any test (nodes_in t)) free in
-        term_names ty t (both_true (covers_type ty) (covers_term (covers_use P p mentions) t) h).1 f both.0 both.1
+        term_names ty t (both_true (covers_type ty) (covers_term (uses_in P p mentions) t) h).1 f both.0 both.1
 
-    pub term_names : (ty : Ty) (t : Term) → covers_term (covers_use P p mentions) t ≡ true → is_formed_term ty t ≡ true
+    pub term_names : (ty : Ty) (t : Term) → covers_term (uses_in P p mentions) t ≡ true → is_formed_term ty t ≡ true
         → test (typed ty t) ≡ false → Free (nodes_in t) → term_uses v t ≡ names count (term_exp S ty t)
     term_names ty (constant y origin) h f own free = sym (constant_names count right.no_support right.no_strings (is_hexadecimal origin) y)
-    term_names ty (variable k q) h f own free = right.used k q ty h
+    term_names ty (variable k q) h f own free = right.used k q ty (inl h)
+    term_names ty (element a indexes) h f own free =
+        let both = both_true (covers_array (uses_in P p mentions) a) (covers_exprs (uses_in P p mentions) indexes) h in
+        let form = both_true (has_elements (type_at a) ty) (are_longs (types_of indexes) && are_formed indexes) f in
+        let forms = both_true (are_longs (types_of indexes)) (are_formed indexes) form.1 in
+        let parted = none_of_both test (nodes a) (nodes_of_all indexes) free in
+        let array = array_names P S p v count test mentions right a both.0 in
+        let places = args_names indexes both.1 forms.1 parted.1 in
+        let written = indexes_names P S p v count test mentions right a 0 indexes in
+        omega (arith, array, places, written)
     term_names ty (library g args) h f own free =
-        let both = both_true (covers_library g) (covers_exprs (covers_use P p mentions) args) h in
         let forms = both_true (is_row_of_call g (types_of args) ty) (are_formed args) f in
-        args_names args both.1 forms.1 free ∙ sym (library_names count right.no_support right.no_strings right.no_math S g ty args both.0 forms.0)
+        call_names ty g args
+        (or_cases (covers_library g && covers_exprs (uses_in P p mentions) args) (is_bound g && covers_bounded (uses_in P p mentions) args) h) forms.0
+        (λ c. args_names args c forms.1 free)
+    term_names ty err_number h f own free = let none = right.no_support (codes "ErrNumber") in omega (arith, none)
     term_names ty (unary o e) h f own free =
         let form = both_true (is_row_of_one ty (write_unary o (type_at e))) (is_formed e) f in
-        let plain = no_variant (type_at e) (covered_type (covers_use P p mentions) e h) in
+        let plain = no_variant (type_at e) (covered_type (uses_in P p mentions) e h) in
         expr_names e h form.1 free
         ∙ sym (ap {B = ℕ} (λ c. names count (cond c (variant_unary o (exp_of S e)) (typed_unary o ty (exp_of S e)))) plain
         ∙ unary_names count right.no_support right.no_strings o ty (exp_of S e))
     term_names ty (binary o d e) h f own free =
-        let both = both_true (covers_operator o) (covers_expr (covers_use P p mentions) d && covers_expr (covers_use P p mentions) e) h in
-        let sides = both_true (covers_expr (covers_use P p mentions) d) (covers_expr (covers_use P p mentions) e) both.1 in
+        let both = both_true (covers_operator o) (covers_expr (uses_in P p mentions) d && covers_expr (uses_in P p mentions) e) h in
+        let sides = both_true (covers_expr (uses_in P p mentions) d) (covers_expr (uses_in P p mentions) e) both.1 in
         let form = both_true (is_row_of_two o ty (write_operator o (type_at d) (type_at e))) (is_formed d && is_formed e) f in
         let forms = both_true (is_formed d) (is_formed e) form.1 in
         let parted = none_of_both test (nodes d) (nodes e) free in
@@ -262,10 +272,10 @@ module _ (P : Program) (S : Scope) (p v : ℕ) (count : Path → ℕ) (test : Ex
         (λ t. names count (cond t (variant_operator o (exp_of S d) (exp_of S e))
         (typed_operator o (type_at d) ty (operand c d (exp_of S d)) (operand c e (exp_of S e)))))
         (neither_variant (is_variant (type_at d)) (is_variant (type_at e))
-        (no_variant (type_at d) (covered_type (covers_use P p mentions) d sides.0)) (no_variant (type_at e) (covered_type (covers_use P p mentions) e sides.1))) in
+        (no_variant (type_at d) (covered_type (uses_in P p mentions) d sides.0)) (no_variant (type_at e) (covered_type (uses_in P p mentions) e sides.1))) in
         omega (arith, left, other, first, second, whole, plain)
     term_names ty (convert to e) h f own free =
-        let both = both_true (covers_type to) (covers_expr (covers_use P p mentions) e) h in
+        let both = both_true (covers_type to) (covers_expr (uses_in P p mentions) e) h in
         let form = both_true (is_some (write_conversion (type_at e) to)) (is_formed e) f in
         expr_names e both.1 form.1 free ∙ sym (converted_names count right.no_support right.no_strings S to e)
     term_names ty (call q qualified (of_object e) args) h f own free = absurd (cc h)
@@ -279,34 +289,36 @@ module _ (P : Program) (S : Scope) (p v : ℕ) (count : Path → ℕ) (test : Ex
         (passed_of S q.0 0 (next_passed a rest)) (right.uncalled ty q qualified (next_passed a rest) own))
     term_names ty _ h f own free = absurd (cc h)
 
-    args_names : (args : Exprs) → covers_exprs (covers_use P p mentions) args ≡ true → are_formed args ≡ true → Free (nodes_of_all args)
+    args_names : (args : Exprs) → covers_exprs (uses_in P p mentions) args ≡ true → are_formed args ≡ true → Free (nodes_of_all args)
         → exprs_uses v args ≡ exps_name count (exps_of S args)
     args_names no_exprs h f free = refl
     args_names (next_expr e rest) h f free =
-        let both = both_true (covers_expr (covers_use P p mentions) e) (covers_exprs (covers_use P p mentions) rest) h in
+        let both = both_true (covers_expr (uses_in P p mentions) e) (covers_exprs (uses_in P p mentions) rest) h in
         let forms = both_true (is_formed e) (are_formed rest) f in
         let parted = none_of_both test (nodes e) (nodes_of_all rest) free in
         let here = expr_names e both.0 forms.0 parted.0 in
         let more = args_names rest both.1 forms.1 parted.1 in
         omega (arith, here, more)
 
-    passed_names : (q i : ℕ) (args : Passed) → covers_passed (covers_use P p mentions) args ≡ true → passed_are_formed args ≡ true
+    passed_names : (q i : ℕ) (args : Passed) → covers_passed (uses_in P p mentions) args ≡ true → passed_are_formed args ≡ true
         → Free (nodes_of_passed args) → passed_uses v args ≡ exps_name count (passed_of S q i args)
     passed_names q i no_passed h f free = refl
     passed_names q i (next_passed (by_reference e) rest) h f free =
-        let both = both_true (covers_expr (covers_use P p mentions) e) (covers_passed (covers_use P p mentions) rest) h in
+        let cover = uses_in P p mentions in
+        let both = both_true ((is_passable cover e && covers_expr cover e) || covers_array cover e) (covers_passed (uses_in P p mentions) rest) h in
         let forms = both_true (is_formed e) (passed_are_formed rest) f in
         let parted = none_of_both test (nodes e) (nodes_of_passed rest) free in
-        let here = expr_names e both.0 forms.0 parted.0 in
-        let written = reference_names S count (takes_reference S.declarations q i) e (covered_type (covers_use P p mentions) e both.0) in
+        let here =
+        given_names P S p v count test mentions right (takes_reference S.declarations q i) e
+        (passed_cases cover e both.0) (λ c. expr_names e c forms.0 parted.0) in
         let more = passed_names q (suc i) rest both.1 forms.1 parted.1 in
-        omega (arith, here, written, more)
+        omega (arith, here, more)
     passed_names q i (next_passed (by_value e) rest) h f free =
-        let both = both_true (covers_expr (covers_use P p mentions) e) (covers_passed (covers_use P p mentions) rest) h in
+        let both = both_true (covers_expr (uses_in P p mentions) e) (covers_passed (uses_in P p mentions) rest) h in
         let forms = both_true (is_formed e) (passed_are_formed rest) f in
         let parted = none_of_both test (nodes e) (nodes_of_passed rest) free in
         let here = expr_names e both.0 forms.0 parted.0 in
-        let written = argument_names S count (takes_reference S.declarations q i) e (covered_type (covers_use P p mentions) e both.0) in
+        let written = argument_names S count (takes_reference S.declarations q i) e (covered_type (uses_in P p mentions) e both.0) in
         let more = passed_names q (suc i) rest both.1 forms.1 parted.1 in
         omega (arith, here, written, more)
 
@@ -321,11 +333,11 @@ module _ (P : Program) (S : Scope) (p v : ℕ) (count : Path → ℕ) (test : Ex
   printed_names types.variant e = let none = right.no_support (codes "PrintVar") in omega (arith, none)
   printed_names _ e = refl
 
-  joined_names : (w : Exp) (es : List Expr) → list_all (covers_expr (covers_use P p mentions)) es ≡ true → list_all is_formed es ≡ true
+  joined_names : (w : Exp) (es : List Expr) → list_all (covers_expr (uses_in P p mentions)) es ≡ true → list_all is_formed es ≡ true
       → Free (flat_map nodes es) → names count (joined_items S w es) ≡ names count w + total (uses v) es
   joined_names w [] h f free = omega arith
   joined_names w (e ∷ es) h f free =
-      let both = both_true (covers_expr (covers_use P p mentions) e) (list_all (covers_expr (covers_use P p mentions)) es) h in
+      let both = both_true (covers_expr (uses_in P p mentions) e) (list_all (covers_expr (uses_in P p mentions)) es) h in
       let forms = both_true (is_formed e) (list_all is_formed es) f in
       let parted = none_of_both test (nodes e) (flat_map nodes es) free in
       let here = expr_names e both.0 forms.0 parted.0 in
@@ -333,11 +345,11 @@ module _ (P : Program) (S : Scope) (p v : ℕ) (count : Path → ℕ) (test : Ex
       let more = joined_names (net.binary op.Concat w (printed_item S e)) es both.1 forms.1 parted.1 in
       omega (arith, here, item, more)
 
-  pub items_names : (es : List Expr) → list_all (covers_expr (covers_use P p mentions)) es ≡ true → list_all is_formed es ≡ true
+  pub items_names : (es : List Expr) → list_all (covers_expr (uses_in P p mentions)) es ≡ true → list_all is_formed es ≡ true
       → Free (flat_map nodes es) → total (uses v) es ≡ total (names count) (items_exp S es ∷ [])
   items_names [] h f free = refl
   items_names (e ∷ es) h f free =
-      let both = both_true (covers_expr (covers_use P p mentions) e) (list_all (covers_expr (covers_use P p mentions)) es) h in
+      let both = both_true (covers_expr (uses_in P p mentions) e) (list_all (covers_expr (uses_in P p mentions)) es) h in
       let forms = both_true (is_formed e) (list_all is_formed es) f in
       let parted = none_of_both test (nodes e) (flat_map nodes es) free in
       let here = expr_names e both.0 forms.0 parted.0 in
@@ -345,7 +357,7 @@ module _ (P : Program) (S : Scope) (p v : ℕ) (count : Path → ℕ) (test : Ex
       let more = joined_names (printed_item S e) es both.1 forms.1 parted.1 in
       omega (arith, here, item, more)
 
-  pub assigned_names : (to e : Expr) → covers_expr (covers_use P p mentions) to ≡ true → covers_expr (covers_use P p mentions) e ≡ true
+  pub assigned_names : (to e : Expr) → covers_expr (uses_in P p mentions) to ≡ true → covers_expr (uses_in P p mentions) e ≡ true
       → is_formed to ≡ true → is_formed e ≡ true → Free (flat_map nodes (to ∷ e ∷ []))
       → total (uses v) (to ∷ e ∷ []) ≡ total (names count) (exp_of S to ∷ exp_of S e ∷ [])
   assigned_names to e h k f g free =
@@ -356,7 +368,7 @@ module _ (P : Program) (S : Scope) (p v : ℕ) (count : Path → ℕ) (test : Ex
       omega (arith, left, value)
 
   -- the number of an Err.Raise
-  pub raised_names : (ty : Ty) (e : Expr) → covers_expr (covers_use P p mentions) e ≡ true → is_formed e ≡ true
+  pub raised_names : (ty : Ty) (e : Expr) → covers_expr (uses_in P p mentions) e ≡ true → is_formed e ≡ true
       → Free (flat_map nodes (typed ty (err_raise e) ∷ [])) → total (uses v) (typed ty (err_raise e) ∷ []) ≡ total (names count) (exp_of S e ∷ [])
   raised_names ty e h f free =
       let parted = none_of_both test (nodes (typed ty (err_raise e))) [] free in
@@ -365,7 +377,7 @@ module _ (P : Program) (S : Scope) (p v : ℕ) (count : Path → ℕ) (test : Ex
       omega (arith, here)
 
   -- the text of a box
-  pub box_names : (ty : Ty) (e : Expr) → covers_expr (covers_use P p mentions) e ≡ true → is_formed e ≡ true
+  pub box_names : (ty : Ty) (e : Expr) → covers_expr (uses_in P p mentions) e ≡ true → is_formed e ≡ true
       → Free (flat_map nodes (typed ty (library lib.MsgBox (next_expr e no_exprs)) ∷ []))
       → total (uses v) (typed ty (library lib.MsgBox (next_expr e no_exprs)) ∷ []) ≡ total (names count) (exp_of S e ∷ [])
   box_names ty e h f free =

@@ -1,7 +1,7 @@
 -- The written path of a covered variable names a variable of the procedure where it is that one, and else none.
-use Rattle.std.proofs.Common.{◌≡◌, ℕ, zero, suc, Bool, true, false, not, ◌&&◌, cond, List, [], ◌∷◌, Option, Some, None, refl, sym, ap, subst, ◌∙◌, nat_eq, unwrap_or, eq-eqb, eqb-true}
+use Rattle.std.proofs.Common.{◌≡◌, ℕ, zero, suc, Bool, true, false, not, ◌&&◌, cond, List, [], ◌∷◌, Option, Some, None, refl, sym, ap, subst, ◌∙◌, nat_eq, unwrap_or, eq-eqb, eqb-true, inl, inr}
 use Rattle.std.specs.List.{list_all, list_any}
-use Rattle.std.specs.Prelude.{slice_get, ◌||◌, codes, position}
+use Rattle.std.specs.Prelude.{slice_get, ◌||◌, ◌⊎◌, codes, position}
 use Rattle.std.specs.Cmp.Lexicographic.{pointwise}
 use Rattle.up_base.specs.Names.{is_same_name, lower_case}
 use Rattle.up_base.proofs.Lists.{both_true, by_test}
@@ -13,14 +13,16 @@ use Rattle.vb_tree.specs.ProjectLines.{is_reserved}
 use Rattle.vb_tree.specs.Tree.{Module}
 use Rattle.bound_tree.specs.declared.body.Mention.{Mention}
 use Rattle.bound_tree.specs.Tree as tree
-use Rattle.bound_tree.specs.Tree.{Variable, Program, typed, variable}
+use Rattle.bound_tree.specs.Tree.{Expr, Variable, Program, typed, variable}
 use Rattle.bound_facts.specs.Node.{auto_class, class_in}
 use Rattle.net_tree.specs.Tree as net
 use Rattle.written_trees.specs.Exprs.{exp_of, made_if}
 use Rattle.written_trees.specs.Names.{Path, Scope, module_at, is_standard_module, module_name, is_foreign, variable_path_of, owner_path, support}
 use Rattle.written_trees.specs.Prologues.{one_if}
-use Rattle.run_matches.specs.Covered.{covers_type, covers_owner, covers_variable, belongs_to, is_foreign_name, is_reached, covers_some, covers_use, is_mention_of, is_loud}
+use Rattle.written_trees.specs.Types.{element_type}
+use Rattle.run_matches.specs.Covered.{Uses, covers_expr, covers_array, is_passable, covers_type, covers_owner, covers_variable, belongs_to, is_foreign_name, is_reached, covers_some, is_mention_of, is_loud, IsUsed, covers_array_owner, covers_array_variable, covers_bounds, covers_declared, covers_some_array, is_array_of, is_named_apart, uses_in}
 use Rattle.run_matches.specs.Shared.{names_lead, leads_to_home, is_alone_static}
+use Rattle.correspondence.proofs.Among.{or_cases}
 use Rattle.correspondence.specs.Uses.{path_names, shared_names, names, IsAlone, IsSharedAlone}
 
 pub some_same : {A : Type 0} (x y : A) → Some x ≡ Some y → x ≡ y
@@ -31,26 +33,75 @@ abbrev pub IsCoveredAt : (P : Program) (p k : ℕ) → Variable → Type 0
 IsCoveredAt P p k y =
     (slice_get P.declarations.vars k ≡ Some y) × (is_reached P.declarations p k y.name y.owner ≡ true) × (covers_owner y.owner ≡ true) × (y.auto ≡ false)
 
+not_true : (c : Bool) → not c ≡ true → c ≡ false
+not_true true e = absurd (cc e)
+not_true false e = refl
+
 pub covered_at : (P : Program) (p k : ℕ) → covers_some P.declarations p k (slice_get P.declarations.vars k) ≡ true → (y : Variable) × IsCoveredAt P p k y
 covered_at P p k h = by (slice_get P.declarations.vars k) refl h
   where
-    negated : (c : Bool) → not c ≡ true → c ≡ false
-    negated true e = absurd (cc e)
-    negated false e = refl
-
     by : (o : Option Variable) → slice_get P.declarations.vars k ≡ o → covers_some P.declarations p k o ≡ true → (y : Variable) × IsCoveredAt P p k y
     by None e c = absurd (cc c)
     by (Some y) e c =
         let f = both_true (is_reached P.declarations p k y.name y.owner) (covers_variable y) c in
         let g = both_true (covers_owner y.owner) (covers_type y.ty && not y.auto) f.1 in
         let i = both_true (covers_type y.ty) (not y.auto) g.1 in
-        (y, (e, f.0, g.0, negated y.auto i.1))
+        (y, (e, f.0, g.0, not_true y.auto i.1))
 
-pub used_at : (P : Program) (p : ℕ) (mentions : List Mention) (k : VarId) → covers_use P p mentions k ≡ true → (y : Variable) × IsCoveredAt P p k.0 y
-used_at P p mentions k h =
+array_owner : (o : Owner) → covers_array_owner o ≡ true → covers_owner o ≡ true
+array_owner (owner.Module file) h = refl
+array_owner (owner.Local p) h = refl
+array_owner (owner.Static p) h = refl
+array_owner (owner.Reference p) h = refl
+array_owner _ h = absurd (cc h)
+
+array_parts : (element : Ty) (y : Variable) → covers_array_variable element y ≡ true → (covers_owner y.owner ≡ true) × (y.auto ≡ false)
+array_parts element y h =
+    let a = both_true (covers_array_owner y.owner) (covers_type element && (is_array_of element y.ty && (covers_bounds y.ty y.bounds && not y.auto))) h in
+    let b = both_true (covers_type element) (is_array_of element y.ty && (covers_bounds y.ty y.bounds && not y.auto)) a.1 in
+    let c = both_true (is_array_of element y.ty) (covers_bounds y.ty y.bounds && not y.auto) b.1 in
+    let d = both_true (covers_bounds y.ty y.bounds) (not y.auto) c.1 in
+    (array_owner y.owner a.0, not_true y.auto d.1)
+
+-- a declared scalar or array
+pub declared_owner : (x : Variable) → covers_declared x ≡ true → covers_owner x.owner ≡ true
+declared_owner x h = by (or_cases (covers_variable x) (covers_array_variable (element_type x.ty) x) h)
+  where
+    by : (covers_variable x ≡ true) ⊎ (covers_array_variable (element_type x.ty) x ≡ true) → covers_owner x.owner ≡ true
+    by (inl c) = (both_true (covers_owner x.owner) (covers_type x.ty && not x.auto) c).0
+    by (inr c) = (array_parts (element_type x.ty) x c).0
+
+array_at : (P : Program) (p k : ℕ) (element : Ty) → covers_some_array P.declarations p k element (slice_get P.declarations.vars k) ≡ true
+    → (y : Variable) × IsCoveredAt P p k y
+array_at P p k element h = by (slice_get P.declarations.vars k) refl h
+  where
+    by : (o : Option Variable) → slice_get P.declarations.vars k ≡ o → covers_some_array P.declarations p k element o ≡ true
+        → (y : Variable) × IsCoveredAt P p k y
+    by None e c = absurd (cc c)
+    by (Some y) e c =
+        let apart = is_named_apart (slice_get P.declarations.procs p) y.name in
+        let f = both_true (is_reached P.declarations p k y.name y.owner) (covers_array_variable element y && apart) c in
+        let g = array_parts element y (both_true (covers_array_variable element y) apart f.1).0 in
+        (y, (e, f.0, g.0, g.1))
+
+-- a scalar or an array
+pub used_at : (P : Program) (p : ℕ) (mentions : List Mention) (k : VarId) → IsUsed (uses_in P p mentions) k → (y : Variable) × IsCoveredAt P p k.0 y
+used_at P p mentions k (inl h) =
     let o : Option Variable = slice_get P.declarations.vars k.0 in
-    let both = both_true (list_any (is_mention_of k) mentions) (covers_some P.declarations p k.0 o && is_loud P k.0 o) h in
-    covered_at P p k.0 (both_true (covers_some P.declarations p k.0 o) (is_loud P k.0 o) both.1).0
+    covered_at P p k.0 (both_true (list_any (is_mention_of k) mentions) (covers_some P.declarations p k.0 o) h).1
+used_at P p mentions k (inr (element, h)) =
+    let o : Option Variable = slice_get P.declarations.vars k.0 in
+    let both = both_true (list_any (is_mention_of k) mentions) (covers_some_array P.declarations p k.0 element o && is_loud P k.0 o) h in
+    array_at P p k.0 element (both_true (covers_some_array P.declarations p k.0 element o) (is_loud P k.0 o) both.1).0
+
+-- what is given by reference, a scalar or an array
+pub passed_cases : (uses : Uses) (e : Expr) → ((is_passable uses e && covers_expr uses e) || covers_array uses e) ≡ true
+    → (covers_expr uses e ≡ true) ⊎ (covers_array uses e ≡ true)
+passed_cases uses e h = by (or_cases (is_passable uses e && covers_expr uses e) (covers_array uses e) h)
+  where
+    by : ((is_passable uses e && covers_expr uses e) ≡ true) ⊎ (covers_array uses e ≡ true) → (covers_expr uses e ≡ true) ⊎ (covers_array uses e ≡ true)
+    by (inl c) = inl (both_true (is_passable uses e) (covers_expr uses e) c).1
+    by (inr c) = inr c
 
 -- a use of it is written as its path
 pub variable_exp : (P : Program) (S : Scope) → S.declarations ≡ P.declarations → (p : ℕ) (v : VarId) (q : Bool) (ty : Ty) (y : Variable) → IsCoveredAt P p v.0 y
@@ -66,10 +117,6 @@ abbrev pub IsVariablePath : Path → Type 0
 IsVariablePath [] = ⊥
 IsVariablePath (name ∷ []) = Unit {0}
 IsVariablePath (outer ∷ name ∷ more) = is_reserved outer ≡ false
-
-not_true : (c : Bool) → not c ≡ true → c ≡ false
-not_true true e = absurd (cc e)
-not_true false e = refl
 
 module_path : (b : Bool) (outer name : List ℕ) → is_reserved outer ≡ false → IsVariablePath (cond b (outer ∷ name ∷ []) (name ∷ []))
 module_path true outer name h = h
@@ -172,7 +219,7 @@ module _ (P : Program) (S : Scope) (same : S.declarations ≡ P.declarations) (p
       (λ e. sym (other k y q is.0 y.owner refl is.1 is.2 e))
 
   module _ (mentions : List Mention) where
-    pub own_use : (k : VarId) (q : Bool) (ty : Ty) → covers_use P p mentions k ≡ true
+    pub own_use : (k : VarId) (q : Bool) (ty : Ty) → IsUsed (uses_in P p mentions) k
         → one_if (nat_eq v k.0) ≡ names (path_names x.name) (exp_of S (typed ty (variable k q)))
     own_use k q ty h =
         let found = used_at P p mentions k h in
@@ -282,7 +329,7 @@ module _ (P : Program) (S : Scope) (same : S.declarations ≡ P.declarations) (p
       first_false false b c h = refl
 
   module _ (mentions : List Mention) where
-    pub shared_use : (k : VarId) (q : Bool) (ty : Ty) → covers_use P p mentions k ≡ true
+    pub shared_use : (k : VarId) (q : Bool) (ty : Ty) → IsUsed (uses_in P p mentions) k
         → one_if (nat_eq v k.0) ≡ names count (exp_of S (typed ty (variable k q)))
     shared_use k q ty h =
         let found = used_at P p mentions k h in

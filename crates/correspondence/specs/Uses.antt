@@ -1,5 +1,5 @@
 -- How often variables are used, and how often they are named in what is written.
-use Rattle.std.specs.Prelude.{◌≡◌, ℕ, ◌+◌, nat_eq, true, cond, Some, List, [], ◌∷◌, slice_get, option_to_list, codes, Bool, not, ◌&&◌, false, Option, None}
+use Rattle.std.specs.Prelude.{◌≡◌, ℕ, ◌+◌, nat_eq, true, cond, Some, List, [], ◌∷◌, ◌++◌, slice_get, option_to_list, codes, Bool, not, ◌&&◌, false, Option, None}
 use Rattle.std.specs.List.{flat_map, list_any}
 use Rattle.up_base.specs.Names.{is_same_name}
 use Rattle.vb_tree.specs.declared.declared.Owner.TheVariants as owner
@@ -8,9 +8,10 @@ use Rattle.vb_tree.specs.Tree as source
 use Rattle.bound_tree.specs.Tree.{Variable, Procedure, Declarations, Expr, typed, Term, constant, variable, field, element, call, library, unary, binary, convert, new_object, me, with_object, err_number, err_raise, err_clear, is_same, loose, Object, no_object, of_object, Exprs, no_exprs, next_expr, Argument, by_value, by_reference, Passed, no_passed, next_passed}
 use Rattle.bound_facts.specs.Node.{called}
 use Rattle.bound_facts.specs.Nodes.{nodes}
+use Rattle.bound_facts.specs.Parts.{Extent, Resize, resizes}
 use Rattle.net_tree.specs.Tree.{Exp, Exps, no_exps, next_exp}
 use Rattle.net_tree.specs.Tree as net
-use Rattle.written_trees.specs.Conversions.{one}
+use Rattle.written_trees.specs.Conversions.{one, two}
 use Rattle.written_trees.specs.Lines.{print_name}
 use Rattle.written_trees.specs.Names.{Path, Scope, is_standard_module, module_at, module_name, support, procedure_name}
 use Rattle.run_matches.specs.Covered.{belongs_to, is_reached}
@@ -146,6 +147,20 @@ pub record SameUses (S : Scope) (p : ℕ) (es : List Expr) (ws : List Exp) : Typ
       → list_any (is_call_in S.declarations (module_name S.declarations file) x.name) (flat_map nodes es) ≡ false
       → total (uses v) es ≡ total (names (shared_names (nat_eq S.file file) (module_name S.declarations file) x.name)) ws
 
+-- the expressions of an array that a ReDim makes anew, on both sides; a lower bound is a constant, which isn't written as it stands
+abbrev pub extent_exprs : Extent → List Expr
+extent_exprs x = option_to_list x.0 ++ x.1 ∷ []
+
+abbrev pub resize_exprs : Resize → List Expr
+resize_exprs r = r.array ∷ flat_map extent_exprs r.extents
+
+abbrev pub listed : Exps → List Exp
+listed no_exps = []
+listed (next_exp e es) = e ∷ listed es
+
+abbrev pub redim_exps : net.ReDimItem → List Exp
+redim_exps r = r.array ∷ listed r.bounds
+
 -- the expressions of an item of a Case
 abbrev pub case_exps : net.CaseItem → List Exp
 case_exps (net.case_value e) = e ∷ []
@@ -163,11 +178,14 @@ CallCorresponds S p (typed ty (err_raise e) ∷ []) (net.call callee args) =
 CallCorresponds S p (typed ty err_clear ∷ []) (net.call callee args) = (callee ≡ net.path (support (codes "ErrClear"))) × (args ≡ no_exps)
 CallCorresponds S p _ w = ⊥
 
--- An assignment to a variable is written as one, and Debug.Print as a call of PrintLine or, where it doesn't end the line, of PrintPart.
--- A call is written as one. What opens, parts or closes a block is written for one, a condition, the items of a Case and the expressions of a
+-- An assignment is written as one, or as a call of the function that evaluates the value before the target, and Debug.Print as a call of
+-- PrintLine or, where it doesn't end the line, of PrintPart. A call is written as one, a ReDim as one of the same arrays, and an Erase as an
+-- assignment to its array. What opens, parts or closes a block is written for one, a condition, the items of a Case and the expressions of a
 -- For for theirs, and a line without expressions for one; which one that is the variant of its form says.
 abbrev pub FormCorresponds : Scope → (procedure : ℕ) → Form → List Expr → net.Line → Type 0
 FormCorresponds S p (source.assign target value) es (net.assign t v) = SameUses S p es (t ∷ v ∷ [])
+FormCorresponds S p (source.assign target value) es (net.call callee args) =
+    (ty : List ℕ) × (t : Exp) × (v : Exp) × (callee ≡ net.path (support (codes "Put" ++ ty))) × (args ≡ two v t) × SameUses S p es (t ∷ v ∷ [])
 FormCorresponds S p (source.debug_print items ended) es (net.call callee args) =
     (text : Exp) × (callee ≡ net.path (support (print_name ended))) × (args ≡ one text) × SameUses S p es (text ∷ [])
 FormCorresponds S p (source.if_head condition) es (net.if_head e) = SameUses S p es (e ∷ [])
@@ -198,6 +216,9 @@ FormCorresponds S p source.resume es net.resume = Unit {0}
 FormCorresponds S p source.resume_next es net.resume_next = Unit {0}
 FormCorresponds S p (source.resume_at l) es (net.resume_at m) = Unit {0}
 FormCorresponds S p (source.exit kind) es (net.exit what) = Unit {0}
+FormCorresponds S p (source.redim preserve items) es (net.redim kept ws) =
+    (kept ≡ preserve) × SameUses S p (flat_map resize_exprs (resizes items es)) (flat_map redim_exps ws)
+FormCorresponds S p (source.erase array) es (net.assign t v) = SameUses S p es (t ∷ v ∷ [])
 FormCorresponds S p (source.call callee) es w = CallCorresponds S p es w
 FormCorresponds S p (source.invoke callee args) es w = CallCorresponds S p es w
 FormCorresponds S p _ es w = ⊥

@@ -76,26 +76,26 @@ once_in_none ks e = no_pairs ks e
 
 -- ---- arguments
 
-taken_none : (U : Upgrade) (K : Pledge) (w : World) (xs : List SourceGiven) (ys : List NetGiven) → ArgumentsMatch U K w xs ys → taken_by xs ys ≡ []
-taken_none U K w _ _ no_arguments = refl
-taken_none U K w _ _ (next_value ty z y xs ys h rest) =
-    ap (λ ks. ks ++ taken_by xs ys) (no_arrays U w ty z y h) ∙ taken_none U K w xs ys rest
-taken_none U K w _ _ (next_address a b xs ys same target plain rest) = taken_none U K w xs ys rest
+taken_none : (U : Upgrade) (K : Pledge) (q i : ℕ) (w : World) (xs : List SourceGiven) (ys : List NetGiven) → ArgumentsMatch U K q i w xs ys → taken_by xs ys ≡ []
+taken_none U K q _ _ _ _ (no_arguments i w) = refl
+taken_none U K q _ _ _ _ (next_value i w ty z y xs ys h rest) =
+    ap (λ ks. ks ++ taken_by xs ys) (no_arrays U w ty z y h) ∙ taken_none U K q (suc i) w xs ys rest
+taken_none U K q _ _ _ _ (next_address i w a b xs ys same target plain ranked rest) = taken_none U K q (suc i) w xs ys rest
 
-arguments_match : (U : Upgrade) (K L : Pledge) (w : World) (q i : ℕ) (xs : List SourceGiven) (ys : List NetGiven) → Weaker w K L → ArgumentsMatch U K w xs ys
+arguments_match : (U : Upgrade) (K L : Pledge) (q i : ℕ) (w : World) (xs : List SourceGiven) (ys : List NetGiven) → Weaker w K L → ArgumentsMatch U K q i w xs ys
     → ArgsMatch U L w q i xs ys
-arguments_match U K L w q i _ _ weaker no_arguments = no_args i
-arguments_match U K L w q i _ _ weaker (next_value ty z y xs ys h rest) =
-    value_args i (scalar ty z) y xs ys h (arguments_match U K L w q (suc i) xs ys weaker rest)
-arguments_match U K L w q i _ _ weaker (next_address a b xs ys same target plain rest) =
-    address_args i a b xs ys (address_promised U K L w w a b weaker same) target plain (arguments_match U K L w q (suc i) xs ys weaker rest)
+arguments_match U K L q _ _ _ _ weaker (no_arguments i w) = no_args i
+arguments_match U K L q _ _ _ _ weaker (next_value i w ty z y xs ys h rest) =
+    value_args i (scalar ty z) y xs ys h tt (arguments_match U K L q (suc i) w xs ys weaker rest)
+arguments_match U K L q _ _ _ _ weaker (next_address i w a b xs ys same target plain ranked rest) =
+    address_args i a b xs ys (address_promised U K L w w a b weaker same) target plain ranked (arguments_match U K L q (suc i) w xs ys weaker rest)
 
-pub arguments_ok : (U : Upgrade) (K L : Pledge) (w : World) (q : ℕ) (xs : List SourceGiven) (ys : List NetGiven) → Weaker w K L → ArgumentsMatch U K w xs ys
+pub arguments_ok : (U : Upgrade) (K L : Pledge) (w : World) (q : ℕ) (xs : List SourceGiven) (ys : List NetGiven) → Weaker w K L → ArgumentsMatch U K q 0 w xs ys
     → ArgsOk U L w q xs ys
 arguments_ok U K L w q xs ys weaker h = record {
-  match = arguments_match U K L w q 0 xs ys weaker h;
-  loose = λ k c. loose_in_none (taken_by xs ys) k (taken_none U K w xs ys h) c;
-  once = once_in_none (taken_by xs ys) (taken_none U K w xs ys h);
+  match = arguments_match U K L q 0 w xs ys weaker h;
+  loose = λ k c. loose_in_none (taken_by xs ys) k (taken_none U K q 0 w xs ys h) c;
+  once = once_in_none (taken_by xs ys) (taken_none U K q 0 w xs ys h);
 }
 
 -- ---- what a call promises
@@ -110,10 +110,10 @@ inward_foreign U q me (made n) h = refl
 inward_foreign U q me (field o k) h = ap (λ b. is_that_object (cond b None (cond (is_self_made U q) me None)) o) h
 
 pub callee_is_weaker : (U : Upgrade) (K : Pledge) (S : net_names.Scope) (T : Scope) (q : ℕ) (args : Passed) (w : World) (me : Option ℕ)
-    (xs : List SourceGiven) (ys : List NetGiven) → CanCall U K S T q args → ArgumentsMatch U K w xs ys → Weaker w K (call_pledge U q (mark w.src) me xs ys)
+    (xs : List SourceGiven) (ys : List NetGiven) → CanCall U K S T q args → ArgumentsMatch U K q 0 w xs ys → Weaker w K (call_pledge U q (mark w.src) me xs ys)
 callee_is_weaker U K S T q args w me xs ys c h = record {
   keeps = c.keeps;
   steady = λ s. either_first (is_inward U q) (is_self_made U q) (c.inward s);
   old = λ r m s o. record { is_made = m; foreign = inward_foreign U q me r (c.inward s) };
-  takes = λ k lt x. loose_in_none (taken_by xs ys) k (taken_none U K w xs ys h) x;
+  takes = λ k lt x. loose_in_none (taken_by xs ys) k (taken_none U K q 0 w xs ys h) x;
 }

@@ -1,5 +1,5 @@
--- Calls with arguments by value: how both sides come to their arguments, to the callee, and to what it gives.
-use Rattle.std.proofs.Common.{◌≡◌, refl, sym, ap, subst, ◌∙◌, ℕ, Bool, true, false, cond, not, ◌&&◌, Option, Some, None, List, [], ◌∷◌}
+-- Calls: how both sides come to their arguments, to the callee, and to what it gives.
+use Rattle.std.proofs.Common.{◌≡◌, refl, sym, ap, subst, ◌∙◌, ℕ, suc, Bool, true, false, cond, not, ◌&&◌, Option, Some, None, List, [], ◌∷◌}
 use Rattle.vb_tree.specs.BoundTree as types
 use Rattle.vb_tree.specs.BoundTree.{Ty}
 use Rattle.vb_tree.specs.declared.declared.ProcId.{ProcId}
@@ -8,18 +8,16 @@ use Rattle.bound_tree.specs.Tree as tree
 use Rattle.bound_facts.specs.Node.{type_at}
 use Rattle.net_tree.specs.declared.declaration.NetPassing.{NetPassing}
 use Rattle.net_tree.specs.declared.declaration.NetPassing.TheVariants as passing
-use Rattle.net_meaning.specs.declared.value.ValueN.TheVariants as net_scalar
 use Rattle.net_tree.specs.Tree.{Exp, Exps, call_of, path}
-use Rattle.run_base.specs.Frames.{Given, by_address, by_value}
-use Rattle.run_matches.specs.Addresses.{IsPlain, IsTarget, Same}
+use Rattle.run_base.specs.Frames.{by_address, by_value}
+use Rattle.run_matches.specs.Addresses.{HasParameterRank, IsPlain, IsTarget, Same}
 use Rattle.run_base.specs.Machines.{enters}
 use Rattle.run_base.specs.Outcomes.{Outcome, gives, after, then}
 use Rattle.vb6_run.specs.Expressions as source
-use Rattle.vb6_run.specs.Expressions.{Context, Parts, at_address, declared, result_parts, type_shape}
+use Rattle.vb6_run.specs.Expressions.{Context, Parts, declared, result_parts, type_shape}
 use Rattle.vb6_run.specs.Forms.{SourceLine}
-use Rattle.vb6_run.specs.Shapes.{Shape, simple}
 use Rattle.vb6_run.specs.Store.{Memory, SourceCalls, SourceFrame, SourceGiven, provided, Address}
-use Rattle.vb6_run.specs.Values.{Value, fields, elements, is_of_shape}
+use Rattle.vb6_run.specs.Values.{Value, is_of_shape}
 use Rattle.net_run.specs.Calls.{Arguments, passings_at, result_address, result_shape_of}
 use Rattle.net_run.specs.Expressions as target
 use Rattle.net_run.specs.Lines.{NetFrame, NetLine, scope_of}
@@ -38,10 +36,9 @@ use Rattle.written_trees.specs.Names as written_names
 use Rattle.written_trees.specs.Names.{procedure_path}
 use Rattle.run_matches.specs.Agreeing.{Agrees, ResultMatch}
 use Rattle.run_matches.specs.Covered.{covers_type}
-use Rattle.run_matches.specs.Likeness.{LikeV, like_scalar, like_fields, like_elements}
 use Rattle.run_matches.specs.Maps.{World, mark}
 use Rattle.run_matches.specs.Match.{MemoryMatch}
-use Rattle.run_matches.specs.Pledges.{Later, NetGiven, Pledge}
+use Rattle.run_matches.specs.Pledges.{NetGiven, Pledge}
 use Rattle.run_matches.specs.Runs.{CallsAgree, call_pledge}
 use Rattle.run_matches.specs.Upgrades.{Upgrade}
 use Rattle.run_statements.specs.Frames.{CanCall, ScalarMatch, context_of}
@@ -51,12 +48,10 @@ use Rattle.agreeing_laws.specs.Promises.{Weaker}
 use Rattle.agreeing_laws.proofs.Agreeing.{agrees_gives, agrees_outside, agrees_promised, left_alone, right_alone, then_agrees}
 use Rattle.agreeing_laws.proofs.Made.{below_self}
 use Rattle.agreeing_laws.proofs.Moves.{address_later, locks_promised}
-use Rattle.agreeing_laws.proofs.Scalars.{scalar_later}
-use Rattle.expression_laws.specs.Calls.{ArgumentsMatch, GivenMatch, Stands, next_address, next_value}
+use Rattle.expression_laws.specs.Calls.{ArgumentsMatch, GivenMatch, Stands, next_address}
 use Rattle.expression_laws.proofs.Arguments.{arguments_ok, callee_is_weaker, stands_later}
 use Rattle.expression_laws.proofs.Images.{plain_later}
-use Rattle.expression_laws.proofs.Checks.{checked_agrees}
-use Rattle.expression_laws.proofs.Types.{covered_shape}
+use Rattle.expression_laws.proofs.Checks.{value_checked}
 
 -- ---- what is written for an argument
 
@@ -116,63 +111,22 @@ given_is S oracle mode e w h = ap (λ m. target.given S oracle m (target.reach S
 -- ---- arguments on both sides
 
 module _ (U : Upgrade) (K : Pledge) where
-  -- one more argument
-  pub argument_agrees : (w : World) (ty : Ty) (r : Outcome Memory Value) (r' : Outcome net.Memory net_value.Value)
-      (rest : Memory → Outcome Memory (List SourceGiven)) (rest' : net.Memory → Outcome net.Memory Arguments) → MemoryMatch U w
-      → Agrees U K w (ScalarMatch U ty) r r'
-      → ((v : World) → Later U K w v → Agrees U K v (ArgumentsMatch U K) (rest v.src) (rest' v.net))
-      → Agrees U K w (ArgumentsMatch U K) (then (then r (λ x w. gives [] (by_value x) w)) (λ g w. then (rest w) (λ gs w. gives [] (g ∷ gs) w)))
-      (then (then r' (λ v w. gives [] (by_value v) w)) (λ g w. then (rest' w) (λ gs w. gives [] (g ∷ gs) w)))
-  argument_agrees w ty r r' rest rest' start first more =
-      subst (λ z. Agrees U K w (ArgumentsMatch U K) z
-      (then (then r' (λ v w. gives [] (by_value v) w)) (λ g w. then (rest' w) (λ gs w. gives [] (g ∷ gs) w))))
-      (sym (then_assoc r (λ x w. gives [] (by_value x) w) (λ g w. then (rest w) (λ gs w. gives [] (g ∷ gs) w))))
-      (subst (λ z. Agrees U K w (ArgumentsMatch U K) (then r (λ x w. after [] (then (rest w) (λ gs w. gives [] (by_value x ∷ gs) w)))) z)
-      (sym (then_assoc r' (λ v w. gives [] (by_value v) w) (λ g w. then (rest' w) (λ gs w. gives [] (g ∷ gs) w))))
-      (then_agrees U K w (ScalarMatch U ty) (ArgumentsMatch U K) r r' (λ x w. after [] (then (rest w) (λ gs w. gives [] (by_value x ∷ gs) w)))
-      (λ v w. after [] (then (rest' w) (λ gs w. gives [] (by_value v ∷ gs) w))) start first
-      (λ x y v m l.
-      left_alone U K v (ArgumentsMatch U K) (then (rest v.src) (λ gs w. gives [] (by_value x ∷ gs) w))
-      (after [] (then (rest' v.net) (λ gs w. gives [] (by_value y ∷ gs) w)))
-      (right_alone U K v (ArgumentsMatch U K) (then (rest v.src) (λ gs w. gives [] (by_value x ∷ gs) w))
-      (then (rest' v.net) (λ gs w. gives [] (by_value y ∷ gs) w))
-      (then_agrees U K v (ArgumentsMatch U K) (ArgumentsMatch U K) (rest v.src) (rest' v.net) (λ gs w. gives [] (by_value x ∷ gs) w)
-      (λ gs w. gives [] (by_value y ∷ gs) w) l.match (more v l)
-      (λ xs ys u given later.
-      agrees_gives U K u (ArgumentsMatch U K) (by_value x ∷ xs) (by_value y ∷ ys) later.match
-      (subst (λ z. ArgumentsMatch U K u (by_value z ∷ xs) (by_value y ∷ ys)) (sym m.1)
-      (next_value ty m.0 y xs ys (scalar_later U K v u ty m.0 y later m.2) given))))))))
-
-  -- one that both sides give as a value
-  pub taken_agrees : (w : World) (ty : Ty) (r : Outcome Memory Value) (r' : Outcome net.Memory net_value.Value) (s : Outcome Memory SourceGiven)
-      (t : Outcome net.Memory (Given net_value.Value net.Address)) (rest : Memory → Outcome Memory (List SourceGiven))
-      (rest' : net.Memory → Outcome net.Memory Arguments) → s ≡ then r (λ x w. gives [] (by_value x) w) → t ≡ then r' (λ y w. gives [] (by_value y) w)
-      → MemoryMatch U w → Agrees U K w (ScalarMatch U ty) r r'
-      → ((v : World) → Later U K w v → Agrees U K v (ArgumentsMatch U K) (rest v.src) (rest' v.net))
-      → Agrees U K w (ArgumentsMatch U K) (then s (λ g w. then (rest w) (λ gs w. gives [] (g ∷ gs) w))) (then t (λ g w. then (rest' w) (λ gs w. gives [] (g ∷ gs) w)))
-  taken_agrees w ty r r' s t rest rest' e e' start first more =
-      subst (λ z. Agrees U K w (ArgumentsMatch U K) (then z (λ g w. then (rest w) (λ gs w. gives [] (g ∷ gs) w)))
-      (then t (λ g w. then (rest' w) (λ gs w. gives [] (g ∷ gs) w)))) (sym e)
-      (subst (λ z. Agrees U K w (ArgumentsMatch U K) (then (then r (λ x w. gives [] (by_value x) w)) (λ g w. then (rest w) (λ gs w. gives [] (g ∷ gs) w)))
-      (then z (λ g w. then (rest' w) (λ gs w. gives [] (g ∷ gs) w)))) (sym e')
-      (argument_agrees w ty r r' rest rest' start first more))
-
   -- one more variable by reference
-  pub address_agrees : (w : World) (a : Address) (b : net.Address) (rest : Memory → Outcome Memory (List SourceGiven))
+  pub address_agrees : (q i : ℕ) (w : World) (a : Address) (b : net.Address) (rest : Memory → Outcome Memory (List SourceGiven))
       (rest' : net.Memory → Outcome net.Memory Arguments) → MemoryMatch U w → Same U K w a b → IsTarget U a → IsPlain U w a
-      → Agrees U K w (ArgumentsMatch U K) (rest w.src) (rest' w.net)
-      → Agrees U K w (ArgumentsMatch U K) (then (gives [] (by_address a) w.src) (λ g w. then (rest w) (λ gs w. gives [] (g ∷ gs) w)))
+      → HasParameterRank U q i (net.shape_at b) → Agrees U K w (ArgumentsMatch U K q (suc i)) (rest w.src) (rest' w.net)
+      → Agrees U K w (ArgumentsMatch U K q i) (then (gives [] (by_address a) w.src) (λ g w. then (rest w) (λ gs w. gives [] (g ∷ gs) w)))
       (then (gives [] (by_address b) w.net) (λ g w. then (rest' w) (λ gs w. gives [] (g ∷ gs) w)))
-  address_agrees w a b rest rest' start same target plain more =
-      left_alone U K w (ArgumentsMatch U K) (then (rest w.src) (λ gs w. gives [] (by_address a ∷ gs) w))
+  address_agrees q i w a b rest rest' start same target plain ranked more =
+      left_alone U K w (ArgumentsMatch U K q i) (then (rest w.src) (λ gs w. gives [] (by_address a ∷ gs) w))
       (after [] (then (rest' w.net) (λ gs w. gives [] (by_address b ∷ gs) w)))
-      (right_alone U K w (ArgumentsMatch U K) (then (rest w.src) (λ gs w. gives [] (by_address a ∷ gs) w))
+      (right_alone U K w (ArgumentsMatch U K q i) (then (rest w.src) (λ gs w. gives [] (by_address a ∷ gs) w))
       (then (rest' w.net) (λ gs w. gives [] (by_address b ∷ gs) w))
-      (then_agrees U K w (ArgumentsMatch U K) (ArgumentsMatch U K) (rest w.src) (rest' w.net) (λ gs w. gives [] (by_address a ∷ gs) w)
+      (then_agrees U K w (ArgumentsMatch U K q (suc i)) (ArgumentsMatch U K q i) (rest w.src) (rest' w.net) (λ gs w. gives [] (by_address a ∷ gs) w)
       (λ gs w. gives [] (by_address b ∷ gs) w) start more
       (λ xs ys u given later.
-      agrees_gives U K u (ArgumentsMatch U K) (by_address a ∷ xs) (by_address b ∷ ys) later.match
-      (next_address a b xs ys (address_later U K w u a b later same) target (plain_later U K w u a b later same plain) given))))
+      agrees_gives U K u (ArgumentsMatch U K q i) (by_address a ∷ xs) (by_address b ∷ ys) later.match
+      (next_address i u a b xs ys (address_later U K w u a b later same) target (plain_later U K w u a b later same plain) ranked given))))
 
 -- ---- the call
 
@@ -189,7 +143,7 @@ module _ (U : Upgrade) (K : Pledge) (p : ℕ) (f : SourceFrame) (g : NetFrame) (
 
   -- a call with values that match
   entered_agrees : (q : ℕ) (args : Passed) (can : CanCall U K S T q args) (w : World) (xs : List SourceGiven) (ys : List NetGiven) → Stands U K w f g → MemoryMatch U w
-      → ArgumentsMatch U K w xs ys
+      → ArgumentsMatch U K q 0 w xs ys
       → Agrees U K w (GivenMatch U) (then (oracle (enters q f.me f.env xs) w.src) back) (call_does S net_oracle can.number ys w.net)
   entered_agrees q args can w xs ys stands start h =
       let L : Pledge = call_pledge U q (mark w.src) f.me xs ys in
@@ -206,7 +160,7 @@ module _ (U : Upgrade) (K : Pledge) (p : ℕ) (f : SourceFrame) (g : NetFrame) (
 
   -- a call whose arguments agree
   pub call_agrees : (ty : Ty) (q : ProcId) (qualified : Bool) (args : Passed) (can : CanCall U K S T q.0 args) (w : World) → Stands U K w f g → MemoryMatch U w
-      → Agrees U K w (ArgumentsMatch U K) (source.args_of C q.0 0 args w.src)
+      → Agrees U K w (ArgumentsMatch U K q.0 0) (source.args_of C q.0 0 args w.src)
       (target.args_of S net_oracle (passings_at U.written (Some can.number)) (passed_of T q.0 0 args) w.net)
       → Agrees U K w (GivenMatch U) (source.term_parts C ty (call q qualified no_object args) w.src)
       (target.address_of S net_oracle (call_of (path (procedure_path T qualified q.0)) (passed_of T q.0 0 args)) w.net)
@@ -218,22 +172,10 @@ module _ (U : Upgrade) (K : Pledge) (p : ℕ) (f : SourceFrame) (g : NetFrame) (
       subst (λ z. Agrees U K w (GivenMatch U) (after [] (then r go)) z)
       (sym (call_address S net_oracle (procedure_path T qualified q.0) can.number (passed_of T q.0 0 args) (can.found qualified) w.net))
       (left_alone U K w (GivenMatch U) (then r go) (then r' go')
-      (then_agrees U K w (ArgumentsMatch U K) (GivenMatch U) r r' go go' start given
+      (then_agrees U K w (ArgumentsMatch U K q.0 0) (GivenMatch U) r r' go go' start given
       (λ xs ys v m later. entered_agrees q.0 args can v xs ys (stands_later U K w v f g later stands) later.match m)))
 
   -- ---- what it gives, as a value
-
-  other_outside : (ty : Ty) (x : Value) (y : net_value.Value) (v : World) → covers_type ty ≡ true → is_of_shape (simple ty) x ≡ false
-      → Agrees U K v (ScalarMatch U ty) (provided (is_of_shape (type_shape (declared C) ty) x) (λ w. gives [] x w) v.src) (gives [] y v.net)
-  other_outside ty x y v covers other =
-      subst (λ b. Agrees U K v (ScalarMatch U ty) (provided b (λ w. gives [] x w) v.src) (gives [] y v.net))
-      (sym (ap (λ s. is_of_shape s x) (covered_shape (declared C) ty covers) ∙ other)) (agrees_outside U K v (ScalarMatch U ty) (gives [] y v.net))
-
-  checked : (ty : Ty) (x : Value) (y : net_value.Value) (v : World) → covers_type ty ≡ true → MemoryMatch U v → LikeV U v x y
-      → Agrees U K v (ScalarMatch U ty) (provided (is_of_shape (type_shape (declared C) ty) x) (λ w. gives [] x w) v.src) (gives [] y v.net)
-  checked ty _ _ v covers start (like_scalar s z y m) = checked_agrees U K C ty s z (net_value.single y) v covers start (like_scalar s z y m)
-  checked ty _ _ v covers start (like_fields t xs ys m) = other_outside ty (fields t xs) (net_value.fields ys) v covers refl
-  checked ty _ _ v covers start (like_elements e dims xs n m) = other_outside ty (elements e dims xs) (net_value.single (net_scalar.Array n)) v covers refl
 
   module _ (ty : Ty) (q : ProcId) (qualified : Bool) (args : Passed) (covers : covers_type ty ≡ true) where
     abbrev e : Expr
@@ -250,7 +192,7 @@ module _ (U : Upgrade) (K : Pledge) (p : ℕ) (f : SourceFrame) (g : NetFrame) (
     result_agrees v (Some x) (Some y) s start m =
         let is = provided (is_of_shape (type_shape (declared C) ty) x) (λ w. gives [] x w) v.src in
         left_alone U K v (ScalarMatch U ty) (after [] is) (gives [] y v.net)
-        (left_alone U K v (ScalarMatch U ty) is (gives [] y v.net) (checked ty x y v covers start m.like))
+        (left_alone U K v (ScalarMatch U ty) is (gives [] y v.net) (value_checked U K C ty x y v covers start m.like))
 
     -- a call that gives what matches gives a value that does
     pub call_value_agrees : (w : World) (r' : Outcome net.Memory net.Address) → MemoryMatch U w

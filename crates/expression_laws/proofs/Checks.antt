@@ -1,20 +1,22 @@
 -- The values of terms, which are checked to be of their expressions' types.
-use Rattle.std.proofs.Common.{◌≡◌, refl, sym, ap, subst, ℕ, Bool, true, false, ◌&&◌, [], Option, Some, None}
+use Rattle.std.proofs.Common.{◌≡◌, ◌∙◌, refl, sym, ap, subst, ℕ, Bool, true, false, ◌&&◌, [], Option, Some, None}
 use Rattle.vb_tree.specs.BoundTree.{Ty}
 use Rattle.vb_tree.specs.declared.value.Value6.{Value6}
 use Rattle.bound_tree.specs.Tree.{Expr, typed, Term}
 use Rattle.bound_facts.specs.Locks.{is_same_type}
 use Rattle.bound_facts.specs.Node.{declared_in, auto_class, variable_number}
+use Rattle.net_meaning.specs.declared.value.ValueN.TheVariants as net_scalar
 use Rattle.run_base.specs.Outcomes.{Outcome, gives, after, then}
 use Rattle.vb6_run.specs.Expressions as source
 use Rattle.vb6_run.specs.Expressions.{Context, Parts, at_address, declared, type_shape}
+use Rattle.vb6_run.specs.Shapes.{simple}
 use Rattle.vb6_run.specs.Store.{Memory, constant, provided}
-use Rattle.vb6_run.specs.Values.{Value, scalar, is_of_shape, is_typed}
+use Rattle.vb6_run.specs.Values.{Value, scalar, fields, elements, is_of_shape, is_typed}
 use Rattle.net_run.specs.Store as net
 use Rattle.net_run.specs.Values as net_value
 use Rattle.run_matches.specs.Agreeing.{Agrees}
 use Rattle.run_matches.specs.Covered.{covers_type}
-use Rattle.run_matches.specs.Likeness.{LikeV}
+use Rattle.run_matches.specs.Likeness.{LikeV, like_scalar, like_fields, like_elements}
 use Rattle.run_matches.specs.Maps.{World}
 use Rattle.run_matches.specs.Match.{MemoryMatch}
 use Rattle.run_matches.specs.Pledges.{Pledge, Later}
@@ -53,6 +55,20 @@ module _ (U : Upgrade) (K : Pledge) where
       let is : s ≡ ty = same_of ty s covers (both_true (is_same_type ty s) (is_typed s z) test).0 in
       agrees_gives U K w (ScalarMatch U ty) (scalar s z) y start
       (z, ap (λ q. scalar q z) is, subst (λ q. LikeV U w (scalar q z) y) is like))
+
+  other_outside : (C : Context) (ty : Ty) (x : Value) (y : net_value.Value) (v : World) → covers_type ty ≡ true → is_of_shape (simple ty) x ≡ false
+      → Agrees U K v (ScalarMatch U ty) (provided (is_of_shape (type_shape (declared C) ty) x) (λ w. gives [] x w) v.src) (gives [] y v.net)
+  other_outside C ty x y v covers other =
+      subst (λ b. Agrees U K v (ScalarMatch U ty) (provided b (λ w. gives [] x w) v.src) (gives [] y v.net))
+      (sym (ap (λ s. is_of_shape s x) (covered_shape (declared C) ty covers) ∙ other)) (agrees_outside U K v (ScalarMatch U ty) (gives [] y v.net))
+
+  -- any value is checked to be one of a covered type
+  pub value_checked : (C : Context) (ty : Ty) (x : Value) (y : net_value.Value) (v : World) → covers_type ty ≡ true → MemoryMatch U v → LikeV U v x y
+      → Agrees U K v (ScalarMatch U ty) (provided (is_of_shape (type_shape (declared C) ty) x) (λ w. gives [] x w) v.src) (gives [] y v.net)
+  value_checked C ty _ _ v covers start (like_scalar s z y m) = checked_agrees C ty s z (net_value.single y) v covers start (like_scalar s z y m)
+  value_checked C ty _ _ v covers start (like_fields t xs ys m) = other_outside C ty (fields t xs) (net_value.fields ys) v covers refl
+  value_checked C ty _ _ v covers start (like_elements e dims xs n m) =
+      other_outside C ty (elements e dims xs) (net_value.single (net_scalar.Array n)) v covers refl
 
   term_in : (C : Context) (ty s : Ty) (t : Term) (class : Option ℕ) (z : Value6) (y : net_value.Value) (w : World) → class ≡ None → covers_type ty ≡ true
       → MemoryMatch U w → LikeV U w (scalar s z) y

@@ -1,8 +1,10 @@
 -- Covered expressions do the same as what is written for them.
-use Rattle.std.proofs.Common.{◌≡◌, ◌∙◌, refl, sym, ap, subst, ℕ, suc, ◌+◌, arith, Bool, true, false, cond, ◌&&◌, ◌||◌, List, [], Option, Some, None, IfSome}
+use Rattle.std.proofs.Common.{◌≡◌, inr, ◌∙◌, refl, sym, ap, subst, ℕ, suc, ◌+◌, ◌≤◌, ◌<◌, length, arith, Bool, true, false, cond, ◌&&◌, ◌||◌, List, [], ◌∷◌, Option, Some, None, IfSome}
 use Rattle.std.specs.Prelude.{is_some}
 use Rattle.vb_tree.specs.BoundTree as types
-use Rattle.vb_tree.specs.BoundTree.{Ty}
+use Rattle.vb_tree.specs.BoundTree.{Ty, long}
+use Rattle.vb_tree.specs.declared.bound.LibCall.{LibCall}
+use Rattle.vb_tree.specs.declared.declared.VarId.{VarId}
 use Rattle.vb_tree.specs.declared.bound.Op6.TheVariants as op6
 use Rattle.vb_tree.specs.declared.expression.BinOp.{BinOp}
 use Rattle.vb_tree.specs.declared.expression.BinOp.TheVariants as bin
@@ -10,7 +12,7 @@ use Rattle.vb_tree.specs.declared.expression.UnOp.{UnOp}
 use Rattle.vb_tree.specs.declared.expression.UnOp.TheVariants as un
 use Rattle.vb_tree.specs.declared.value.Value6.{Value6}
 use Rattle.vb6_meaning.specs.Values.{operate}
-use Rattle.bound_tree.specs.Tree.{Expr, typed, constant, variable, field, element, call, library, unary, binary, convert, new_object, me, with_object, err_number, err_raise, err_clear, is_same, loose, no_exprs, next_expr, no_object, of_object, by_value, by_reference, Passed, no_passed, next_passed}
+use Rattle.bound_tree.specs.Tree.{Expr, typed, constant, variable, field, element, call, library, unary, binary, convert, new_object, me, with_object, err_number, err_raise, err_clear, is_same, loose, Exprs, no_exprs, next_expr, no_object, of_object, by_value, by_reference, Passed, no_passed, next_passed}
 use Rattle.bound_facts.specs.Folded.{binary_row, unary_row}
 use Rattle.bound_facts.specs.Locks.{is_same_type}
 use Rattle.bound_facts.specs.Node.{type_at, is_variant}
@@ -25,9 +27,9 @@ use Rattle.net_meaning.specs.SameValues as values
 use Rattle.net_meaning.specs.WrittenRows.{Written, evaluate, write_operator, write_unary, write_conversion}
 use Rattle.meaning_laws.proofs.SameRows as same
 use Rattle.meaning_laws.proofs.ConversionRows.{minus, turn}
-use Rattle.run_base.specs.Outcomes.{Outcome, after, then, answered}
+use Rattle.run_base.specs.Outcomes.{Outcome, after, gives, then, answered}
 use Rattle.vb6_run.specs.Expressions as source
-use Rattle.vb6_run.specs.Expressions.{Context}
+use Rattle.vb6_run.specs.Expressions.{Context, lows_at}
 use Rattle.vb6_run.specs.Forms.{SourceLine}
 use Rattle.vb6_run.specs.Store.{Memory, SourceCalls, SourceFrame}
 use Rattle.net_run.specs.Calls.{passings_at}
@@ -38,12 +40,13 @@ use Rattle.net_run.specs.Members.{Code}
 use Rattle.net_run.specs.Names as net_names
 use Rattle.net_run.specs.Store as net
 use Rattle.net_run.specs.Values as net_value
-use Rattle.written_trees.specs.Arguments.{argument_exp, is_conversion, is_property, takes_reference}
-use Rattle.written_trees.specs.Exprs.{exp_of, passed_of}
+use Rattle.written_trees.specs.Arguments.{argument_exp, has_address, is_conversion, is_property, kept, takes_reference}
+use Rattle.written_trees.specs.Exprs.{exp_of, index_at, indexes_of, passed_of}
+use Rattle.written_trees.specs.Library.{low_at}
 use Rattle.written_trees.specs.Names.{Scope, procedure_path}
 use Rattle.written_trees.specs.Operators.{binary_exp, unary_exp}
 use Rattle.run_matches.specs.Agreeing.{Agrees}
-use Rattle.run_matches.specs.Covered.{Uses, covers_type, covers_term, covers_operator, covers_expr, covers_passed, is_referred, is_temporary, is_variable, suits_passed}
+use Rattle.run_matches.specs.Covered.{Uses, covers_array, covers_bounded, covers_dimension, covers_exprs, covers_library, is_bound, covers_type, covers_term, covers_operator, covers_expr, covers_passed, is_passable, is_referred, is_variable, suits_array, suits_passed}
 use Rattle.run_matches.specs.Frames.{frame_pledge}
 use Rattle.run_matches.specs.Likeness.{are_same}
 use Rattle.run_matches.specs.Maps.{World}
@@ -51,27 +54,37 @@ use Rattle.run_matches.specs.Match.{MemoryMatch}
 use Rattle.run_matches.specs.Pledges.{Pledge, Later}
 use Rattle.run_matches.specs.Upgrades.{Upgrade, runnable_of}
 use Rattle.run_matches.specs.Runs.{CallsAgree}
-use Rattle.run_statements.specs.Frames.{AllCalled, AllCalledFor, AnyParts, CallsAreMade, CanCall, ScalarMatch, PlainMatch, IsOpen, context_of, AreReadable, ExpressionsAgree, passing_at, passing_by}
+use Rattle.run_statements.specs.Elements.{IndexedMatch, IndexesAgree}
+use Rattle.run_statements.specs.Fitting.{FitsPassed, FitsRank}
+use Rattle.run_statements.specs.Frames.{ArraysAgree, ElementsAgree, AllCalled, AllCalledAll, AllCalledFor, IsArray, LeadsBefore, AnyParts, CallsAreMade, CanCall, Demands, demands, ScalarMatch, PlainMatch, IsOpen, context_of, AreReadable, ExpressionsAgree, passing_at, passing_by}
 use Rattle.run_statements.specs.Written.{Passes}
 use Rattle.row_laws.specs.Constants.{IsHeld}
 use Rattle.row_laws.specs.Follows.{Any, RowOfOne, RowOfTwo}
 use Rattle.row_laws.specs.Rows.{IsOf, Fits, operand_of, is_direct, is_ready}
 use Rattle.row_laws.proofs.Stated as rows
-use Rattle.run_matches.specs.Formed.{is_row_of_one, is_row_of_two, passed_are_formed, is_formed}
+use Rattle.run_matches.specs.Formed.{are_formed, are_longs, has_elements, is_row_of_call, types_of, is_row_of_one, is_row_of_two, passed_are_formed, is_formed}
 use Rattle.agreeing_laws.proofs.Agreeing.{agrees_gives, agrees_weaker}
 use Rattle.expression_laws.specs.Calls.{ArgumentsMatch, GivenMatch, Stands, no_arguments}
 use Rattle.expression_laws.specs.Images.{HaveImages}
-use Rattle.expression_laws.specs.Statements.{VariablesAreReadBy, FormedExpressionsAgreeBy, FormedScalarsAgreeBy, VariablesAreRead, FormedScalarsAgree}
-use Rattle.expression_laws.proofs.Types.{both_true, same_as, covered_typed}
+use Rattle.expression_laws.specs.Statements.{ArraysAgreeBy, ElementsAgreeBy, IndexesAgreeBy, VariablesAreReadBy, FormedExpressionsAgreeBy, FormedScalarsAgreeBy, VariablesAreRead, FormedScalarsAgree}
+use Rattle.expression_laws.proofs.Types.{both_true, either_true, same_as, same_of, covered_typed}
 use Rattle.expression_laws.proofs.Checks.{TermMatch, term_agrees, plain_agrees}
 use Rattle.expression_laws.proofs.Conversions.{IsConstant, formed_constant, constant_agrees, conversion_agrees}
 use Rattle.expression_laws.proofs.Arguments.{stands_now, stands_later}
-use Rattle.expression_laws.proofs.Calls.{call_agrees, call_value_agrees, callee_is, taken_agrees}
+use Rattle.expression_laws.proofs.Calls.{call_agrees, call_value_agrees, callee_is}
+use Rattle.expression_laws.proofs.Handed.{taken_agrees}
+use Rattle.expression_laws.proofs.Handled.{Handles}
 use Rattle.expression_laws.proofs.Images.{images_now, images_later}
-use Rattle.expression_laws.proofs.Library.{library_agrees}
-use Rattle.expression_laws.proofs.References.{first, further, here, reference_agrees}
+use Rattle.expression_laws.proofs.Library.{by_either, library_agrees}
+use Rattle.expression_laws.proofs.IndexRows.{index_is_row}
+use Rattle.expression_laws.proofs.Elements.{IndexesLike, array_agrees, index_agrees, indexed_agrees, next_agrees, sound_array}
+use Rattle.expression_laws.proofs.ElementValues.{element_agrees, element_value}
+use Rattle.expression_laws.proofs.Bounds.{bounds_agree, long_bound}
+use Rattle.expression_laws.proofs.ErrNumbers.{err_number_agrees}
+use Rattle.expression_laws.proofs.References.{IsPassed, first, further, here, reference_agrees, scalar_passed}
 use Rattle.expression_laws.proofs.Temporaries.{conversion_given, conversion_goes, value_goes}
 use Rattle.expression_laws.proofs.Variables.{variable_agrees}
+use Rattle.expression_laws.proofs.WrittenValues.{exp_handles}
 use Rattle.expression_laws.proofs.RowsAgree.{any_same, At, one_agrees, two_agree}
 
 -- ---- operators
@@ -175,11 +188,54 @@ module _ (U : Upgrade) (K : Pledge) (S : net_names.Scope) (oracle : Jobs) where
       (subst (λ t. RowOfTwo S oracle (IsOf any_same (type_at d)) (binary_exp o t d e a c) a c (evaluate q.row)) is (h both.1 fits_a fits_c))
       (λ v z z' y y' m m'. subst (λ t. values.Agrees (At v t) (operate (op6.Typed o) z z') (evaluate q.row y y')) is (law v z z' y y' m m')) start operand other
 
+-- ---- arrays
+
+-- an array variable
+pub record IsArrayUse (uses : Uses) (e : Expr) : Type 0 where
+  pub element : Ty
+  pub rank : ℕ
+  pub id : VarId
+  pub qualified : Bool
+  pub is : e ≡ typed (types.array element rank) (variable id qualified)
+  pub used : uses.array id element ≡ true
+
+pub array_use : (uses : Uses) (e : Expr) → covers_array uses e ≡ true → IsArrayUse uses e
+array_use uses (typed (types.array d rank) (variable v qualified)) h = record { element = d; rank = rank; id = v; qualified = qualified; is = refl; used = h }
+array_use uses (typed (types.array d rank) _) h = absurd (cc h)
+array_use uses (typed _ t) h = absurd (cc h)
+
+-- what is written for arrays leads to them before indexes too
+abbrev pub AllLead : net_names.Scope → Scope → Uses → Type 0
+AllLead S T uses = (v : VarId) (element : Ty) → uses.array v element ≡ true → LeadsBefore S T v.0
+
+-- indexes are Longs, of which there are two at most
+abbrev pub AllLong : List Ty → Type 0
+AllLong [] = Unit {0}
+AllLong (t ∷ ts) = (t ≡ long) × AllLong ts
+
+pub all_long : (ts : List Ty) → are_longs ts ≡ true → AllLong ts × (length ts ≤ 2)
+all_long [] h = absurd (cc h)
+all_long (t ∷ []) h = ((same_of long t refl h, tt), omega arith)
+all_long (t ∷ s ∷ []) h =
+    let both = both_true (is_same_type long t) (is_same_type long s) h in
+    ((same_of long t refl both.0, (same_of long s refl both.1, tt)), omega arith)
+all_long (t ∷ s ∷ r ∷ ts) h = absurd (cc h)
+
+pub from_none : (ts : List Ty) → length ts ≤ 2 → 0 + length ts ≤ 2
+from_none ts h = omega arith
+
+in_two : (d : ℕ) (t : Ty) (ts : List Ty) → d + length (t ∷ ts) ≤ 2 → d < 2
+in_two d t ts h = omega arith
+
+in_two_more : (d : ℕ) (t : Ty) (ts : List Ty) → d + length (t ∷ ts) ≤ 2 → suc d + length ts ≤ 2
+in_two_more d t ts h = omega arith
+
 -- ---- expressions
 
 module _ (U : Upgrade) (K : Pledge) (reads : VariablesAreReadBy U K) (p : ℕ) (f : SourceFrame) (g : NetFrame) (oracle : SourceCalls) (net_oracle : Jobs)
     (l : SourceLine) (k : NetLine) (c : Code) (T : Scope) (uses : Uses) (same_declarations : T.declarations ≡ U.program.declarations)
-    (opened : IsOpen (scope_of U.written c g k)) (readable : AreReadable U uses) (agree : CallsAgree U (Passes U) oracle net_oracle) where
+    (opened : IsOpen (scope_of U.written c g k)) (readable : AreReadable U T uses) (leads : AllLead (scope_of U.written c g k) T uses)
+    (agree : CallsAgree U (Passes U) oracle net_oracle) where
   abbrev C : Context
   C = context_of U oracle p f l
 
@@ -192,19 +248,80 @@ module _ (U : Upgrade) (K : Pledge) (reads : VariablesAreReadBy U K) (p : ℕ) (
   abbrev Can : ℕ → Passed → Type 0
   Can q called_with = CanCall U K (scope_of U.written c g k) T q called_with
 
+  abbrev Asked : Demands
+  Asked = demands U K (scope_of U.written c g k) T
+
   from_first : {q : ℕ} {called_with : Passed} (can : Can q called_with) (n : ℕ)
       → passing_at (passings_at U.written (Some can.number)) n ≡ passing_by (takes_reference U.program.declarations q (0 + n))
   from_first {q} can n = can.passings n ∙ ap (λ m. passing_by (takes_reference U.program.declarations q m)) (first n)
 
+  -- an element, where its indexes agree
+  pub indexed_by : (ty : Ty) (e : Expr) (indexes : Exprs) (w : World) → MemoryMatch U w → HaveImages U K w f S T uses → covers_array uses e ≡ true
+      → has_elements (type_at e) ty ≡ true → FitsRank U e indexes
+      → Agrees U K w (λ u zs ys. IndexesLike (λ d. low_at T e d) 0 (length (types_of indexes)) zs ys) (source.indexes_of C indexes w.src)
+      (target.values_of S net_oracle (indexes_of T e 0 indexes) w.net)
+      → Agrees U K w (IndexedMatch U (lows_at C e) ty)
+      (then (source.address_of C e w.src) (λ b s. then (source.indexes_of C indexes s) (λ zs s. gives [] (b, zs) s)))
+      (target.reach S net_oracle false (exp_of T (typed ty (element e indexes))) w.net)
+  indexed_by ty e indexes w start have covers typed_as fits given =
+      let x : IsArrayUse uses e = array_use uses e covers in
+      by x e x.is typed_as fits given
+    where
+      by : (x : IsArrayUse uses e) (d : Expr) → d ≡ typed (types.array x.element x.rank) (variable x.id x.qualified) → has_elements (type_at d) ty ≡ true
+          → FitsRank U d indexes
+          → Agrees U K w (λ u zs ys. IndexesLike (λ j. low_at T d j) 0 (length (types_of indexes)) zs ys) (source.indexes_of C indexes w.src)
+          (target.values_of S net_oracle (indexes_of T d 0 indexes) w.net)
+          → Agrees U K w (IndexedMatch U (lows_at C d) ty)
+          (then (source.address_of C d w.src) (λ b s. then (source.indexes_of C indexes s) (λ zs s. gives [] (b, zs) s)))
+          (target.reach S net_oracle false (exp_of T (typed ty (element d indexes))) w.net)
+      by x d is =
+          subst (λ d. has_elements (type_at d) ty ≡ true → FitsRank U d indexes
+          → Agrees U K w (λ u zs ys. IndexesLike (λ j. low_at T d j) 0 (length (types_of indexes)) zs ys) (source.indexes_of C indexes w.src)
+          (target.values_of S net_oracle (indexes_of T d 0 indexes) w.net)
+          → Agrees U K w (IndexedMatch U (lows_at C d) ty)
+          (then (source.address_of C d w.src) (λ b s. then (source.indexes_of C indexes s) (λ zs s. gives [] (b, zs) s)))
+          (target.reach S net_oracle false (exp_of T (typed ty (element d indexes))) w.net)) (sym is)
+          (λ typed_as fits given.
+          let r : IsArray U x.id.0 x.element = readable.arrays x.id x.element x.used in
+          let a : Expr = typed (types.array x.element x.rank) (variable x.id x.qualified) in
+          subst (λ t. Agrees U K w (IndexedMatch U (lows_at C a) t)
+          (then (source.address_of C a w.src) (λ b s. then (source.indexes_of C indexes s) (λ zs s. gives [] (b, zs) s)))
+          (target.reach S net_oracle false (exp_of T (typed t (element a indexes))) w.net)) (sym (same_of x.element ty r.covers typed_as))
+          (indexed_agrees U K p f g oracle net_oracle l k c T same_declarations x.element x.rank x.id x.qualified r w start
+          (λ a at. have x.id a (inr (x.element, x.used)) at) indexes (length (types_of indexes)) readable.facts (leads x.id x.element x.used)
+          (fits (sound_array U x.id x.element (types.array x.element x.rank) x.qualified r refl)) given))
+
+  -- the bounds of an array
+  bounded_by : (ty : Ty) (function : LibCall) (args : Exprs) (w : World) → MemoryMatch U w → HaveImages U K w f S T uses
+      → (is_bound function && covers_bounded uses args) ≡ true → is_formed (typed ty (library function args)) ≡ true
+      → Agrees U K w (ScalarMatch U ty) (source.value_of C (typed ty (library function args)) w.src) (written (typed ty (library function args)) w)
+  bounded_by ty function no_exprs w start have covers formed = absurd (cc (both_true (is_bound function) false covers).1)
+  bounded_by ty function (next_expr e rest) w start have covers formed =
+      let both = both_true (is_bound function) (covers_array uses e && covers_dimension rest) covers in
+      let inner = both_true (covers_array uses e) (covers_dimension rest) both.1 in
+      let forms = both_true (is_row_of_call function (types_of (next_expr e rest)) ty) (are_formed (next_expr e rest)) formed in
+      let x : IsArrayUse uses e = array_use uses e inner.0 in
+      subst (λ d. Agrees U K w (ScalarMatch U ty) (source.value_of C (typed ty (library function (next_expr d rest))) w.src)
+      (written (typed ty (library function (next_expr d rest))) w)) (sym x.is)
+      (bounds_agree U K p f g oracle net_oracle l k c T same_declarations readable.facts opened.support x.element x.rank x.id x.qualified
+      (readable.arrays x.id x.element x.used) w start (λ a at. have x.id a (inr (x.element, x.used)) at) function ty rest both.0
+      (long_bound function (types_of (next_expr e rest)) ty both.0 forms.0))
+
+  -- what is written for a value without an address
+  handles : (e : Expr) → AllCalled Asked e → covers_expr uses e ≡ true → is_formed e ≡ true → has_address T.declarations (kept e) ≡ false
+      → Handles S (exp_of T e)
+  handles e can covers formed none =
+      exp_handles U K (scope_of U.written c g k) opened T uses same_declarations e can covers formed (ap (λ E. has_address E (kept e)) (sym same_declarations) ∙ none)
+
   mutual
-    pub expression_agrees : (e : Expr) (w : World) → MemoryMatch U w → HaveImages U K w f S T uses → Stands U K w f g → AllCalled Can e
+    pub expression_agrees : (e : Expr) (w : World) → MemoryMatch U w → HaveImages U K w f S T uses → Stands U K w f g → AllCalled Asked e
         → covers_expr uses e ≡ true → is_formed e ≡ true → Agrees U K w (ScalarMatch U (type_at e)) (source.value_of C e w.src) (written e w)
     expression_agrees (typed ty (constant x origin)) w start have stands can covers formed =
         let both = both_true (covers_type ty) true covers in
         term_agrees U K C ty ty (constant x origin) w (written (typed ty (constant x origin)) w) refl both.0 start
         (constant_agrees U K S net_oracle opened w ty x origin (formed_constant ty x origin both.0 formed) start)
     expression_agrees (typed ty (variable v qualified)) w start have stands can covers formed =
-        let both = both_true (covers_type ty) (uses v) covers in
+        let both = both_true (covers_type ty) (uses.scalar v) covers in
         variable_agrees U K reads p f g oracle net_oracle l k c T uses ty v qualified w same_declarations readable have both.1 both.0 start
     expression_agrees (typed ty (unary o e)) w start have stands can covers formed =
         let both = both_true (covers_type ty) (covers_expr uses e) covers in
@@ -240,7 +357,7 @@ module _ (U : Upgrade) (K : Pledge) (reads : VariablesAreReadBy U K) (p : ℕ) (
         start (plain_agrees U K C d (type_at d) w (written d w) start (expression_agrees d w start have stands can.0 operands.0 inner.0))
         (λ v later.
         plain_agrees U K C e (type_at e) v (written e v) later.match
-        (expression_agrees e v later.match (images_later U K w v f S T uses later have) (stands_later U K w v f g later stands) can.1 operands.1 inner.1))))
+        (expression_agrees e v later.match (images_later U K w v f S T uses start later have) (stands_later U K w v f g later stands) can.1 operands.1 inner.1))))
     expression_agrees (typed ty (convert to (typed from t))) w start have stands can covers formed =
         let both = both_true (covers_type ty) (covers_type to && covers_expr uses (typed from t)) covers in
         let operand = both_true (covers_type to) (covers_expr uses (typed from t)) both.1 in
@@ -249,113 +366,193 @@ module _ (U : Upgrade) (K : Pledge) (reads : VariablesAreReadBy U K) (p : ℕ) (
         (conversion_agrees U K S net_oracle opened C from to t (exp_of T (typed from t)) w (covered_type uses (typed from t) operand.1) forms.1 forms.0 start
         (plain_agrees U K C (typed from t) from w (written (typed from t) w) start (expression_agrees (typed from t) w start have stands can operand.1 forms.1)))
     expression_agrees (typed ty (field e i)) w start have stands can covers formed = absurd (cc formed)
-    expression_agrees (typed ty (element e indexes)) w start have stands can covers formed = absurd (cc formed)
+    expression_agrees (typed ty (element e indexes)) w start have stands can covers formed =
+        let both = both_true (covers_type ty) (covers_array uses e && covers_exprs uses indexes) covers in
+        let inner = both_true (covers_array uses e) (covers_exprs uses indexes) both.1 in
+        let forms = both_true (has_elements (type_at e) ty) (are_longs (types_of indexes) && are_formed indexes) formed in
+        let rest = both_true (are_longs (types_of indexes)) (are_formed indexes) forms.1 in
+        let longs = all_long (types_of indexes) rest.0 in
+        element_value U K C ty both.0 e indexes S net_oracle w (target.reach S net_oracle false (exp_of T (typed ty (element e indexes))) w.net) start
+        (element_agrees U K C e ty indexes w (target.reach S net_oracle false (exp_of T (typed ty (element e indexes))) w.net) start
+        (indexed_by ty e indexes w start have inner.0 forms.0 can.0
+        (indexes_agree e 0 indexes w (from_none (types_of indexes) longs.1) longs.0 start have stands can.1 inner.1 rest.1)))
     expression_agrees (typed ty (call q qualified (of_object e) args)) w start have stands can covers formed =
         absurd (cc (both_true (covers_type ty) false covers).1)
     expression_agrees (typed ty (call q qualified no_object args)) w start have stands can covers formed =
         let both = both_true (covers_type ty) (covers_passed uses args) covers in
         let parted = call_of (path (procedure_path T qualified q.0)) (passed_of T q.0 0 args) in
         let called = call_agrees U K p f g oracle net_oracle l k c T agree ty q qualified args can.0 w stands start
-        (passed_agree q.0 can.0.loud 0 args (passings_at U.written (Some can.0.number)) w (from_first can.0) can.0.suits start have stands can.1 both.1 formed) in
+        (passed_agree q.0 0 args (passings_at U.written (Some can.0.number)) w (from_first can.0) can.0.suits start have stands can.1 both.1 formed can.0.ranks) in
         subst (λ x. Agrees U K w (ScalarMatch U ty) (source.value_of C (typed ty (call q qualified no_object args)) w.src) (target.value_of S net_oracle x w.net))
         (sym (callee_is T ty q qualified args (ap (λ D. is_property D q.0) same_declarations ∙ can.0.plain)))
         (call_value_agrees U K p f g oracle net_oracle l k c T agree ty q qualified args both.0 w (target.address_of S net_oracle parted w.net) start called)
     expression_agrees (typed ty (library function no_exprs)) w start have stands can covers formed =
-        library_agrees U K S net_oracle opened C T uses ty function no_exprs w start covers formed tt
+        let args : Exprs = no_exprs in
+        let both = both_true (covers_type ty) ((covers_library function && covers_exprs uses args) || (is_bound function && covers_bounded uses args)) covers in
+        by_either (covers_library function && covers_exprs uses args) (is_bound function && covers_bounded uses args) both.1
+        (λ values. library_agrees U K S net_oracle opened C T uses ty function args w start both.0 values formed tt)
+        (λ bounds. bounded_by ty function args w start have bounds formed)
     expression_agrees (typed ty (library function (next_expr d no_exprs))) w start have stands can covers formed =
-        library_agrees U K S net_oracle opened C T uses ty function (next_expr d no_exprs) w start covers formed
-        ((λ v later h i. expression_agrees d v later.match (images_later U K w v f S T uses later have) (stands_later U K w v f g later stands) can.0 h i), tt)
+        let args : Exprs = (next_expr d no_exprs) in
+        let both = both_true (covers_type ty) ((covers_library function && covers_exprs uses args) || (is_bound function && covers_bounded uses args)) covers in
+        by_either (covers_library function && covers_exprs uses args) (is_bound function && covers_bounded uses args) both.1
+        (λ values. library_agrees U K S net_oracle opened C T uses ty function args w start both.0 values formed ((λ v later h i. expression_agrees d v later.match (images_later U K w v f S T uses start later have) (stands_later U K w v f g later stands) can.1.0 h i), tt))
+        (λ bounds. bounded_by ty function args w start have bounds formed)
     expression_agrees (typed ty (library function (next_expr d (next_expr e no_exprs)))) w start have stands can covers formed =
-        library_agrees U K S net_oracle opened C T uses ty function (next_expr d (next_expr e no_exprs)) w start covers formed (
-          (λ v later h i. expression_agrees d v later.match (images_later U K w v f S T uses later have) (stands_later U K w v f g later stands) can.0 h i),
-          ((λ v later h i. expression_agrees e v later.match (images_later U K w v f S T uses later have) (stands_later U K w v f g later stands) can.1.0 h i), tt),
-        )
+        let args : Exprs = (next_expr d (next_expr e no_exprs)) in
+        let both = both_true (covers_type ty) ((covers_library function && covers_exprs uses args) || (is_bound function && covers_bounded uses args)) covers in
+        by_either (covers_library function && covers_exprs uses args) (is_bound function && covers_bounded uses args) both.1
+        (λ values. library_agrees U K S net_oracle opened C T uses ty function args w start both.0 values formed (
+          (λ v later h i. expression_agrees d v later.match (images_later U K w v f S T uses start later have) (stands_later U K w v f g later stands) can.1.0 h i),
+          ((λ v later h i. expression_agrees e v later.match (images_later U K w v f S T uses start later have) (stands_later U K w v f g later stands) can.1.1.0 h i), tt),
+        ))
+        (λ bounds. bounded_by ty function args w start have bounds formed)
     expression_agrees (typed ty (library function (next_expr d (next_expr e (next_expr x rest))))) w start have stands can covers formed =
-        library_agrees U K S net_oracle opened C T uses ty function (next_expr d (next_expr e (next_expr x rest))) w start covers formed (
-          (λ v later h i. expression_agrees d v later.match (images_later U K w v f S T uses later have) (stands_later U K w v f g later stands) can.0 h i),
+        let args : Exprs = (next_expr d (next_expr e (next_expr x rest))) in
+        let both = both_true (covers_type ty) ((covers_library function && covers_exprs uses args) || (is_bound function && covers_bounded uses args)) covers in
+        by_either (covers_library function && covers_exprs uses args) (is_bound function && covers_bounded uses args) both.1
+        (λ values. library_agrees U K S net_oracle opened C T uses ty function args w start both.0 values formed (
+          (λ v later h i. expression_agrees d v later.match (images_later U K w v f S T uses start later have) (stands_later U K w v f g later stands) can.1.0 h i),
           (
-            (λ v later h i. expression_agrees e v later.match (images_later U K w v f S T uses later have) (stands_later U K w v f g later stands) can.1.0 h i),
-            ((λ v later h i. expression_agrees x v later.match (images_later U K w v f S T uses later have) (stands_later U K w v f g later stands) can.1.1.0 h i), tt),
+            (λ v later h i. expression_agrees e v later.match (images_later U K w v f S T uses start later have) (stands_later U K w v f g later stands) can.1.1.0 h i),
+            ((λ v later h i. expression_agrees x v later.match (images_later U K w v f S T uses start later have) (stands_later U K w v f g later stands) can.1.1.1.0 h i), tt),
           ),
-        )
+        ))
+        (λ bounds. bounded_by ty function args w start have bounds formed)
     expression_agrees (typed ty (new_object class)) w start have stands can covers formed = absurd (cc formed)
     expression_agrees (typed ty me) w start have stands can covers formed = absurd (cc formed)
     expression_agrees (typed ty (with_object root)) w start have stands can covers formed = absurd (cc formed)
-    expression_agrees (typed ty err_number) w start have stands can covers formed = absurd (cc formed)
+    expression_agrees (typed ty err_number) w start have stands can covers formed = err_number_agrees U K C S net_oracle opened.support T w start ty formed
     expression_agrees (typed ty (err_raise e)) w start have stands can covers formed = absurd (cc (both_true (covers_type ty) false covers).1)
     expression_agrees (typed ty err_clear) w start have stands can covers formed = absurd (cc (both_true (covers_type ty) false covers).1)
     expression_agrees (typed ty (is_same d e)) w start have stands can covers formed = absurd (cc formed)
     expression_agrees (typed ty (loose e rules)) w start have stands can covers formed = absurd (cc formed)
 
+    -- indexes from a dimension on
+    pub indexes_agree : (a : Expr) (d : ℕ) (indexes : Exprs) (w : World) → d + length (types_of indexes) ≤ 2 → AllLong (types_of indexes) → MemoryMatch U w
+        → HaveImages U K w f S T uses → Stands U K w f g → AllCalledAll Asked indexes → covers_exprs uses indexes ≡ true → are_formed indexes ≡ true
+        → Agrees U K w (λ u zs ys. IndexesLike (λ j. low_at T a j) d (length (types_of indexes)) zs ys) (source.indexes_of C indexes w.src)
+        (target.values_of S net_oracle (indexes_of T a d indexes) w.net)
+    indexes_agree a d no_exprs w few longs start have stands can covers formed =
+        agrees_gives U K w (λ u zs ys. IndexesLike (λ j. low_at T a j) d 0 zs ys) [] [] start (tt, refl)
+    indexes_agree a d (next_expr e rest) w few longs start have stands can covers formed =
+        let both = both_true (covers_expr uses e) (covers_exprs uses rest) covers in
+        let forms = both_true (is_formed e) (are_formed rest) formed in
+        next_agrees U K C S net_oracle (λ j. low_at T a j) d (length (types_of rest)) e rest (index_at T a d (exp_of T e)) (indexes_of T a (suc d) rest) w start
+        (index_agrees U K C S net_oracle e (low_at T a d) (index_at T a d (exp_of T e)) (exp_of T e) w
+        (index_is_row S net_oracle opened.support T a d (exp_of T e) (in_two d (type_at e) (types_of rest) few)) start
+        (subst (λ t. Agrees U K w (PlainMatch U t) (source.scalar_value C e w.src) (written e w)) longs.0
+        (plain_agrees U K C e (type_at e) w (written e w) start (expression_agrees e w start have stands can.0 both.0 forms.0))))
+        (λ v later.
+        indexes_agree a (suc d) rest v (in_two_more d (type_at e) (types_of rest) few) longs.1 later.match (images_later U K w v f S T uses start later have)
+        (stands_later U K w v f g later stands) can.1 both.1 forms.1)
+
     -- arguments from a place on, as they are taken
-    pub passed_agree : (q : ℕ) → ((i : ℕ) → (runnable_of U).quiet q i ≡ false) → (i : ℕ) (args : Passed) (modes : List NetPassing) (w : World)
+    pub passed_agree : (q i : ℕ) (args : Passed) (modes : List NetPassing) (w : World)
         → ((n : ℕ) → passing_at modes n ≡ passing_by (takes_reference U.program.declarations q (i + n))) → suits_passed U.program.declarations q i args ≡ true
-        → MemoryMatch U w → HaveImages U K w f S T uses → Stands U K w f g → AllCalledFor Can args → covers_passed uses args ≡ true
-        → passed_are_formed args ≡ true
-        → Agrees U K w (ArgumentsMatch U K) (source.args_of C q i args w.src) (target.args_of S net_oracle modes (passed_of T q i args) w.net)
-    passed_agree q loud i no_passed modes w takes suits start have stands can covers formed = agrees_gives U K w (ArgumentsMatch U K) [] [] start no_arguments
-    passed_agree q loud i (next_passed (by_reference e) rest) modes w takes suits start have stands can covers formed =
+        → MemoryMatch U w → HaveImages U K w f S T uses → Stands U K w f g → AllCalledFor Asked args → covers_passed uses args ≡ true
+        → passed_are_formed args ≡ true → FitsPassed U q i args
+        → Agrees U K w (ArgumentsMatch U K q i) (source.args_of C q i args w.src) (target.args_of S net_oracle modes (passed_of T q i args) w.net)
+    passed_agree q i no_passed modes w takes suits start have stands can covers formed fits = agrees_gives U K w (ArgumentsMatch U K q i) [] [] start (no_arguments i w)
+    passed_agree q i (next_passed (by_reference e) rest) modes w takes suits start have stands can covers formed fits =
         let D = U.program.declarations in
-        let both = both_true (covers_expr uses e) (covers_passed uses rest) covers in
-        let fit = both_true (takes_reference D q i && is_referred D e) (suits_passed D q (suc i) rest) suits in
-        let one = both_true (takes_reference D q i) (is_referred D e) fit.0 in
+        let both = both_true ((is_passable uses e && covers_expr uses e) || covers_array uses e) (covers_passed uses rest) covers in
+        let passed : IsPassed uses e = either_true (is_passable uses e && covers_expr uses e) (covers_array uses e) both.0 in
+        let fit = both_true (takes_reference D q i && (is_referred e && suits_array D q i e)) (suits_passed D q (suc i) rest) suits in
+        let one = both_true (takes_reference D q i) (is_referred e && suits_array D q i e) fit.0 in
+        let referred = both_true (is_referred e) (suits_array D q i e) one.1 in
         let forms = both_true (is_formed e) (passed_are_formed rest) formed in
         let next = λ (n : ℕ). takes (suc n) ∙ ap (λ m. passing_by (takes_reference D q m)) (further i n) in
         let mode : target.first_passing modes ≡ passing.Reference =
         takes 0 ∙ ap (λ n. passing_by (takes_reference D q n)) (here i) ∙ ap passing_by one.0 in
-        let covered : covers_type (type_at e) ≡ true = covered_type uses e both.0 in
-        by_test (is_variable e) (λ b. is_variable e ≡ b → (b || (is_conversion e && is_temporary D e)) ≡ true
-        → Agrees U K w (ArgumentsMatch U K) (source.args_of C q i (next_passed (by_reference e) rest) w.src)
+        by_test (is_variable e) (λ b. is_variable e ≡ b → (b || is_conversion e) ≡ true
+        → Agrees U K w (ArgumentsMatch U K q i) (source.args_of C q i (next_passed (by_reference e) rest) w.src)
         (target.args_of S net_oracle modes (passed_of T q i (next_passed (by_reference e) rest)) w.net))
         (λ yes is h.
-        reference_agrees U K p f g oracle net_oracle l k c T uses same_declarations readable w ((runnable_of U).quiet q i) (target.first_passing modes)
+        reference_agrees U K p f g oracle net_oracle l k c T uses same_declarations readable q i w ((runnable_of U).quiet q i) (target.first_passing modes)
         (takes_reference T.declarations q i) e (source.args_of C q (suc i) rest) (target.args_of S net_oracle (target.rest_passings modes) (passed_of T q (suc i) rest))
-        (loud i) mode is both.0 start have
-        (passed_agree q loud (suc i) rest (target.rest_passings modes) w next fit.1 start have stands can.1 both.1 forms.1))
+        mode is passed fits.0 referred.1 start have
+        (passed_agree q (suc i) rest (target.rest_passings modes) w next fit.1 start have stands can.1 both.1 forms.1 fits.1))
         (λ no is h.
-        let parts = both_true (is_conversion e) (is_temporary D e) h in
-        taken_agrees U K w (type_at e) (source.value_of C e w.src) (target.value_of S net_oracle (exp_of T e) w.net)
+        let scalar : covers_expr uses e ≡ true = scalar_passed uses e passed is in
+        let covered : covers_type (type_at e) ≡ true = covered_type uses e scalar in
+        taken_agrees U K q i w (type_at e) (source.value_of C e w.src) (target.value_of S net_oracle (exp_of T e) w.net)
         (source.argument_of C ((runnable_of U).quiet q i) (by_reference e) w.src)
         (target.given S net_oracle (target.first_passing modes)
         (target.reach S net_oracle false (argument_exp T (takes_reference T.declarations q i) (by_reference e) (exp_of T e)) w.net))
         (source.args_of C q (suc i) rest) (target.args_of S net_oracle (target.rest_passings modes) (passed_of T q (suc i) rest))
-        (conversion_given C ((runnable_of U).quiet q i) e w.src covered parts.0)
-        (conversion_goes S net_oracle T e covered w.net (target.first_passing modes) (takes_reference T.declarations q i) mode parts.0
-        (ap (λ E. is_temporary E e) same_declarations ∙ parts.1)) start
-        (expression_agrees e w start have stands can.0 both.0 forms.0)
+        (conversion_given C ((runnable_of U).quiet q i) e w.src covered h)
+        (conversion_goes S net_oracle T e covered w.net (handles e can.0 scalar forms.0) (target.first_passing modes) (takes_reference T.declarations q i) mode h)
+        start
+        (expression_agrees e w start have stands can.0 scalar forms.0)
         (λ v later.
-        passed_agree q loud (suc i) rest (target.rest_passings modes) v next fit.1 later.match (images_later U K w v f S T uses later have)
-        (stands_later U K w v f g later stands) can.1 both.1 forms.1)) refl one.1
-    passed_agree q loud i (next_passed (by_value e) rest) modes w takes suits start have stands can covers formed =
+        passed_agree q (suc i) rest (target.rest_passings modes) v next fit.1 later.match (images_later U K w v f S T uses start later have)
+        (stands_later U K w v f g later stands) can.1 both.1 forms.1 fits.1)) refl referred.0
+    passed_agree q i (next_passed (by_value e) rest) modes w takes suits start have stands can covers formed fits =
         let D = U.program.declarations in
         let both = both_true (covers_expr uses e) (covers_passed uses rest) covers in
         let forms = both_true (is_formed e) (passed_are_formed rest) formed in
-        let fit = both_true (cond (takes_reference D q i) (is_temporary D e) true) (suits_passed D q (suc i) rest) suits in
+        let fit = both_true true (suits_passed D q (suc i) rest) suits in
         let next = λ (n : ℕ). takes (suc n) ∙ ap (λ m. passing_by (takes_reference D q m)) (further i n) in
-        taken_agrees U K w (type_at e) (source.value_of C e w.src) (target.value_of S net_oracle (exp_of T e) w.net)
+        taken_agrees U K q i w (type_at e) (source.value_of C e w.src) (target.value_of S net_oracle (exp_of T e) w.net)
         (source.argument_of C ((runnable_of U).quiet q i) (by_value e) w.src)
         (target.given S net_oracle (target.first_passing modes)
         (target.reach S net_oracle false (argument_exp T (takes_reference T.declarations q i) (by_value e) (exp_of T e)) w.net))
         (source.args_of C q (suc i) rest) (target.args_of S net_oracle (target.rest_passings modes) (passed_of T q (suc i) rest)) refl
-        (value_goes S net_oracle T e (covered_type uses e both.0) w.net (takes_reference D q i) (target.first_passing modes) (takes_reference T.declarations q i)
-        (takes 0 ∙ ap (λ n. passing_by (takes_reference D q n)) (here i)) (ap (λ E. takes_reference E q i) same_declarations)
-        (ap (λ E. cond (takes_reference D q i) (is_temporary E e) true) same_declarations ∙ fit.0)) start
+        (value_goes S net_oracle T e (covered_type uses e both.0) w.net (handles e can.0 both.0 forms.0) (takes_reference D q i) (target.first_passing modes)
+        (takes_reference T.declarations q i) (takes 0 ∙ ap (λ n. passing_by (takes_reference D q n)) (here i)) (ap (λ E. takes_reference E q i) same_declarations))
+        start
         (expression_agrees e w start have stands can.0 both.0 forms.0)
         (λ v later.
-        passed_agree q loud (suc i) rest (target.rest_passings modes) v next fit.1 later.match (images_later U K w v f S T uses later have)
-        (stands_later U K w v f g later stands) can.1 both.1 forms.1)
+        passed_agree q (suc i) rest (target.rest_passings modes) v next fit.1 later.match (images_later U K w v f S T uses start later have)
+        (stands_later U K w v f g later stands) can.1 both.1 forms.1 fits.1)
 
 -- ---- the laws
 
 pub expressions_agree_by : (U : Upgrade) (K : Pledge) → VariablesAreReadBy U K → FormedExpressionsAgreeBy U K
 expressions_agree_by U K reads w p f g oracle net_oracle l k c T uses e start frames declarations opened readable placed agree can covers formed =
-    expression_agrees U K reads p f g oracle net_oracle l k c T uses declarations opened readable agree e w start
-    (images_now U K w p f g (scope_of U.written c g k) refl T declarations frames uses readable placed) (stands_now U K w p f g frames) can covers formed
+    expression_agrees U K reads p f g oracle net_oracle l k c T uses declarations opened readable placed.leads agree e w start
+    (images_now U K w p f g (scope_of U.written c g k) refl T declarations frames uses start readable placed) (stands_now U K w p f g frames) can covers formed
 
 pub scalars_agree_by : (U : Upgrade) (K : Pledge) → VariablesAreReadBy U K → FormedScalarsAgreeBy U K
 scalars_agree_by U K reads w p f g oracle net_oracle l k c T uses e start frames declarations opened readable placed agree can covers formed =
     plain_agrees U K (context_of U oracle p f l) e (type_at e) w (target.value_of (scope_of U.written c g k) net_oracle (exp_of T e) w.net) start
     (expressions_agree_by U K reads w p f g oracle net_oracle l k c T uses e start frames declarations opened readable placed agree can covers formed)
+
+pub indexes_agree_by : (U : Upgrade) (K : Pledge) → VariablesAreReadBy U K → IndexesAgreeBy U K
+indexes_agree_by U K reads w p f g oracle net_oracle l k c T uses ty a indexes start frames declarations opened readable placed agree can covers_array
+    covers_indexes formed =
+    let forms = both_true (has_elements (type_at a) ty) (are_longs (types_of indexes) && are_formed indexes) formed in
+    let rest = both_true (are_longs (types_of indexes)) (are_formed indexes) forms.1 in
+    let longs = all_long (types_of indexes) rest.0 in
+    let have : HaveImages U K w f (scope_of U.written c g k) T uses =
+    images_now U K w p f g (scope_of U.written c g k) refl T declarations frames uses start readable placed in
+    indexed_by U K reads p f g oracle net_oracle l k c T uses declarations opened readable placed.leads agree ty a indexes w start have covers_array forms.0 can.0
+    (indexes_agree U K reads p f g oracle net_oracle l k c T uses declarations opened readable placed.leads agree a 0 indexes w
+    (from_none (types_of indexes) longs.1) longs.0 start have (stands_now U K w p f g frames) can.1 covers_indexes rest.1)
+
+pub elements_agree_by : (U : Upgrade) (K : Pledge) → VariablesAreReadBy U K → ElementsAgreeBy U K
+elements_agree_by U K reads w p f g oracle net_oracle l k c T uses ty a indexes start frames declarations opened readable placed agree can covers_array
+    covers_indexes formed =
+    element_agrees U K (context_of U oracle p f l) a ty indexes w
+    (target.reach (scope_of U.written c g k) net_oracle false (exp_of T (typed ty (element a indexes))) w.net) start
+    (indexes_agree_by U K reads w p f g oracle net_oracle l k c T uses ty a indexes start frames declarations opened readable placed agree can covers_array
+    covers_indexes formed)
+
+pub arrays_agree_by : (U : Upgrade) (K : Pledge) → ArraysAgreeBy U K
+arrays_agree_by U K w p f g oracle net_oracle l k c T uses d rank (variable v qualified) start frames declarations readable placed covers =
+    array_agrees U K p f g oracle net_oracle l k c T declarations d rank v qualified (readable.arrays v d covers) w start
+    (λ a at. images_now U K w p f g (scope_of U.written c g k) refl T declarations frames uses start readable placed v a (inr (d, covers)) at)
+arrays_agree_by U K w p f g oracle net_oracle l k c T uses d rank _ start frames declarations readable placed covers = absurd (cc covers)
+
+pub indexes_agree_all : (U : Upgrade) → VariablesAreRead U → IndexesAgree U
+indexes_agree_all U reads K = indexes_agree_by U K (reads K)
+
+pub elements_agree : (U : Upgrade) → VariablesAreRead U → ElementsAgree U
+elements_agree U reads K = elements_agree_by U K (reads K)
+
+pub arrays_agree : (U : Upgrade) → ArraysAgree U
+arrays_agree U K = arrays_agree_by U K
 
 pub expressions_agree : (U : Upgrade) → VariablesAreRead U → ExpressionsAgree U
 expressions_agree U reads K = expressions_agree_by U K (reads K)
@@ -372,10 +569,10 @@ calls_are_made U reads K w p f g oracle net_oracle l k c T uses ty q qualified a
     let r' = target.address_of S net_oracle (call_of (path (procedure_path T qualified q.0)) (passed_of T q.0 0 args)) w.net in
     agrees_weaker U K w (GivenMatch U) AnyParts (source.term_parts C ty (call q qualified no_object args) w.src) r' (λ v x a l m. tt)
     (call_agrees U K p f g oracle net_oracle l k c T agree ty q qualified args can.0 w stands start
-    (passed_agree U K (reads K) p f g oracle net_oracle l k c T uses declarations opened readable agree q.0 can.0.loud 0 args
+    (passed_agree U K (reads K) p f g oracle net_oracle l k c T uses declarations opened readable placed.leads agree q.0 0 args
     (passings_at U.written (Some can.0.number)) w
-    (from_first U K (reads K) p f g oracle net_oracle l k c T uses declarations opened readable agree can.0) can.0.suits start
-    (images_now U K w p f g (scope_of U.written c g k) refl T declarations frames uses readable placed) stands can.1 covers formed))
+    (from_first U K (reads K) p f g oracle net_oracle l k c T uses declarations opened readable placed.leads agree can.0) can.0.suits start
+    (images_now U K w p f g (scope_of U.written c g k) refl T declarations frames uses start readable placed) stands can.1 covers formed can.0.ranks))
 
 -- under the pledge of a frame
 
@@ -386,3 +583,14 @@ frame_expressions_agree U p w f reads = expressions_agree_by U (frame_pledge U p
 pub frame_scalars_agree : (U : Upgrade) (p : ℕ) (w : World) (f : SourceFrame) → VariablesAreReadBy U (frame_pledge U p w f)
     → FormedScalarsAgreeBy U (frame_pledge U p w f)
 frame_scalars_agree U p w f reads = scalars_agree_by U (frame_pledge U p w f) reads
+
+pub frame_indexes_agree : (U : Upgrade) (p : ℕ) (w : World) (f : SourceFrame) → VariablesAreReadBy U (frame_pledge U p w f)
+    → IndexesAgreeBy U (frame_pledge U p w f)
+frame_indexes_agree U p w f reads = indexes_agree_by U (frame_pledge U p w f) reads
+
+pub frame_elements_agree : (U : Upgrade) (p : ℕ) (w : World) (f : SourceFrame) → VariablesAreReadBy U (frame_pledge U p w f)
+    → ElementsAgreeBy U (frame_pledge U p w f)
+frame_elements_agree U p w f reads = elements_agree_by U (frame_pledge U p w f) reads
+
+pub frame_arrays_agree : (U : Upgrade) (p : ℕ) (w : World) (f : SourceFrame) → ArraysAgreeBy U (frame_pledge U p w f)
+frame_arrays_agree U p w f = arrays_agree_by U (frame_pledge U p w f)

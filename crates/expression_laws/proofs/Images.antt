@@ -1,37 +1,44 @@
 -- Variables that are used are images of each other, and stay so.
-use Rattle.std.proofs.Common.{◌≡◌, refl, sym, ap, subst, ◌∙◌, inl, inr, ℕ, Bool, true, false, cond, not, ◌&&◌, nat_eq, List, [], ◌∷◌, Some, Option, None}
+use Rattle.std.proofs.Common.{◌≡◌, refl, sym, ap, subst, ◌∙◌, inl, inr, ℕ, ℤ, Bool, true, false, cond, not, ◌&&◌, nat_eq, List, [], ◌∷◌, Some, Option, None, true≢false}
 use Rattle.std.specs.Prelude.{slice_get, is_some}
 use Rattle.std.specs.Map.{lookup}
 use Rattle.std.proofs.lemmas.Bool.{eqb-true}
+use Rattle.vb_tree.specs.BoundTree.{Ty}
 use Rattle.vb_tree.specs.declared.declared.Owner.{Owner}
 use Rattle.vb_tree.specs.declared.declared.Owner.TheVariants as owner
+use Rattle.vb_tree.specs.declared.declared.VarId.{VarId}
 use Rattle.bound_tree.specs.Tree.{Variable, Declarations}
 use Rattle.bound_facts.specs.Effects.{is_own_owner, is_own_variable}
 use Rattle.bound_facts.specs.SelfMade.{module_of}
 use Rattle.bound_facts.specs.Facts.{is_quiet}
 use Rattle.bound_facts.specs.Node.{auto_class, class_in}
+use Rattle.net_meaning.specs.declared.value.ValueN.TheVariants as n
 use Rattle.run_base.specs.Positions.{Key, Position, made, shared, whole}
 use Rattle.written_trees.specs.Names.{Scope, alone, owner_path, variable_path, variable_path_of, variable_name_of}
 use Rattle.vb6_run.specs.Runnables.{is_class_file, owned_address, declared_address, variable_address, object_root, root_address, static_root}
-use Rattle.vb6_run.specs.Programs.{is_static_of}
-use Rattle.vb6_run.specs.Shapes.{simple, shape_by, variable_shape, declared_shape, user_shapes}
-use Rattle.vb6_run.specs.Store.{Address, root, SourceFrame}
+use Rattle.vb6_run.specs.Programs.{is_module_variable, is_static_of}
+use Rattle.vb6_run.specs.Shapes.{Shape, simple, group, array, endless, shape_by, variable_shape, declared_shape, user_shapes}
+use Rattle.vb6_run.specs.Store.{Address, root, Held, table, SourceFrame}
+use Rattle.vb6_run.specs.Values.{Dimension, Values}
 use Rattle.net_run.specs.Lines.{NetFrame}
 use Rattle.net_run.specs.Names as net_names
 use Rattle.net_run.specs.Names.{path_start, starts, at_place, frame_start, var_in}
 use Rattle.net_run.specs.Shapes as net_shapes
 use Rattle.net_run.specs.Store as net
-use Rattle.run_matches.specs.Addresses.{Same, same_root, Bound, images, mirrored, IsPlain, position_of, same_item}
-use Rattle.run_matches.specs.Covered.{Uses, covers_owner, covers_type, covers_variable, is_reference_in, is_reference_owner_of}
-use Rattle.run_matches.specs.Frames.{FrameMatch, SameVariable, SameStatic, HasPlace, is_own_of, is_static_in, static_of, GivenPlace, is_reference_of}
-use Rattle.run_matches.specs.Likeness.{same_scalar}
+use Rattle.run_matches.specs.Addresses.{AllMatched, AllRanked, Same, same_root, Bound, images, mirrored, IsPlain, position_of, same_item}
+use Rattle.run_matches.specs.Covered.{Uses, IsUsed, covers_owner, covers_type, covers_variable, is_reference_in, is_reference_owner_of}
+use Rattle.run_matches.specs.Frames.{StandsAs, FrameMatch, SameVariable, SameStatic, HasPlace, is_own_of, is_static_in, static_of, GivenAddress, is_element, is_reference_of}
+use Rattle.run_matches.specs.Kinds.{IsKind}
+use Rattle.run_matches.specs.Likeness.{SameShape, same_scalar, same_class}
 use Rattle.run_matches.specs.Maps.{World, IsMade, IsMatched, is_auto_root, is_auto_variable, key_or_none, mark, moved_at}
+use Rattle.run_matches.specs.Match.{HasRank, HeldAs, Holds, holds_blank, holds_single, holds_table, holds_parts, MemoryMatch, StoreMatch}
 use Rattle.run_matches.specs.Pledges.{Pledge, Later}
-use Rattle.run_matches.specs.Upgrades.{Upgrade, is_auto, variable_key}
-use Rattle.run_statements.specs.Frames.{IsReadable, IsOwnStatic, IsShared, IsGiven, IsPlaced, ArePlaced, AreReadable}
+use Rattle.run_matches.specs.Upgrades.{Upgrade, has_bounds, is_auto, is_fixed, variable_key}
+use Rattle.run_statements.specs.Frames.{HasRankOf, IsArray, IsKnown, IsReadable, IsOwnStatic, IsShared, IsGiven, IsPlaced, ArePlaced, AreReadable}
 use Rattle.agreeing_laws.proofs.Made.{same_variable}
+use Rattle.agreeing_laws.proofs.Lasting.{later_then}
 use Rattle.agreeing_laws.proofs.Moves.{address_later, matched_whole}
-use Rattle.expression_laws.specs.Images.{HasImage, HaveImages}
+use Rattle.expression_laws.specs.Images.{HasImage, HaveImages, IsImage}
 use Rattle.expression_laws.proofs.Types.{both_true, simple_type}
 
 pub owner_covered : (x : Variable) → covers_variable x ≡ true → covers_owner x.owner ≡ true
@@ -45,20 +52,38 @@ not_true : (b : Bool) → not b ≡ true → b ≡ false
 not_true true e = absurd (cc e)
 not_true false e = refl
 
--- a covered variable is no As New one
-not_auto : (U : Upgrade) (v : ℕ) → IsReadable U v → is_auto U v ≡ false
-not_auto U v r =
+-- what is known of a variable that can be read
+known_scalar : (U : Upgrade) (v : ℕ) → IsReadable U v → IsKnown U v
+known_scalar U v r =
     let x : Variable = r.variable in
     let rest = both_true (covers_owner x.owner) (covers_type x.ty && not x.auto) r.covers in
-    ap (λ o. is_some (auto_class o)) r.is_variable
-    ∙ ap (λ b. is_some (cond b (class_in x.ty) None)) (not_true x.auto (both_true (covers_type x.ty) (not x.auto) rest.1).1)
+    record {
+      variable = x;
+      is_variable = r.is_variable;
+      plain = not_true x.auto (both_true (covers_type x.ty) (not x.auto) rest.1).1;
+      sound = r.sound;
+    }
+
+pub known_used : (U : Upgrade) (T : Scope) (uses : Uses) → AreReadable U T uses → (v : VarId) → IsUsed uses v → IsKnown U v.0
+known_used U T uses readable v (inl h) = known_scalar U v.0 (readable.scalars v h)
+known_used U T uses readable v (inr h) = (readable.arrays v h.0 h.1).known
+
+-- it is no As New one
+not_auto : (U : Upgrade) (v : ℕ) → IsKnown U v → is_auto U v ≡ false
+not_auto U v r = ap (λ o. is_some (auto_class o)) r.is_variable ∙ ap (λ b. is_some (cond b (class_in r.variable.ty) None)) r.plain
 
 exact_same : (U : Upgrade) (K : Pledge) (w : World) (exact : Bool) (a : Address) (b : net.Address) → exact ≡ true → Bound U K w exact a b → Same U K w a b
 exact_same U K w _ _ _ e (images exact a b same) = same
 exact_same U K w _ _ _ e (mirrored a b m) = absurd (cc e)
 
-readable_exact : (U : Upgrade) (v : ℕ) → IsReadable U v → not (is_quiet U.program.declarations U.known v) ≡ true
-readable_exact U v r = ap not r.exact
+-- what can be changed is the same on both sides
+changeable_same : (U : Upgrade) (K : Pledge) (w : World) (v : ℕ) (a : Address) (b : net.Address) → Bound U K w (not (is_quiet U.program.declarations U.known v)) a b
+    → is_quiet U.program.declarations U.known v ≡ false → Same U K w a b
+changeable_same U K w v a b bound e = exact_same U K w (not (is_quiet U.program.declarations U.known v)) a b (ap not e) bound
+
+exactly : (U : Upgrade) (K : Pledge) (w : World) (v : ℕ) (a : Address) (b : net.Address) → Same U K w a b
+    → Bound U K w (not (is_quiet U.program.declarations U.known v)) a b
+exactly U K w v a b same = images (not (is_quiet U.program.declarations U.known v)) a b same
 
 -- ---- the procedure's own
 
@@ -115,68 +140,148 @@ at_key v = whole (shared (v ∷ []))
 some_is : {A : Type 0} (x y : A) → Some x ≡ Some y → x ≡ y
 some_is x y e = cc e
 
-shared_shape : (D : Declarations) (x : Variable) → covers_type x.ty ≡ true → shape_by (user_shapes D) x.bounds x.ty ≡ simple x.ty
-shared_shape D x c = simple_type (user_shapes D) x.bounds x.ty c
-
-shared_matched : (U : Upgrade) (w : World) (v : ℕ) (x : IsReadable U v) → variable_key U v ≡ Some (key_or_none (variable_key U v)) → IsMatched U w (at_key v)
+shared_matched : (U : Upgrade) (w : World) (v : ℕ) (x : IsKnown U v) → variable_key U v ≡ Some (key_or_none (variable_key U v)) → IsMatched U w (at_key v)
 shared_matched U w v x e = record {
   is_made = tt;
   counterpart = ap is_some e;
   sound = ap not x.sound;
 }
 
-module _ (U : Upgrade) (K : Pledge) (w : World) (f : SourceFrame) (S : net_names.Scope) (T : Scope) (v : ℕ) (r : IsReadable U v) (s : IsShared U S T v) where
+-- the shape of a variable that is used: that of a scalar, or of an array of scalars, which has bounds where it is fixed
+pub data UsedShape (U : Upgrade) (v : ℕ) : Shape → Type 0 where
+  used_scalar : (ty : Ty) → UsedShape U v (simple ty)
+  used_array : (ty : Ty) (bounds : List (ℤ × ℤ)) → (is_fixed U v ≡ true → bounds ≡ [] → ⊥) → UsedShape U v (array (simple ty) bounds)
+
+-- a variable that stands with the shape of its declaration
+stands_as : (s : Shape) (a : Address) (q : Position) → a ≡ root s q → StandsAs s a q
+stands_as (simple ty) a q e = e
+stands_as (group t fs) a q e = e
+stands_as (array f bounds) a q e = (bounds, e)
+stands_as endless a q e = e
+
+pub scalar_stands : (U : Upgrade) (v : ℕ) (r : IsReadable U v) (a : Address) (q : Position) → StandsAs (variable_shape U.program.declarations v) a q
+    → a ≡ root (simple r.variable.ty) q
+scalar_stands U v r a q h =
+    let users : ℕ → Shape = user_shapes U.program.declarations in
+    subst (λ s. StandsAs s a q)
+    (ap (declared_shape users) r.is_variable ∙ simple_type users r.variable.bounds r.variable.ty (type_covered r.variable r.covers)) h
+
+array_shape_is : (U : Upgrade) (v : ℕ) (element : Ty) (r : IsArray U v element)
+    → variable_shape U.program.declarations v ≡ array (simple element) r.known.variable.bounds
+array_shape_is U v element r =
+    let x : Variable = r.known.variable in
+    let users : ℕ → Shape = user_shapes U.program.declarations in
+    ap (declared_shape users) r.known.is_variable ∙ ap (shape_by users x.bounds) r.is_array ∙ ap (λ e. array e x.bounds) (simple_type users [] element r.covers)
+
+pub array_stands : (U : Upgrade) (v : ℕ) (element : Ty) (r : IsArray U v element) (a : Address) (q : Position)
+    → StandsAs (variable_shape U.program.declarations v) a q → (others : List (ℤ × ℤ)) × (a ≡ root (array (simple element) others) q)
+array_stands U v element r a q h = subst (λ s. StandsAs s a q) (array_shape_is U v element r) h
+
+fixed_bounds : (U : Upgrade) (v : ℕ) (x : Variable) → slice_get U.program.declarations.vars v ≡ Some x → is_fixed U v ≡ true → x.bounds ≡ [] → ⊥
+fixed_bounds U v x is fixed none = true≢false (sym fixed ∙ ap has_bounds is ∙ ap (λ b. is_some (slice_get b 0)) none)
+
+shape_used : (U : Upgrade) (T : Scope) (uses : Uses) → AreReadable U T uses → (v : VarId) → IsUsed uses v
+    → UsedShape U v.0 (variable_shape U.program.declarations v.0)
+shape_used U T uses readable v (inl h) =
+    let r : IsReadable U v.0 = readable.scalars v h in
+    let users : ℕ → Shape = user_shapes U.program.declarations in
+    subst (λ s. UsedShape U v.0 s)
+    (sym (ap (declared_shape users) r.is_variable ∙ simple_type users r.variable.bounds r.variable.ty (type_covered r.variable r.covers)))
+    (used_scalar r.variable.ty)
+shape_used U T uses readable v (inr h) =
+    let r : IsArray U v.0 h.0 = readable.arrays v h.0 h.1 in
+    let x : Variable = r.known.variable in
+    subst (λ s. UsedShape U v.0 s) (sym (array_shape_is U v.0 h.0 r)) (used_array h.0 x.bounds (fixed_bounds U v.0 x r.known.is_variable))
+
+shared_all : (U : Upgrade) (w : World) (v : ℕ) (s : Shape) → UsedShape U v s → IsMatched U w (at_key v) → IsKind s (w.src.held (at_key v))
+    → AllMatched U w s (at_key v)
+shared_all U w v _ (used_scalar ty) m kind = (m, kind)
+shared_all U w v _ (used_array ty bounds fixed) m kind = (m, kind, fixed)
+
+-- where the source has an array, a number of one stands in the cell
+array_number : (U : Upgrade) (w : World) (h : Held) (c : net.Cell) (e : Shape) (dims : List Dimension) (xs : Values) → Holds U w h c → h ≡ table e dims xs
+    → (k : ℕ) × (c ≡ net.holds (n.Array k))
+array_number U w _ _ e dims xs holds_blank is = absurd (cc is)
+array_number U w _ _ e dims xs (holds_single ty x y m) is = absurd (cc is)
+array_number U w _ _ e dims xs (holds_table f others ys k like) is = (k, refl)
+array_number U w _ _ e dims xs holds_parts is = absurd (cc is)
+
+-- an array of a standard module has the rank of its declaration
+shared_ranked : (U : Upgrade) (w : World) → StoreMatch U w → (v : ℕ) (s : Shape) → UsedShape U v s → (d : net_shapes.Shape) → SameShape U s d
+    → HasRankOf U v d → IsMatched U w (at_key v) → IsKind s (w.src.held (at_key v)) → AllRanked U w s d (at_key v)
+shared_ranked U w h v _ (used_scalar ty) d same ranked m kind = tt
+shared_ranked U w h v _ (used_array ty bounds fixed) (net_shapes.array d rank) same ranked m kind =
+    let there = array_number U w (w.src.held (at_key v)) (w.net.cell (moved_at U w.map (at_key v))) (simple ty) kind.0 kind.1 (h.values (at_key v) m) kind.2 in
+    (there.0, there.1, h.ranks (at_key v) v v there.0 m refl refl there.1 ∙ sym ranked)
+shared_ranked U w h v _ (used_array ty bounds fixed) _ same ranked m kind = tt
+
+not_blank : (D : Declarations) (v file : ℕ) (o : Owner) (h : Held) → o ≡ owner.Module file → is_class_file D file ≡ false → HeldAs D v o h
+    → IsKind (variable_shape D v) h
+not_blank D v file o h is standard (inl b) =
+    absurd (true≢false (sym (ap (is_module_variable D) is ∙ ap not standard) ∙ b.1))
+not_blank D v file o h is standard (inr kind) = kind
+
+module _ (U : Upgrade) (K : Pledge) (w : World) (start : StoreMatch U w) (f : SourceFrame) (S : net_names.Scope) (T : Scope) (v : ℕ) (r : IsKnown U v)
+    (used : UsedShape U v (variable_shape U.program.declarations v)) (s : IsShared U S T v) where
   abbrev D : Declarations
   D = U.program.declarations
 
-  is_that : s.variable ≡ r.variable
-  is_that = some_is s.variable r.variable (sym s.is_variable ∙ r.is_variable)
-
-  covers_shared : covers_type s.variable.ty ≡ true
-  covers_shared = subst (λ (x : Variable). covers_type x.ty ≡ true) (sym is_that) (type_covered r.variable r.covers)
-
-  shape_is : variable_shape D v ≡ simple s.variable.ty
-  shape_is = ap (declared_shape (user_shapes D)) s.is_variable ∙ shared_shape D s.variable covers_shared
-
   abbrev there : net.Address
-  there = net.root (net_shapes.scalar s.word) (moved_at U w.map (at_key v))
+  there = net.root s.written (moved_at U w.map (at_key v))
 
-  stands_there : there ≡ net.root (net_shapes.scalar s.word) (whole (shared s.key))
-  stands_there = ap (λ o. net.root (net_shapes.scalar s.word) (whole (shared (key_or_none o)))) s.is_key
+  stands_there : there ≡ net.root s.written (whole (shared s.key))
+  stands_there = ap (λ o. net.root s.written (whole (shared (key_or_none o)))) s.is_key
 
   key_there : variable_key U v ≡ Some (key_or_none (variable_key U v))
   key_there = s.is_key ∙ ap (λ o. Some (key_or_none o)) (sym s.is_key)
 
-  shared_same : Same U K w (root (simple s.variable.ty) (at_key v)) there
+  shared_same : Same U K w (root (variable_shape D v) (at_key v)) there
   shared_same =
-      same_root (simple s.variable.ty) (net_shapes.scalar s.word) (at_key v) (same_scalar s.variable.ty s.word s.is_word) (shared_matched U w v r key_there) tt
+      let m : IsMatched U w (at_key v) = shared_matched U w v r key_there in
+      let kind : IsKind (variable_shape D v) (w.src.held (at_key v)) =
+      not_blank D v s.file s.variable.owner (w.src.held (at_key v)) s.is_owner s.standard (start.kinds v s.variable s.is_variable r.sound) in
+      same_root (variable_shape D v) s.written (at_key v) s.same (shared_all U w v (variable_shape D v) used m kind)
+      (shared_ranked U w start v (variable_shape D v) used s.written s.same s.ranked m kind)
 
   pub shared_image : (a : Address) → variable_address D f v ≡ Some a → HasImage U K w S T v a
   shared_image a is =
-      let stands : a ≡ root (simple s.variable.ty) (at_key v) =
-      some_is a (root (simple s.variable.ty) (at_key v))
-      (sym is ∙ shared_address D f v s.variable s.file s.is_variable s.is_owner s.standard ∙ ap (λ z. Some (root z (at_key v))) shape_is) in
+      let stands : a ≡ root (variable_shape D v) (at_key v) =
+      some_is a (root (variable_shape D v) (at_key v)) (sym is ∙ shared_address D f v s.variable s.file s.is_variable s.is_owner s.standard) in
+      let same : Same U K w a there = subst (λ z. Same U K w z there) (sym stands) shared_same in
       record {
         address = there;
         found = λ q. s.leads q ∙ ap (λ b. starts (at_place b) []) (sym stands_there);
-        same = subst (λ z. Same U K w z there) (sym stands) shared_same;
-        target =
-            inr (record {
-              variable = v;
-              key = s.key;
-              of_shape = simple s.variable.ty;
-              stands = stands;
-              is_key = s.is_key;
-              differs = s.differs;
-            });
-        plain = λ q e.
-            subst (λ (z : Position). is_auto_root U w.map z.root ≡ false) (some_is (at_key v) q (sym (ap position_of stands) ∙ e)) (not_auto U v r);
-        shape = simple s.variable.ty;
-        position = at_key v;
-        stands = stands;
+        bound = exactly U K w v a there same;
+        whole = ap is_element stands;
+        image = λ exact. record {
+          same = same;
+          target =
+              inr (record {
+                variable = v;
+                key = s.key;
+                of_shape = variable_shape D v;
+                stands = stands;
+                is_key = s.is_key;
+                differs = s.differs;
+              });
+          plain = λ q e.
+              subst (λ (z : Position). is_auto_root U w.map z.root ≡ false) (some_is (at_key v) q (sym (ap position_of stands) ∙ e)) (not_auto U v r);
+          position = at_key v;
+          stands = stands_as (variable_shape D v) a (at_key v) stands;
+          ranked = λ e rank is. subst (λ d. HasRankOf U v d) is s.ranked;
+        };
       }
 
 -- ---- Statics of the procedure
+
+-- an array has the rank of its declaration
+static_ranked : (U : Upgrade) (w : World) → StoreMatch U w → (v : ℕ) (s : Shape) → UsedShape U v s → (d : net_shapes.Shape) → SameShape U s d
+    → (e : net_shapes.Shape) (rank : ℕ) → d ≡ net_shapes.array e rank → IsMatched U w (at_key v) → AllRanked U w s d (at_key v) → rank ≡ U.facts.rank v
+static_ranked U w h v _ (used_scalar ty) _ (same_scalar t word is) e rank shaped m ranked = absurd (cc shaped)
+static_ranked U w h v _ (used_scalar ty) _ (same_class c home is) e rank shaped m ranked = absurd (cc shaped)
+static_ranked U w h v _ (used_array ty bounds fixed) d same e rank shaped m ranked =
+    let there : HasRank U w (at_key v) rank = subst (λ z. AllRanked U w (array (simple ty) bounds) z (at_key v)) shaped ranked in
+    sym there.2 ∙ h.ranks (at_key v) v v there.0 m refl refl there.1
 
 key_present : (o : Option Key) → is_some o ≡ true → o ≡ Some (key_or_none o)
 key_present None h = absurd (cc h)
@@ -199,7 +304,7 @@ outer_root D me v file o e outer = ap (static_root D me v) e ∙ ap (λ b. cond 
 
 module _ (U : Upgrade) (K : Pledge) (w : World) (p : ℕ) (f : SourceFrame) (g : NetFrame) (S : net_names.Scope) (vars : S.vars ≡ g.vars) (T : Scope)
     (same_declarations : T.declarations ≡ U.program.declarations) (h : FrameMatch U K w p f g) where
-  own_image : (v : ℕ) → IsReadable U v → is_own_of U p v ≡ true → (a : Address) → variable_address U.program.declarations f v ≡ Some a → HasImage U K w S T v a
+  own_image : (v : ℕ) → IsKnown U v → is_own_of U p v ≡ true → (a : Address) → variable_address U.program.declarations f v ≡ Some a → HasImage U K w S T v a
   own_image v r own a is =
       let of : is_own_owner p r.variable.owner ≡ true = own_is U p v r.variable r.is_variable own in
       let at : lookup (nat_eq v) f.vars ≡ Some a =
@@ -214,16 +319,20 @@ module _ (U : Upgrade) (K : Pledge) (w : World) (p : ℕ) (f : SourceFrame) (g :
       record {
         address = same.address;
         found = λ q. ap (path_start S false) (path q) ∙ named_start S r.variable.name same.address name;
-        same = exact_same U K w (not (is_quiet U.program.declarations U.known v)) a same.address (readable_exact U v r) same.bound;
-        target = inl (record { place = place.place; shape = variable_shape U.program.declarations v; path = []; stands = place.stands });
-        plain = same.plain (not_auto U v r);
-        shape = variable_shape U.program.declarations v;
-        position = whole (made place.place);
-        stands = place.stands;
+        bound = same.bound;
+        whole = ap is_element place.stands;
+        image = λ exact. record {
+          same = changeable_same U K w v a same.address same.bound exact;
+          target = inl (record { place = place.place; shape = variable_shape U.program.declarations v; path = []; stands = place.stands });
+          plain = same.plain (not_auto U v r);
+          position = whole (made place.place);
+          stands = stands_as (variable_shape U.program.declarations v) a (whole (made place.place)) place.stands;
+          ranked = same.ranked;
+        };
       }
 
-  static_image : (v : ℕ) → IsReadable U v → IsOwnStatic U p v → (a : Address) → variable_address U.program.declarations f v ≡ Some a → HasImage U K w S T v a
-  static_image v r s a is =
+  static_image : StoreMatch U w → (v : ℕ) → UsedShape U v (variable_shape U.program.declarations v) → IsKnown U v → IsOwnStatic U p v → (a : Address) → variable_address U.program.declarations f v ≡ Some a → HasImage U K w S T v a
+  static_image start v used r s a is =
       let same_is : s.variable ≡ r.variable = some_is s.variable r.variable (sym s.is_variable ∙ r.is_variable) in
       let o = static_owner p s.variable.owner s.is_static in
       let procs = U.program.declarations.procs in
@@ -245,36 +354,44 @@ module _ (U : Upgrade) (K : Pledge) (w : World) (p : ℕ) (f : SourceFrame) (g :
       let path : (q : Bool) → variable_path T q v ≡ s.variable.name ∷ [] =
       λ q. ap (λ (E : Declarations). variable_path_of T q (slice_get E.vars v)) same_declarations ∙ ap (variable_path_of T q) s.is_variable
       ∙ static_path T q s.variable.name p s.variable.owner s.is_static in
+      let same : Same U K w a address =
+      subst (λ z. Same U K w z address) (sym stands)
+      (same_root (variable_shape U.program.declarations v) x.written (at_key v) x.same x.is_matched x.ranked) in
       record {
         address = address;
         found = λ q. ap (path_start S false) (path q) ∙ named_start S s.variable.name address name;
-        same = subst (λ z. Same U K w z address) (sym stands)
-            (same_root (variable_shape U.program.declarations v) x.written (at_key v) x.same x.is_matched x.ranked);
-        target =
-            inr (record {
-              variable = v;
-              key = key_or_none (variable_key U v);
-              of_shape = variable_shape U.program.declarations v;
-              stands = stands;
-              is_key = key_present (variable_key U v) (matched_whole U w (variable_shape U.program.declarations v) (at_key v) x.is_matched).counterpart;
-              differs =
-                  λ u e. s.differs (key_or_none (variable_key U v)) u
-                  (key_present (variable_key U v) (matched_whole U w (variable_shape U.program.declarations v) (at_key v) x.is_matched).counterpart) e;
-            });
-        plain = λ q e.
-            subst (λ (z : Position). is_auto_root U w.map z.root ≡ false) (some_is (at_key v) q (sym (ap position_of stands) ∙ e)) (not_auto U v r);
-        shape = variable_shape U.program.declarations v;
-        position = at_key v;
-        stands = stands;
+        bound = exactly U K w v a address same;
+        whole = ap is_element stands;
+        image = λ exact. record {
+          same = same;
+          target =
+              inr (record {
+                variable = v;
+                key = key_or_none (variable_key U v);
+                of_shape = variable_shape U.program.declarations v;
+                stands = stands;
+                is_key = key_present (variable_key U v) (matched_whole U w (variable_shape U.program.declarations v) (at_key v) x.is_matched).counterpart;
+                differs =
+                    λ u e. s.differs (key_or_none (variable_key U v)) u
+                    (key_present (variable_key U v) (matched_whole U w (variable_shape U.program.declarations v) (at_key v) x.is_matched).counterpart) e;
+              });
+          plain = λ q e.
+              subst (λ (z : Position). is_auto_root U w.map z.root ≡ false) (some_is (at_key v) q (sym (ap position_of stands) ∙ e)) (not_auto U v r);
+          position = at_key v;
+          stands = stands_as (variable_shape U.program.declarations v) a (at_key v) stands;
+          ranked = λ e rank shaped.
+              static_ranked U w start v (variable_shape U.program.declarations v) used x.written x.same e rank shaped
+              (matched_whole U w (variable_shape U.program.declarations v) (at_key v) x.is_matched) x.ranked;
+        };
       }
 
-  given_image : (v : ℕ) → IsReadable U v → IsGiven U p f v → (a : Address) → variable_address U.program.declarations f v ≡ Some a → HasImage U K w S T v a
+  given_image : (v : ℕ) → IsKnown U v → IsGiven U p f v → (a : Address) → variable_address U.program.declarations f v ≡ Some a → HasImage U K w S T v a
   given_image v r x a is =
       let of : is_reference_owner_of p r.variable.owner ≡ true = given_is U p v r.variable r.is_variable x.reference in
       let at : lookup (nat_eq v) f.vars ≡ Some a =
       sym (ap (declared_address U.program.declarations f v) r.is_variable ∙ given_address U.program.declarations f p v r.variable.owner of) ∙ is in
       let same : SameVariable U K w v a g = h.vars v a at r.sound in
-      let there : GivenPlace U v a = x.stands a at in
+      let there : GivenAddress U v a = x.stands a at in
       let name : var_in S.vars r.variable.name ≡ Some same.address =
       ap (λ xs. var_in xs r.variable.name) vars ∙ ap (λ o. var_in g.vars (variable_name_of o)) (sym r.is_variable) ∙ same.found in
       let path : (q : Bool) → variable_path T q v ≡ r.variable.name ∷ [] =
@@ -283,23 +400,27 @@ module _ (U : Upgrade) (K : Pledge) (w : World) (p : ℕ) (f : SourceFrame) (g :
       record {
         address = same.address;
         found = λ q. ap (path_start S false) (path q) ∙ named_start S r.variable.name same.address name;
-        same = exact_same U K w (not (is_quiet U.program.declarations U.known v)) a same.address (readable_exact U v r) same.bound;
-        target = there.target;
-        plain = same.plain (not_auto U v r);
-        shape = variable_shape U.program.declarations v;
-        position = there.position;
-        stands = there.stands;
+        bound = same.bound;
+        whole = there.whole;
+        image = λ exact. record {
+          same = changeable_same U K w v a same.address same.bound exact;
+          target = (there.place exact).target;
+          plain = same.plain (not_auto U v r);
+          position = (there.place exact).position;
+          stands = (there.place exact).stands;
+          ranked = same.ranked;
+        };
       }
 
   -- variables that are used have images in frames that match
-  pub images_now : (uses : Uses) → AreReadable U uses → ArePlaced U p f S T uses → HaveImages U K w f S T uses
-  images_now uses readable placed v a used is = by (placed v used)
+  pub images_now : (uses : Uses) → MemoryMatch U w → AreReadable U T uses → ArePlaced U p f S T uses → HaveImages U K w f S T uses
+  images_now uses start readable placed v a used is = by (known_used U T uses readable v used) (placed.places v used)
     where
-      by : IsPlaced U p f S T v.0 → HasImage U K w S T v.0 a
-      by (inl own) = own_image v.0 (readable v used) own a is
-      by (inr (inl s)) = static_image v.0 (readable v used) s a is
-      by (inr (inr (inl s))) = shared_image U K w f S T v.0 (readable v used) s a is
-      by (inr (inr (inr x))) = given_image v.0 (readable v used) x a is
+      by : IsKnown U v.0 → IsPlaced U p f S T v.0 → HasImage U K w S T v.0 a
+      by r (inl own) = own_image v.0 r own a is
+      by r (inr (inl s)) = static_image start.stores v.0 (shape_used U T uses readable v used) r s a is
+      by r (inr (inr (inl s))) = shared_image U K w start.stores f S T v.0 r (shape_used U T uses readable v used) s a is
+      by r (inr (inr (inr x))) = given_image v.0 r x a is
 
 address_made : (U : Upgrade) (K : Pledge) (w : World) (a : Address) (b : net.Address) → Same U K w a b → (q : Position) → position_of a ≡ Some q
     → IsMade (mark w.src) q.root
@@ -310,17 +431,29 @@ pub plain_later : (U : Upgrade) (K : Pledge) (w0 w1 : World) (a : Address) (b : 
 plain_later U K w0 w1 a b l same h q e =
     subst (λ v. is_auto_variable U v ≡ false) (sym (same_variable U w0 w1 l.extends q.root (address_made U K w0 a b same q e))) (h q e)
 
-pub images_later : (U : Upgrade) (K : Pledge) (w0 w1 : World) (f : SourceFrame) (S : net_names.Scope) (T : Scope) (uses : Uses) → Later U K w0 w1
-    → HaveImages U K w0 f S T uses → HaveImages U K w1 f S T uses
-images_later U K w0 w1 f S T uses l h v a used is =
+bound_later : (U : Upgrade) (K : Pledge) (w0 w1 : World) → MemoryMatch U w0 → Later U K w0 w1 → (exact : Bool) (a : Address) (b : net.Address)
+    → Bound U K w0 exact a b → Bound U K w1 exact a b
+bound_later U K w0 w1 h l _ _ _ (images t a b s) = images t a b (address_later U K w0 w1 a b l s)
+bound_later U K w0 w1 h l _ _ _ (mirrored a b m) = mirrored a b (record { holds = λ w2 x. m.holds w2 (later_then U K w0 w1 w2 h l x) })
+
+image_later : (U : Upgrade) (K : Pledge) (w0 w1 : World) (v : ℕ) (a : Address) (b : net.Address) → Later U K w0 w1 → IsImage U K w0 v a b → IsImage U K w1 v a b
+image_later U K w0 w1 v a b l x = record {
+  same = address_later U K w0 w1 a b l x.same;
+  target = x.target;
+  plain = plain_later U K w0 w1 a b l x.same x.plain;
+  position = x.position;
+  stands = x.stands;
+  ranked = x.ranked;
+}
+
+pub images_later : (U : Upgrade) (K : Pledge) (w0 w1 : World) (f : SourceFrame) (S : net_names.Scope) (T : Scope) (uses : Uses) → MemoryMatch U w0
+    → Later U K w0 w1 → HaveImages U K w0 f S T uses → HaveImages U K w1 f S T uses
+images_later U K w0 w1 f S T uses start l h v a used is =
     let x : HasImage U K w0 S T v.0 a = h v a used is in
     record {
       address = x.address;
       found = x.found;
-      same = address_later U K w0 w1 a x.address l x.same;
-      target = x.target;
-      plain = plain_later U K w0 w1 a x.address l x.same x.plain;
-      shape = x.shape;
-      position = x.position;
-      stands = x.stands;
+      bound = bound_later U K w0 w1 start l (not (is_quiet U.program.declarations U.known v.0)) a x.address x.bound;
+      whole = x.whole;
+      image = λ exact. image_later U K w0 w1 v.0 a x.address l (x.image exact);
     }

@@ -12,6 +12,13 @@ pub mod Calls
 pub mod References
 pub mod Temporaries
 pub mod NoPlaces
+pub mod IndexRows
+pub mod Elements
+pub mod ElementValues
+pub mod Bounds
+mod ErrNumbers
 pub mod Handed
+pub mod Handled
+pub mod WrittenValues
 pub mod Expressions
 mod Examples

@@ -63,7 +63,7 @@ no_box _ h c = absurd (cc h)
 
 -- ---- rows
 
-by_either : {R : Type 0} (a b : Bool) → (a || b) ≡ true → (a ≡ true → R) → (b ≡ true → R) → R
+pub by_either : {R : Type 0} (a b : Bool) → (a || b) ≡ true → (a ≡ true → R) → (b ≡ true → R) → R
 by_either true b h f g = f refl
 by_either false b h f g = g h
 
@@ -333,12 +333,11 @@ module _ (U : Upgrade) (K : Pledge) (S : net_names.Scope) (oracle : Jobs) (opene
         operands_of uses w n rest both.1 forms.1 given.1,
       )
 
-  pub library_agrees : (uses : Uses) (ty : Ty) (f : LibCall) (args : Exprs) (w : World) → MemoryMatch U w → covers_expr uses (typed ty (library f args)) ≡ true
-      → is_formed (typed ty (library f args)) ≡ true → AreGiven uses w args
+  pub library_agrees : (uses : Uses) (ty : Ty) (f : LibCall) (args : Exprs) (w : World) → MemoryMatch U w → covers_type ty ≡ true
+      → (covers_library f && covers_exprs uses args) ≡ true → is_formed (typed ty (library f args)) ≡ true → AreGiven uses w args
       → Agrees U K w (ScalarMatch U ty) (source.value_of C (typed ty (library f args)) w.src) (target.value_of S oracle (exp_of T (typed ty (library f args))) w.net)
-  library_agrees uses ty f args w start covers formed given =
-      let both = both_true (covers_type ty) (covers_library f && covers_exprs uses args) covers in
-      let inner = both_true (covers_library f) (covers_exprs uses args) both.1 in
+  library_agrees uses ty f args w start covers covered formed given =
+      let inner = both_true (covers_library f) (covers_exprs uses args) covered in
       let forms = both_true (is_row_of_call f (types_of args) ty) (are_formed args) formed in
-      term_agrees U K C ty ty (library f args) w (target.value_of S oracle (exp_of T (typed ty (library f args))) w.net) refl both.0 start
-      (call_agrees w start uses ty f args both.0 inner.0 inner.1 forms.0 forms.1 (operands_of uses w 3 args inner.1 forms.1 given))
+      term_agrees U K C ty ty (library f args) w (target.value_of S oracle (exp_of T (typed ty (library f args))) w.net) refl covers start
+      (call_agrees w start uses ty f args covers inner.0 inner.1 forms.0 forms.1 (operands_of uses w 3 args inner.1 forms.1 given))

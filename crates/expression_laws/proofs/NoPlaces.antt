@@ -1,5 +1,5 @@
 -- A call gives a value, or nothing, and no place.
-use Rattle.std.proofs.Common.{◌≡◌, refl, ℕ, Bool, true, false, cond, List, [], ◌∷◌, Option, Some, None}
+use Rattle.std.proofs.Common.{ℕ, Bool, true, false, cond, List, [], ◌∷◌, Option, Some, None}
 use Rattle.vb6_meaning.specs.Answers.{Answer, then_answer}
 use Rattle.vb6_meaning.specs.Answers as value
 use Rattle.net_meaning.specs.declared.value.ValueN.{ValueN}
@@ -32,7 +32,7 @@ behind o (raises q e w) h = tt
 behind o (spent q w) h = tt
 behind o (outside q) h = tt
 
-yields_then : {A : Type 0} (r : Outcome net.Memory A) (k : A → net.Memory → Outcome net.Memory net.Address) → ((a : A) (w : net.Memory) → Yields NoPlace (k a w))
+pub yields_then : {A : Type 0} (r : Outcome net.Memory A) (k : A → net.Memory → Outcome net.Memory net.Address) → ((a : A) (w : net.Memory) → Yields NoPlace (k a w))
     → Yields NoPlace (then r k)
 yields_then (gives o a w) k h = behind o (k a w) (h a w)
 yields_then (raises o e w) k h = tt

@@ -1,22 +1,25 @@
 -- Variables that are given by reference.
-use Rattle.std.proofs.Common.{◌≡◌, refl, sym, ap, subst, ◌∙◌, ℕ, Bool, true, false, cond, ◌||◌, true≢false, List, [], ◌∷◌, Option, Some, None, suc, ◌+◌, arith}
+use Rattle.std.proofs.Common.{◌≡◌, ◌⊎◌, inl, inr, refl, sym, ap, subst, ◌∙◌, ℕ, Bool, true, false, cond, not, ◌&&◌, ◌||◌, true≢false, List, [], ◌∷◌, Option, Some, None, suc, ◌+◌, arith}
 use Rattle.std.specs.Prelude.{slice_get}
+use Rattle.vb_tree.specs.BoundTree as types
 use Rattle.vb_tree.specs.BoundTree.{Ty}
 use Rattle.vb_tree.specs.declared.declared.VarId.{VarId}
 use Rattle.bound_tree.specs.Tree.{Declarations, Expr, typed, variable, by_reference}
+use Rattle.bound_facts.specs.Facts.{is_quiet}
 use Rattle.bound_facts.specs.Node.{auto_class, is_array_type}
 use Rattle.net_tree.specs.declared.declaration.NetPassing.{NetPassing}
 use Rattle.net_tree.specs.declared.declaration.NetPassing.TheVariants as passing
 use Rattle.net_tree.specs.Tree.{Exp, path}
 use Rattle.run_base.specs.Frames.{Given, by_address}
-use Rattle.run_base.specs.Outcomes.{Outcome, gives, some_of, then}
+use Rattle.run_base.specs.Outcomes.{Outcome, after, found, gives, some_of, then}
 use Rattle.run_base.specs.Positions.{Position}
 use Rattle.vb6_run.specs.Expressions as source
 use Rattle.vb6_run.specs.Expressions.{Context, at_address}
 use Rattle.vb6_run.specs.Forms.{SourceLine}
 use Rattle.vb6_run.specs.Runnables.{variable_address}
-use Rattle.vb6_run.specs.Shapes.{Shape}
-use Rattle.vb6_run.specs.Store.{Address, Memory, SourceCalls, SourceFrame, SourceGiven, root}
+use Rattle.vb6_run.specs.Shapes.{Shape, simple, array, variable_shape}
+use Rattle.vb6_run.specs.Store.{Address, Memory, SourceCalls, SourceFrame, SourceGiven, held_at, root}
+use Rattle.vb6_run.specs.Values.{Value}
 use Rattle.net_run.specs.Calls.{Arguments}
 use Rattle.net_run.specs.Expressions as target
 use Rattle.net_run.specs.Lines.{NetFrame, NetLine, scope_of}
@@ -24,25 +27,32 @@ use Rattle.net_run.specs.Making.{Jobs}
 use Rattle.net_run.specs.Members.{Code}
 use Rattle.net_run.specs.Names as net_names
 use Rattle.net_run.specs.Names.{at_place, path_start, starts}
+use Rattle.net_run.specs.Shapes as shape
 use Rattle.net_run.specs.Store as net
 use Rattle.net_run.specs.Values as net_value
 use Rattle.written_trees.specs.Arguments.{argument_exp, temporary_exp}
 use Rattle.written_trees.specs.Exprs.{exp_of}
 use Rattle.written_trees.specs.Names.{Scope, variable_path}
-use Rattle.run_matches.specs.Addresses.{Same, same_item, same_root}
+use Rattle.run_matches.specs.Addresses.{HasParameterRank, IsPlain, IsTarget, Same, same_item, same_root}
 use Rattle.run_matches.specs.Agreeing.{Agrees}
-use Rattle.run_matches.specs.Covered.{Uses, covers_expr, covers_type, is_variable}
+use Rattle.run_matches.specs.Covered.{Uses, IsUsed, covers_array, covers_expr, covers_type, is_passable, is_variable, suits_array}
+use Rattle.run_matches.specs.Frames.{StandsAs}
+use Rattle.run_matches.specs.Likeness.{SameShape, same_array, same_class, same_group, same_scalar}
 use Rattle.run_matches.specs.Maps.{World}
 use Rattle.run_matches.specs.Match.{MemoryMatch}
 use Rattle.run_matches.specs.Pledges.{Pledge}
-use Rattle.run_matches.specs.Upgrades.{Upgrade}
-use Rattle.run_statements.specs.Frames.{AreReadable, IsReadable, context_of}
+use Rattle.run_matches.specs.Upgrades.{Upgrade, takes_array}
+use Rattle.run_statements.specs.Fitting.{FitsArgument}
+use Rattle.run_statements.specs.Frames.{AreReadable, IsKnown, IsReadable, context_of}
+use Rattle.row_laws.proofs.Composing.{after_nil}
 use Rattle.agreeing_laws.proofs.Agreeing.{agrees_outside}
 use Rattle.expression_laws.specs.Calls.{ArgumentsMatch}
-use Rattle.expression_laws.specs.Images.{HasImage, HaveImages}
+use Rattle.expression_laws.specs.Images.{HasImage, HaveImages, IsImage}
 use Rattle.expression_laws.proofs.Calls.{address_agrees}
+use Rattle.expression_laws.proofs.Elements.{ArrayThere, array_there, sound_array}
+use Rattle.expression_laws.proofs.Images.{array_stands, known_used, scalar_stands}
 use Rattle.expression_laws.proofs.Types.{both_true}
-use Rattle.expression_laws.proofs.Variables.{auto_none, variable_exp}
+use Rattle.expression_laws.proofs.Variables.{known_exp, known_none}
 
 -- ---- places of arguments
 
@@ -61,15 +71,105 @@ or_true false = refl
 
 -- ---- the source
 
-source_given : (C : Context) (ty : Ty) (v : VarId) (qualified : Bool) (o : Option Address) (m : Option ℕ) → m ≡ None → (w : Memory)
+-- what a quiet parameter is given is read first
+source_given : (C : Context) (quiet : Bool) (ty : Ty) (v : VarId) (qualified : Bool) (o : Option Address) (m : Option ℕ) → m ≡ None → (w : Memory)
     → then (then (some_of o (λ a w. gives [] (at_address a) w) w) (source.made_for C m))
-    (source.given_parts C false (typed ty (variable v qualified)) (source.goes_by_address (typed ty (variable v qualified))))
-    ≡ some_of o (λ a w. gives [] (by_address a) w) w
-source_given C ty v qualified None m e w = refl
-source_given C ty v qualified (Some a) m e w =
+    (source.given_parts C quiet (typed ty (variable v qualified)) (source.goes_by_address (typed ty (variable v qualified))))
+    ≡ some_of o (source.given_address quiet) w
+source_given C quiet ty v qualified None m e w = refl
+source_given C quiet ty v qualified (Some a) m e w =
     ap (λ z. then (then (gives [] (at_address a) w) (source.made_for C z))
-    (source.given_parts C false (typed ty (variable v qualified)) (source.goes_by_address (typed ty (variable v qualified))))) e
-    ∙ ap (λ b. then (gives [] (at_address a) w) (source.given_parts C false (typed ty (variable v qualified)) b)) (or_true (is_array_type ty))
+    (source.given_parts C quiet (typed ty (variable v qualified)) (source.goes_by_address (typed ty (variable v qualified))))) e
+    ∙ ap (λ b. then (gives [] (at_address a) w) (source.given_parts C quiet (typed ty (variable v qualified)) b)) (or_true (is_array_type ty))
+    ∙ after_nil (after [] (source.given_address quiet a w)) ∙ after_nil (source.given_address quiet a w)
+
+-- ---- what is given
+
+-- an array variable
+pub array_used : (uses : Uses) (ty : Ty) (v : VarId) (qualified : Bool) → covers_array uses (typed ty (variable v qualified)) ≡ true
+    → (element : Ty) × (uses.array v element ≡ true)
+array_used uses (types.array e rank) v qualified h = (e, h)
+array_used uses _ v qualified h = absurd (cc h)
+
+array_typed : (uses : Uses) (ty : Ty) (v : VarId) (qualified : Bool) → covers_array uses (typed ty (variable v qualified)) ≡ true → is_array_type ty ≡ true
+array_typed uses (types.array e rank) v qualified h = refl
+array_typed uses _ v qualified h = absurd (cc h)
+
+-- a scalar or an array
+abbrev pub IsPassed : Uses → Expr → Type 0
+IsPassed uses e = ((is_passable uses e && covers_expr uses e) ≡ true) ⊎ (covers_array uses e ≡ true)
+
+scalar_of_passed : (uses : Uses) (e : Expr) → (is_passable uses e && covers_expr uses e) ≡ true → covers_expr uses e ≡ true
+scalar_of_passed uses e h = (both_true (is_passable uses e) (covers_expr uses e) h).1
+
+used_by : (uses : Uses) (ty : Ty) (v : VarId) (qualified : Bool) → IsPassed uses (typed ty (variable v qualified)) → IsUsed uses v
+used_by uses ty v qualified (inl h) =
+    inl (both_true (covers_type ty) (uses.scalar v) (scalar_of_passed uses (typed ty (variable v qualified)) h)).1
+used_by uses ty v qualified (inr h) = inr (array_used uses ty v qualified h)
+
+-- it is no quiet parameter
+passed_exact : (U : Upgrade) (T : Scope) (uses : Uses) → AreReadable U T uses → (ty : Ty) (v : VarId) (qualified : Bool)
+    → IsPassed uses (typed ty (variable v qualified)) → is_quiet U.program.declarations U.known v.0 ≡ false
+passed_exact U T uses readable ty v qualified (inl h) =
+    readable.exact v (both_true (uses.exact v) (covers_expr uses (typed ty (variable v qualified))) h).0
+passed_exact U T uses readable ty v qualified (inr h) =
+    let used = array_used uses ty v qualified h in
+    (readable.arrays v used.0 used.1).exact
+
+no_array : (uses : Uses) (e : Expr) → covers_array uses e ≡ true → is_variable e ≡ false → ⊥
+no_array uses (typed (types.array e rank) (variable v qualified)) h other = true≢false other
+no_array uses (typed (types.array e rank) _) h other = true≢false (sym h)
+no_array uses (typed _ t) h other = true≢false (sym h)
+
+-- what is no variable is a scalar
+pub scalar_passed : (uses : Uses) (e : Expr) → IsPassed uses e → is_variable e ≡ false → covers_expr uses e ≡ true
+scalar_passed uses e (inl h) other = scalar_of_passed uses e h
+scalar_passed uses e (inr h) other = absurd (no_array uses e h other)
+
+-- ---- ranks
+
+plain_shape : (U : Upgrade) (q i : ℕ) (s : Shape) (d : shape.Shape) (ty : Ty) → s ≡ simple ty → SameShape U s d → HasParameterRank U q i d
+plain_shape U q i _ _ ty e (same_scalar t word is) = tt
+plain_shape U q i _ _ ty e (same_class c home is) = tt
+plain_shape U q i _ _ ty e (same_group t home member fs gs is fields) = absurd (cc e)
+plain_shape U q i _ _ ty e (same_array x bounds d rank same) = absurd (cc e)
+
+shape_of_root : (s t : Shape) (p q : Position) → root s p ≡ root t q → s ≡ t
+shape_of_root s t p q e = cc e
+
+plain_ranked : (U : Upgrade) (K : Pledge) (w : World) (q i : ℕ) (a : Address) (b : net.Address) (ty : Ty) (p : Position) → a ≡ root (simple ty) p → Same U K w a b
+    → HasParameterRank U q i (net.shape_at b)
+plain_ranked U K w q i _ _ ty p e (same_root s d p' sh m r) = plain_shape U q i s d ty (shape_of_root s (simple ty) p' p e) sh
+plain_ranked U K w q i _ _ ty p e (same_item x t d p' k j inside keeps m has part sh) = absurd (cc e)
+
+suited : (b t : Bool) → b ≡ true → (not b || t) ≡ true → t ≡ true
+suited true t e h = h
+suited false t e h = absurd (cc e)
+
+-- an array has the rank of the parameter
+parameter_ranked : (U : Upgrade) (K : Pledge) (w : World) (T : Scope) (uses : Uses) → AreReadable U T uses → (q i : ℕ) (ty : Ty) (v : VarId)
+    (qualified : Bool) → (given : IsPassed uses (typed ty (variable v qualified))) → FitsArgument U q i (by_reference (typed ty (variable v qualified)))
+    → suits_array U.program.declarations q i (typed ty (variable v qualified)) ≡ true → (a : Address)
+    (b : net.Address) (x : IsImage U K w v.0 a b) → HasParameterRank U q i (net.shape_at b)
+parameter_ranked U K w T uses readable q i ty v qualified (inl h) fits suits a b x =
+    let r : IsReadable U v.0 = readable.scalars v (both_true (covers_type ty) (uses.scalar v) (scalar_of_passed uses (typed ty (variable v qualified)) h)).1 in
+    plain_ranked U K w q i a b r.variable.ty x.position (scalar_stands U v.0 r a x.position x.stands) x.same
+parameter_ranked U K w T uses readable q i ty v qualified (inr h) fits suits a b x =
+    let used = array_used uses ty v qualified h in
+    let stands = array_stands U v.0 used.0 (readable.arrays v used.0 used.1) a x.position x.stands in
+    let there : ArrayThere U w (simple used.0) x.position b = array_there U K w (simple used.0) stands.0 x.position a b stands.1 x.same in
+    subst (λ d. HasParameterRank U q i d) (sym (ap net.shape_at there.stands))
+    (x.ranked there.element there.rank (ap net.shape_at there.stands)
+    ∙ fits (sound_array U v used.0 ty qualified (readable.arrays v used.0 used.1) (array_typed uses ty v qualified h))
+    (suited (is_array_type ty) (takes_array U.program.declarations q i) (array_typed uses ty v qualified h) suits))
+
+-- where it stands
+stands_at : (U : Upgrade) (T : Scope) (uses : Uses) → AreReadable U T uses → (v : VarId) → IsUsed uses v → (a : Address) (p : Position)
+    → StandsAs (variable_shape U.program.declarations v.0) a p → (s : Shape) × (a ≡ root s p)
+stands_at U T uses readable v (inl h) a p stands =
+    let r : IsReadable U v.0 = readable.scalars v h in (simple r.variable.ty, scalar_stands U v.0 r a p stands)
+stands_at U T uses readable v (inr h) a p stands =
+    let r = array_stands U v.0 h.0 (readable.arrays v h.0 h.1) a p stands in (array (simple h.0) r.0, r.1)
 
 -- ---- the target
 
@@ -96,7 +196,7 @@ target_given S oracle mode names b w m at e =
 -- ---- both
 
 module _ (U : Upgrade) (K : Pledge) (p : ℕ) (f : SourceFrame) (g : NetFrame) (oracle : SourceCalls) (net_oracle : Jobs) (l : SourceLine) (k : NetLine) (c : Code)
-    (T : Scope) (uses : Uses) (same_declarations : T.declarations ≡ U.program.declarations) (readable : AreReadable U uses) where
+    (T : Scope) (uses : Uses) (same_declarations : T.declarations ≡ U.program.declarations) (readable : AreReadable U T uses) (q i : ℕ) where
   abbrev C : Context
   C = context_of U oracle p f l
 
@@ -107,52 +207,72 @@ module _ (U : Upgrade) (K : Pledge) (p : ℕ) (f : SourceFrame) (g : NetFrame) (
   abbrev FirstAgrees : World → (quiet : Bool) → NetPassing → (referred : Bool) → Expr → (Memory → Outcome Memory (List SourceGiven))
       → (net.Memory → Outcome net.Memory Arguments) → Type 0
   FirstAgrees w quiet mode referred e rest rest' =
-      Agrees U K w (ArgumentsMatch U K)
+      Agrees U K w (ArgumentsMatch U K q i)
       (then (source.argument_of (context_of U oracle p f l) quiet (by_reference e) w.src) (λ g w. then (rest w) (λ gs w. gives [] (g ∷ gs) w)))
       (then (target.given (scope_of U.written c g k) net_oracle mode
       (target.reach (scope_of U.written c g k) net_oracle false (argument_exp T referred (by_reference e) (exp_of T e)) w.net))
       (λ g w. then (rest' w) (λ gs w. gives [] (g ∷ gs) w)))
 
+  -- the source reads what a quiet parameter is given, and then goes on in the same way
+  given_agrees : (w : World) (quiet : Bool) (a : Address) (b : net.Address) (rest : Memory → Outcome Memory (List SourceGiven))
+      (rest' : net.Memory → Outcome net.Memory Arguments) → MemoryMatch U w → Same U K w a b → IsTarget U a → IsPlain U w a
+      → HasParameterRank U q i (net.shape_at b) → Agrees U K w (ArgumentsMatch U K q (suc i)) (rest w.src) (rest' w.net)
+      → Agrees U K w (ArgumentsMatch U K q i) (then (source.given_address quiet a w.src) (λ g w. then (rest w) (λ gs w. gives [] (g ∷ gs) w)))
+      (then (gives [] (by_address b) w.net) (λ g w. then (rest' w) (λ gs w. gives [] (g ∷ gs) w)))
+  given_agrees w false a b rest rest' start same target plain ranked more = address_agrees U K q i w a b rest rest' start same target plain ranked more
+  given_agrees w true a b rest rest' start same target plain ranked more = by (held_at a w.src.held)
+    where
+      by : (o : Option Value)
+          → Agrees U K w (ArgumentsMatch U K q i)
+          (then (then (found o w.src) (λ x w. gives [] (by_address a) w)) (λ g w. then (rest w) (λ gs w. gives [] (g ∷ gs) w)))
+          (then (gives [] (by_address b) w.net) (λ g w. then (rest' w) (λ gs w. gives [] (g ∷ gs) w)))
+      by None =
+          agrees_outside U K w (ArgumentsMatch U K q i) (then (gives [] (by_address b) w.net) (λ g w. then (rest' w) (λ gs w. gives [] (g ∷ gs) w)))
+      by (Some x) = address_agrees U K q i w a b rest rest' start same target plain ranked more
+
   pub reference_agrees : (w : World) (quiet : Bool) (mode : NetPassing) (referred : Bool) (e : Expr) (rest : Memory → Outcome Memory (List SourceGiven))
-      (rest' : net.Memory → Outcome net.Memory Arguments) → quiet ≡ false → mode ≡ passing.Reference → is_variable e ≡ true → covers_expr uses e ≡ true
-      → MemoryMatch U w → HaveImages U K w f (scope_of U.written c g k) T uses → Agrees U K w (ArgumentsMatch U K) (rest w.src) (rest' w.net)
-      → FirstAgrees w quiet mode referred e rest rest'
-  reference_agrees w quiet mode referred (typed ty (variable v qualified)) rest rest' loud takes is covers start have more =
+      (rest' : net.Memory → Outcome net.Memory Arguments) → mode ≡ passing.Reference → is_variable e ≡ true → IsPassed uses e
+      → FitsArgument U q i (by_reference e) → suits_array U.program.declarations q i e ≡ true → MemoryMatch U w → HaveImages U K w f (scope_of U.written c g k) T uses
+      → Agrees U K w (ArgumentsMatch U K q (suc i)) (rest w.src) (rest' w.net) → FirstAgrees w quiet mode referred e rest rest'
+  reference_agrees w quiet mode referred (typed ty (variable v qualified)) rest rest' takes is passed fits suits start have more =
       let e : Expr = typed ty (variable v qualified) in
-      let used : uses v ≡ true = (both_true (covers_type ty) (uses v) covers).1 in
-      let r : IsReadable U v.0 = readable v used in
+      let used : IsUsed uses v = used_by uses ty v qualified passed in
+      let r : IsKnown U v.0 = known_used U T uses readable v used in
       let D : Declarations = U.program.declarations in
       let goes = λ (z : Outcome Memory SourceGiven). then z (λ g w. then (rest w) (λ gs w. gives [] (g ∷ gs) w)) in
       let goes' = λ (z : Outcome net.Memory (Given net_value.Value net.Address)). then z (λ g w. then (rest' w) (λ gs w. gives [] (g ∷ gs) w)) in
       let written : argument_exp T referred (by_reference e) (exp_of T e) ≡ path (variable_path T qualified v.0) =
       reference_is T referred ty v qualified (exp_of T e)
-      ∙ variable_exp T ty v qualified r.variable (ap (λ E. slice_get E.vars v.0) same_declarations ∙ r.is_variable) r.covers in
-      subst (λ q. FirstAgrees w q mode referred e rest rest') (sym loud)
-      (subst (λ z. Agrees U K w (ArgumentsMatch U K) (goes z)
+      ∙ known_exp T ty v qualified r.variable (ap (λ E. slice_get E.vars v.0) same_declarations ∙ r.is_variable) r.plain in
+      subst (λ z. Agrees U K w (ArgumentsMatch U K q i) (goes z)
       (goes' (target.given S net_oracle mode (target.reach S net_oracle false (argument_exp T referred (by_reference e) (exp_of T e)) w.net))))
-      (sym (source_given C ty v qualified (variable_address D f v.0) (auto_class (slice_get D.vars v.0))
-      (auto_none D.vars v.0 r.variable r.is_variable r.covers) w.src))
-      (subst (λ z. Agrees U K w (ArgumentsMatch U K) (goes (some_of (variable_address D f v.0) (λ a w. gives [] (by_address a) w) w.src))
+      (sym (source_given C quiet ty v qualified (variable_address D f v.0) (auto_class (slice_get D.vars v.0))
+      (known_none D.vars v.0 r.variable r.is_variable r.plain) w.src))
+      (subst (λ z. Agrees U K w (ArgumentsMatch U K q i) (goes (some_of (variable_address D f v.0) (source.given_address quiet) w.src))
       (goes' (target.given S net_oracle mode (target.reach S net_oracle false z w.net)))) (sym written)
-      (by (variable_address D f v.0) refl used)))
+      (by (variable_address D f v.0) refl used (passed_exact U T uses readable ty v qualified passed)))
     where
-      by : (o : Option Address) → variable_address U.program.declarations f v.0 ≡ o → uses v ≡ true
-          → Agrees U K w (ArgumentsMatch U K)
-          (then (some_of o (λ a w. gives [] (by_address a) w) w.src) (λ g w. then (rest w) (λ gs w. gives [] (g ∷ gs) w)))
+      by : (o : Option Address) → variable_address U.program.declarations f v.0 ≡ o → IsUsed uses v
+          → is_quiet U.program.declarations U.known v.0 ≡ false
+          → Agrees U K w (ArgumentsMatch U K q i)
+          (then (some_of o (source.given_address quiet) w.src) (λ g w. then (rest w) (λ gs w. gives [] (g ∷ gs) w)))
           (then (target.given (scope_of U.written c g k) net_oracle mode
           (target.reach (scope_of U.written c g k) net_oracle false (path (variable_path T qualified v.0)) w.net))
           (λ g w. then (rest' w) (λ gs w. gives [] (g ∷ gs) w)))
-      by None at used =
-          agrees_outside U K w (ArgumentsMatch U K)
+      by None at used loud =
+          agrees_outside U K w (ArgumentsMatch U K q i)
           (then (target.given (scope_of U.written c g k) net_oracle mode
           (target.reach (scope_of U.written c g k) net_oracle false (path (variable_path T qualified v.0)) w.net))
           (λ g w. then (rest' w) (λ gs w. gives [] (g ∷ gs) w)))
-      by (Some a) at used =
+      by (Some a) at used loud =
           let x : HasImage U K w (scope_of U.written c g k) T v.0 a = have v a used at in
-          subst (λ z. Agrees U K w (ArgumentsMatch U K)
-          (then (gives [] (by_address a) w.src) (λ g w. then (rest w) (λ gs w. gives [] (g ∷ gs) w)))
+          let y : IsImage U K w v.0 a x.address = x.image loud in
+          let stands = stands_at U T uses readable v used a y.position y.stands in
+          subst (λ z. Agrees U K w (ArgumentsMatch U K q i)
+          (then (source.given_address quiet a w.src) (λ g w. then (rest w) (λ gs w. gives [] (g ∷ gs) w)))
           (then z (λ g w. then (rest' w) (λ gs w. gives [] (g ∷ gs) w))))
           (sym (target_given (scope_of U.written c g k) net_oracle mode (variable_path T qualified v.0) x.address w.net takes (x.found qualified)
-          (image_given U K w a x.address x.shape x.position x.same x.stands)))
-          (address_agrees U K w a x.address rest rest' start x.same x.target x.plain more)
-  reference_agrees w quiet mode referred (typed ty _) rest rest' loud takes is covers start have more = absurd (true≢false (sym is))
+          (image_given U K w a x.address stands.0 y.position y.same stands.1)))
+          (given_agrees w quiet a x.address rest rest' start y.same y.target y.plain
+          (parameter_ranked U K w T uses readable q i ty v qualified passed fits suits a x.address y) more)
+  reference_agrees w quiet mode referred (typed ty _) rest rest' takes is passed fits suits start have more = absurd (true≢false (sym is))

@@ -1,10 +1,11 @@
 -- The values of variables.
-use Rattle.std.proofs.Common.{◌≡◌, ◌∙◌, refl, sym, ap, subst, ℕ, Bool, true, false, cond, not, ◌&&◌, List, [], Option, Some, None}
+use Rattle.std.proofs.Common.{◌≡◌, ◌∙◌, inl, refl, sym, ap, subst, ℕ, Bool, true, false, cond, not, ◌&&◌, List, [], Option, Some, None}
 use Rattle.std.specs.Prelude.{slice_get}
 use Rattle.vb_tree.specs.BoundTree.{Ty}
 use Rattle.vb_tree.specs.declared.declared.VarId.{VarId}
 use Rattle.vb_tree.specs.declared.value.Value6.{Value6}
 use Rattle.bound_tree.specs.Tree.{Variable, typed, variable}
+use Rattle.bound_facts.specs.Facts.{is_quiet}
 use Rattle.bound_facts.specs.Locks.{is_same_type}
 use Rattle.bound_facts.specs.Node.{auto_class, class_in}
 use Rattle.net_tree.specs.Tree.{path}
@@ -16,7 +17,7 @@ use Rattle.vb6_run.specs.Forms.{SourceLine}
 use Rattle.vb6_run.specs.Runnables.{variable_address}
 use Rattle.vb6_run.specs.Shapes.{Shape, simple, group, array, endless}
 use Rattle.vb6_run.specs.Store as store
-use Rattle.vb6_run.specs.Store.{Held, blank, table, parts, Address, root, Memory, Does, SourceCalls, SourceFrame, provided, value_if, single_in, array_in, fields_from, all_gathered}
+use Rattle.vb6_run.specs.Store.{Held, blank, table, parts, Address, root, Does, SourceCalls, SourceFrame, provided, value_if, single_in, array_in, fields_from, all_gathered}
 use Rattle.vb6_run.specs.Values.{Value, scalar, fields, elements, Values, Dimension, is_of_shape, is_typed}
 use Rattle.net_run.specs.Expressions as target
 use Rattle.net_run.specs.Lines.{NetFrame, NetLine, scope_of}
@@ -28,19 +29,21 @@ use Rattle.net_run.specs.Store as net
 use Rattle.net_run.specs.Values as net_value
 use Rattle.written_trees.specs.Exprs.{exp_of, made_if}
 use Rattle.written_trees.specs.Names.{Scope, variable_path}
-use Rattle.run_matches.specs.Addresses.{Same}
+use Rattle.run_matches.specs.Addresses.{Bound, HoldsSame, Same, images, mirrored, same_item, same_root}
 use Rattle.run_matches.specs.Agreeing.{Agrees}
 use Rattle.run_matches.specs.Covered.{Uses, covers_owner, covers_type, covers_variable}
-use Rattle.run_matches.specs.Maps.{World}
+use Rattle.run_matches.specs.Frames.{is_element}
+use Rattle.run_matches.specs.Maps.{World, moved_at}
 use Rattle.run_matches.specs.Match.{MemoryMatch}
 use Rattle.run_matches.specs.Pledges.{Pledge}
 use Rattle.run_matches.specs.Upgrades.{Upgrade}
 use Rattle.run_statements.specs.Frames.{IsReadable, ScalarMatch, context_of, AreReadable}
 use Rattle.agreeing_laws.proofs.Agreeing.{agrees_outside, left_alone}
+use Rattle.agreeing_laws.proofs.Lasting.{later_now}
 use Rattle.expression_laws.specs.Images.{HasImage, HaveImages}
 use Rattle.expression_laws.specs.Statements.{VariablesAreReadBy}
 use Rattle.expression_laws.proofs.Types.{both_true, same_as, same_of, covered_shape}
-use Rattle.expression_laws.proofs.Checks.{source_then, checked_agrees}
+use Rattle.expression_laws.proofs.Checks.{source_then, checked_agrees, value_checked}
 
 -- ---- addresses of other shapes
 
@@ -98,15 +101,21 @@ not_auto x h =
     let rest = both_true (covers_owner x.owner) (covers_type x.ty && not x.auto) h in
     not_true x.auto (both_true (covers_type x.ty) (not x.auto) rest.1).1
 
+pub known_none : (vars : List Variable) (v : ℕ) (x : Variable) → slice_get vars v ≡ Some x → x.auto ≡ false → auto_class (slice_get vars v) ≡ None
+known_none vars v x is plain = ap auto_class is ∙ ap (λ b. cond b (class_in x.ty) None) plain
+
 pub auto_none : (vars : List Variable) (v : ℕ) (x : Variable) → slice_get vars v ≡ Some x → covers_variable x ≡ true → auto_class (slice_get vars v) ≡ None
-auto_none vars v x is covers = ap auto_class is ∙ ap (λ b. cond b (class_in x.ty) None) (not_auto x covers)
+auto_none vars v x is covers = known_none vars v x is (not_auto x covers)
 
 -- its path is written
+pub known_exp : (T : Scope) (ty : Ty) (v : VarId) (qualified : Bool) (x : Variable) → slice_get T.declarations.vars v.0 ≡ Some x → x.auto ≡ false
+    → exp_of T (typed ty (variable v qualified)) ≡ path (variable_path T qualified v.0)
+known_exp T ty v qualified x is plain =
+    ap (λ o. made_if T.declarations o (path (variable_path T qualified v.0))) (known_none T.declarations.vars v.0 x is plain)
+
 pub variable_exp : (T : Scope) (ty : Ty) (v : VarId) (qualified : Bool) (x : Variable) → slice_get T.declarations.vars v.0 ≡ Some x → covers_variable x ≡ true
     → exp_of T (typed ty (variable v qualified)) ≡ path (variable_path T qualified v.0)
-variable_exp T ty v qualified x is covers =
-    ap (λ o. made_if T.declarations o (path (variable_path T qualified v.0)))
-    (ap auto_class is ∙ ap (λ b. cond b (class_in x.ty) None) (not_auto x covers))
+variable_exp T ty v qualified x is covers = known_exp T ty v qualified x is (not_auto x covers)
 
 -- a path that leads to a variable is read
 pub path_read : (S : net_names.Scope) (oracle : Jobs) (names : List (List ℕ)) (b : net.Address) (w : net.Memory) → path_start S false names ≡ starts (at_place b) []
@@ -153,12 +162,24 @@ module _ (U : Upgrade) (K : Pledge) (reads : VariablesAreReadBy U K) where
       other_agrees C ty (array_in e (w.src.held q)) w (target.read b w.net) covers (other_array ty e (w.src.held q))
   read_agrees C ty endless q b w covers start same = other_agrees C ty None w (target.read b w.net) covers (λ x h. absurd (cc h))
 
-  address_agrees : (C : Context) (ty : Ty) (a : Address) (s : Shape) (q : Position) (b : net.Address) (w : World) → a ≡ root s q → covers_type ty ≡ true
-      → MemoryMatch U w → Same U K w a b
+  same_agrees : (C : Context) (ty : Ty) (a : Address) (b : net.Address) (w : World) → is_element a ≡ false → covers_type ty ≡ true → MemoryMatch U w
+      → Same U K w a b → Agrees U K w (ScalarMatch U ty) (then (after [] (store.read a w.src)) (Checked C ty)) (target.read b w.net)
+  same_agrees C ty _ _ w whole covers start (same_root s d q sh m r) =
+      read_agrees C ty s q (net.root d (moved_at U w.map q)) w covers start (same_root s d q sh m r)
+  same_agrees C ty _ _ w whole covers start (same_item e s d q k j inside keeps m has part sh) = absurd (cc whole)
+
+  -- ---- values of quiet parameters
+
+  -- what two addresses are bound to is read on both sides
+  bound_agrees : (C : Context) (ty : Ty) (exact : Bool) (a : Address) (b : net.Address) (w : World) → is_element a ≡ false → covers_type ty ≡ true
+      → MemoryMatch U w → Bound U K w exact a b
       → Agrees U K w (ScalarMatch U ty) (then (after [] (store.read a w.src)) (Checked C ty)) (target.read b w.net)
-  address_agrees C ty a s q b w is covers start same =
-      subst (λ z. Agrees U K w (ScalarMatch U ty) (then (after [] (store.read z w.src)) (Checked C ty)) (target.read b w.net)) (sym is)
-      (read_agrees C ty s q b w covers start (subst (λ z. Same U K w z b) is same))
+  bound_agrees C ty _ _ _ w whole covers start (images exact a b same) = same_agrees C ty a b w whole covers start same
+  bound_agrees C ty _ _ _ w whole covers start (mirrored a b m) =
+      let x : HoldsSame U w a b = m.holds w (later_now U K w start) in
+      subst (λ o. Agrees U K w (ScalarMatch U ty) (then (after [] (found o w.src)) (Checked C ty)) (target.read b w.net)) (sym x.source)
+      (left_alone U K w (ScalarMatch U ty) (Checked C ty x.value w.src) (target.read b w.net)
+      (value_checked U K C ty x.value (net.looked_up b w.net) w covers start x.like))
 
 -- ---- a variable of the frames
 
@@ -176,13 +197,13 @@ module _ (U : Upgrade) (K : Pledge) (p : ℕ) (f : SourceFrame) (g : NetFrame) (
 
 module _ (U : Upgrade) (K : Pledge) (reads : VariablesAreReadBy U K) (p : ℕ) (f : SourceFrame) (g : NetFrame) (oracle : SourceCalls) (net_oracle : Jobs)
     (l : SourceLine) (k : NetLine) (c : Code) (T : Scope) (uses : Uses) where
-  pub variable_agrees : (ty : Ty) (v : VarId) (qualified : Bool) (w : World) → T.declarations ≡ U.program.declarations → AreReadable U uses
-      → HaveImages U K w f (scope_of U.written c g k) T uses → uses v ≡ true → covers_type ty ≡ true → MemoryMatch U w
+  pub variable_agrees : (ty : Ty) (v : VarId) (qualified : Bool) (w : World) → T.declarations ≡ U.program.declarations → AreReadable U T uses
+      → HaveImages U K w f (scope_of U.written c g k) T uses → uses.scalar v ≡ true → covers_type ty ≡ true → MemoryMatch U w
       → Agrees U K w (ScalarMatch U ty)
       (source.value_of (context_of U oracle p f l) (typed ty (variable v qualified)) w.src)
       (target.value_of (scope_of U.written c g k) net_oracle (exp_of T (typed ty (variable v qualified))) w.net)
   variable_agrees ty v qualified w same readable have used covers start =
-      let r : IsReadable U v.0 = readable v used in
+      let r : IsReadable U v.0 = readable.scalars v used in
       subst (λ m. From U K p f g oracle net_oracle l k c T ty v qualified w (variable_address U.program.declarations f v.0) m)
       (sym (auto_none U.program.declarations.vars v.0 r.variable r.is_variable r.covers))
       (by_address (variable_address U.program.declarations f v.0) refl r)
@@ -199,8 +220,8 @@ module _ (U : Upgrade) (K : Pledge) (reads : VariablesAreReadBy U K) (p : ℕ) (
           → From U K p f g oracle net_oracle l k c T ty v qualified w o None
       by_address None is r = agrees_outside U K w (ScalarMatch U ty) (Whole U K p f g oracle net_oracle l k c T ty v qualified w)
       by_address (Some a) is r =
-          let x : HasImage U K w (scope_of U.written c g k) T v.0 a = have v a used is in
+          let x : HasImage U K w (scope_of U.written c g k) T v.0 a = have v a (inl used) is in
           subst (λ z. Agrees U K w (ScalarMatch U ty) (after [] (then (after [] (store.read a w.src)) (Checked (context_of U oracle p f l) ty))) z)
           (sym (written r x.address (x.found qualified)))
           (left_alone U K w (ScalarMatch U ty) (then (after [] (store.read a w.src)) (Checked (context_of U oracle p f l) ty)) (target.read x.address w.net)
-          (address_agrees U K reads (context_of U oracle p f l) ty a x.shape x.position x.address w x.stands covers start x.same))
+          (bound_agrees U K reads (context_of U oracle p f l) ty (not (is_quiet U.program.declarations U.known v.0)) a x.address w x.whole covers start x.bound))

@@ -1,5 +1,5 @@
 -- What a call needs of the frames in which it stands, what its arguments are, and what it gives.
-use Rattle.std.specs.Prelude.{◌≡◌, Option, option_map, List, [], ◌∷◌}
+use Rattle.std.specs.Prelude.{◌≡◌, ℕ, suc, Option, option_map, List, [], ◌∷◌}
 use Rattle.vb_tree.specs.BoundTree.{Ty}
 use Rattle.vb_tree.specs.declared.value.Value6.{Value6}
 use Rattle.run_base.specs.Frames.{by_address, by_value}
@@ -11,7 +11,7 @@ use Rattle.net_run.specs.Lines.{NetFrame}
 use Rattle.net_run.specs.Shapes as shape
 use Rattle.net_run.specs.Store as net
 use Rattle.net_run.specs.Values as net_value
-use Rattle.run_matches.specs.Addresses.{AllLocked, IsPlain, IsTarget, Same}
+use Rattle.run_matches.specs.Addresses.{AllLocked, HasParameterRank, IsPlain, IsTarget, Same}
 use Rattle.run_matches.specs.Agreeing.{ResultMatch}
 use Rattle.run_matches.specs.Likeness.{LikeV}
 use Rattle.run_matches.specs.Maps.{World}
@@ -25,13 +25,13 @@ pub record Stands (U : Upgrade) (K : Pledge) (w : World) (f : SourceFrame) (g : 
   pub object : IsObject w f.me
   pub locks : AllLocked U K w f.env
 
--- scalars that are given by value, and variables by reference
-pub data ArgumentsMatch (U : Upgrade) (K : Pledge) (w : World) : List SourceGiven → List NetGiven → Type 0 where
-  no_arguments : ArgumentsMatch U K w [] []
-  next_value : (ty : Ty) (z : Value6) (y : net_value.Value) (xs : List SourceGiven) (ys : List NetGiven) → LikeV U w (scalar ty z) y
-      → ArgumentsMatch U K w xs ys → ArgumentsMatch U K w (by_value (scalar ty z) ∷ xs) (by_value y ∷ ys)
-  next_address : (a : Address) (b : net.Address) (xs : List SourceGiven) (ys : List NetGiven) → Same U K w a b → IsTarget U a → IsPlain U w a
-      → ArgumentsMatch U K w xs ys → ArgumentsMatch U K w (by_address a ∷ xs) (by_address b ∷ ys)
+-- scalars that are given by value, and variables by reference, to a procedure from a place of its parameters on
+pub data ArgumentsMatch (U : Upgrade) (K : Pledge) (q : ℕ) : (place : ℕ) → World → List SourceGiven → List NetGiven → Type 0 where
+  no_arguments : (i : ℕ) (w : World) → ArgumentsMatch U K q i w [] []
+  next_value : (i : ℕ) (w : World) (ty : Ty) (z : Value6) (y : net_value.Value) (xs : List SourceGiven) (ys : List NetGiven) → LikeV U w (scalar ty z) y
+      → ArgumentsMatch U K q (suc i) w xs ys → ArgumentsMatch U K q i w (by_value (scalar ty z) ∷ xs) (by_value y ∷ ys)
+  next_address : (i : ℕ) (w : World) (a : Address) (b : net.Address) (xs : List SourceGiven) (ys : List NetGiven) → Same U K w a b → IsTarget U a → IsPlain U w a
+      → HasParameterRank U q i (net.shape_at b) → ArgumentsMatch U K q (suc i) w xs ys → ArgumentsMatch U K q i w (by_address a ∷ xs) (by_address b ∷ ys)
 
 -- what a call gives, which is nothing of a Sub
 pub record GivenMatch (U : Upgrade) (w : World) (p : Parts) (a : net.Address) : Type 0 where

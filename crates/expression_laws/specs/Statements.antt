@@ -1,10 +1,12 @@
 -- The statements: expressions that are covered and well formed do the same as what is written for them.
-use Rattle.std.specs.Prelude.{◌≡◌, ℕ, true}
-use Rattle.vb_tree.specs.BoundTree.{Ty}
-use Rattle.bound_tree.specs.Tree.{Expr}
+use Rattle.std.specs.Prelude.{◌≡◌, ℕ, true, false, []}
+use Rattle.vb_tree.specs.BoundTree.{Ty, array}
+use Rattle.bound_tree.specs.Tree.{Expr, typed, element, Exprs, Term}
 use Rattle.bound_facts.specs.Node.{type_at}
+use Rattle.run_base.specs.Outcomes.{gives, then}
 use Rattle.run_base.specs.Positions.{Position}
 use Rattle.vb6_run.specs.Expressions as source
+use Rattle.vb6_run.specs.Expressions.{lows_at}
 use Rattle.vb6_run.specs.Forms.{SourceLine}
 use Rattle.vb6_run.specs.Shapes.{simple}
 use Rattle.vb6_run.specs.Store as store
@@ -18,13 +20,15 @@ use Rattle.written_trees.specs.Exprs.{exp_of}
 use Rattle.written_trees.specs.Names.{Scope}
 use Rattle.run_matches.specs.Addresses.{Same}
 use Rattle.run_matches.specs.Agreeing.{Agrees}
-use Rattle.run_matches.specs.Covered.{Uses, covers_type, covers_expr}
+use Rattle.run_matches.specs.Covered.{Uses, covers_array, covers_type, covers_expr, covers_exprs}
 use Rattle.run_matches.specs.Frames.{FrameMatch}
 use Rattle.run_matches.specs.Maps.{World}
 use Rattle.run_matches.specs.Match.{MemoryMatch}
 use Rattle.run_matches.specs.Pledges.{Pledge}
 use Rattle.run_matches.specs.Upgrades.{Upgrade}
-use Rattle.run_statements.specs.Frames.{ScalarMatch, PlainMatch, IsOpen, context_of, ArePlaced, AreReadable, AllCalled, CanCall}
+use Rattle.run_statements.specs.Elements.{IndexedMatch}
+use Rattle.run_statements.specs.Fitting.{rank_of}
+use Rattle.run_statements.specs.Frames.{ArrayMatch, ElementMatch, ScalarMatch, PlainMatch, IsOpen, context_of, ArePlaced, AreReadable, AllCalled, demands}
 use Rattle.run_matches.specs.Runs.{CallsAgree}
 use Rattle.run_statements.specs.Written.{Passes}
 use Rattle.run_matches.specs.Formed.{is_formed}
@@ -42,8 +46,8 @@ abbrev pub FormedExpressionsAgreeBy : Upgrade → Pledge → Type 0
 FormedExpressionsAgreeBy U K =
     (w : World) (p : ℕ) (f : SourceFrame) (g : NetFrame) (oracle : SourceCalls) (net_oracle : Jobs) (l : SourceLine) (k : NetLine) (c : Code)
     (T : Scope) (uses : Uses) (e : Expr) → MemoryMatch U w → FrameMatch U K w p f g → T.declarations ≡ U.program.declarations
-    → IsOpen (scope_of U.written c g k) → AreReadable U uses → ArePlaced U p f (scope_of U.written c g k) T uses → CallsAgree U (Passes U) oracle net_oracle
-    → AllCalled (CanCall U K (scope_of U.written c g k) T) e → covers_expr uses e ≡ true → is_formed e ≡ true
+    → IsOpen (scope_of U.written c g k) → AreReadable U T uses → ArePlaced U p f (scope_of U.written c g k) T uses → CallsAgree U (Passes U) oracle net_oracle
+    → AllCalled (demands U K (scope_of U.written c g k) T) e → covers_expr uses e ≡ true → is_formed e ≡ true
     → Agrees U K w (ScalarMatch U (type_at e))
     (source.value_of (context_of U oracle p f l) e w.src)
     (target.value_of (scope_of U.written c g k) net_oracle (exp_of T e) w.net)
@@ -53,11 +57,46 @@ abbrev pub FormedScalarsAgreeBy : Upgrade → Pledge → Type 0
 FormedScalarsAgreeBy U K =
     (w : World) (p : ℕ) (f : SourceFrame) (g : NetFrame) (oracle : SourceCalls) (net_oracle : Jobs) (l : SourceLine) (k : NetLine) (c : Code)
     (T : Scope) (uses : Uses) (e : Expr) → MemoryMatch U w → FrameMatch U K w p f g → T.declarations ≡ U.program.declarations
-    → IsOpen (scope_of U.written c g k) → AreReadable U uses → ArePlaced U p f (scope_of U.written c g k) T uses → CallsAgree U (Passes U) oracle net_oracle
-    → AllCalled (CanCall U K (scope_of U.written c g k) T) e → covers_expr uses e ≡ true → is_formed e ≡ true
+    → IsOpen (scope_of U.written c g k) → AreReadable U T uses → ArePlaced U p f (scope_of U.written c g k) T uses → CallsAgree U (Passes U) oracle net_oracle
+    → AllCalled (demands U K (scope_of U.written c g k) T) e → covers_expr uses e ≡ true → is_formed e ≡ true
     → Agrees U K w (PlainMatch U (type_at e))
     (source.scalar_value (context_of U oracle p f l) e w.src)
     (target.value_of (scope_of U.written c g k) net_oracle (exp_of T e) w.net)
+
+-- the array and the indexes of an element of a covered array
+abbrev pub IndexesAgreeBy : Upgrade → Pledge → Type 0
+IndexesAgreeBy U K =
+    (w : World) (p : ℕ) (f : SourceFrame) (g : NetFrame) (oracle : SourceCalls) (net_oracle : Jobs) (l : SourceLine) (k : NetLine) (c : Code)
+    (T : Scope) (uses : Uses) (ty : Ty) (a : Expr) (indexes : Exprs) → MemoryMatch U w → FrameMatch U K w p f g → T.declarations ≡ U.program.declarations
+    → IsOpen (scope_of U.written c g k) → AreReadable U T uses → ArePlaced U p f (scope_of U.written c g k) T uses → CallsAgree U (Passes U) oracle net_oracle
+    → AllCalled (demands U K (scope_of U.written c g k) T) (typed ty (element a indexes)) → covers_array uses a ≡ true → covers_exprs uses indexes ≡ true
+    → is_formed (typed ty (element a indexes)) ≡ true
+    → Agrees U K w (IndexedMatch U (lows_at (context_of U oracle p f l) a) ty)
+    (then (source.address_of (context_of U oracle p f l) a w.src) (λ b s.
+    then (source.indexes_of (context_of U oracle p f l) indexes s) (λ zs s. gives [] (b, zs) s)))
+    (target.reach (scope_of U.written c g k) net_oracle false (exp_of T (typed ty (element a indexes))) w.net)
+
+-- the element, before the last check of its index
+abbrev pub ElementsAgreeBy : Upgrade → Pledge → Type 0
+ElementsAgreeBy U K =
+    (w : World) (p : ℕ) (f : SourceFrame) (g : NetFrame) (oracle : SourceCalls) (net_oracle : Jobs) (l : SourceLine) (k : NetLine) (c : Code)
+    (T : Scope) (uses : Uses) (ty : Ty) (a : Expr) (indexes : Exprs) → MemoryMatch U w → FrameMatch U K w p f g → T.declarations ≡ U.program.declarations
+    → IsOpen (scope_of U.written c g k) → AreReadable U T uses → ArePlaced U p f (scope_of U.written c g k) T uses → CallsAgree U (Passes U) oracle net_oracle
+    → AllCalled (demands U K (scope_of U.written c g k) T) (typed ty (element a indexes)) → covers_array uses a ≡ true → covers_exprs uses indexes ≡ true
+    → is_formed (typed ty (element a indexes)) ≡ true
+    → Agrees U K w (ElementMatch U ty)
+    (source.term_parts (context_of U oracle p f l) ty (element a indexes) w.src)
+    (target.reach (scope_of U.written c g k) net_oracle false (exp_of T (typed ty (element a indexes))) w.net)
+
+-- the address of a covered array variable
+abbrev pub ArraysAgreeBy : Upgrade → Pledge → Type 0
+ArraysAgreeBy U K =
+    (w : World) (p : ℕ) (f : SourceFrame) (g : NetFrame) (oracle : SourceCalls) (net_oracle : Jobs) (l : SourceLine) (k : NetLine) (c : Code)
+    (T : Scope) (uses : Uses) (d : Ty) (rank : ℕ) (t : Term) → MemoryMatch U w → FrameMatch U K w p f g → T.declarations ≡ U.program.declarations
+    → AreReadable U T uses → ArePlaced U p f (scope_of U.written c g k) T uses → covers_array uses (typed (array d rank) t) ≡ true
+    → Agrees U K w (ArrayMatch U K d (rank_of U (typed (array d rank) t)))
+    (source.address_of (context_of U oracle p f l) (typed (array d rank) t) w.src)
+    (target.address_of (scope_of U.written c g k) net_oracle (exp_of T (typed (array d rank) t)) w.net)
 
 -- ---- under any pledge
 

@@ -1,10 +1,9 @@
 -- A MsgBox shows the same as what is written for it.
-use Rattle.std.proofs.Common.{◌≡◌, ◌∙◌, refl, sym, ap, subst, ℕ, true, false, ◌&&◌, true≢false, codes, List, [], ◌∷◌}
+use Rattle.std.proofs.Common.{◌≡◌, ◌∙◌, refl, sym, ap, subst, ℕ, Bool, true, false, ◌&&◌, ◌||◌, true≢false, codes, List, [], ◌∷◌}
 use Rattle.vb_tree.specs.BoundTree as types
 use Rattle.vb_tree.specs.BoundTree.{Ty}
 use Rattle.vb_tree.specs.declared.bound.LibCall.{LibCall}
 use Rattle.vb_tree.specs.declared.bound.LibCall.TheVariants as lib
-use Rattle.vb_tree.specs.declared.declared.VarId.{VarId}
 use Rattle.vb_tree.specs.declared.value.Value6.{Value6}
 use Rattle.bound_tree.specs.Tree.{Expr, typed, Term, library, no_exprs, next_expr, Exprs}
 use Rattle.bound_facts.proofs.Chains.{both_true}
@@ -39,10 +38,10 @@ use Rattle.run_matches.specs.Likeness.{LikeV, like_scalar}
 use Rattle.run_matches.specs.Match.{MemoryMatch}
 use Rattle.run_matches.specs.Pledges.{Pledge}
 use Rattle.run_matches.specs.Agreeing.{Agrees}
-use Rattle.run_matches.specs.Covered.{Uses, covers_expr, covers_library, covers_exprs, covers_term, covers_box, is_box}
+use Rattle.run_matches.specs.Covered.{Uses, covers_expr, covers_exprs, covers_term, covers_box, is_box}
 use Rattle.run_matches.specs.Formed.{is_call, types_of, is_formed, are_formed}
 use Rattle.run_matches.specs.Frames.{FrameMatch}
-use Rattle.run_statements.specs.Frames.{ArePlaced, ExpressionsAgree, IsOpen, IsReadable, ScalarMatch, context_of, AllCalled, CanCall, AllCalledAll, AllCalledIn}
+use Rattle.run_statements.specs.Frames.{ArePlaced, ExpressionsAgree, IsOpen, ScalarMatch, context_of, AllCalled, AllCalledAll, AllCalledIn, demands, AreReadable}
 use Rattle.run_statements.specs.Written.{Passes}
 use Rattle.run_matches.specs.Runs.{CallsAgree}
 use Rattle.agreeing_laws.proofs.Agreeing.{agrees_gives, left_alone, then_agrees}
@@ -85,7 +84,7 @@ module _ (U : Upgrade) (K : Pledge) (w : World) (h : MemoryMatch U w) where
 
 module _ (U : Upgrade) (expressions : ExpressionsAgree U) (K : Pledge) (p : ℕ) (f : SourceFrame) (g : NetFrame) (l : SourceLine) (k : NetLine) (c : Code) (T : Scope)
     (declared : T.declarations ≡ U.program.declarations) (oracle : SourceCalls) (net_oracle : Jobs) (is_open : IsOpen (scope_of U.written c g k)) (uses : Uses)
-    (readable : (v : VarId) → uses v ≡ true → IsReadable U v.0) (placed : ArePlaced U p f (scope_of U.written c g k) T uses) (agree : CallsAgree U (Passes U) oracle net_oracle)
+    (readable : AreReadable U T uses) (placed : ArePlaced U p f (scope_of U.written c g k) T uses) (agree : CallsAgree U (Passes U) oracle net_oracle)
     (w : World) (h : MemoryMatch U w) (F : FrameMatch U K w p f g) where
   abbrev C : source.Context
   C = context_of U oracle p f l
@@ -94,7 +93,7 @@ module _ (U : Upgrade) (expressions : ExpressionsAgree U) (K : Pledge) (p : ℕ)
   S = scope_of U.written c g k
 
   abbrev Can : Expr → Type 0
-  Can e = AllCalled (CanCall U K S T) e
+  Can e = AllCalled (demands U K S T) e
 
   text_agrees : (e : Expr) → Can e → covers_expr uses e ≡ true → is_formed e ≡ true → type_at e ≡ types.str
       → Agrees U K w AnyPlace (then (source.scalar_value C e w.src) boxed_text) (target.address_of S net_oracle (support_call (codes "Box") (one (exp_of T e))) w.net)
@@ -117,7 +116,7 @@ module _ (U : Upgrade) (expressions : ExpressionsAgree U) (K : Pledge) (p : ℕ)
       (then_agrees U K w AnyPlace AnyShown r r' (λ u s. gives [] u s) (λ a t. gives [] tt t) h x
       (λ u a w1 m later. agrees_gives U K w1 AnyShown u tt later.match tt))
 
-  box_shows : (ty : Ty) (args : Exprs) → AllCalledAll (CanCall U K S T) args → covers_exprs uses args ≡ true → is_call (types.str ∷ []) types.nothing (types_of args) ty ≡ true → are_formed args ≡ true
+  box_shows : (ty : Ty) (args : Exprs) → AllCalledAll (demands U K S T) args → covers_exprs uses args ≡ true → is_call (types.str ∷ []) types.nothing (types_of args) ty ≡ true → are_formed args ≡ true
       → AgreesAsCall U K w S net_oracle (source.parts_of C (typed ty (library lib.MsgBox args)) w.src) (exp_of T (typed ty (library lib.MsgBox args)))
   box_shows ty no_exprs can covers call formed = absurd (true≢false (sym (both_true (is_same_type types.nothing ty) false call).1))
   box_shows ty (next_expr e (next_expr d rest)) can covers call formed =
@@ -139,17 +138,22 @@ module _ (U : Upgrade) (expressions : ExpressionsAgree U) (K : Pledge) (p : ℕ)
             (text_agrees e can.0 (both_true (covers_expr uses e) true covers).0 (both_true (is_formed e) true formed).0 is));
       }
 
-  shows : (ty : Ty) (function : LibCall) (args : Exprs) → AllCalledAll (CanCall U K S T) args → is_box function ≡ true → covers_exprs uses args ≡ true
+  first_or : (b : Bool) → (b || false) ≡ true → b ≡ true
+  first_or true h = refl
+  first_or false h = h
+
+  shows : (ty : Ty) (function : LibCall) (args : Exprs) → AllCalledAll (demands U K S T) args → is_box function ≡ true
+      → covers_term uses (library function args) ≡ true
       → is_formed (typed ty (library function args)) ≡ true
       → AgreesAsCall U K w S net_oracle (source.parts_of C (typed ty (library function args)) w.src) (exp_of T (typed ty (library function args)))
   shows ty lib.MsgBox args can box covers formed =
       let both = both_true (is_call (types.str ∷ []) types.nothing (types_of args) ty) (are_formed args) formed in
-      box_shows ty args can covers both.0 both.1
+      box_shows ty args can (first_or (covers_exprs uses args) covers) both.0 both.1
   shows ty _ args can box covers formed = absurd (true≢false (sym box))
 
-  pub box_agrees : (ty : Ty) (t : Term) → AllCalledIn (CanCall U K S T) t → covers_box uses t ≡ true → is_formed (typed ty t) ≡ true
+  pub box_agrees : (ty : Ty) (t : Term) → AllCalledIn (demands U K S T) t → covers_box uses t ≡ true → is_formed (typed ty t) ≡ true
       → AgreesAsCall U K w S net_oracle (source.parts_of C (typed ty t) w.src) (exp_of T (typed ty t))
   box_agrees ty (library function args) can covers formed =
       let both = both_true (is_box function) (covers_term uses (library function args)) covers in
-      shows ty function args can both.0 (both_true (covers_library function) (covers_exprs uses args) both.1).1 formed
+      shows ty function args can.1 both.0 both.1 formed
   box_agrees ty _ can covers formed = absurd (true≢false (sym covers))

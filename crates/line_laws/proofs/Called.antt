@@ -7,11 +7,11 @@ use Rattle.vb_tree.specs.Tree.{Form}
 use Rattle.vb_tree.specs.Tree as source_form
 use Rattle.bound_tree.specs.Tree.{Declarations, Expr, typed, constant, variable, field, element, call, library, unary, binary, convert, new_object, me, with_object, err_number, err_raise, err_clear, is_same, loose, Exprs, no_exprs, next_expr, by_value, by_reference, Passed, no_passed, next_passed, Line}
 use Rattle.bound_facts.specs.Calls.{initialized, line_calls, node_calls, pair_to}
-use Rattle.bound_facts.specs.Node.{args_at, called}
+use Rattle.bound_facts.specs.Node.{called}
 use Rattle.bound_facts.specs.Nodes.{nodes, nodes_in, nodes_of_all, nodes_of_object, nodes_of_passed}
 use Rattle.bound_facts.specs.Parts.{line_uses, used_nodes}
 use Rattle.run_matches.specs.Covered.{Uses, covers_form}
-use Rattle.run_statements.specs.Frames.{AllCalled, AllCalledAll, AllCalledFor}
+use Rattle.run_statements.specs.Frames.{Demands, AllCalled, AllCalledAll, AllCalledFor}
 
 abbrev pub AllIn : {A : Type 0} → (A → Type 0) → List A → Type 0
 AllIn P [] = Unit {0}
@@ -33,31 +33,44 @@ contains_flat f (z ∷ zs) x y (suc k) lt e h = Contains-append_right (f z) (fla
 
 -- ---- nodes
 
-module _ (Q : ℕ → Passed → Type 0) where
+module _ (Q : Demands) where
+  -- what is demanded of a node by itself
+  abbrev pub NodeHas : Expr → Type 0
+  NodeHas (typed ty (call p qualified of args)) = Q.calls p.0 args
+  NodeHas (typed ty (element e indexes)) = Q.elements e indexes
+  NodeHas (typed ty (library f args)) = Q.bounds f args
+  NodeHas (typed ty t) = Unit {0}
+
   abbrev OfNodes : List Expr → Type 0
-  OfNodes es = (d : Expr) (q : ℕ) → Contains es d → called d ≡ Some q → Q q (args_at d)
+  OfNodes es = (d : Expr) → Contains es d → NodeHas d
 
   of_left : (xs ys : List Expr) → OfNodes (xs ++ ys) → OfNodes xs
-  of_left xs ys h d q c e = h d q (Contains-append_left xs ys d c) e
+  of_left xs ys h d c = h d (Contains-append_left xs ys d c)
 
   of_right : (xs ys : List Expr) → OfNodes (xs ++ ys) → OfNodes ys
-  of_right xs ys h d q c e = h d q (Contains-append_right xs ys d c) e
+  of_right xs ys h d c = h d (Contains-append_right xs ys d c)
 
   of_rest : (x : Expr) (xs : List Expr) → OfNodes (x ∷ xs) → OfNodes xs
-  of_rest x xs h d q c e = h d q (contains_next x d xs c) e
+  of_rest x xs h d c = h d (contains_next x d xs c)
 
   mutual
     nodes_called : (e : Expr) → OfNodes (nodes e) → AllCalled Q e
     nodes_called (typed ty (constant x origin)) h = tt
     nodes_called (typed ty (variable v qualified)) h = tt
     nodes_called (typed ty (field e k)) h = tt
-    nodes_called (typed ty (element e indexes)) h = tt
+    nodes_called (typed ty (element e indexes)) h = (
+      h (typed ty (element e indexes)) (contains_first (typed ty (element e indexes)) (nodes_in (element e indexes))),
+      exprs_called indexes (of_right (nodes e) (nodes_of_all indexes) (of_rest (typed ty (element e indexes)) (nodes_in (element e indexes)) h)),
+    )
     nodes_called (typed ty (call p qualified of args)) h = (
-      h (typed ty (call p qualified of args)) p.0 (contains_first (typed ty (call p qualified of args)) (nodes_in (call p qualified of args))) refl,
+      h (typed ty (call p qualified of args)) (contains_first (typed ty (call p qualified of args)) (nodes_in (call p qualified of args))),
       passed_called args
           (of_right (nodes_of_object of) (nodes_of_passed args) (of_rest (typed ty (call p qualified of args)) (nodes_in (call p qualified of args)) h)),
     )
-    nodes_called (typed ty (library f args)) h = exprs_called args (of_rest (typed ty (library f args)) (nodes_of_all args) h)
+    nodes_called (typed ty (library f args)) h = (
+      h (typed ty (library f args)) (contains_first (typed ty (library f args)) (nodes_of_all args)),
+      exprs_called args (of_rest (typed ty (library f args)) (nodes_of_all args) h),
+    )
     nodes_called (typed ty (unary op e)) h = nodes_called e (of_rest (typed ty (unary op e)) (nodes e) h)
     nodes_called (typed ty (binary op d e)) h =
         let more = of_rest (typed ty (binary op d e)) (nodes d ++ nodes e) h in
@@ -103,9 +116,9 @@ pub use_calls : (D : Declarations) (p q : ℕ) (l : Line) (d : Expr) → Contain
 use_calls D p q l d m e =
     contains_flat (node_calls D p) (line_uses l) d (p, q) m.0 m.1 m.2 (called_first D p q (called d) (pair_to p (initialized D d) []) e)
 
--- what holds of the calls of a covered line holds of those of its expressions
-pub line_called : (Q : ℕ → Passed → Type 0) (uses : Uses) (l : Line) → covers_form uses l.source.form l.bindings.exprs ≡ true
-    → ((d : Expr) (q : ℕ) → Contains (line_uses l) d → called d ≡ Some q → Q q (args_at d)) → AllIn (AllCalled Q) l.bindings.exprs
+-- what holds of the nodes of a covered line holds of those of its expressions
+pub line_called : (Q : Demands) (uses : Uses) (l : Line) → covers_form uses l.source.form l.bindings.exprs ≡ true
+    → ((d : Expr) → Contains (line_uses l) d → NodeHas Q d) → AllIn (AllCalled Q) l.bindings.exprs
 line_called Q uses l covers h =
     all_called Q l.bindings.exprs
-    (λ d q c e. h d q (subst (λ ns. Contains ns d) (sym (uses_are uses l.source.form l.bindings.exprs covers)) c) e)
+    (λ d c. h d (subst (λ ns. Contains ns d) (sym (uses_are uses l.source.form l.bindings.exprs covers)) c))

@@ -4,7 +4,6 @@ use Rattle.std.specs.List.{list_all}
 use Rattle.vb_tree.specs.BoundTree as types
 use Rattle.vb_tree.specs.BoundTree.{Ty}
 use Rattle.vb_tree.specs.declared.bound.Op6.TheVariants as op6
-use Rattle.vb_tree.specs.declared.declared.VarId.{VarId}
 use Rattle.vb_tree.specs.declared.expression.BinOp.{BinOp}
 use Rattle.vb_tree.specs.declared.expression.BinOp.TheVariants as b
 use Rattle.vb_tree.specs.declared.value.Value6.{Value6}
@@ -60,9 +59,9 @@ use Rattle.run_matches.specs.Pledges.{Pledge, Later}
 use Rattle.run_matches.specs.Addresses.{KeptMatch, both_nothing, both_limits, both_choices, both_objects, both_arrays, both_addresses}
 use Rattle.run_matches.specs.Agreeing.{Agrees}
 use Rattle.run_matches.specs.Formed.{is_formed}
-use Rattle.run_matches.specs.Covered.{Uses, chooses_among, covers_expr, covers_form, covers_items, covers_line, covers_part, covers_type, covers_use, head_line, is_comparison}
+use Rattle.run_matches.specs.Covered.{Uses, chooses_among, covers_expr, covers_form, covers_items, covers_line, covers_part, covers_type, head_line, is_comparison, uses_in}
 use Rattle.run_matches.specs.Frames.{FrameMatch, IsChoice, KeptBy, is_exact_head, lines_of}
-use Rattle.run_statements.specs.Frames.{ArePlaced, ExpressionsAgree, IsOpen, IsReadable, ScalarMatch, context_of, AllCalled, CanCall}
+use Rattle.run_statements.specs.Frames.{ArePlaced, ExpressionsAgree, IsOpen, ScalarMatch, context_of, AllCalled, demands, AreReadable}
 use Rattle.run_statements.specs.Written.{Passes}
 use Rattle.run_matches.specs.Runs.{CallsAgree}
 use Rattle.agreeing_laws.proofs.Agreeing.{agrees_gives, agrees_outside, agrees_raises, left_alone, then_agrees}
@@ -146,7 +145,7 @@ module _ (U : Upgrade) (K : Pledge) (w : World) (h : MemoryMatch U w) where
 
 module _ (U : Upgrade) (expressions : ExpressionsAgree U) (K : Pledge) (p : ℕ) (f : SourceFrame) (g : NetFrame) (l : SourceLine) (k : NetLine) (c : Code) (T : Scope)
     (declared : T.declarations ≡ U.program.declarations) (oracle : SourceCalls) (net_oracle : Jobs) (is_open : IsOpen (scope_of U.written c g k)) (uses : Uses)
-    (readable : (v : VarId) → uses v ≡ true → IsReadable U v.0) (placed : ArePlaced U p f (scope_of U.written c g k) T uses) (agree : CallsAgree U (Passes U) oracle net_oracle) where
+    (readable : AreReadable U T uses) (placed : ArePlaced U p f (scope_of U.written c g k) T uses) (agree : CallsAgree U (Passes U) oracle net_oracle) where
   abbrev C : source.Context
   C = context_of U oracle p f l
 
@@ -154,7 +153,7 @@ module _ (U : Upgrade) (expressions : ExpressionsAgree U) (K : Pledge) (p : ℕ)
   S = scope_of U.written c g k
 
   abbrev Can : Expr → Type 0
-  Can e = AllCalled (CanCall U K S T) e
+  Can e = AllCalled (demands U K S T) e
 
   -- ---- Select Case
 
@@ -316,8 +315,8 @@ module _ (U : Upgrade) (expressions : ExpressionsAgree U) (K : Pledge) (p : ℕ)
     by_line n (Some m) is stands =
         let F : FrameMatch U K w p f g = G w (later_now U K w h) in
         let parts = both_true (covers_line U.program p m) (chooses_among es m.source.form m.bindings.exprs) stands in
-        let known = (both_true (covers_form (covers_use U.program p m.bindings.mentions) m.source.form m.bindings.exprs) (list_all is_formed m.bindings.exprs) parts.0).0 in
-        by_head (is_exact_head U (nth_line (lines_of U p) n)) m.source.form m.bindings.exprs (covers_use U.program p m.bindings.mentions) known parts.1
+        let known = (both_true (covers_form (uses_in U.program p m.bindings.mentions) m.source.form m.bindings.exprs) (list_all is_formed m.bindings.exprs) parts.0).0 in
+        by_head (is_exact_head U (nth_line (lines_of U p) n)) m.source.form m.bindings.exprs (uses_in U.program p m.bindings.mentions) known parts.1
         (f.kept n) (g.kept n) (F.kept n) (F.covered_heads n m is parts.0)
 
     by_own : (o : Option ℕ) → covers_part U.program p (source_form.case_line items) es (head_line (lines_of U p) o) ≡ true

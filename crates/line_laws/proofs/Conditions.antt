@@ -1,7 +1,6 @@
 -- A condition goes where it goes in what is written for it.
 use Rattle.std.proofs.Common.{◌≡◌, ◌∙◌, refl, sym, ap, subst, ℕ, Bool, true, false, Option}
 use Rattle.vb_tree.specs.BoundTree.{Ty}
-use Rattle.vb_tree.specs.declared.declared.VarId.{VarId}
 use Rattle.vb_tree.specs.declared.value.Value6.{Value6}
 use Rattle.vb_tree.specs.declared.value.Value6.TheVariants as scalar6
 use Rattle.bound_tree.specs.Tree.{Expr}
@@ -36,7 +35,7 @@ use Rattle.run_matches.specs.Pledges.{Pledge, Later}
 use Rattle.run_matches.specs.Agreeing.{Agrees}
 use Rattle.run_matches.specs.Covered.{Uses}
 use Rattle.run_matches.specs.Frames.{FrameMatch}
-use Rattle.run_statements.specs.Frames.{ArePlaced, ExpressionsAgree, IsOpen, IsReadable, ScalarMatch, context_of, AllCalled, CanCall}
+use Rattle.run_statements.specs.Frames.{ArePlaced, ExpressionsAgree, IsOpen, ScalarMatch, context_of, AllCalled, demands, AreReadable}
 use Rattle.run_statements.specs.Written.{Passes}
 use Rattle.run_matches.specs.Runs.{CallsAgree}
 use Rattle.agreeing_laws.proofs.Agreeing.{agrees_outside, left_alone, right_alone, then_agrees}
@@ -80,7 +79,7 @@ module _ (U : Upgrade) (K : Pledge) (R : World → SourceFrame → NetFrame → 
 
 module _ (U : Upgrade) (expressions : ExpressionsAgree U) (K : Pledge) (p : ℕ) (f : SourceFrame) (g : NetFrame) (l : SourceLine) (k : NetLine) (c : Code) (T : Scope)
     (declared : T.declarations ≡ U.program.declarations) (oracle : SourceCalls) (net_oracle : Jobs) (is_open : IsOpen (scope_of U.written c g k)) (uses : Uses)
-    (readable : (v : VarId) → uses v ≡ true → IsReadable U v.0) (placed : ArePlaced U p f (scope_of U.written c g k) T uses) (agree : CallsAgree U (Passes U) oracle net_oracle) where
+    (readable : AreReadable U T uses) (placed : ArePlaced U p f (scope_of U.written c g k) T uses) (agree : CallsAgree U (Passes U) oracle net_oracle) where
   abbrev C : source.Context
   C = context_of U oracle p f l
 
@@ -88,7 +87,7 @@ module _ (U : Upgrade) (expressions : ExpressionsAgree U) (K : Pledge) (p : ℕ)
   S = scope_of U.written c g k
 
   abbrev Can : Expr → Type 0
-  Can e = AllCalled (CanCall U K S T) e
+  Can e = AllCalled (demands U K S T) e
 
   pub condition_agrees : (R : World → SourceFrame → NetFrame → Type 0) (w : World) → MemoryMatch U w → FrameMatch U K w p f g → (m n : Option ℕ)
       (go : Bool → net_store.Memory → Outcome net_store.Memory NetFrame) → ((w1 : World) → Later U K w w1 → BothLead U K R C m n go w1) → (e : Expr)

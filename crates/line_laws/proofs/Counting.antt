@@ -44,7 +44,7 @@ use Rattle.run_matches.specs.Agreeing.{Agrees}
 use Rattle.run_matches.specs.Formed.{is_formed}
 use Rattle.run_matches.specs.Covered.{Uses, covers_counter, covers_counting, covers_expr, covers_step, covers_type, covers_value, is_counter, is_local, is_local_term, is_variable}
 use Rattle.run_matches.specs.Frames.{FrameMatch, HasPlace, OwnsAll, SameVariable, is_own_of}
-use Rattle.run_statements.specs.Frames.{AnyUnits, ArePlaced, ExpressionsAgree, IsOpen, IsReadable, ScalarMatch, ScalarsAreWritten, context_of, AllCalled, CanCall}
+use Rattle.run_statements.specs.Frames.{AnyUnits, ArePlaced, ExpressionsAgree, IsOpen, IsReadable, ScalarMatch, ScalarsAreWritten, context_of, AllCalled, demands, AreReadable}
 use Rattle.run_statements.specs.Written.{Passes}
 use Rattle.run_matches.specs.Runs.{CallsAgree}
 use Rattle.agreeing_laws.proofs.Agreeing.{agrees_outside, left_alone, right_alone, then_agrees}
@@ -58,13 +58,13 @@ use Rattle.line_laws.proofs.Counts.{counted_agrees, counter_covered, one_agrees,
 use Rattle.line_laws.proofs.FrameLater.{Keeps}
 use Rattle.line_laws.proofs.Jumps.{leads}
 use Rattle.line_laws.proofs.Stores.{not_kept, same_type}
-use Rattle.line_laws.proofs.Uses.{address_found, address_is, is_loud, name_is, own_path, path_is, scalar_type, shape_is, variable_named, variable_reached}
+use Rattle.line_laws.proofs.Uses.{address_found, address_is, name_is, own_exact, own_path, path_is, scalar_type, shape_is, variable_named, variable_reached}
 
 -- ---- For
 
 module _ (U : Upgrade) (expressions : ExpressionsAgree U) (scalars : ScalarsAreWritten U) (K : Pledge) (p : ℕ) (f : SourceFrame) (g : NetFrame) (l : SourceLine)
     (k : NetLine) (c : Code) (T : Scope) (declared : T.declarations ≡ U.program.declarations) (oracle : SourceCalls) (net_oracle : Jobs)
-    (is_open : IsOpen (scope_of U.written c g k)) (uses : Uses) (readable : (v : VarId) → uses v ≡ true → IsReadable U v.0)
+    (is_open : IsOpen (scope_of U.written c g k)) (uses : Uses) (readable : AreReadable U T uses)
     (placed : ArePlaced U p f (scope_of U.written c g k) T uses) (agree : CallsAgree U (Passes U) oracle net_oracle) (R : World → SourceFrame → NetFrame → Type 0) (w : World) (h : MemoryMatch U w)
     (G : GoOnMatching U K p f g w) (owns : OwnsAll U K p f) (aims : k.aims ≡ l.aims) where
   abbrev C : source.Context
@@ -74,7 +74,7 @@ module _ (U : Upgrade) (expressions : ExpressionsAgree U) (scalars : ScalarsAreW
   S = scope_of U.written c g k
 
   abbrev Can : Expr → Type 0
-  Can e = AllCalled (CanCall U K S T) e
+  Can e = AllCalled (demands U K S T) e
 
   -- a value of the type of the counter
   value_agrees : (ty : Ty) → covers_type ty ≡ true → (e : Expr) → Can e → covers_value uses ty e ≡ true → is_formed e ≡ true → (w1 : World) → Later U K w w1
@@ -85,7 +85,7 @@ module _ (U : Upgrade) (expressions : ExpressionsAgree U) (scalars : ScalarsAreW
       (same_type ty (type_at e) typed_ty parts.0)
       (expressions K w1 p f g oracle net_oracle l k c T uses e later.match (G w1 later) declared is_open readable placed agree can parts.1 formed)
 
-  module _ (ty : Ty) (v : VarId) (qualified : Bool) (counts : is_counter ty ≡ true) (use_v : uses v ≡ true) (a : Address) (found : lookup (nat_eq v.0) f.vars ≡ Some a)
+  module _ (ty : Ty) (v : VarId) (qualified : Bool) (counts : is_counter ty ≡ true) (use_v : uses.scalar v ≡ true) (a : Address) (found : lookup (nat_eq v.0) f.vars ≡ Some a)
       (mine : is_own_of U p v.0 ≡ true)
       (head first last : source_form.Exp) (pace : Option source_form.Exp) (es : List Expr)
       (keep : Keeps U K p f g R w (source_form.for_head head first last pace) (typed ty (variable v qualified) ∷ es)) where
@@ -93,7 +93,7 @@ module _ (U : Upgrade) (expressions : ExpressionsAgree U) (scalars : ScalarsAreW
     counter = typed ty (variable v qualified)
 
     abbrev readable_v : IsReadable U v.0
-    readable_v = readable v use_v
+    readable_v = readable.scalars v use_v
 
     abbrev declared_type : Ty
     declared_type = readable_v.variable.ty
@@ -105,7 +105,7 @@ module _ (U : Upgrade) (expressions : ExpressionsAgree U) (scalars : ScalarsAreW
     found_v = F.vars v.0 a found readable_v.sound
 
     same_v : Same U K w a found_v.address
-    same_v = exactly U K w (not (is_quiet U.program.declarations U.known v.0)) a found_v.address (is_loud U v.0 readable_v) found_v.bound
+    same_v = exactly U K w (not (is_quiet U.program.declarations U.known v.0)) a found_v.address (ap not (own_exact U v.0 readable_v p mine)) found_v.bound
 
     place_v : HasPlace U w v.0 a
     place_v = F.own v.0 a found mine
@@ -266,7 +266,7 @@ module _ (U : Upgrade) (expressions : ExpressionsAgree U) (scalars : ScalarsAreW
       (target_lines.for_does S net_oracle g k (exp_of T (typed ty t)) (exp_of T start) (exp_of T limit) (step_exp T steps) w.net)
   by_term ty (variable v qualified) counts covers local head first last pace start limit steps can keep a d e x y z =
       let found : (q : Address) × (lookup (nat_eq v.0) f.vars ≡ Some q) = (G w (later_now U K w h)).has_locals v.0 local in
-      head_agrees ty v qualified counts (both_true (covers_type ty) (uses v) covers).1 found.0 found.1 (own_local U p v.0 local) head first last pace
+      head_agrees ty v qualified counts (both_true (covers_type ty) (uses.scalar v) covers).1 found.0 found.1 (own_local U p v.0 local) head first last pace
       (start ∷ limit ∷ steps) keep
       start limit steps can a d e x y z
   by_term ty _ counts covers local head first last pace start limit steps can keep a d e x y z = absurd (true≢false (sym local))

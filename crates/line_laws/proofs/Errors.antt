@@ -4,7 +4,6 @@ use Rattle.std.specs.Prelude.{nat_lt, nat_le}
 use Rattle.std.proofs.lemmas.Bool.{le-leb, ltb-true}
 use Rattle.vb_tree.specs.BoundTree as types
 use Rattle.vb_tree.specs.BoundTree.{Ty}
-use Rattle.vb_tree.specs.declared.declared.VarId.{VarId}
 use Rattle.vb_tree.specs.declared.value.Value6.{Value6}
 use Rattle.bound_tree.specs.Tree.{Expr, typed, err_clear, err_raise}
 use Rattle.bound_facts.proofs.Chains.{both_true}
@@ -50,7 +49,7 @@ use Rattle.run_matches.specs.Covered.{Uses, covers_expr}
 use Rattle.run_matches.specs.Formed.{is_formed}
 use Rattle.run_matches.specs.Frames.{FrameMatch}
 use Rattle.run_matches.specs.Runs.{CallsAgree}
-use Rattle.run_statements.specs.Frames.{ArePlaced, ExpressionsAgree, IsOpen, IsReadable, ScalarMatch, context_of, AllCalled, CanCall}
+use Rattle.run_statements.specs.Frames.{ArePlaced, ExpressionsAgree, IsOpen, ScalarMatch, context_of, AllCalled, demands, AreReadable}
 use Rattle.run_statements.specs.Written.{Passes}
 use Rattle.agreeing_laws.proofs.Agreeing.{agrees_from, agrees_gives, agrees_outside, agrees_raises, left_alone, then_agrees}
 use Rattle.agreeing_laws.proofs.Beside.{later_errors}
@@ -139,7 +138,7 @@ module _ (U : Upgrade) (K : Pledge) (S : net_names.Scope) (oracle : Jobs) (free 
 
 module _ (U : Upgrade) (expressions : ExpressionsAgree U) (K : Pledge) (p : ℕ) (f : SourceFrame) (g : NetFrame) (l : SourceLine) (k : NetLine) (c : Code) (T : Scope)
     (declared : T.declarations ≡ U.program.declarations) (oracle : SourceCalls) (net_oracle : Jobs) (is_open : IsOpen (scope_of U.written c g k)) (uses : Uses)
-    (readable : (v : VarId) → uses v ≡ true → IsReadable U v.0) (placed : ArePlaced U p f (scope_of U.written c g k) T uses) (agree : CallsAgree U (Passes U) oracle net_oracle)
+    (readable : AreReadable U T uses) (placed : ArePlaced U p f (scope_of U.written c g k) T uses) (agree : CallsAgree U (Passes U) oracle net_oracle)
     (w : World) (h : MemoryMatch U w) (F : FrameMatch U K w p f g) where
   abbrev C : source.Context
   C = context_of U oracle p f l
@@ -156,7 +155,7 @@ module _ (U : Upgrade) (expressions : ExpressionsAgree U) (K : Pledge) (p : ℕ)
       ∙ ap (λ r. then r raises_value) (sym (then_assoc (source.parts_of C e s) (value_in C e) scalar_of))
       ∙ then_assoc (source.value_of C e s) scalar_of raises_value
 
-  number_agrees : (e : Expr) → AllCalled (CanCall U K S T) e → covers_expr uses e ≡ true → is_formed e ≡ true → type_at e ≡ types.long
+  number_agrees : (e : Expr) → AllCalled (demands U K S T) e → covers_expr uses e ≡ true → is_formed e ≡ true → type_at e ≡ types.long
       → Agrees U K w AnyPlace (then (then (source.parts_of C e w.src) (source.long_in C e)) raise_of)
       (target.address_of S net_oracle (support_call (codes "Raise") (one (exp_of T e))) w.net)
   number_agrees e can covers formed is =
@@ -175,7 +174,7 @@ module _ (U : Upgrade) (expressions : ExpressionsAgree U) (K : Pledge) (p : ℕ)
       (then_agrees U K w AnyPlace AnyShown r r' (λ u s. gives [] u s) (λ a t. gives [] tt t) h x
       (λ u a w1 m later. agrees_gives U K w1 AnyShown u tt later.match tt))
 
-  pub raise_agrees : (ty : Ty) (e : Expr) → AllCalled (CanCall U K (scope_of U.written c g k) T) e → covers_expr uses e ≡ true
+  pub raise_agrees : (ty : Ty) (e : Expr) → AllCalled (demands U K (scope_of U.written c g k) T) e → covers_expr uses e ≡ true
       → is_formed (typed ty (err_raise e)) ≡ true
       → AgreesAsCall U K w (scope_of U.written c g k) net_oracle (source.parts_of (context_of U oracle p f l) (typed ty (err_raise e)) w.src)
       (exp_of T (typed ty (err_raise e)))

@@ -39,7 +39,7 @@ static_later U K w0 w1 l v r g s = record {
       ∙ ap (λ p. Some (net.root s.written p))
       (sym (same_at U w0 w1 l.extends (whole r) (matched_whole U w0 (variable_shape U.program.declarations v) (whole r) s.is_matched).is_made));
   same = s.same;
-  is_matched = all_matched_later U w0 w1 l.extends l.grows (variable_shape U.program.declarations v) (whole r) s.is_matched;
+  is_matched = all_matched_later U K w0 w1 l (variable_shape U.program.declarations v) (whole r) s.is_matched;
   ranked = all_ranked_later U K w0 w1 l (variable_shape U.program.declarations v) s.written (whole r) s.is_matched s.ranked;
 }
 
@@ -59,6 +59,7 @@ module _ (U : Upgrade) (K : Pledge) where
     address = s.address;
     found = s.found;
     bound = bound_later U K w0 w1 h l (not (is_quiet U.program.declarations U.known v)) a s.address s.bound;
+    ranked = s.ranked;
     plain = λ e.
         plain_later U w0 w1 a l.extends
         (λ q at. bound_made U K w0 (not (is_quiet U.program.declarations U.known v)) a s.address h s.bound q at) (s.plain e);
@@ -82,6 +83,7 @@ module _ (U : Upgrade) (K : Pledge) where
     kept = λ i. kept_later U K w0 w1 h l (is_exact_head U (nth_line (lines_of U p) i)) (f.kept i) (g.kept i) (F.kept i);
     covered_heads = F.covered_heads;
     has_locals = F.has_locals;
+    has_passing = F.has_passing;
     locks = locks_later U K w0 w1 f.env l F.locks;
     low = below_then K.base (mark w0.src) (mark w1.src) F.low l.grows;
   }
@@ -106,7 +108,7 @@ frame_placed U K w p f g n m h i t u r s a b c d F = record {
   me = F.me;
   me_made = F.me_made;
   names = names_placed (code_of U p) m i u s g F.names;
-  vars = λ v a e s. let x = F.vars v a e s in record { address = x.address; found = x.found; bound = x.bound; plain = x.plain };
+  vars = λ v a e s. let x = F.vars v a e s in record { address = x.address; found = x.found; bound = x.bound; ranked = x.ranked; plain = x.plain };
   statics = λ v r e s.
       let x = F.statics v r e s in
       record { written = x.written; found = x.found; same = x.same; is_matched = x.is_matched; ranked = x.ranked };
@@ -115,6 +117,7 @@ frame_placed U K w p f g n m h i t u r s a b c d F = record {
   kept = F.kept;
   covered_heads = F.covered_heads;
   has_locals = F.has_locals;
+  has_passing = F.has_passing;
   locks = F.locks;
   low = F.low;
 }
@@ -156,7 +159,7 @@ module _ (U : Upgrade) (K : Pledge) (w : World) (p : ℕ) (f : SourceFrame) (g :
     me = F.me;
     me_made = F.me_made;
     names = names_kept (code_of U p) m F.names;
-    vars = λ v a e s. let z = F.vars v a e s in record { address = z.address; found = z.found; bound = z.bound; plain = z.plain };
+    vars = λ v a e s. let z = F.vars v a e s in record { address = z.address; found = z.found; bound = z.bound; ranked = z.ranked; plain = z.plain };
     statics = λ v r e s.
         let z = F.statics v r e s in
         record { written = z.written; found = z.found; same = z.same; is_matched = z.is_matched; ranked = z.ranked };
@@ -169,6 +172,7 @@ module _ (U : Upgrade) (K : Pledge) (w : World) (p : ℕ) (f : SourceFrame) (g :
         subst (λ z. KeptBy f.vars l.source.form l.bindings.exprs (updated_at f.kept f.line x h) (updated_at g.kept z y h)) (sym F.line)
         (here_by (nat_eq f.line h) h refl l is covers);
     has_locals = F.has_locals;
+    has_passing = F.has_passing;
     locks = F.locks;
     low = F.low;
   }

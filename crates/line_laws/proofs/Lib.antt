@@ -16,4 +16,18 @@ pub mod Rounds
 pub mod Boxes
 pub mod Errors
 pub mod Behind
+pub mod Still
+pub mod Calm
+pub mod Standing
+pub mod Elements
+pub mod Puts
+pub mod Orders
+pub mod ElementStores
+pub mod ElementLines
+pub mod Constants
+pub mod Extents
+pub mod Settled
+pub mod Unkept
+pub mod Resizes
 pub mod Lines
+mod StoreExamples

@@ -1,6 +1,6 @@
 -- Covered lines do the same as what is written for them.
-use Rattle.std.proofs.Common.{◌≡◌, ◌∙◌, refl, sym, ap, subst, ℕ, Bool, true, ◌&&◌, Option, Some, List, [], ◌∷◌, true≢false, false, not}
-use Rattle.std.specs.List.{list_all, Contains}
+use Rattle.std.proofs.Common.{◌≡◌, ◌∙◌, refl, sym, ap, subst, ℕ, Bool, true, ◌&&◌, ◌||◌, Option, Some, List, [], ◌∷◌, ◌++◌, codes, true≢false, false, not, map}
+use Rattle.std.specs.List.{list_all}
 use Rattle.std.proofs.lemmas.List.Elements.{Contains-push}
 use Rattle.vb_tree.specs.BoundTree.{Ty}
 use Rattle.vb_tree.specs.declared.declared.ProcId.{ProcId}
@@ -9,50 +9,56 @@ use Rattle.vb_tree.specs.declared.form_parts.Label6.{Label6}
 use Rattle.vb_tree.specs.Tree.{Form}
 use Rattle.vb_tree.specs.Tree as source_form
 use Rattle.bound_tree.specs.Labels.{Label, labels}
-use Rattle.bound_tree.specs.Tree.{Expr, Line, typed, Term, variable, library, call, err_clear, err_raise, no_object, of_object, Passed}
+use Rattle.bound_tree.specs.Tree.{Expr, Line, typed, Term, constant, variable, field, element, call, library, unary, binary, convert, new_object, me, with_object, err_number, err_raise, err_clear, is_same, loose, no_object, of_object, Passed}
 use Rattle.bound_facts.proofs.Chains.{both_true}
 use Rattle.bound_facts.specs.Effects.{is_outside}
-use Rattle.bound_facts.specs.Node.{root}
-use Rattle.bound_facts.specs.Parts.{stores}
+use Rattle.bound_facts.specs.Locks.{is_same_type}
+use Rattle.bound_facts.specs.Node.{args_at, called, declared_at, root, type_at}
+use Rattle.bound_facts.specs.Parts.{resizes}
 use Rattle.net_tree.specs.Tree as net
 use Rattle.run_base.specs.Frames.{Handler, none, next_line, at_line, to_line}
 use Rattle.run_base.specs.Machines.{go, handled, nth_line}
 use Rattle.run_base.specs.Outcomes.{Outcome, gives, then, some_of}
 use Rattle.written_trees.specs.Bodies.{inside_procedure}
-use Rattle.written_trees.specs.Conversions.{one, support_call}
+use Rattle.written_trees.specs.Conversions.{one, support_call, two}
 use Rattle.written_trees.specs.Exprs.{exp_of, has_none, passed_of, reads_itself}
-use Rattle.written_trees.specs.Lines.{assign_line, first_exp, items_exp, jump, print_name, line_of, call_line, as_call}
+use Rattle.written_trees.specs.Lines.{assign_line, first_exp, items_exp, jump, print_name, line_of, call_line, as_call, empty_extents, resized_array}
+use Rattle.written_trees.specs.Types.{element_type, written_type}
+use Rattle.written_trees.specs.Puts as written_puts
 use Rattle.written_trees.specs.Names.{Scope, variable_path, procedure_path}
 use Rattle.written_trees.specs.Arguments.{is_property}
 use Rattle.written_trees.specs.Exprs as written
+use Rattle.vb6_run.specs.Arrays.{erase}
 use Rattle.vb6_run.specs.Expressions as source
 use Rattle.vb6_run.specs.Forms as source_forms
 use Rattle.vb6_run.specs.Forms.{SourceLine}
-use Rattle.vb6_run.specs.Lines.{goes_if, goes_on, handles_by, let_to, line_of_label, items_text, print, when_done, with_one}
+use Rattle.vb6_run.specs.Lines.{goes_if, goes_on, handles_by, let_to, line_of_label, items_text, print, when_done, with_one, redim_does}
 use Rattle.vb6_run.specs.Lines as source_lines
 use Rattle.vb6_run.specs.Programs as source_program
-use Rattle.vb6_run.specs.Store.{Address, Memory, SourceCalls, SourceFrame}
+use Rattle.vb6_run.specs.Store.{Memory, SourceCalls, SourceFrame}
 use Rattle.net_run.specs.Blocks.{condition}
 use Rattle.net_run.specs.Expressions as target
 use Rattle.net_run.specs.Lines as target_lines
-use Rattle.net_run.specs.Lines.{NetFrame, NetLine, NetMachine, scope_of, assignment, at_some, back_if, back_unless, handler_set, if_fails, if_holds}
+use Rattle.net_run.specs.Lines.{NetFrame, NetLine, NetMachine, scope_of, assignment, at_some, back_if, back_unless, handler_set, if_fails, if_holds, redim_all}
 use Rattle.net_run.specs.Making.{Jobs}
 use Rattle.net_run.specs.Members.{Code}
 use Rattle.net_run.specs.Names as net_names
 use Rattle.net_run.specs.Program as target_program
 use Rattle.net_run.specs.Store as net_store
-use Rattle.net_run.specs.Values as net_value
 use Rattle.run_matches.specs.Upgrades.{Upgrade, runnable_of}
 use Rattle.run_matches.specs.Maps.{World}
 use Rattle.run_matches.specs.Match.{MemoryMatch}
 use Rattle.run_matches.specs.Pledges.{Pledge, Later}
 use Rattle.run_matches.specs.Agreeing.{Agrees}
 use Rattle.run_matches.specs.Formed.{is_formed}
-use Rattle.run_matches.specs.Covered.{Uses, is_variable_in, covers_type, covers_use, covers_expr, covers_condition, covers_store, covers_form, covers_part, head_line, jump_of, resumes, covers_call, covers_called}
+use Rattle.run_matches.specs.Covered.{Uses, covers_array, covers_exprs, is_ordered_in, keeps_order, is_changeable_in, covers_type, covers_expr, covers_condition, covers_store, covers_form, covers_part, head_line, jump_of, resumes, covers_call, covers_called, uses_in}
 use Rattle.run_matches.specs.Frames.{FrameMatch, KeptBy, NextMatch, OwnsAll, is_own_of, frame_pledge, lines_of}
 use Rattle.run_matches.specs.Runs.{line_result, CallsAgree}
 use Rattle.run_matches.specs.Sites.{site_lines}
-use Rattle.run_statements.specs.Frames.{ExpressionsAgree, ScalarsAreRead, ScalarsAreWritten, IsOpen, IsReadable, AnyUnits, context_of, ArePlaced, AllCalled, AnyParts, CallsAreMade, CanCall}
+use Rattle.run_statements.specs.Elements.{IndexesAgree}
+use Rattle.run_statements.specs.Memory.{ArraysAreErased, ArraysAreResized, ElementsAreWritten}
+use Rattle.run_statements.specs.Frames.{ArraysAgree, ElementsAgree, ExpressionsAgree, ScalarsAreRead, ScalarsAreWritten, IsOpen, AnyUnits, context_of, ArePlaced, AllCalled, AnyParts, CallsAreMade, CanCall, demands, AreReadable}
+use Rattle.run_statements.specs.Fitting.{FitsNode}
 use Rattle.run_statements.specs.Kept.{AllSameWays, LinesAgree}
 use Rattle.run_statements.specs.Written.{Passes, site_scope}
 use Rattle.agreeing_laws.specs.Beside.{with_steps}
@@ -70,13 +76,16 @@ use Rattle.line_laws.proofs.FrameLater.{frame_later, Keeps}
 use Rattle.line_laws.proofs.Handlers.{Places, handler_agrees, handler_at_agrees, resume_agrees, resume_at_agrees, resume_next_agrees}
 use Rattle.line_laws.proofs.Jumps.{exit_agrees, leads}
 use Rattle.line_laws.proofs.Boxes.{AnyShown, AgreesAsCall, box_agrees}
-use Rattle.line_laws.proofs.Called.{AllIn, line_called}
+use Rattle.line_laws.proofs.Called.{AllIn, NodeHas, line_called}
 use Rattle.line_laws.proofs.Errors.{clear_agrees, raise_agrees}
 use Rattle.line_laws.proofs.Owning.{owns_now}
 use Rattle.line_laws.proofs.Prints.{AnyAddress, print_agrees}
+use Rattle.line_laws.proofs.Resizes.{MayStore, erase_agrees, redim_agrees}
 use Rattle.line_laws.proofs.Rounds.{next_agrees}
-use Rattle.line_laws.proofs.Stores.{assignment_agrees, line_is}
-use Rattle.line_laws.proofs.Uses.{all_good, good, is_good}
+use Rattle.line_laws.proofs.Unkept.{resizing_not_kept}
+use Rattle.line_laws.proofs.ElementLines.{element_stored, not_outside}
+use Rattle.line_laws.proofs.Stores.{assignment_agrees, line_is, same_type}
+use Rattle.line_laws.proofs.Uses.{all_good, good, good_parts, is_good}
 
 -- ---- forms
 
@@ -91,13 +100,10 @@ call_is U T declared ty q qualified args h =
     ap (λ b. as_call (written.called (b && (has_none args && not (reads_itself T q.0 qualified no_object))) (net.path (procedure_path T qualified q.0)) (passed_of T q.0 0 args)))
     (ap (λ D. is_property D q.0) declared ∙ h)
 
-not_outside : (b : Bool) → not b ≡ false → b ≡ true
-not_outside true e = refl
-not_outside false e = absurd (true≢false e)
-
-module _ (U : Upgrade) (expressions : ExpressionsAgree U) (calls : CallsAreMade U) (reads : ScalarsAreRead U) (scalars : ScalarsAreWritten U) (K : Pledge) (p q : ℕ) (f : SourceFrame) (g : NetFrame) (l : SourceLine) (k : NetLine) (c : Code) (T : Scope)
+module _ (U : Upgrade) (expressions : ExpressionsAgree U) (calls : CallsAreMade U) (reads : ScalarsAreRead U) (scalars : ScalarsAreWritten U) (elements : ElementsAgree U) (indexed : IndexesAgree U)
+    (writes : ElementsAreWritten U) (arrays : ArraysAgree U) (resizing : ArraysAreResized U) (erasing : ArraysAreErased U) (K : Pledge) (p q : ℕ) (f : SourceFrame) (g : NetFrame) (l : SourceLine) (k : NetLine) (c : Code) (T : Scope)
     (declared : T.declarations ≡ U.program.declarations) (oracle : SourceCalls) (net_oracle : Jobs)
-    (is_open : IsOpen (scope_of U.written c g k)) (uses : Uses) (readable : (v : VarId) → uses v ≡ true → IsReadable U v.0)
+    (is_open : IsOpen (scope_of U.written c g k)) (uses : Uses) (readable : AreReadable U T uses)
     (placed : ArePlaced U p f (scope_of U.written c g k) T uses) (agree : CallsAgree U (Passes U) oracle net_oracle)
     (R : World → SourceFrame → NetFrame → Type 0) (w : World) (h : MemoryMatch U w)
     (F : SteadyFrame U K w p f g) (owns : OwnsAll U K p f) (aims : k.aims ≡ l.aims)
@@ -112,7 +118,7 @@ module _ (U : Upgrade) (expressions : ExpressionsAgree U) (calls : CallsAreMade 
   S = scope_of U.written c g k
 
   abbrev Can : Expr → Type 0
-  Can e = AllCalled (CanCall U K (scope_of U.written c g k) T) e
+  Can e = AllCalled (demands U K (scope_of U.written c g k) T) e
 
   -- what a written line does
   abbrev does : net.Line → Outcome net_store.Memory NetFrame
@@ -166,25 +172,49 @@ module _ (U : Upgrade) (expressions : ExpressionsAgree U) (calls : CallsAreMade 
   abbrev IsOwnTarget : Expr → Type 0
   IsOwnTarget e = K.steady → is_outside U.program.declarations.vars p (root e) ≡ false
 
-  stored : (ty : Ty) (t : Term) (e : Expr) → Can e → is_variable_in t ≡ true → covers_expr uses (typed ty t) ≡ true → is_good uses e ≡ true → IsOwnTarget (typed ty t)
-      → Agrees U K w R (then (then (source.value_of C e w.src) (let_to C (typed ty t))) (λ x s. goes_on C s)) (does (assign_line T (typed ty t ∷ e ∷ [])))
-  stored ty (variable v qualified) e can is to_covers covers own =
-      let parts : (covers_type ty ≡ true) × (uses v ≡ true) = both_true (covers_type ty) (uses v) to_covers in
+  first_of_two : (b : Bool) → (b || false) ≡ true → b ≡ true
+  first_of_two true h = refl
+  first_of_two false h = h
+
+  -- to a variable
+  stored_variable : (ty : Ty) (v : VarId) (qualified : Bool) (e : Expr) → Can e → uses.exact v ≡ true → covers_expr uses (typed ty (variable v qualified)) ≡ true → is_good uses e ≡ true
+      → IsOwnTarget (typed ty (variable v qualified))
+      → Agrees U K w R (then (then (source.value_of C e w.src) (let_to C (typed ty (variable v qualified)))) (λ x s. goes_on C s))
+      (does (assign_line T (typed ty (variable v qualified) ∷ e ∷ [])))
+  stored_variable ty v qualified e can exact to_covers covers own =
+      let parts : (covers_type ty ≡ true) × (uses.scalar v ≡ true) = both_true (covers_type ty) (uses.scalar v) to_covers in
       subst (λ x. Agrees U K w R (then (then (source.value_of C e w.src) (let_to C (typed ty (variable v qualified)))) (λ x s. goes_on C s)) (does x))
-      (sym (line_is U T declared ty v qualified (readable v parts.1) e parts.0))
+      (sym (line_is U T declared ty v qualified (readable.scalars v parts.1) e parts.0))
       (goes AnyUnits (then (source.value_of C e w.src) (let_to C (typed ty (variable v qualified))))
       (assignment S net_oracle (net.path (variable_path T qualified v.0)) (exp_of T e) w.net)
       (assignment_agrees U expressions scalars K p f g l k c T declared oracle net_oracle is_open uses readable placed agree F.shapes w h
-      (F.match w (later_now U K w h)) owns ty v qualified parts.1 (λ steady. not_outside (is_own_of U p v.0) (own steady)) e can covers))
-  stored ty _ e can is to_covers covers own = absurd (true≢false (sym is))
+      (F.match w (later_now U K w h)) owns ty v qualified parts.1 (readable.exact v exact) (λ steady. not_outside (is_own_of U p v.0) (own steady)) e can covers))
 
-  assigned : (target value : Expr) → Can value → covers_store uses (target ∷ value ∷ []) ≡ true → is_formed value ≡ true → IsOwnTarget target
+  stored : (ty : Ty) (t : Term) (e : Expr) → Can (typed ty t) → Can e → (is_changeable_in uses t || is_ordered_in uses ty t e) ≡ true → covers_expr uses (typed ty t) ≡ true
+      → is_formed (typed ty t) ≡ true → is_good uses e ≡ true → IsOwnTarget (typed ty t)
+      → Agrees U K w R (then (then (source.value_of C e w.src) (let_to C (typed ty t))) (λ x s. goes_on C s)) (does (assign_line T (typed ty t ∷ e ∷ [])))
+  stored ty (variable v qualified) e can_to can is to_covers to_formed covers own = stored_variable ty v qualified e can (first_of_two (uses.exact v) is) to_covers covers own
+  stored ty (element a indexes) e can_to can is to_covers to_formed covers own =
+      let both = both_true (is_same_type ty (type_at e)) (keeps_order uses indexes e) is in
+      let of_type = (both_true (covers_type ty) (covers_array uses a && covers_exprs uses indexes) to_covers).0 in
+      let good = good_parts uses e covers in
+      let stores : Outcome Memory Unit = then (source.value_of C e w.src) (let_to C (typed ty (element a indexes))) in
+      element_stored U expressions elements indexed writes K p f g l k c T declared oracle net_oracle is_open uses readable placed agree w h F.match owns ty a indexes e
+      can_to can to_covers to_formed good.0 good.1 own (same_type ty (type_at e) of_type both.0) (λ x. Agrees U K w R (then stores (λ x s. goes_on C s)) (does x))
+      (λ x. goes AnyUnits stores (assignment S net_oracle (exp_of T (typed ty (element a indexes))) (exp_of T e) w.net) x)
+      (λ name x.
+      goes AnyUnits stores
+      (then (target.address_of S net_oracle (support_call (codes "Put" ++ name) (two (exp_of T e) (exp_of T (typed ty (element a indexes))))) w.net) (λ a t. gives [] tt t)) x)
+      both.1
+  stored ty _ e can_to can is to_covers to_formed covers own = absurd (true≢false (sym is))
+
+  assigned : (target value : Expr) → Can target → Can value → covers_store uses (target ∷ value ∷ []) ≡ true → is_formed target ≡ true → is_formed value ≡ true
+      → IsOwnTarget target
       → Agrees U K w R (then (then (source.value_of C value w.src) (let_to C target)) (λ x s. goes_on C s)) (does (assign_line T (target ∷ value ∷ [])))
-  assigned (typed ty t) e can covers formed own =
-      let first : (is_variable_in t ≡ true) × ((covers_expr uses (typed ty t) && covers_expr uses e) ≡ true) =
-      both_true (is_variable_in t) (covers_expr uses (typed ty t) && covers_expr uses e) covers in
+  assigned (typed ty t) e can_to can covers to_formed formed own =
+      let first = both_true (is_changeable_in uses t || is_ordered_in uses ty t e) (covers_expr uses (typed ty t) && covers_expr uses e) covers in
       let second : (covers_expr uses (typed ty t) ≡ true) × (covers_expr uses e ≡ true) = both_true (covers_expr uses (typed ty t)) (covers_expr uses e) first.1 in
-      stored ty t e can first.0 second.0 (good uses e second.1 formed) own
+      stored ty t e can_to can first.0 second.0 to_formed (good uses e second.1 formed) own
 
   -- a call whose value is let go of
   shown : (r : Outcome Memory source.Parts) (e : net.Exp) → AgreesAsCall U K w S net_oracle r e → Agrees U K w R (then r (λ x s. goes_on C s)) (does (as_call e))
@@ -220,24 +250,24 @@ module _ (U : Upgrade) (expressions : ExpressionsAgree U) (calls : CallsAreMade 
       (clear_agrees U expressions K p f g l k c T declared oracle net_oracle is_open uses readable placed agree w h (F.match w (later_now U K w h)) ty)
   called_line (typed ty _) can covers formed = absurd (true≢false (sym covers))
 
-  called : (es : List Expr) → AllIn Can es → covers_call uses es ≡ true → list_all is_formed es ≡ true
+  calls_agree : (es : List Expr) → AllIn Can es → covers_call uses es ≡ true → list_all is_formed es ≡ true
       → Agrees U K w R (with_one es (λ e w. when_done C (source.parts_of C e w)) w.src) (does (call_line T es))
-  called [] can covers formed = absurd (true≢false (sym covers))
-  called (e ∷ []) can covers formed = called_line e can.0 covers (both_true (is_formed e) true formed).0
-  called (e ∷ d ∷ es) can covers formed = absurd (true≢false (sym covers))
+  calls_agree [] can covers formed = absurd (true≢false (sym covers))
+  calls_agree (e ∷ []) can covers formed = called_line e can.0 covers (both_true (is_formed e) true formed).0
+  calls_agree (e ∷ d ∷ es) can covers formed = absurd (true≢false (sym covers))
 
   pub form_agrees : (ls : List (Option Label)) (form : Form) (es : List Expr) → AllIn Can es → covers_form uses form es ≡ true → list_all is_formed es ≡ true
       → ((a : Label6) → jump_of form ≡ Some a → target_lines.target_of c (jump ls a) ≡ line_of_label C a)
-      → ((e : Expr) → Contains (stores form es) e → IsOwnTarget e) → Keeps U K p f g R w form es
+      → MayStore U K p form es → Keeps U K p f g R w form es
       → covers_part U.program p form es (head_line (lines_of U p) l.aims.own) ≡ true → (resumes form ≡ true → AllSameWays U p q)
       → Agrees U K w R (source_forms.form_does C form es w.src) (does (line_of T ls form es))
-  form_agrees ls (source_form.assign to value) [] can covers formed found mine keep stands ways = absurd (true≢false (sym covers))
-  form_agrees ls (source_form.assign to value) (x ∷ []) can covers formed found mine keep stands ways = absurd (true≢false (sym covers))
-  form_agrees ls (source_form.assign to value) (x ∷ y ∷ []) can covers formed found mine keep stands ways =
+  form_agrees ls (source_form.assign to value) [] can covers formed found may keep stands ways = absurd (true≢false (sym covers))
+  form_agrees ls (source_form.assign to value) (x ∷ []) can covers formed found may keep stands ways = absurd (true≢false (sym covers))
+  form_agrees ls (source_form.assign to value) (x ∷ y ∷ []) can covers formed found may keep stands ways =
       let first : (is_formed x ≡ true) × (list_all is_formed (y ∷ []) ≡ true) = both_true (is_formed x) (list_all is_formed (y ∷ [])) formed in
-      assigned x y can.1.0 covers (both_true (is_formed y) true first.1).0 (mine x (Contains-push [] x))
-  form_agrees ls (source_form.assign to value) (x ∷ y ∷ z ∷ es) can covers formed found mine keep stands ways = absurd (true≢false (sym covers))
-  form_agrees ls (source_form.debug_print items ended) es can covers formed found mine keep stands ways =
+      assigned x y can.0 can.1.0 covers first.0 (both_true (is_formed y) true first.1).0 (may.own x (Contains-push [] x))
+  form_agrees ls (source_form.assign to value) (x ∷ y ∷ z ∷ es) can covers formed found may keep stands ways = absurd (true≢false (sym covers))
+  form_agrees ls (source_form.debug_print items ended) es can covers formed found may keep stands ways =
       goes AnyUnits (then (items_text C es w.src) (print ended))
       (then (target.address_of S net_oracle (support_call (print_name ended) (one (items_exp T es))) w.net) (λ a t. gives [] tt t))
       (put_agrees (then (items_text C es w.src) (print ended))
@@ -250,76 +280,110 @@ module _ (U : Upgrade) (expressions : ExpressionsAgree U) (calls : CallsAreMade 
           subst (λ z. Agrees U K w AnyUnits z (then r' (λ a t. gives [] tt t))) (then_gives r)
           (then_agrees U K w AnyAddress AnyUnits r r' (λ u s. gives [] u s) (λ a t. gives [] tt t) h x
           (λ u a w1 m later. agrees_gives U K w1 AnyUnits u tt later.match tt))
-  form_agrees ls (source_form.if_head e) es can covers formed found mine keep stands ways =
+  form_agrees ls (source_form.if_head e) es can covers formed found may keep stands ways =
       tested (Some l.aims.after) l.aims.otherwise (if_holds g k) (λ w1 x. (behind w1 x, otherwise w1 x)) es can covers formed
-  form_agrees ls (source_form.line_if e) es can covers formed found mine keep stands ways =
+  form_agrees ls (source_form.line_if e) es can covers formed found may keep stands ways =
       tested (Some l.aims.after) l.aims.otherwise (if_holds g k) (λ w1 x. (behind w1 x, otherwise w1 x)) es can covers formed
-  form_agrees ls (source_form.else_if e) es can covers formed found mine keep stands ways =
+  form_agrees ls (source_form.else_if e) es can covers formed found may keep stands ways =
       tested (Some l.aims.after) l.aims.otherwise (if_holds g k) (λ w1 x. (behind w1 x, otherwise w1 x)) es can covers formed
-  form_agrees ls source_form.else_line es can covers formed found mine keep stands ways = behind_now
-  form_agrees ls source_form.end_if es can covers formed found mine keep stands ways = behind_now
-  form_agrees ls (source_form.select e) [] can covers formed found mine keep stands ways = absurd (true≢false (sym covers))
-  form_agrees ls (source_form.select e) (x ∷ []) can covers formed found mine keep stands ways =
+  form_agrees ls source_form.else_line es can covers formed found may keep stands ways = behind_now
+  form_agrees ls source_form.end_if es can covers formed found may keep stands ways = behind_now
+  form_agrees ls (source_form.select e) [] can covers formed found may keep stands ways = absurd (true≢false (sym covers))
+  form_agrees ls (source_form.select e) (x ∷ []) can covers formed found may keep stands ways =
       select_agrees U expressions K p f g l k c T declared oracle net_oracle is_open uses readable placed agree R w h (F.match w (later_now U K w h)) e x can.0
       (good uses x covers (both_true (is_formed x) true formed).0) keep after_same
-  form_agrees ls (source_form.select e) (x ∷ y ∷ es) can covers formed found mine keep stands ways = absurd (true≢false (sym covers))
-  form_agrees ls (source_form.case_line items) es can covers formed found mine keep stands ways =
+  form_agrees ls (source_form.select e) (x ∷ y ∷ es) can covers formed found may keep stands ways = absurd (true≢false (sym covers))
+  form_agrees ls (source_form.case_line items) es can covers formed found may keep stands ways =
       case_agrees U expressions K p f g l k c T declared oracle net_oracle is_open uses readable placed agree R w h F.match items es can covers formed aims
       (λ w1 x. (behind w1 x, otherwise w1 x)) stands
-  form_agrees ls source_form.case_else es can covers formed found mine keep stands ways = behind_now
-  form_agrees ls source_form.end_select es can covers formed found mine keep stands ways = behind_now
-  form_agrees ls (source_form.for_head head first last pace) [] can covers formed found mine keep stands ways = absurd (true≢false (sym covers))
-  form_agrees ls (source_form.for_head head first last pace) (e ∷ []) can covers formed found mine keep stands ways = absurd (true≢false (sym covers))
-  form_agrees ls (source_form.for_head head first last pace) (e ∷ start ∷ []) can covers formed found mine keep stands ways = absurd (true≢false (sym covers))
-  form_agrees ls (source_form.for_head head first last pace) (e ∷ start ∷ limit ∷ steps) can covers formed found mine keep stands ways =
+  form_agrees ls source_form.case_else es can covers formed found may keep stands ways = behind_now
+  form_agrees ls source_form.end_select es can covers formed found may keep stands ways = behind_now
+  form_agrees ls (source_form.for_head head first last pace) [] can covers formed found may keep stands ways = absurd (true≢false (sym covers))
+  form_agrees ls (source_form.for_head head first last pace) (e ∷ []) can covers formed found may keep stands ways = absurd (true≢false (sym covers))
+  form_agrees ls (source_form.for_head head first last pace) (e ∷ start ∷ []) can covers formed found may keep stands ways = absurd (true≢false (sym covers))
+  form_agrees ls (source_form.for_head head first last pace) (e ∷ start ∷ limit ∷ steps) can covers formed found may keep stands ways =
       for_agrees U expressions scalars K p f g l k c T declared oracle net_oracle is_open uses readable placed agree R w h F.match owns aims head first last pace e start
       limit steps can.1 covers formed keep stands
-  form_agrees ls (source_form.next name) es can covers formed found mine keep stands ways =
+  form_agrees ls (source_form.next name) es can covers formed found may keep stands ways =
       next_agrees U reads scalars K p f g l k oracle R w h F.match owns aims (λ w1 x. (back w1 x, behind w1 x)) name es stands
-  form_agrees ls source_form.do_head es can covers formed found mine keep stands ways = behind_now
-  form_agrees ls (source_form.do_while e) es can covers formed found mine keep stands ways =
+  form_agrees ls source_form.do_head es can covers formed found may keep stands ways = behind_now
+  form_agrees ls (source_form.do_while e) es can covers formed found may keep stands ways =
       tested (Some l.aims.after) l.aims.otherwise (if_holds g k) (λ w1 x. (behind w1 x, otherwise w1 x)) es can covers formed
-  form_agrees ls (source_form.do_until e) es can covers formed found mine keep stands ways =
+  form_agrees ls (source_form.do_until e) es can covers formed found may keep stands ways =
       tested l.aims.otherwise (Some l.aims.after) (if_fails g k) (λ w1 x. (otherwise w1 x, behind w1 x)) es can covers formed
-  form_agrees ls source_form.loop es can covers formed found mine keep stands ways = back w (later_now U K w h)
-  form_agrees ls (source_form.loop_while e) es can covers formed found mine keep stands ways =
+  form_agrees ls source_form.loop es can covers formed found may keep stands ways = back w (later_now U K w h)
+  form_agrees ls (source_form.loop_while e) es can covers formed found may keep stands ways =
       tested l.aims.back (Some l.aims.after) (back_if g k) (λ w1 x. (back w1 x, behind w1 x)) es can covers formed
-  form_agrees ls (source_form.loop_until e) es can covers formed found mine keep stands ways =
+  form_agrees ls (source_form.loop_until e) es can covers formed found may keep stands ways =
       tested (Some l.aims.after) l.aims.back (back_unless g k) (λ w1 x. (behind w1 x, back w1 x)) es can covers formed
-  form_agrees ls (source_form.while_head e) es can covers formed found mine keep stands ways =
+  form_agrees ls (source_form.while_head e) es can covers formed found may keep stands ways =
       tested (Some l.aims.after) l.aims.otherwise (if_holds g k) (λ w1 x. (behind w1 x, otherwise w1 x)) es can covers formed
-  form_agrees ls source_form.wend es can covers formed found mine keep stands ways = back w (later_now U K w h)
-  form_agrees ls (source_form.goto a) es can covers formed found mine keep stands ways =
+  form_agrees ls source_form.wend es can covers formed found may keep stands ways = back w (later_now U K w h)
+  form_agrees ls (source_form.goto a) es can covers formed found may keep stands ways =
       lead (line_of_label C a) (target_lines.target_of c (jump ls a)) (found a refl) w (later_now U K w h)
-  form_agrees ls (source_form.label a) es can covers formed found mine keep stands ways = behind_now
-  form_agrees ls (source_form.on_error_goto a) es can covers formed found mine keep stands ways =
+  form_agrees ls (source_form.label a) es can covers formed found may keep stands ways = behind_now
+  form_agrees ls (source_form.on_error_goto a) es can covers formed found may keep stands ways =
       handles_at (line_of_label C a) (target_lines.target_of c (jump ls a)) (found a refl)
-  form_agrees ls source_form.on_error_goto_zero es can covers formed found mine keep stands ways = handles none
-  form_agrees ls source_form.on_error_resume_next es can covers formed found mine keep stands ways = handles next_line
-  form_agrees ls source_form.resume es can covers formed found mine keep stands ways =
+  form_agrees ls source_form.on_error_goto_zero es can covers formed found may keep stands ways = handles none
+  form_agrees ls source_form.on_error_resume_next es can covers formed found may keep stands ways = handles next_line
+  form_agrees ls source_form.resume es can covers formed found may keep stands ways =
       resume_agrees U K R p q oracle f l g w h (F.match w (later_now U K w h)) place (ways refl)
-  form_agrees ls source_form.resume_next es can covers formed found mine keep stands ways =
+  form_agrees ls source_form.resume_next es can covers formed found may keep stands ways =
       resume_next_agrees U K R p q oracle f l g w h (F.match w (later_now U K w h)) place (ways refl)
-  form_agrees ls (source_form.resume_at a) es can covers formed found mine keep stands ways =
+  form_agrees ls (source_form.resume_at a) es can covers formed found may keep stands ways =
       resume_at_agrees U K R p q oracle f l g w h (F.match w (later_now U K w h)) place (line_of_label C a) (target_lines.target_of c (jump ls a)) (found a refl)
-  form_agrees ls (source_form.exit kind) es can covers formed found mine keep stands ways = exit_agrees U K R C g k aims w h next kind
-  form_agrees ls (source_form.call callee) es can covers formed found mine keep stands ways = called es can covers formed
-  form_agrees ls (source_form.invoke callee args) es can covers formed found mine keep stands ways = called es can covers formed
-  form_agrees ls _ es can covers formed found mine keep stands ways = absurd (true≢false (sym covers))
+  form_agrees ls (source_form.exit kind) es can covers formed found may keep stands ways = exit_agrees U K R C g k aims w h next kind
+  form_agrees ls (source_form.call callee) es can covers formed found may keep stands ways = calls_agree es can covers formed
+  form_agrees ls (source_form.invoke callee args) es can covers formed found may keep stands ways = calls_agree es can covers formed
+  form_agrees ls (source_form.redim preserve items) es can covers formed found may keep stands ways =
+      goes AnyUnits (redim_does C preserve (resizes items es) w.src) (redim_all S net_oracle preserve (map (resized_array T) (resizes items es)) w.net)
+      (redim_agrees U expressions arrays resizing erasing K p f g l k c T declared oracle net_oracle is_open uses readable placed agree owns w h F.match preserve items
+      es can formed covers may.fits (λ e m. record { unkept = may.unkept e m; own = may.own e m }))
+  form_agrees ls (source_form.erase target) [] can covers formed found may keep stands ways = absurd (true≢false (sym covers))
+  form_agrees ls (source_form.erase target) (e ∷ []) can covers formed found may keep stands ways =
+      goes AnyUnits (then (source.address_of C e w.src) (erase f.env))
+      (assignment S net_oracle (exp_of T e)
+      (net.new_array (written_type T (element_type (type_at e))) (empty_extents (written_puts.rank_of T.facts (declared_at T.declarations e)))) w.net)
+      (erase_agrees U expressions arrays resizing erasing K p f g l k c T declared oracle net_oracle is_open uses readable placed agree owns w h F.match e covers
+      (record { unkept = may.unkept e (Contains-push [] e); own = may.own e (Contains-push [] e) }))
+  form_agrees ls (source_form.erase target) (e ∷ d ∷ es) can covers formed found may keep stands ways = absurd (true≢false (sym covers))
+  form_agrees ls _ es can covers formed found may keep stands ways = absurd (true≢false (sym covers))
 
 -- ---- lines
 
+-- what is demanded of a node by itself
+node_has : (U : Upgrade) (K : Pledge) (S : net_names.Scope) (T : Scope) (d : Expr)
+    → ((q : ℕ) → called d ≡ Some q → CanCall U K S T q (args_at d)) → FitsNode U d → NodeHas (demands U K S T) d
+node_has U K S T (typed ty (call p qualified of args)) can fits = can p.0 refl
+node_has U K S T (typed ty (element a indexes)) can fits = fits
+node_has U K S T (typed ty (library f args)) can fits = fits
+node_has U K S T (typed ty (constant x origin)) can fits = tt
+node_has U K S T (typed ty (variable v qualified)) can fits = tt
+node_has U K S T (typed ty (field e k)) can fits = tt
+node_has U K S T (typed ty (unary o e)) can fits = tt
+node_has U K S T (typed ty (binary o d e)) can fits = tt
+node_has U K S T (typed ty (convert to e)) can fits = tt
+node_has U K S T (typed ty (new_object c)) can fits = tt
+node_has U K S T (typed ty me) can fits = tt
+node_has U K S T (typed ty (with_object of)) can fits = tt
+node_has U K S T (typed ty err_number) can fits = tt
+node_has U K S T (typed ty (err_raise e)) can fits = tt
+node_has U K S T (typed ty err_clear) can fits = tt
+node_has U K S T (typed ty (is_same d e)) can fits = tt
+node_has U K S T (typed ty (loose e rules)) can fits = tt
+
 -- A covered line does the same as what is written for it, in frames that go on to match.
-pub steady_lines_agree : (U : Upgrade) → ExpressionsAgree U → CallsAreMade U → ScalarsAreRead U → ScalarsAreWritten U → SteadyLinesAgree U
-steady_lines_agree U expressions calls reads scalars p s written number turns l c L code opens readable placed own agree can covers stands w f g at h F given =
+pub steady_lines_agree : (U : Upgrade) → ExpressionsAgree U → CallsAreMade U → ScalarsAreRead U → ScalarsAreWritten U → ElementsAgree U → IndexesAgree U → ElementsAreWritten U
+    → ArraysAgree U → ArraysAreResized U → ArraysAreErased U → SteadyLinesAgree U
+steady_lines_agree U expressions calls reads scalars elements indexed writes arrays resizing erasing p s written number turns l c L code opens readable placed own agree can fits remade covers stands w f g at h F given =
     let K : Pledge = frame_pledge U p w f in
     let owns : OwnsAll U K p f = owns_now U p f K w w g (F.match w (later_now U K w h)) in
     let R : World → SourceFrame → NetFrame → Type 0 = SteadyNext U K p f.me in
     let oracle : SourceCalls = go (source_program.machine_of (runnable_of U)) turns in
     let net_oracle : Jobs = go (target_program.machine_of U.written) turns in
     let T : Scope = inside_procedure (site_scope U s) p in
-    let both : (covers_form (covers_use U.program p l.form.bindings.mentions) l.form.source.form l.form.bindings.exprs ≡ true) × (list_all is_formed l.form.bindings.exprs ≡ true) =
-    both_true (covers_form (covers_use U.program p l.form.bindings.mentions) l.form.source.form l.form.bindings.exprs) (list_all is_formed l.form.bindings.exprs) covers in
+    let both : (covers_form (uses_in U.program p l.form.bindings.mentions) l.form.source.form l.form.bindings.exprs ≡ true) × (list_all is_formed l.form.bindings.exprs ≡ true) =
+    both_true (covers_form (uses_in U.program p l.form.bindings.mentions) l.form.source.form l.form.bindings.exprs) (list_all is_formed l.form.bindings.exprs) covers in
     let after : L.line.aims.after ≡ l.aims.after = ap (λ a. a.after) L.aims in
     stepped_agrees U (runnable_of U) U.written K w R
     (λ m. handled (source_program.machine_of (runnable_of U)) f l (source_program.line_does (runnable_of U) oracle p f l m))
@@ -345,13 +409,18 @@ steady_lines_agree U expressions calls reads scalars p s written number turns l 
     (target_lines.line_in U.written (target_program.frames_of U.written) net_oracle written g L.line o w1.net)) (sym code)
     (subst (λ x. Agrees U K w1 R (source_program.line_does (runnable_of U) oracle p f l w1.src)
     (target_lines.form_does (target_program.frames_of U.written) net_oracle written c (scope_of U.written c g L.line) g L.line x w1.net)) (sym L.form)
-    (form_agrees U expressions calls reads scalars K p written f g l L.line c T refl oracle net_oracle (opens g L.line now.names)
-    (covers_use U.program p l.form.bindings.mentions) readable (placed f g L.line now.names given) agree R w1 later.match F1 owns L.aims next
+    (form_agrees U expressions calls reads scalars elements indexed writes arrays resizing erasing K p written f g l L.line c T refl oracle net_oracle (opens g L.line now.names)
+    (uses_in U.program p l.form.bindings.mentions) readable (placed f g L.line now.names given) agree R w1 later.match F1 owns L.aims next
     (λ n m i j t u d e c w2 more. placed_at U K p f g w1 later.match F1 owns w2 more n m i j t u d e c)
     (labels (site_lines s)) l.form.source.form l.form.bindings.exprs
-    (line_called (CanCall U K (scope_of U.written c g L.line) T) (covers_use U.program p l.form.bindings.mentions) l.form both.0
-    (λ d i m e. can d i m e w f g L.line now.names))
-    both.0 both.1 stands.label (λ e m steady. own steady e m) keep stands.in_block stands.ways))))
+    (line_called (demands U K (scope_of U.written c g L.line) T) (uses_in U.program p l.form.bindings.mentions) l.form both.0
+    (λ d m. node_has U K (scope_of U.written c g L.line) T d (λ q e. can d q m e w f g L.line now.names) (fits d m)))
+    both.0 both.1 stands.label
+    (record {
+      own = λ e m steady. own steady e m;
+      unkept = λ e m element rank is covered. resizing_not_kept U.program p number l.form stands.is_procedure stands.is_there e m element rank is covered;
+      fits = remade;
+    }) keep stands.in_block stands.ways))))
 
 -- ---- all frames that match go on to match
 
@@ -362,13 +431,14 @@ steady_now U K w p f g h F = record {
   shapes = λ v a e o. let x = F.own v a e o in record { place = x.place; stands = x.stands };
 }
 
-pub lines_agree : (U : Upgrade) → ExpressionsAgree U → CallsAreMade U → ScalarsAreRead U → ScalarsAreWritten U → LinesAgree U
-lines_agree U expressions calls reads scalars p s written number turns l c L code opens readable placed own agree can covers stands w f g at h F given =
+pub lines_agree : (U : Upgrade) → ExpressionsAgree U → CallsAreMade U → ScalarsAreRead U → ScalarsAreWritten U → ElementsAgree U → IndexesAgree U → ElementsAreWritten U
+    → ArraysAgree U → ArraysAreResized U → ArraysAreErased U → LinesAgree U
+lines_agree U expressions calls reads scalars elements indexed writes arrays resizing erasing p s written number turns l c L code opens readable placed own agree can fits remade covers stands w f g at h F given =
     let K : Pledge = frame_pledge U p w f in
     agrees_weaker U K w (SteadyNext U K p f.me) (NextMatch U K p f.me)
     (line_result (source_program.machine_of (runnable_of U)) turns p f l w.src)
     (line_result (target_program.machine_of U.written) turns written g L.line w.net)
     (λ w1 f1 g1 later x.
     record { same_object = x.same_object; frames = x.frames.match w1 (later_now U K w1 later.match); owns = x.owns })
-    (steady_lines_agree U expressions calls reads scalars p s written number turns l c L code opens readable placed own agree can covers stands w f g at h
+    (steady_lines_agree U expressions calls reads scalars elements indexed writes arrays resizing erasing p s written number turns l c L code opens readable placed own agree can fits remade covers stands w f g at h
     (steady_now U K w p f g h F) given)

@@ -3,7 +3,6 @@ use Rattle.std.proofs.Common.{◌≡◌, ◌∙◌, refl, sym, ap, subst, ℕ, B
 use Rattle.std.specs.List.{list_all}
 use Rattle.std.specs.Prelude.{nat_lt}
 use Rattle.vb_tree.specs.BoundTree.{Ty}
-use Rattle.vb_tree.specs.declared.declared.VarId.{VarId}
 use Rattle.vb_tree.specs.declared.value.Value6.{Value6}
 use Rattle.vb6_meaning.specs.Answers.{Answer}
 use Rattle.vb6_meaning.specs.Answers as answer
@@ -54,7 +53,7 @@ use Rattle.run_matches.specs.Pledges.{Pledge}
 use Rattle.run_matches.specs.Agreeing.{Agrees}
 use Rattle.run_matches.specs.Covered.{Uses}
 use Rattle.run_matches.specs.Frames.{FrameMatch}
-use Rattle.run_statements.specs.Frames.{ExpressionsAgree, IsOpen, IsReadable, ScalarMatch, context_of, ArePlaced, AllCalled, CanCall}
+use Rattle.run_statements.specs.Frames.{ExpressionsAgree, IsOpen, ScalarMatch, context_of, ArePlaced, AllCalled, demands, AreReadable}
 use Rattle.run_matches.specs.Runs.{CallsAgree}
 use Rattle.run_statements.specs.Written.{Passes}
 use Rattle.agreeing_laws.proofs.Agreeing.{agrees_gives, agrees_raises, agrees_outside, left_alone, then_agrees}
@@ -136,7 +135,7 @@ no_more r = ap (λ k. then r k) (λ i s w. gives [] (append-nil s i) w) ∙ then
 
 module _ (U : Upgrade) (expressions : ExpressionsAgree U) (K : Pledge) (p : ℕ) (f : SourceFrame) (g : NetFrame) (l : SourceLine) (k : NetLine) (c : Code) (T : Scope) (declared : T.declarations ≡ U.program.declarations)
     (oracle : SourceCalls) (net_oracle : Jobs) (is_open : IsOpen (scope_of U.written c g k)) (uses : Uses)
-    (readable : (v : VarId) → uses v ≡ true → IsReadable U v.0) (placed : ArePlaced U p f (scope_of U.written c g k) T uses)
+    (readable : AreReadable U T uses) (placed : ArePlaced U p f (scope_of U.written c g k) T uses)
     (agree : CallsAgree U (Passes U) oracle net_oracle) where
   abbrev C : source.Context
   C = context_of U oracle p f l
@@ -145,7 +144,7 @@ module _ (U : Upgrade) (expressions : ExpressionsAgree U) (K : Pledge) (p : ℕ)
   S = scope_of U.written c g k
 
   abbrev Can : Expr → Type 0
-  Can e = AllCalled (CanCall U K (scope_of U.written c g k) T) e
+  Can e = AllCalled (demands U K (scope_of U.written c g k) T) e
 
   -- the text of an item
   item_agrees : (w : World) → MemoryMatch U w → FrameMatch U K w p f g → (e : Expr) → Can e → is_good uses e ≡ true

@@ -32,7 +32,7 @@ use Rattle.run_matches.specs.Pledges.{Pledge, Later}
 use Rattle.run_matches.specs.Addresses.{KeptMatch, Same, both_nothing, both_limits, both_choices, both_objects, both_arrays, both_addresses, IsInPlace}
 use Rattle.run_matches.specs.Agreeing.{Agrees}
 use Rattle.run_matches.specs.Formed.{is_formed}
-use Rattle.run_matches.specs.Covered.{Uses, counts_local, covers_counter, covers_expr, covers_form, covers_line, covers_part, covers_step, covers_use, covers_value, head_line, is_counter, is_local_term, is_variable}
+use Rattle.run_matches.specs.Covered.{Uses, counts_local, covers_counter, covers_expr, covers_form, covers_line, covers_part, covers_step, covers_value, head_line, is_counter, is_local_term, is_variable, uses_in}
 use Rattle.run_matches.specs.Frames.{CounterKept, FrameMatch, HasPlace, IsCounting, KeptBy, OwnsAll, is_exact_head, is_own_of, lines_of}
 use Rattle.run_statements.specs.Frames.{AnyUnits, ScalarMatch, ScalarsAreRead, ScalarsAreWritten, context_of}
 use Rattle.agreeing_laws.proofs.Agreeing.{agrees_outside, then_agrees}
@@ -139,8 +139,8 @@ module _ (U : Upgrade) (reads : ScalarsAreRead U) (scalars : ScalarsAreWritten U
     next_by_line name es n (Some m) is stands =
         let F : FrameMatch U K w p f g = G w (later_now U K w h) in
         let parts = both_true (covers_line U.program p m) (counts_local U.program p m.source.form m.bindings.exprs) stands in
-        let known = (both_true (covers_form (covers_use U.program p m.bindings.mentions) m.source.form m.bindings.exprs) (list_all is_formed m.bindings.exprs) parts.0).0 in
-        next_by_head (is_exact_head U (nth_line (lines_of U p) n)) m.source.form m.bindings.exprs (covers_use U.program p m.bindings.mentions) known parts.1
+        let known = (both_true (covers_form (uses_in U.program p m.bindings.mentions) m.source.form m.bindings.exprs) (list_all is_formed m.bindings.exprs) parts.0).0 in
+        next_by_head (is_exact_head U (nth_line (lines_of U p) n)) m.source.form m.bindings.exprs (uses_in U.program p m.bindings.mentions) known parts.1
         (f.kept n) (g.kept n) (F.kept n) (F.covered_heads n m is parts.0)
 
     next_by_own : (name : Option (List ℕ × Suffix)) (es : List Expr) (o : Option ℕ) → covers_part U.program p (source_form.next name) es (head_line (lines_of U p) o) ≡ true

@@ -1,5 +1,5 @@
 -- A variable of a standard module stands at its number on one side, and at its member on the other.
-use Rattle.std.proofs.Common.{◌≡◌, ◌∙◌, refl, sym, ap, subst, ℕ, Bool, true, false, cond, not, [], ◌∷◌, Some, slice_get, true≢false, eqb-true, List, Option, None}
+use Rattle.std.proofs.Common.{◌≡◌, ◌∙◌, inl, inr, refl, sym, ap, subst, ℕ, Bool, true, false, cond, not, [], ◌∷◌, Some, slice_get, true≢false, eqb-true, List, Option, None}
 use Rattle.std.specs.Prelude.{is_some}
 use Rattle.vb_tree.specs.declared.declared.Owner.{Owner}
 use Rattle.vb_tree.specs.declared.declared.Owner.TheVariants as owner
@@ -9,25 +9,26 @@ use Rattle.run_base.specs.Positions.{Key, Position, shared, whole}
 use Rattle.bound_facts.specs.SelfMade.{module_of}
 use Rattle.written_trees.specs.Names.{Scope, owner_path, variable_path, variable_path_of}
 use Rattle.vb6_run.specs.Runnables.{is_class_file, owned_address, declared_address, variable_address, object_root, root_address, static_root}
-use Rattle.vb6_run.specs.Programs.{is_static_of}
+use Rattle.vb6_run.specs.Programs.{is_module_variable, is_static_of}
 use Rattle.vb6_run.specs.Shapes.{simple, variable_shape}
-use Rattle.vb6_run.specs.Store.{Address, root, SourceFrame}
+use Rattle.vb6_run.specs.Store.{Address, Held, root, SourceFrame}
 use Rattle.net_run.specs.Lines.{NetFrame}
 use Rattle.net_run.specs.Names as net_names
 use Rattle.net_run.specs.Names.{path_start, starts, at_place, var_in}
-use Rattle.net_run.specs.Shapes as net_shapes
 use Rattle.net_run.specs.Store as net
-use Rattle.run_matches.specs.Addresses.{Same, same_root, HasOwnKey}
+use Rattle.run_matches.specs.Addresses.{AllMatched, Same, same_root, HasOwnKey}
 use Rattle.run_matches.specs.Frames.{FrameMatch, SameStatic, is_own_of, is_static_in, static_of}
-use Rattle.run_matches.specs.Likeness.{same_scalar, scalar_word}
-use Rattle.run_matches.specs.Maps.{World, IsMatched, key_or_none, moved_at}
+use Rattle.run_matches.specs.Kinds.{IsKind}
+use Rattle.run_matches.specs.Likeness.{SameShape}
+use Rattle.run_matches.specs.Maps.{World, key_or_none, moved_at}
+use Rattle.run_matches.specs.Match.{HeldAs, MemoryMatch}
 use Rattle.run_matches.specs.Pledges.{Pledge}
 use Rattle.run_matches.specs.Upgrades.{Upgrade, variable_key}
 use Rattle.run_statements.specs.Frames.{IsReadable, IsOwnStatic, IsShared}
 use Rattle.agreeing_laws.proofs.Moves.{matched_whole}
 use Rattle.line_laws.proofs.Uses.{shape_is, name_is}
 
-abbrev at_key : ℕ → Position
+abbrev pub at_key : ℕ → Position
 at_key v = whole (shared (v ∷ []))
 
 -- where such a variable stands
@@ -39,29 +40,43 @@ pub record SharedPlace (U : Upgrade) (K : Pledge) (w : World) (f : SourceFrame) 
   pub leads : (qualified : Bool) → path_start S false (variable_path T qualified v) ≡ starts (at_place net_address) []
   pub same : Same U K w address net_address
   pub stands : address ≡ root (simple r.variable.ty) position
+  pub is_at : position ≡ at_key v
   pub own_key : HasOwnKey U address
 
 some_is : {A : Type 0} (x y : A) → Some x ≡ Some y → x ≡ y
 some_is x y e = cc e
 
-shared_address : (D : Declarations) (f : SourceFrame) (v : ℕ) (x : Variable) (file : ℕ) → slice_get D.vars v ≡ Some x → x.owner ≡ owner.Module file
+pub shared_address : (D : Declarations) (f : SourceFrame) (v : ℕ) (x : Variable) (file : ℕ) → slice_get D.vars v ≡ Some x → x.owner ≡ owner.Module file
     → is_class_file D file ≡ false → variable_address D f v ≡ Some (root (variable_shape D v) (at_key v))
 shared_address D f v x file is of standard =
     ap (declared_address D f v) is ∙ ap (owned_address D f v) of
     ∙ ap (λ b. root_address D v (cond b (object_root f.me v) (Some (shared (v ∷ []))))) standard
 
-shared_matched : (U : Upgrade) (w : World) (v : ℕ) (r : IsReadable U v) → variable_key U v ≡ Some (key_or_none (variable_key U v)) → IsMatched U w (at_key v)
-shared_matched U w v r e = record { is_made = tt; counterpart = ap is_some e; sound = ap not r.sound }
+-- what a variable of a standard module holds is of its kind
+kind_there : (D : Declarations) (v file : ℕ) (o : Owner) (x : Held) → o ≡ owner.Module file → is_class_file D file ≡ false → HeldAs D v o x
+    → IsKind (variable_shape D v) x
+kind_there D v file o x of standard (inl h) = absurd (true≢false (sym (ap (is_module_variable D) of ∙ ap not standard) ∙ h.1))
+kind_there D v file o x of standard (inr k) = k
 
-pub shared_place : (U : Upgrade) (K : Pledge) (w : World) (f : SourceFrame) (S : net_names.Scope) (T : Scope) (v : ℕ) (r : IsReadable U v) (s : IsShared U S T v)
-    → SharedPlace U K w f S T v r s
-shared_place U K w f S T v r s =
+shared_matched : (U : Upgrade) (w : World) → MemoryMatch U w → (v : ℕ) (r : IsReadable U v) (file : ℕ) → r.variable.owner ≡ owner.Module file
+    → is_class_file U.program.declarations file ≡ false → variable_key U v ≡ Some (key_or_none (variable_key U v))
+    → AllMatched U w (simple r.variable.ty) (at_key v)
+shared_matched U w h v r file of standard e = (
+  record { is_made = tt; counterpart = ap is_some e; sound = ap not r.sound },
+  subst (λ s. IsKind s (w.src.held (at_key v))) (shape_is U v r)
+      (kind_there U.program.declarations v file r.variable.owner (w.src.held (at_key v)) of standard (h.stores.kinds v r.variable r.is_variable r.sound)),
+)
+
+pub shared_place : (U : Upgrade) (K : Pledge) (w : World) → MemoryMatch U w → (f : SourceFrame) (S : net_names.Scope) (T : Scope) (v : ℕ) (r : IsReadable U v)
+    → (s : IsShared U S T v) → SharedPlace U K w f S T v r s
+shared_place U K w h f S T v r s =
     let D : Declarations = U.program.declarations in
     let at : Position = at_key v in
-    let there : net.Address = net.root (net_shapes.scalar s.word) (moved_at U w.map at) in
+    let there : net.Address = net.root s.written (moved_at U w.map at) in
     let is : s.variable ≡ r.variable = some_is s.variable r.variable (sym s.is_variable ∙ r.is_variable) in
-    let standing : there ≡ net.root (net_shapes.scalar s.word) (whole (shared s.key)) =
-    ap (λ o. net.root (net_shapes.scalar s.word) (whole (shared (key_or_none o)))) s.is_key in
+    let of : r.variable.owner ≡ owner.Module s.file = subst (λ (x : Variable). x.owner ≡ owner.Module s.file) is s.is_owner in
+    let standing : there ≡ net.root s.written (whole (shared s.key)) =
+    ap (λ o. net.root s.written (whole (shared (key_or_none o)))) s.is_key in
     let key : variable_key U v ≡ Some (key_or_none (variable_key U v)) = s.is_key ∙ ap (λ o. Some (key_or_none o)) (sym s.is_key) in
     record {
       address = root (simple r.variable.ty) at;
@@ -70,9 +85,10 @@ shared_place U K w f S T v r s =
       found = shared_address D f v s.variable s.file s.is_variable s.is_owner s.standard ∙ ap (λ z. Some (root z at)) (shape_is U v r);
       leads = λ q. s.leads q ∙ ap (λ b. starts (at_place b) []) (sym standing);
       same =
-          same_root (simple r.variable.ty) (net_shapes.scalar s.word) at
-          (same_scalar r.variable.ty s.word (subst (λ (x : Variable). scalar_word x.ty ≡ Some s.word) is s.is_word)) (shared_matched U w v r key) tt;
+          same_root (simple r.variable.ty) s.written at (subst (λ z. SameShape U z s.written) (shape_is U v r) s.same)
+          (shared_matched U w h v r s.file of s.standard key) tt;
       stands = refl;
+      is_at = refl;
       own_key = record {
         variable = v;
         key = s.key;
@@ -102,13 +118,14 @@ pub record StaticPlace (U : Upgrade) (K : Pledge) (w : World) (p : ℕ) (f : Sou
   pub path : (qualified : Bool) → variable_path T qualified v ≡ r.variable.name ∷ []
   pub same : Same U K w address net_address
   pub stands : address ≡ root (simple r.variable.ty) position
+  pub is_at : position ≡ at_key v
   pub own_key : HasOwnKey U address
 
 static_path : (T : Scope) (qualified : Bool) (name : List ℕ) (p : ℕ) (o : Owner) → is_static_of p o ≡ true → owner_path T qualified name o ≡ name ∷ []
 static_path T qualified name p (owner.Static q) h = refl
 static_path T qualified name p _ h = absurd (true≢false (sym h))
 
-static_owner : (p : ℕ) (o : Owner) → is_static_of p o ≡ true → (q : ℕ) × (q ≡ p) × ((D : Declarations) (f : SourceFrame) (v : ℕ)
+pub static_owner : (p : ℕ) (o : Owner) → is_static_of p o ≡ true → (q : ℕ) × (q ≡ p) × ((D : Declarations) (f : SourceFrame) (v : ℕ)
     → owned_address D f v o ≡ root_address D v (static_root D f.me v (module_of (slice_get D.procs q))))
 static_owner p (owner.Static q) h = (q.0, sym (eqb-true p q.0 h), λ D f v. refl)
 static_owner p _ h = absurd (true≢false (sym h))
@@ -153,6 +170,7 @@ static_place U K w p f g T declared F v r s =
           ∙ static_path T q r.variable.name p r.variable.owner of;
       same = subst (λ z. Same U K w z there) shaped (same_root (variable_shape D v) x.written at x.same x.is_matched x.ranked);
       stands = refl;
+      is_at = refl;
       own_key = record {
         variable = v;
         key = key_or_none (variable_key U v);

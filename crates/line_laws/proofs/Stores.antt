@@ -38,15 +38,15 @@ use Rattle.run_matches.specs.Pledges.{Pledge, Later}
 use Rattle.run_matches.specs.Addresses.{Same, IsTarget}
 use Rattle.run_matches.specs.Agreeing.{Agrees}
 use Rattle.run_matches.specs.Covered.{Uses, covers_type, covers_expr}
-use Rattle.run_matches.specs.Frames.{FrameMatch, OwnsAll, SameVariable, is_own_of, GivenPlace}
-use Rattle.run_statements.specs.Frames.{ExpressionsAgree, ScalarsAreWritten, IsOpen, IsReadable, IsShared, IsPlaced, ArePlaced, MayChange, ScalarMatch, AnyUnits, context_of, AllCalled, CanCall, IsOwnStatic, IsGiven}
+use Rattle.run_matches.specs.Frames.{StandsAs, FrameMatch, OwnsAll, SameVariable, is_own_of, GivenPlace}
+use Rattle.run_statements.specs.Frames.{ExpressionsAgree, ScalarsAreWritten, IsOpen, IsReadable, IsShared, IsPlaced, ArePlaced, MayChange, ScalarMatch, AnyUnits, context_of, AllCalled, IsOwnStatic, IsGiven, demands, AreReadable}
 use Rattle.run_matches.specs.Runs.{CallsAgree}
 use Rattle.run_statements.specs.Written.{Passes}
 use Rattle.agreeing_laws.proofs.Agreeing.{agrees_outside, left_alone, right_alone, then_agrees}
 use Rattle.agreeing_laws.proofs.Moves.{address_later}
 use Rattle.line_laws.specs.Lasting.{OwnShape}
 use Rattle.line_laws.proofs.Bounds.{exactly}
-use Rattle.line_laws.proofs.Uses.{good_parts, is_good, type_covered, address_found, address_is, own_path, path_is, name_reached, variable_reached, variable_named, is_loud, name_is, scalar_type, shape_is, given_address_is, given_foreign, given_path}
+use Rattle.line_laws.proofs.Uses.{good_parts, is_good, type_covered, address_found, address_is, own_path, path_is, name_reached, variable_reached, variable_named, name_is, own_exact, scalar_type, shape_is, given_address_is, given_foreign, given_path}
 use Rattle.line_laws.proofs.Shared.{SharedPlace, shared_place, not_own, StaticPlace, static_place, static_is_not_own}
 
 -- ---- types
@@ -101,7 +101,7 @@ not_kept locked s t z q m c e =
 
 -- ---- what is written
 
-formed_alone : (T : Scope) (rank : ℕ) (ty : Ty) (a : net.Exp) → covers_type ty ≡ true → formed T rank ty a ≡ a
+pub formed_alone : (T : Scope) (rank : ℕ) (ty : Ty) (a : net.Exp) → covers_type ty ≡ true → formed T rank ty a ≡ a
 formed_alone T rank types.boolean a c = refl
 formed_alone T rank types.byte a c = refl
 formed_alone T rank types.integer a c = refl
@@ -126,7 +126,7 @@ line_is U T d ty v qualified r e c =
 
 module _ (U : Upgrade) (expressions : ExpressionsAgree U) (scalars : ScalarsAreWritten U) (K : Pledge) (p : ℕ) (f : SourceFrame)
     (g : NetFrame) (l : SourceLine) (k : NetLine) (c : Code) (T : Scope) (declared : T.declarations ≡ U.program.declarations) (oracle : SourceCalls)
-    (net_oracle : Jobs) (is_open : IsOpen (scope_of U.written c g k)) (uses : Uses) (readable : (v : VarId) → uses v ≡ true → IsReadable U v.0)
+    (net_oracle : Jobs) (is_open : IsOpen (scope_of U.written c g k)) (uses : Uses) (readable : AreReadable U T uses)
     (placed : ArePlaced U p f (scope_of U.written c g k) T uses)
     (agree : CallsAgree U (Passes U) oracle net_oracle)
     (shapes : (v : ℕ) (a : Address) → lookup (nat_eq v) f.vars ≡ Some a → is_own_of U p v ≡ true → OwnShape U v a) where
@@ -137,7 +137,7 @@ module _ (U : Upgrade) (expressions : ExpressionsAgree U) (scalars : ScalarsAreW
   S = scope_of U.written c g k
 
   module _ (w : World) (h : MemoryMatch U w) (F : FrameMatch U K w p f g) (owns : OwnsAll U K p f) (ty : Ty) (v : VarId) (qualified : Bool)
-      (use_v : uses v ≡ true) (inward : K.steady → is_own_of U p v.0 ≡ true) (e : Expr) (can : AllCalled (CanCall U K (scope_of U.written c g k) T) e)
+      (use_v : uses.scalar v ≡ true) (exact : is_quiet U.program.declarations U.known v.0 ≡ false) (inward : K.steady → is_own_of U p v.0 ≡ true) (e : Expr) (can : AllCalled (demands U K (scope_of U.written c g k) T) e)
       (well : is_good uses e ≡ true) where
     covers : covers_expr uses e ≡ true
     covers = (good_parts uses e well).0
@@ -146,7 +146,7 @@ module _ (U : Upgrade) (expressions : ExpressionsAgree U) (scalars : ScalarsAreW
     to = typed ty (variable v qualified)
 
     abbrev readable_v : IsReadable U v.0
-    readable_v = readable v use_v
+    readable_v = readable.scalars v use_v
 
     abbrev target_e : net.Exp
     target_e = net.path (variable_path T qualified v.0)
@@ -220,7 +220,7 @@ module _ (U : Upgrade) (expressions : ExpressionsAgree U) (scalars : ScalarsAreW
     own_by own (Some a) found =
         let s : SameVariable U K w v.0 a g = F.vars v.0 a found readable_v.sound in
         let place : OwnShape U v.0 a = shapes v.0 a found own in
-        let same : Same U K w a s.address = exactly U K w (not (is_quiet U.program.declarations U.known v.0)) a s.address (is_loud U v.0 readable_v) s.bound in
+        let same : Same U K w a s.address = exactly U K w (not (is_quiet U.program.declarations U.known v.0)) a s.address (ap not (own_exact U v.0 readable_v p own)) s.bound in
         let stands : a ≡ root (simple readable_v.variable.ty) (whole (made place.place)) =
         place.stands ∙ ap (λ d. root d (whole (made place.place))) (shape_is U v.0 readable_v) in
         let name : net_names.var_in g.vars readable_v.variable.name ≡ Some s.address =
@@ -233,7 +233,7 @@ module _ (U : Upgrade) (expressions : ExpressionsAgree U) (scalars : ScalarsAreW
 
     shared_by : IsShared U S T v.0 → Goal
     shared_by s =
-        let x : SharedPlace U K w f S T v.0 readable_v s = shared_place U K w f S T v.0 readable_v s in
+        let x : SharedPlace U K w f S T v.0 readable_v s = shared_place U K w h f S T v.0 readable_v s in
         stored_there x.address x.net_address x.position x.found (x.leads qualified) x.same x.stands (inr x.own_key)
         (λ steady. absurd (not_own U p S T v.0 s (inward steady)))
 
@@ -251,14 +251,14 @@ module _ (U : Upgrade) (expressions : ExpressionsAgree U) (scalars : ScalarsAreW
         (λ w1 later. missing y.0 w1 (given_address_is U v.0 readable_v p x.reference f ∙ none))
     given_by x (Some a) found =
         let s : SameVariable U K w v.0 a g = F.vars v.0 a found readable_v.sound in
-        let place : GivenPlace U v.0 a = x.stands a found in
-        let same : Same U K w a s.address = exactly U K w (not (is_quiet U.program.declarations U.known v.0)) a s.address (is_loud U v.0 readable_v) s.bound in
+        let place : GivenPlace U v.0 a = (x.stands a found).place exact in
+        let same : Same U K w a s.address = exactly U K w (not (is_quiet U.program.declarations U.known v.0)) a s.address (ap not exact) s.bound in
         let name : net_names.var_in g.vars readable_v.variable.name ≡ Some s.address =
         ap (λ n. net_names.var_in g.vars n) (sym (name_is U v.0 readable_v)) ∙ s.found in
         stored_there a s.address place.position (given_address_is U v.0 readable_v p x.reference f ∙ found)
         (ap (net_names.path_start S false) (given_path U v.0 readable_v p x.reference T declared qualified)
         ∙ variable_named S net_oracle readable_v.variable.name s.address name) same
-        (place.stands ∙ ap (λ d. root d place.position) (shape_is U v.0 readable_v)) place.target
+        (subst (λ d. StandsAs d a place.position) (shape_is U v.0 readable_v) place.stands) place.target
         (λ steady. absurd (true≢false (sym (inward steady) ∙ given_foreign U v.0 readable_v p x.reference)))
 
     placed_by : IsPlaced U p f S T v.0 → Goal
@@ -268,4 +268,4 @@ module _ (U : Upgrade) (expressions : ExpressionsAgree U) (scalars : ScalarsAreW
     placed_by (inr (inr (inr x))) = given_by x (lookup (nat_eq v.0) f.vars) refl
 
     pub assignment_agrees : Goal
-    assignment_agrees = placed_by (placed v use_v)
+    assignment_agrees = placed_by (placed.places v (inl use_v))

@@ -10,7 +10,7 @@ use Rattle.vb_tree.specs.declared.declared.VarId.{VarId}
 use Rattle.bound_tree.specs.Tree.{Declarations, Expr, typed, variable}
 use Rattle.bound_facts.proofs.Chains.{both_true}
 use Rattle.bound_facts.specs.Effects.{is_own_owner, is_own_variable}
-use Rattle.bound_facts.specs.Facts.{is_quiet}
+use Rattle.bound_facts.specs.Facts.{Known, is_quiet, is_quiet_owner, is_quiet_variable}
 use Rattle.bound_facts.specs.Node.{type_at, auto_class, class_in}
 use Rattle.net_tree.specs.Tree as net
 use Rattle.net_tree.specs.Tree.{Member, Module}
@@ -48,7 +48,7 @@ own_owner p (owner.Value q) h T qualified name = refl
 own_owner p (owner.Answer q) h T qualified name = refl
 own_owner p _ h T qualified name = absurd (true≢false (sym h))
 
-own_address : (D : Declarations) (f : SourceFrame) (v p : ℕ) (o : Owner) → is_own_owner p o ≡ true → owned_address D f v o ≡ lookup (nat_eq v) f.vars
+pub own_address : (D : Declarations) (f : SourceFrame) (v p : ℕ) (o : Owner) → is_own_owner p o ≡ true → owned_address D f v o ≡ lookup (nat_eq v) f.vars
 own_address D f v p (owner.Local q) h = refl
 own_address D f v p (owner.Value q) h = refl
 own_address D f v p (owner.Answer q) h = refl
@@ -58,7 +58,7 @@ given_owner : (p : ℕ) (o : Owner) → is_reference_owner_of p o ≡ true → (
 given_owner p (owner.Reference q) h T qualified name = refl
 given_owner p _ h T qualified name = absurd (true≢false (sym h))
 
-given_address : (D : Declarations) (f : SourceFrame) (v p : ℕ) (o : Owner) → is_reference_owner_of p o ≡ true → owned_address D f v o ≡ lookup (nat_eq v) f.vars
+pub given_address : (D : Declarations) (f : SourceFrame) (v p : ℕ) (o : Owner) → is_reference_owner_of p o ≡ true → owned_address D f v o ≡ lookup (nat_eq v) f.vars
 given_address D f v p (owner.Reference q) h = refl
 given_address D f v p _ h = absurd (true≢false (sym h))
 
@@ -67,7 +67,11 @@ given_not_own : (p : ℕ) (o : Owner) → is_reference_owner_of p o ≡ true →
 given_not_own p (owner.Reference q) h = refl
 given_not_own p _ h = absurd (true≢false (sym h))
 
-simple_type : (users : ℕ → Shape) (bounds : List (ℤ × ℤ)) (ty : Ty) → covers_type ty ≡ true → shape_by users bounds ty ≡ simple ty
+own_not_quiet : (F : Known) (p : ℕ) (o : Owner) → is_own_owner p o ≡ true → is_quiet_owner F o ≡ false
+own_not_quiet F p (owner.Reference q) h = absurd (true≢false (sym h))
+own_not_quiet F p _ h = refl
+
+pub simple_type : (users : ℕ → Shape) (bounds : List (ℤ × ℤ)) (ty : Ty) → covers_type ty ≡ true → shape_by users bounds ty ≡ simple ty
 simple_type users bounds types.boolean c = refl
 simple_type users bounds types.byte c = refl
 simple_type users bounds types.integer c = refl
@@ -76,7 +80,7 @@ simple_type users bounds types.currency c = refl
 simple_type users bounds types.str c = refl
 simple_type users bounds _ c = absurd (true≢false (sym c))
 
-not_true : (b : Bool) → not b ≡ true → b ≡ false
+pub not_true : (b : Bool) → not b ≡ true → b ≡ false
 not_true true e = absurd (true≢false (sym e))
 not_true false e = refl
 
@@ -92,13 +96,10 @@ module _ (U : Upgrade) (v : ℕ) (r : IsReadable U v) where
   pub scalar_type : covers_type r.variable.ty ≡ true
   scalar_type = (both_true (covers_type r.variable.ty) (not r.variable.auto) covered.1).0
 
-  no_auto : auto_class (slice_get D.vars v) ≡ None
+  pub no_auto : auto_class (slice_get D.vars v) ≡ None
   no_auto =
       ap auto_class r.is_variable
       ∙ ap (λ b. cond b (class_in r.variable.ty) None) (not_true r.variable.auto (both_true (covers_type r.variable.ty) (not r.variable.auto) covered.1).1)
-
-  pub is_loud : not (is_quiet D U.known v) ≡ true
-  is_loud = ap not r.exact
 
   pub shape_is : variable_shape D v ≡ simple r.variable.ty
   shape_is = ap (declared_shape (user_shapes D)) r.is_variable ∙ simple_type (user_shapes D) r.variable.bounds r.variable.ty scalar_type
@@ -110,6 +111,12 @@ module _ (U : Upgrade) (v : ℕ) (r : IsReadable U v) where
 
   own_is : (p : ℕ) → is_own_of U p v ≡ true → is_own_owner p r.variable.owner ≡ true
   own_is p h = sym (ap (is_own_variable p) r.is_variable) ∙ h
+
+  -- it is no quiet parameter
+  pub own_exact : (p : ℕ) → is_own_of U p v ≡ true → is_quiet D U.known v ≡ false
+  own_exact p h =
+      ap (λ o. is_quiet_variable U.known o && not (U.known.touched v)) r.is_variable
+      ∙ ap (λ b. b && not (U.known.touched v)) (own_not_quiet U.known p r.variable.owner (own_is p h))
 
   -- its address is in the source's frame
   pub address_is : (p : ℕ) → is_own_of U p v ≡ true → (f : SourceFrame) → variable_address D f v ≡ lookup (nat_eq v) f.vars
@@ -137,7 +144,7 @@ module _ (U : Upgrade) (v : ℕ) (r : IsReadable U v) where
   pub given_foreign : (p : ℕ) → is_reference_of U p v ≡ true → is_own_of U p v ≡ false
   given_foreign p given = ap (is_own_variable p) r.is_variable ∙ given_not_own p r.variable.owner (given_is p given)
 
-address_by : (C : Context) (o : Option Address) (m : Option ℕ) → m ≡ None → (s : Memory)
+pub address_by : (C : Context) (o : Option Address) (m : Option ℕ) → m ≡ None → (s : Memory)
     → then (then (some_of o (λ a w. gives [] (at_address a) w) s) (made_for C m)) finished ≡ some_of o (λ a w. gives [] a w) s
 address_by C None m e s = refl
 address_by C (Some a) m e s = ap (λ z. then (then (gives [] (at_address a) s) (made_for C z)) finished) e

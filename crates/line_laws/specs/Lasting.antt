@@ -1,13 +1,13 @@
 -- Frames that go on to match at later worlds, and lines in them.
 use Rattle.std.specs.Prelude.{◌≡◌, ℕ, true, nat_eq, Option, Some}
 use Rattle.std.specs.Map.{lookup}
-use Rattle.vb_tree.specs.declared.declared.VarId.{VarId}
 use Rattle.run_base.specs.Positions.{made, whole}
 use Rattle.std.specs.List.{Contains}
 use Rattle.bound_tree.specs.Tree.{Expr}
 use Rattle.bound_facts.specs.Node.{args_at, called}
 use Rattle.bound_facts.specs.Parts.{line_uses}
 use Rattle.run_base.specs.Machines.{go}
+use Rattle.written_trees.specs.Bodies.{inside_procedure}
 use Rattle.vb6_run.specs.Shapes.{variable_shape}
 use Rattle.vb6_run.specs.Forms.{SourceLine}
 use Rattle.vb6_run.specs.Programs as source
@@ -15,18 +15,20 @@ use Rattle.vb6_run.specs.Store.{Address, root, SourceFrame}
 use Rattle.net_run.specs.Lines.{NetFrame, NetLine, scope_of}
 use Rattle.net_run.specs.Members.{Code, code_at}
 use Rattle.net_run.specs.Program as target
+use Rattle.written_trees.specs.Bodies.{inside_procedure}
 use Rattle.run_matches.specs.Upgrades.{Upgrade, code_of, runnable_of}
 use Rattle.run_matches.specs.Maps.{World}
 use Rattle.run_matches.specs.Match.{MemoryMatch}
 use Rattle.run_matches.specs.Pledges.{Pledge, Later}
 use Rattle.run_matches.specs.Agreeing.{Agrees}
-use Rattle.run_matches.specs.Covered.{covers_use, covers_line}
-use Rattle.run_matches.specs.Frames.{HasNames, FrameMatch, OwnsAll, is_own_of, frame_pledge, GivenStand, HasPlace}
+use Rattle.run_matches.specs.Covered.{covers_line, uses_in}
+use Rattle.run_matches.specs.Frames.{HasNames, FrameMatch, OwnsAll, is_own_of, frame_pledge, GivenStand}
 use Rattle.run_matches.specs.Runs.{line_result, CallsAgree}
 use Rattle.run_matches.specs.Sites.{Site}
-use Rattle.run_statements.specs.Frames.{IsOpen, IsReadable}
+use Rattle.run_statements.specs.Fitting.{FitsLine, FitsNode}
+use Rattle.run_statements.specs.Frames.{AreReadable, IsOpen}
 use Rattle.run_statements.specs.Kept.{LineStands, StoresAreOwn, UsesArePlaced, CanCallFrom}
-use Rattle.run_statements.specs.Written.{WrittenLine, Passes}
+use Rattle.run_statements.specs.Written.{WrittenLine, Passes, site_scope}
 
 -- ---- frames
 
@@ -65,10 +67,12 @@ abbrev pub SteadyLinesAgree : Upgrade → Type 0
 SteadyLinesAgree U =
     (p : ℕ) (s : Site) (written number turns : ℕ) (l : SourceLine) (c : Code) (L : WrittenLine U p s written number l) → code_at U.written written ≡ Some c
     → ((g : NetFrame) (k : NetLine) → HasNames (code_of U p) g → IsOpen (scope_of U.written c g k))
-    → ((v : VarId) → covers_use U.program p l.form.bindings.mentions v ≡ true → IsReadable U v.0)
+    → AreReadable U (inside_procedure (site_scope U s) p) (uses_in U.program p l.form.bindings.mentions)
     → UsesArePlaced U p s c l.form → StoresAreOwn U p l.form
     → CallsAgree U (Passes U) (go (source.machine_of (runnable_of U)) turns) (go (target.machine_of U.written) turns)
     → ((d : Expr) (q : ℕ) → Contains (line_uses l.form) d → called d ≡ Some q → CanCallFrom U p s c q (args_at d))
+    → ((d : Expr) → Contains (line_uses l.form) d → FitsNode U d)
+    → FitsLine U p l.form
     → covers_line U.program p l.form ≡ true
     → LineStands U p s written c number l
     → SameSteadyLine U p written number turns l L.line

@@ -9,9 +9,10 @@ use Rattle.run_matches.specs.Maps.{World, Extends, IsUnmade, IsMatched, mark, ne
 use Rattle.run_matches.specs.Match.{Holds, StoreMatch, MemoryMatch}
 use Rattle.run_matches.specs.Pledges.{Pledge, IsLasting, IsHeld, Later}
 use Rattle.agreeing_laws.proofs.Made.{below_self, up_self}
-use Rattle.memory_laws.specs.Changes.{changed, IsNoTable, IsNoArray, GoesAlone}
+use Rattle.memory_laws.specs.Changes.{changed, IsNoTable, IsNoArray, IsSuited, GoesAlone}
 use Rattle.memory_laws.proofs.Moved.{not_both_made, moved_is_made}
 use Rattle.memory_laws.proofs.Positions.{either_position, updated_here, updated_other, updated_cases}
+use Rattle.memory_laws.proofs.Suited.{kinds_suited, same_kinds_suited}
 
 pub none_between : (a b : ℕ) → a ≤ b → b < a → ⊥
 none_between a b le lt = omega arith
@@ -34,7 +35,7 @@ module _ (U : Upgrade) (w : World) (q : Position) (x : Held) (c : net.Cell) wher
   }
 
   module _ (h : MemoryMatch U w) (m : IsMatched U w q) (alone : GoesAlone U w q) (like : Holds U w x c) (plain : IsNoTable (w.src.held q))
-      (net_plain : IsNoArray (w.net.cell (moved_at U w.map q))) (new_plain : IsNoArray c) where
+      (net_plain : IsNoArray (w.net.cell (moved_at U w.map q))) (new_plain : IsNoArray c) (suits : IsSuited U w q x) where
     old_array : (p : Position) (k : ℕ) → updated w.net.cell (moved_at U w.map q) c p ≡ net.holds (n.Array k) → w.net.cell p ≡ net.holds (n.Array k)
     old_array p k e =
         ⊎_elim (λ s. absurd (new_plain k s)) (λ o. o) (updated_cases w.net.cell (moved_at U w.map q) c p (net.holds (n.Array k)) e)
@@ -73,6 +74,7 @@ module _ (U : Upgrade) (w : World) (q : Position) (x : Held) (c : net.Cell) wher
           (subst (λ z. IsUnmade (net_mark w.net) z.root) (sym s) u))
           ∙ h.stores.net_unmade p u;
       errors = h.stores.errors;
+      kinds = kinds_suited U w q x suits h.stores;
     }
 
     -- what lasts may change where nothing stood yet
@@ -83,6 +85,7 @@ module _ (U : Upgrade) (w : World) (q : Position) (x : Held) (c : net.Cell) wher
       grows = below_self (mark w.src);
       net_grows = below_self (net_mark w.net);
       arrays_grow = up_self w.net.next_array;
+      same_kinds = same_kinds_suited U w q x suits;
       same_values = λ p l i.
           updated_other w.src.held q x p (λ s. free (subst (λ z. IsLasting U K w z) (sym s) l) (subst (λ z. IsHeld w z) (sym s) i));
       same_cells = λ p j l i.

@@ -1,11 +1,26 @@
 pub mod Positions
 pub mod Moved
+mod Suited
 pub mod Changes
+mod Flat
+pub mod Rearranged
+mod Tables
+mod Sizes
+pub mod Renewed
+pub mod ArrayItems
+pub mod ArrayImages
+pub mod Resizing
 pub mod Places
 pub mod Scalars
 pub mod Reading
 pub mod Writing
+pub mod Elements
 pub mod Making
 pub mod Parameters
 pub mod ByPledges
 pub mod Statics
+mod Laid
+mod FirstArrays
+pub mod Alone
+pub mod Quiet
+pub mod ArraysMade

@@ -14,6 +14,7 @@ use Rattle.vb6_run.specs.Store.{root, Held, blank, single, table, make}
 use Rattle.vb6_run.specs.Values.{first_scalar}
 use Rattle.net_run.specs.Shapes as shape
 use Rattle.net_run.specs.Store as net
+use Rattle.run_matches.specs.Kinds.{IsKind, KeepsKind}
 use Rattle.run_matches.specs.Upgrades.{Upgrade}
 use Rattle.run_matches.specs.Maps.{World, IsMatched, is_sound_part, moved_at}
 use Rattle.run_matches.specs.Likeness.{Like, are_same, scalar_word, same_scalar}
@@ -24,10 +25,11 @@ use Rattle.run_matches.specs.Agreeing.{Agrees}
 use Rattle.run_matches.specs.Covered.{covers_type, covers_owner}
 use Rattle.run_statements.specs.Frames.{IsReadable, MadeMatch, LocalsAreMade}
 use Rattle.agreeing_laws.proofs.Lasting.{later_then}
-use Rattle.memory_laws.specs.Changes.{changed, with_place, IsNoTable, IsNoArray}
+use Rattle.memory_laws.specs.Changes.{changed, with_place, IsNoTable, IsNoArray, IsSuited}
 use Rattle.memory_laws.proofs.Changes.{changed_later}
-use Rattle.memory_laws.proofs.Moved.{place_goes_alone}
+use Rattle.memory_laws.proofs.Moved.{no_variable_place, place_goes_alone}
 use Rattle.memory_laws.proofs.Places.{place_here, declared_here, place_is_matched, place_is_blank, net_place_is_blank, place_later}
+use Rattle.memory_laws.proofs.Positions.{updated_here}
 use Rattle.memory_laws.proofs.Scalars.{scalar_is_no_array, FirstMatch, first_match}
 
 -- ---- a place in which a scalar stands
@@ -44,6 +46,16 @@ no_array_in c e k f = no_array (sym e ∙ f)
     no_array : net.blank ≡ net.holds (n.Array k) → ⊥
     no_array g = cc
 
+pub blank_keeps : (h k : Held) → h ≡ blank → KeepsKind h k
+blank_keeps h k e = subst (λ z. KeepsKind z k) (sym e) tt
+
+-- a new place takes whatever is laid there, and is no variable of a module
+pub place_suits : (U : Upgrade) (w : World) (d : Option ℕ) → MemoryMatch U w → (x : Held) → IsSuited U (with_place w d) (whole (made w.src.next)) x
+place_suits U w d h x = record {
+  kept = blank_keeps (w.src.held (whole (made w.src.next))) x (place_is_blank U w d h);
+  laid = λ v at b. absurd (no_variable_place w.src.next v at);
+}
+
 module _ (U : Upgrade) (K : Pledge) (w : World) (d : Option ℕ) (ty : Ty) (z : Value6) (y : ValueN) where
   abbrev pub scalar_made : World
   scalar_made = changed U (with_place w d) (whole (made w.src.next)) (single ty z) (net.holds y)
@@ -57,11 +69,11 @@ module _ (U : Upgrade) (K : Pledge) (w : World) (d : Option ℕ) (ty : Ty) (z : 
       (place_goes_alone U (with_place w d) first.match.stores w.src.next [] m) (holds_single ty z y like)
       (no_table_in (w.src.held (whole (made w.src.next))) (place_is_blank U w d h))
       (no_array_in (w.net.cell (moved_at U (with_place w d).map (whole (made w.src.next)))) (net_place_is_blank U w d h))
-      (scalar_is_no_array (are_same w) ty z y like) K (λ l i. i (place_is_blank U w d h)))
+      (scalar_is_no_array (are_same w) ty z y like) (place_suits U w d h (single ty z)) K (λ l i. i (place_is_blank U w d h)))
 
 -- ---- a local variable
 
-covered_shape : (users : ℕ → Shape) (bounds : List (ℤ × ℤ)) (ty : Ty) → covers_type ty ≡ true → shape_by users bounds ty ≡ simple ty
+pub covered_shape : (users : ℕ → Shape) (bounds : List (ℤ × ℤ)) (ty : Ty) → covers_type ty ≡ true → shape_by users bounds ty ≡ simple ty
 covered_shape users bounds types.boolean c = refl
 covered_shape users bounds types.byte c = refl
 covered_shape users bounds types.integer c = refl
@@ -81,13 +93,17 @@ module _ (U : Upgrade) where
       ap (declared_shape (user_shapes U.program.declarations)) r.is_variable
       ∙ covered_shape (user_shapes U.program.declarations) r.variable.bounds r.variable.ty (readable_type v r)
 
+  kind_made : (K : Pledge) (w : World) (v : ℕ) (ty : Ty) (z : Value6) (y : ValueN)
+      → IsKind (simple ty) ((scalar_made U K w (Some v) ty z y).src.held (whole (made w.src.next)))
+  kind_made K w v ty z y = (z, updated_here w.src.held (whole (made w.src.next)) (single ty z))
+
   pub made_match : (K : Pledge) (w : World) (v : ℕ) (ty : Ty) (t : TypeName) (z : Value6) (y : ValueN) → variable_shape U.program.declarations v ≡ simple ty
       → scalar_word ty ≡ Some t → IsMatched U (scalar_made U K w (Some v) ty z y) (whole (made w.src.next))
       → MadeMatch U K v ty t (scalar_made U K w (Some v) ty z y) (root (simple ty) (whole (made w.src.next)))
       (net.root (shape.scalar t) (whole (made ((with_place w (Some v)).map.places w.src.next))))
   made_match K w v ty t z y shaped e m = record {
     place = record { place = w.src.next; stands = ap (λ s. root s (whole (made w.src.next))) (sym shaped); is_made = m.is_made; declared = declared_here U w (Some v) };
-    same = same_root (simple ty) (shape.scalar t) (whole (made w.src.next)) (same_scalar ty t e) m tt;
+    same = same_root (simple ty) (shape.scalar t) (whole (made w.src.next)) (same_scalar ty t e) (m, kind_made K w v ty z y) tt;
     source_shape = (w.src.next, refl);
     target_shape = ((with_place w (Some v)).map.places w.src.next, refl);
   }

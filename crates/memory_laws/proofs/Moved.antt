@@ -60,6 +60,16 @@ is_field p = is_field_root p.root
     is_field_root (made m) = false
     is_field_root (field o k) = true
 
+abbrev first_of : Key → ℕ
+first_of [] = 0
+first_of (v ∷ more) = v
+
+pub no_variable_place : (n v : ℕ) → at (made n) [] ≡ at (shared (v ∷ [])) [] → ⊥
+no_variable_place n v e = true≢false (ap is_place e)
+
+pub same_variable_place : (v u : ℕ) → at (shared (v ∷ [])) [] ≡ at (shared (u ∷ [])) [] → v ≡ u
+same_variable_place v u e = ap (λ p. first_of (key_of p)) e
+
 -- ---- places
 
 module _ (U : Upgrade) (w : World) (h : StoreMatch U w) where

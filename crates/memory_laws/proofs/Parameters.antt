@@ -35,7 +35,7 @@ use Rattle.memory_laws.proofs.Scalars.{kept_scalar, same_covered, scalar_of_word
 -- ---- what is kept of a value
 
 -- a value of another type is kept by no variable of a covered one
-kept_by : (s t : Ty) (z : Value6) → covers_type s ≡ true → kept_as (simple s) (scalar t z) ≡ if_of_shape (is_same_type s t && is_typed t z) (scalar t z)
+pub kept_by : (s t : Ty) (z : Value6) → covers_type s ≡ true → kept_as (simple s) (scalar t z) ≡ if_of_shape (is_same_type s t && is_typed t z) (scalar t z)
 kept_by types.boolean t z c = refl
 kept_by types.byte t z c = refl
 kept_by types.integer t z c = refl
@@ -44,7 +44,7 @@ kept_by types.currency t z c = refl
 kept_by types.str t z c = refl
 kept_by _ t z c = absurd (true≢false (sym c))
 
-no_fields : (s : Ty) (t : ℕ) (xs : Values) → covers_type s ≡ true → kept_as (simple s) (fields t xs) ≡ None
+pub no_fields : (s : Ty) (t : ℕ) (xs : Values) → covers_type s ≡ true → kept_as (simple s) (fields t xs) ≡ None
 no_fields types.boolean t xs c = refl
 no_fields types.byte t xs c = refl
 no_fields types.integer t xs c = refl
@@ -53,7 +53,7 @@ no_fields types.currency t xs c = refl
 no_fields types.str t xs c = refl
 no_fields _ t xs c = absurd (true≢false (sym c))
 
-no_elements : (s : Ty) (e : Shape) (dims : List Dimension) (xs : Values) → covers_type s ≡ true → kept_as (simple s) (elements e dims xs) ≡ None
+pub no_elements : (s : Ty) (e : Shape) (dims : List Dimension) (xs : Values) → covers_type s ≡ true → kept_as (simple s) (elements e dims xs) ≡ None
 no_elements types.boolean e dims xs c = refl
 no_elements types.byte e dims xs c = refl
 no_elements types.integer e dims xs c = refl

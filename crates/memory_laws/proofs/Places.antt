@@ -8,6 +8,7 @@ use Rattle.run_matches.specs.Upgrades.{Upgrade}
 use Rattle.run_matches.specs.Maps.{World, Mark, Below, Extends, IsMade, IsUnmade, IsMatched, is_sound_part, mark, net_mark, moved, moved_at}
 use Rattle.run_matches.specs.Match.{Holds, holds_blank, StoreMatch, MemoryMatch}
 use Rattle.run_matches.specs.Pledges.{Pledge, Later}
+use Rattle.agreeing_laws.proofs.SameKinds.{keeps_self}
 use Rattle.agreeing_laws.proofs.Made.{up, up_self, tell, same_at, same_variable, matched_before}
 use Rattle.memory_laws.specs.Changes.{with_place}
 use Rattle.memory_laws.proofs.Changes.{none_between, holds_as}
@@ -168,6 +169,7 @@ module _ (U : Upgrade) (w : World) (d : Option ℕ) where
       unmade = λ q u. h.stores.unmade q (unmade_before (mark w.src) (mark (with_place w d).src) place_grows q.root u);
       net_unmade = λ q u. h.stores.net_unmade q (unmade_before (net_mark w.net) (net_mark (with_place w d).net) net_place_grows q.root u);
       errors = h.stores.errors;
+      kinds = h.stores.kinds;
     }
 
     pub place_later : (K : Pledge) → Later U K w (with_place w d)
@@ -177,6 +179,7 @@ module _ (U : Upgrade) (w : World) (d : Option ℕ) where
       grows = place_grows;
       net_grows = net_place_grows;
       arrays_grow = up_self w.net.next_array;
+      same_kinds = λ q. keeps_self (w.src.held q);
       same_values = λ q l i. refl;
       same_cells = λ q m l i. refl;
       same_elements = λ q k m l e. refl;

@@ -47,7 +47,7 @@ pub either_position : (p q : Position) → (p ≡ q) ⊎ (p ≡ q → ⊥)
 either_position p q =
     by_test (is_same_position p q) (λ b. (p ≡ q) ⊎ (p ≡ q → ⊥)) (λ y. inl (same_position p q y)) (λ n. inr (position_other p q n))
 
-other_position : (p q : Position) → (p ≡ q → ⊥) → is_same_position p q ≡ false
+pub other_position : (p q : Position) → (p ≡ q → ⊥) → is_same_position p q ≡ false
 other_position p q h = by_test (is_same_position p q) (λ b. b ≡ false) (λ y. absurd (h (same_position p q y))) (λ n. refl)
 
 -- ---- functions of positions
@@ -72,6 +72,9 @@ not_same a b lt e = omega arith
 
 other_number : (a b : ℕ) → b < a → nat_eq a b ≡ false
 other_number a b lt = by_test (nat_eq a b) (λ t. t ≡ false) (λ y. absurd (not_same a b lt (eqb-true a b y))) (λ n. refl)
+
+pub updated_at_other : {V : Type 0} (f : ℕ → V) (a : ℕ) (v : V) (b : ℕ) → (a ≡ b → ⊥) → updated_at f a v b ≡ f b
+updated_at_other f a v b h = by_test (nat_eq a b) (λ t. cond t v (f b) ≡ f b) (λ y. absurd (h (eqb-true a b y))) (λ n. refl)
 
 pub updated_at_below : {V : Type 0} (f : ℕ → V) (a : ℕ) (v : V) (b : ℕ) → b < a → updated_at f a v b ≡ f b
 updated_at_below f a v b lt = ap (λ t. cond t v (f b)) (other_number a b lt)

@@ -46,10 +46,10 @@ pub record ScalarImage (U : Upgrade) (w : World) (ty : Ty) (a : Address) (b : ne
   pub is_name : scalar_word ty ≡ Some type_name
   pub is_matched : IsMatched U w position
 
-abbrev HasWord : Ty → shape.Shape → Type 0
+abbrev pub HasWord : Ty → shape.Shape → Type 0
 HasWord ty d = (t : TypeName) × (d ≡ shape.scalar t) × (scalar_word ty ≡ Some t)
 
-word_of_shape : (U : Upgrade) (ty : Ty) (d : shape.Shape) → covers_type ty ≡ true → SameShape U (simple ty) d → HasWord ty d
+pub word_of_shape : (U : Upgrade) (ty : Ty) (d : shape.Shape) → covers_type ty ≡ true → SameShape U (simple ty) d → HasWord ty d
 word_of_shape U _ _ c (same_scalar ty t e) = (t, refl, e)
 word_of_shape U _ _ c (same_class k home e) = absurd (true≢false (sym c))
 

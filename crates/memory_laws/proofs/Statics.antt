@@ -15,6 +15,7 @@ use Rattle.net_run.specs.Program.{made_once}
 use Rattle.net_run.specs.Shapes as shape
 use Rattle.net_run.specs.Store as net
 use Rattle.net_run.specs.Structures.{initial_value}
+use Rattle.run_matches.specs.Kinds.{IsKind}
 use Rattle.run_matches.specs.Upgrades.{Upgrade, variable_key}
 use Rattle.run_matches.specs.Maps.{World, IsMatched, key_or_none, moved_at}
 use Rattle.run_matches.specs.Likeness.{are_same, scalar_word}
@@ -23,10 +24,10 @@ use Rattle.run_matches.specs.Pledges.{Pledge, Later}
 use Rattle.run_matches.specs.Agreeing.{Agrees}
 use Rattle.run_statements.specs.Frames.{IsReadable, AnyUnits}
 use Rattle.agreeing_laws.proofs.Agreeing.{agrees_gives}
-use Rattle.memory_laws.specs.Changes.{changed}
+use Rattle.memory_laws.specs.Changes.{changed, IsSuited}
 use Rattle.memory_laws.proofs.Changes.{changed_later}
-use Rattle.memory_laws.proofs.Making.{no_table_in, no_array_in, readable_type, readable_shape}
-use Rattle.memory_laws.proofs.Moved.{key_goes_alone}
+use Rattle.memory_laws.proofs.Making.{blank_keeps, no_table_in, no_array_in, readable_type, readable_shape}
+use Rattle.memory_laws.proofs.Moved.{key_goes_alone, same_variable_place}
 use Rattle.memory_laws.proofs.Scalars.{scalar_is_no_array, FirstMatch, first_match}
 
 abbrev at_key : ℕ → Position
@@ -46,13 +47,21 @@ module _ (U : Upgrade) (K : Pledge) (w : World) (v : ℕ) (r : IsReadable U v) (
   first : FirstMatch (are_same w) ty t
   first = first_match (are_same w) ty t (readable_type U v r) word
 
+  laid_suits : w.src.held q ≡ blank → IsSuited U w q (single ty (first_scalar ty))
+  laid_suits e = record {
+    kept = blank_keeps (w.src.held q) (single ty (first_scalar ty)) e;
+    laid = λ u at b.
+        subst (λ z. IsKind (variable_shape U.program.declarations z) (single ty (first_scalar ty))) (same_variable_place v u at)
+        (subst (λ s. IsKind s (single ty (first_scalar ty))) (sym (readable_shape U v r)) (first_scalar ty, refl));
+  }
+
   -- what is laid on both sides
   laid_later : w.src.held q ≡ blank → w.net.cell (moved_at U w.map q) ≡ net.blank
       → Later U K w (changed U w q (single ty (first_scalar ty)) (net.holds first.value))
   laid_later e f =
       changed_later U w q (single ty (first_scalar ty)) (net.holds first.value) h matched (key_goes_alone U w v key is differs)
       (holds_single ty (first_scalar ty) first.value first.like) (no_table_in (w.src.held q) e) (no_array_in (w.net.cell (moved_at U w.map q)) f)
-      (scalar_is_no_array (are_same w) ty (first_scalar ty) first.value first.like) K (λ l i. i e)
+      (scalar_is_no_array (are_same w) ty (first_scalar ty) first.value first.like) (laid_suits e) K (λ l i. i e)
 
   module _ (N : net_tree.Project) (home : ℕ) (d : net_tree.Variable) (plain : d.value ≡ None) (shaped : shape.shape_of N home d.ty ≡ shape.scalar t) where
     -- the first value of the target

@@ -11,11 +11,12 @@ use Rattle.net_meaning.specs.declared.value.ValueN.TheVariants as n
 use Rattle.run_base.specs.Outcomes.{gives, outside, some_of}
 use Rattle.run_base.specs.Positions.{Position, made, shared}
 use Rattle.vb6_run.specs.Shapes.{Shape, simple, variable_shape}
-use Rattle.vb6_run.specs.Store.{Address, root, Locked, Held, single, table, provided, with_held, put_single, store, write}
+use Rattle.vb6_run.specs.Store.{Address, root, Locked, Held, blank, single, table, provided, with_held, put_single, store, write}
 use Rattle.vb6_run.specs.Values.{scalar}
 use Rattle.net_run.specs.Shapes as shape
 use Rattle.net_run.specs.Store as net
 use Rattle.net_run.specs.Values as net_value
+use Rattle.run_matches.specs.Kinds.{KeepsKind}
 use Rattle.run_matches.specs.Upgrades.{Upgrade}
 use Rattle.run_matches.specs.Maps.{World, IsMatched, moved_at}
 use Rattle.run_matches.specs.Likeness.{LikeV, like_scalar, Like, are_same, scalar_word}
@@ -26,7 +27,7 @@ use Rattle.run_matches.specs.Covered.{covers_type}
 use Rattle.run_matches.specs.Frames.{HasPlace, IsOwnAddress}
 use Rattle.run_statements.specs.Frames.{AnyUnits, ScalarsAreWritten, MayChange}
 use Rattle.agreeing_laws.proofs.Agreeing.{agrees_outside}
-use Rattle.memory_laws.specs.Changes.{changed, IsNoTable, GoesAlone}
+use Rattle.memory_laws.specs.Changes.{changed, IsNoTable, IsSuited, GoesAlone}
 use Rattle.memory_laws.specs.Statements.{ScalarsAreWrittenInPlaces}
 use Rattle.memory_laws.proofs.Changes.{changed_later}
 use Rattle.memory_laws.proofs.Moved.{place_goes_alone, key_goes_alone}
@@ -40,14 +41,26 @@ no_table_in t x h e d dims xs f = no_table (sym e ∙ f)
     no_table : single t x ≡ table d dims xs → ⊥
     no_table g = cc
 
+not_blank : (t : Ty) (x : Value6) (h : Held) → h ≡ single t x → h ≡ blank → ⊥
+not_blank t x h e f = no_single (sym e ∙ f)
+  where
+    no_single : single t x ≡ blank → ⊥
+    no_single g = cc
+
 module _ (U : Upgrade) (K : Pledge) (w : World) (ty : Ty) (z : Value6) (y : ValueN) (q : Position) (c : covers_type ty ≡ true) (h : MemoryMatch U w)
     (m : IsMatched U w q) (alone : GoesAlone U w q) (free : IsLasting U K w q → IsHeld w q → ⊥) (like : Like w ty z y) where
+  single_suits : (t : Ty) (old : Value6) → w.src.held q ≡ single t old → IsSuited U w q (single t z)
+  single_suits t old is = record {
+    kept = subst (λ k. KeepsKind k (single t z)) (sym is) (z, refl);
+    laid = λ v at b. absurd (not_blank t old (w.src.held q) is b);
+  }
+
   written_later : (t : Ty) (old : Value6) (before : ValueN) → t ≡ ty → w.src.held q ≡ single t old → w.net.cell (moved_at U w.map q) ≡ net.holds before
       → Like w t old before → Later U K w (changed U w q (single t z) (net.holds y))
   written_later t old before same is net_is l =
       changed_later U w q (single t z) (net.holds y) h m alone (holds_single t z y (subst (λ u. Like w u z y) (sym same) like))
       (no_table_in t old (w.src.held q) is) (λ k e. scalar_is_no_array (are_same w) t old before l k (sym net_is ∙ e))
-      (scalar_is_no_array (are_same w) ty z y like) K free
+      (scalar_is_no_array (are_same w) ty z y like) (single_suits t old is) K free
 
   typed_agrees : (t : Ty) (old : Value6) (before : ValueN) → w.src.held q ≡ single t old → w.net.cell (moved_at U w.map q) ≡ net.holds before
       → Like w t old before

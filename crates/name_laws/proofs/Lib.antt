@@ -14,6 +14,7 @@ pub mod Prologues
 pub mod FrameNames
 pub mod Found
 pub mod Owns
+pub mod Inward
 pub mod Uses
 pub mod Lines
 pub mod OwnsKept

@@ -23,7 +23,7 @@ use Rattle.name_laws.proofs.Lists.{both_true, neither, some_same, Among, among_r
 use Rattle.name_laws.proofs.Sets.{unbroken_none, unbroken_both, unreplaced, unbroken_union, unbroken_line, unbroken_that}
 use Rattle.name_laws.proofs.Arrows.{variable_unflagged, lines_unbroken}
 use Rattle.name_laws.proofs.Owned.{variable_of_statement, variable_among, constant_among, line_owns}
-use Rattle.name_laws.proofs.Owns.{covered_parts, own_readable, own_unflagged}
+use Rattle.name_laws.proofs.Owns.{covered_parts, own_unflagged, own_usable, usable_sound}
 use Rattle.name_laws.proofs.Uses.{mentioned_unbroken}
 
 -- ---- the statement of a code line
@@ -143,7 +143,7 @@ clean_lines_are_unreplaced U I p s x e f W clean h k rules r =
     (line_owns D file is_code n C.place (site_lines s) C.line o C.is_line C.form m) in
     let vars : (v : ℕ × Variable) → Among (variables_of D file (n + C.place)) v → is_broken (variable_set U.facts v.0) ≡ false =
     λ v m. (neither (is_flagged_variable U.facts v.0) (is_unknown (type_of U v.0))
-    (own_readable U I.known p s Z clean v.0 v.1 (own (own_variable v.0 v.1) (variable_among D file (n + C.place) v m))).sound).0 in
+    (usable_sound U v.0 (own_usable U I p s Z clean v.0 v.1 (own (own_variable v.0 v.1) (variable_among D file (n + C.place) v m))))).0 in
     let consts : (c : ℕ × Constant) → Among (constants_of D file (n + C.place)) c → is_broken (constant_set U.facts c.0) ≡ false =
     λ c m. own_unflagged U p s Z clean c.0 c.1 (own (own_constant c.0 c.1) (constant_among D file (n + C.place) c m)) in
     unreplaced rules

@@ -4,6 +4,7 @@ use Rattle.std.specs.Prelude.{◌||◌}
 use Rattle.std.specs.List.{list_all, list_any}
 use Rattle.std.proofs.lemmas.Bool.{eqb-true}
 use Rattle.std.proofs.lemmas.Bool.Decides.{nat_tests}
+use Rattle.vb_tree.specs.BoundTree as types
 use Rattle.vb_tree.specs.BoundTree.{Ty}
 use Rattle.vb_tree.specs.declared.declared.Owner.{Owner}
 use Rattle.vb_tree.specs.declared.declared.Owner.TheVariants as owner
@@ -11,7 +12,7 @@ use Rattle.vb_tree.specs.declared.declared.VarId.{VarId}
 use Rattle.vb_tree.specs.Tree.{Form}
 use Rattle.vb_tree.specs.Tree as source
 use Rattle.bound_tree.specs.declared.body.Mention.{Mention}
-use Rattle.bound_tree.specs.Tree.{Procedure, Declarations, Program, Expr, typed, Term, variable, Line}
+use Rattle.bound_tree.specs.Tree.{Procedure, Declarations, Program, Expr, typed, Term, element, variable, Line}
 use Rattle.reach_table.specs.Chains.{empty}
 use Rattle.bound_facts.specs.Calls.{count_procedures}
 use Rattle.bound_facts.specs.CanRaise.{can_raise}
@@ -24,7 +25,7 @@ use Rattle.run_base.specs.Machines.{nth_line}
 use Rattle.vb6_run.specs.Programs.{is_static_of}
 use Rattle.vb6_run.specs.Runnables.{is_class_file}
 use Rattle.run_matches.specs.CleanLines.{lines_at}
-use Rattle.run_matches.specs.Covered.{Uses, covers_owner, covers_type, is_foreign_name, is_reached, covers_use, covers_expr, covers_term, covers_form, covers_line, is_variable, is_variable_in}
+use Rattle.run_matches.specs.Covered.{Uses, covers_array, covers_exprs, covers_type, is_ordered, is_ordered_in, is_foreign_name, is_reached, covers_expr, covers_term, covers_form, covers_line, is_changeable, is_changeable_in, uses_in}
 use Rattle.run_matches.specs.Formed.{is_formed}
 use Rattle.run_matches.specs.Pledges.{stands_in_class}
 use Rattle.run_matches.specs.Shared.{names_lead, is_alone_static, is_outer, others_differ}
@@ -35,7 +36,7 @@ use Rattle.name_laws.proofs.Lists.{both_true, same_number, Among, among, among_a
 use Rattle.name_laws.proofs.Looked.{not_true}
 use Rattle.name_laws.proofs.Led.{led}
 use Rattle.name_laws.proofs.Arrows.{project_items_there}
-use Rattle.name_laws.proofs.Uses.{HasLine, has_line, CoveredUse, used_parts}
+use Rattle.name_laws.proofs.Uses.{ArrayUse, HasLine, array_parts, has_line, CoveredUse, used_parts}
 
 -- ---- lists
 
@@ -111,7 +112,7 @@ module _ (P : Program) (p : ℕ) (x : Procedure) (is_procedure : slice_get P.dec
   D = P.declarations
 
   abbrev uses : Uses
-  uses = covers_use P p mentions
+  uses = uses_in P p mentions
 
   not_here : (file : ℕ) → is_class_file D file ≡ false → nat_eq x.module_number file ≡ false
   not_here file outer = by (nat_eq x.module_number file) refl
@@ -122,37 +123,52 @@ module _ (P : Program) (p : ℕ) (x : Procedure) (is_procedure : slice_get P.dec
           absurd (true≢false (sym in_class ∙ ap (is_class_file D) same ∙ outer))
       by false e = refl
 
-  mine_owner : (v : ℕ) (name : List ℕ) (o : Owner) → covers_owner o ≡ true → is_reached D p v name o ≡ true → is_own_owner p o ≡ false
+  mine_owner : (v : ℕ) (name : List ℕ) (o : Owner) → is_reached D p v name o ≡ true → is_own_owner p o ≡ false
       → is_mine_owner p (Some x.module_number) o ≡ false
-  mine_owner v name (owner.Module file) c h e =
+  mine_owner v name (owner.Module file) h e =
       not_here file (led D p v name file (both_true (names_lead D p v name file) (is_foreign_name D p name) h).0).outer
-  mine_owner v name (owner.Local q) c h e = e
-  mine_owner v name (owner.Static q) c h e =
+  mine_owner v name (owner.Local q) h e = e
+  mine_owner v name (owner.Static q) h e =
       let b = both_true (nat_eq p q.0) (is_alone_static D p v name) h in
       let a = both_true (is_outer D (slice_get D.procs p)) (others_differ (is_static_of p) v name 0 D.vars) b.1 in
       let outer : is_class_file D x.module_number ≡ false =
       not_true (is_class_file D x.module_number) (sym (ap (is_outer D) is_procedure) ∙ a.0) in
       absurd (true≢false (sym in_class ∙ outer))
-  mine_owner v name (owner.Value q) c h e = refl
-  mine_owner v name (owner.Reference q) c h e = refl
-  mine_owner v name (owner.Answer q) c h e = refl
-  mine_owner v name (owner.Field t) c h e = absurd (cc c)
+  mine_owner v name (owner.Value q) h e = refl
+  mine_owner v name (owner.Reference q) h e = refl
+  mine_owner v name (owner.Answer q) h e = refl
+  mine_owner v name (owner.Field t) h e = absurd (cc h)
 
-  mine_variable : (v : VarId) → uses v ≡ true → is_own_variable p (slice_get D.vars v.0) ≡ false → is_mine_variable D p (slice_get D.vars v.0) ≡ false
+  mine_variable : (v : VarId) → uses.scalar v ≡ true → is_own_variable p (slice_get D.vars v.0) ≡ false → is_mine_variable D p (slice_get D.vars v.0) ≡ false
   mine_variable v h e =
       let u : CoveredUse P p v.0 = (used_parts P p mentions v h).1 in
-      let covers = both_true (covers_owner u.used.owner) (covers_type u.used.ty && not u.used.auto) u.covers in
       let other : is_own_owner p u.used.owner ≡ false = sym (ap (is_own_variable p) u.is_used) ∙ e in
       ap (is_mine_variable D p) u.is_used ∙ ap (λ o. is_mine_owner p (module_of o) u.used.owner) is_procedure
-      ∙ mine_owner v.0 u.used.name u.used.owner covers.0 u.reached other
+      ∙ mine_owner v.0 u.used.name u.used.owner u.reached other
 
-  mine : (ty : Ty) (t : Term) → is_variable_in t ≡ true → covers_term uses t ≡ true → is_outside D.vars p (root (typed ty t)) ≡ true
+  -- nor is an array
+  mine_array_variable : (v : VarId) (of : Ty) → uses.array v of ≡ true → is_own_variable p (slice_get D.vars v.0) ≡ false
+      → is_mine_variable D p (slice_get D.vars v.0) ≡ false
+  mine_array_variable v of h e =
+      let u : ArrayUse P p v.0 of = (array_parts P p mentions v of h).1 in
+      let other : is_own_owner p u.used.owner ≡ false = sym (ap (is_own_variable p) u.is_used) ∙ e in
+      ap (is_mine_variable D p) u.is_used ∙ ap (λ o. is_mine_owner p (module_of o) u.used.owner) is_procedure
+      ∙ mine_owner v.0 u.used.name u.used.owner u.reached other
+
+  mine_array : (a : Expr) → covers_array uses a ≡ true → is_outside D.vars p (root a) ≡ true → is_mine D p a ≡ false
+  mine_array (typed (types.array e rank) (variable v qualified)) covers h =
+      mine_array_variable v e covers (not_true (is_own_variable p (slice_get D.vars v.0)) h)
+  mine_array (typed (types.array e rank) _) covers h = absurd (cc covers)
+  mine_array (typed _ t) covers h = absurd (cc covers)
+
+  mine : (ty : Ty) (t : Term) (e : Expr) → (is_changeable_in uses t || is_ordered_in uses ty t e) ≡ true → covers_term uses t ≡ true → is_outside D.vars p (root (typed ty t)) ≡ true
       → is_mine D p (typed ty t) ≡ false
-  mine ty (variable v qualified) is covers h = mine_variable v covers (not_true (is_own_variable p (slice_get D.vars v.0)) h)
-  mine ty _ is covers h = absurd (cc is)
+  mine ty (variable v qualified) e is covers h = mine_variable v covers (not_true (is_own_variable p (slice_get D.vars v.0)) h)
+  mine ty (element a indexes) e is covers h = mine_array a (both_true (covers_array uses a) (covers_exprs uses indexes) covers).0 h
+  mine ty _ e is covers h = absurd (cc is)
 
-  target : (to : Expr) → is_variable to ≡ true → covers_expr uses to ≡ true → is_outside D.vars p (root to) ≡ true → is_mine D p to ≡ false
-  target (typed ty t) is covers h = mine ty t is (both_true (covers_type ty) (covers_term uses t) covers).1 h
+  target : (to e : Expr) → (is_changeable uses to || is_ordered uses to e) ≡ true → covers_expr uses to ≡ true → is_outside D.vars p (root to) ≡ true → is_mine D p to ≡ false
+  target (typed ty t) e is covers h = mine ty t e is (both_true (covers_type ty) (covers_term uses t) covers).1 h
 
   only_one : (to e : Expr) → Among (to ∷ []) e → to ≡ e
   only_one to e (inl h) = h
@@ -163,10 +179,10 @@ module _ (P : Program) (p : ℕ) (x : Procedure) (is_procedure : slice_get P.dec
   not_plain (source.assign left right) [] c e m h = refl
   not_plain (source.assign left right) (to ∷ []) c e m h = refl
   not_plain (source.assign left right) (to ∷ d ∷ []) c e m h =
-      let a = both_true (is_variable to) (covers_expr uses to && covers_expr uses d) c in
+      let a = both_true (is_changeable uses to || is_ordered uses to d) (covers_expr uses to && covers_expr uses d) c in
       let b = both_true (covers_expr uses to) (covers_expr uses d) a.1 in
       and_first (is_mine D p to) (not (can_raise D d))
-      (target to a.0 b.0 (ap (λ z. is_outside D.vars p (root z)) (only_one to e m) ∙ h))
+      (target to d a.0 b.0 (ap (λ z. is_outside D.vars p (root z)) (only_one to e m) ∙ h))
   not_plain (source.assign left right) (to ∷ d ∷ more ∷ es) c e m h = absurd (cc c)
   not_plain _ es c e m h = refl
 
@@ -191,7 +207,7 @@ stores_are_own U I p x is_procedure k l here covers steady e m = by (is_outside 
     by true h =
         let at : HasLine U.program p k l = has_line U.program p k l here in
         let there : Among (line_stores l) e = among (line_stores l) e m in
-        let form = (both_true (covers_form (covers_use U.program p l.bindings.mentions) l.source.form l.bindings.exprs) (list_all is_formed l.bindings.exprs) covers).0 in
+        let form = (both_true (covers_form (uses_in U.program p l.bindings.mentions) l.source.form l.bindings.exprs) (list_all is_formed l.bindings.exprs) covers).0 in
         let outer : U.known.outward p ≡ true =
         (I.known.outward_are p).1 (p, is_outward U.program p k x is_procedure l at e there h, empty p) in
         let unplain_if : stands_in_class U (module_of (slice_get U.program.declarations.procs p)) ≡ true → U.known.unplain p ≡ true =

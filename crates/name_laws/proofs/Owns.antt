@@ -1,8 +1,9 @@
 -- What a covered, clean procedure declares is written as it is declared.
-use Rattle.std.proofs.Common.{◌≡◌, refl, ap, sym, subst, ◌∙◌, ℕ, nat_eq, Bool, true, false, cond, not, ◌&&◌, List, [], ◌∷◌, map, Option, Some, None, slice_get, inl, inr}
+use Rattle.std.proofs.Common.{◌≡◌, refl, ap, sym, subst, ◌∙◌, ℕ, ℤ, length, nat_eq, Bool, true, false, cond, not, ◌&&◌, List, [], ◌∷◌, map, Option, Some, None, slice_get, inl, inr}
 use Rattle.std.specs.Prelude.{is_some, ◌⊎◌, ◌||◌}
 use Rattle.std.specs.Cmp.Lexicographic.{pointwise}
 use Rattle.std.specs.List.{list_all}
+use Rattle.std.proofs.lemmas.Bool.{eqb-true}
 use Rattle.vb_tree.specs.BoundTree as types
 use Rattle.vb_tree.specs.BoundTree.{Ty}
 use Rattle.vb_tree.specs.Blocks.{is_code}
@@ -12,19 +13,22 @@ use Rattle.vb_tree.specs.declared.value.Value6.{Value6}
 use Rattle.bound_tree.specs.Tree.{Variable, Constant, Declarations, Program}
 use Rattle.reach_table.specs.Chains.{empty}
 use Rattle.bound_facts.specs.Clean.{variable, point_broken, IsClean}
+use Rattle.bound_facts.specs.Locks.{is_same_type}
 use Rattle.bound_facts.specs.Facts.{AreFacts, acts, is_quiet, is_quiet_owner, is_quiet_variable}
 use Rattle.written_trees.specs.Bodies.{inside_procedure}
 use Rattle.written_trees.specs.Facts.{is_flagged_variable, is_flagged_constant}
 use Rattle.written_trees.specs.Names.{Scope}
 use Rattle.written_trees.specs.Prologues.{declares, constant_dim_by, constant_dim, is_static}
+use Rattle.written_trees.specs.Types.{element_type}
 use Rattle.vb6_run.specs.Programs.{is_local_of, owned_from, is_static_of}
-use Rattle.run_matches.specs.Covered.{covers_type, covers_owner, covers_variable, belongs_to, covers_head, covers_variables, covers_body, covers_names, are_different, covers_all_calls, covers_own, covers_owns, covers_site, covers_procedure, is_loud_owner, is_touched}
+use Rattle.run_matches.specs.Covered.{covers_type, covers_owner, covers_variable, belongs_to, covers_head, covers_variables, covers_body, covers_names, are_different, covers_all_calls, covers_own, covers_owns, covers_site, covers_procedure, is_loud, is_loud_owner, is_scalar_or_loud, is_touched, covers_array_owner, covers_array_variable, covers_bounds, covers_declared, has_extents, is_array_of, is_in_order}
 use Rattle.run_matches.specs.Callees.{frame_owns}
 use Rattle.run_matches.specs.Sites.{Site, site_of, site_lines, first_statement, Own, own_variable, own_constant, own_name, owns_from, owns_of, local_number, local_numbers, static_number, static_numbers}
-use Rattle.run_matches.specs.Upgrades.{Upgrade, is_unknown, type_of_some, type_of}
-use Rattle.run_statements.specs.Frames.{IsReadable}
+use Rattle.run_matches.specs.Upgrades.{Upgrade, is_flagged, is_unknown, type_of_some, type_of}
+use Rattle.run_statements.specs.Frames.{AreBounds, IsArray, IsReadable, IsUsable}
 use Rattle.run_statements.specs.Kept.{IsConstantDim}
-use Rattle.run_statements.specs.Written.{site_scope}
+use Rattle.run_statements.specs.Written.{IsWritten, site_scope}
+use Rattle.name_laws.proofs.Looked.{not_true}
 use Rattle.name_laws.proofs.Lists.{both_true, none_of_both, Among, among_append, all_among, all_at, same_numbers, flat_among}
 use Rattle.name_laws.proofs.Arrows.{variable_unbroken, constant_unbroken, variable_unflagged, constant_unflagged}
 use Rattle.name_laws.proofs.Owned.{IsOwn, lines_own, owned_is}
@@ -76,6 +80,19 @@ pub loud_exact : (U : Upgrade) → AreFacts U.program U.known → (v : ℕ) (x :
 loud_exact U known v x e h =
     ap (λ o. is_quiet_variable U.known o && not (U.known.touched v)) e ∙ loud_owner U known v x.owner h
 
+-- so is one that is changed or given by reference
+pub uses_exact : (U : Upgrade) → AreFacts U.program U.known → (v : ℕ) → is_loud U.program v (slice_get U.program.declarations.vars v) ≡ true
+    → is_quiet U.program.declarations U.known v ≡ false
+uses_exact U known v h = by (slice_get U.program.declarations.vars v) refl h
+  where
+    by : (o : Option Variable) → slice_get U.program.declarations.vars v ≡ o → is_loud U.program v o ≡ true → is_quiet U.program.declarations U.known v ≡ false
+    by None e k = absurd (cc k)
+    by (Some x) e k = loud_exact U known v x e k
+
+or_last : (b c : Bool) → c ≡ true → (b || c) ≡ true
+or_last true c h = refl
+or_last false c h = h
+
 local_loud : (P : Program) (p v : ℕ) (o : Owner) → is_local_of p o ≡ true → is_loud_owner P v o ≡ true
 local_loud P p v (owner.Local q) h = refl
 local_loud P p v _ h = absurd (cc h)
@@ -86,9 +103,9 @@ static_loud P p v _ h = absurd (cc h)
 
 -- a covered variable whose statement breaks no rule
 pub readable : (U : Upgrade) → AreFacts U.program U.known → (v : ℕ) (x : Variable) → slice_get U.program.declarations.vars v ≡ Some x
-    → covers_variable x ≡ true → is_loud_owner U.program v x.owner ≡ true
+    → covers_variable x ≡ true
     → point_broken U.program.declarations U.facts.marks (variable v) ≡ false → IsReadable U v
-readable U known_are v x e h loud unbroken =
+readable U known_are v x e h unbroken =
     let ty = both_true (covers_type x.ty) (not x.auto) (both_true (covers_owner x.owner) (covers_type x.ty && not x.auto) h).1 in
     let known : is_unknown (type_of U v) ≡ false = ap (λ (o : Option Variable). is_unknown (type_of_some o)) e ∙ type_known x.ty ty.0 in
     record {
@@ -97,8 +114,113 @@ readable U known_are v x e h loud unbroken =
       covers = h;
       sound =
           none_of_both (is_flagged_variable U.facts v) (is_unknown (type_of U v)) (variable_unflagged U.program.declarations U.facts v x e unbroken) known;
-      exact = loud_exact U known_are v x e loud;
     }
+
+-- ---- arrays
+
+of_boolean : (t : Ty) → is_same_type types.boolean t ≡ true → t ≡ types.boolean
+of_boolean types.boolean h = refl
+of_boolean _ h = absurd (cc h)
+
+of_byte : (t : Ty) → is_same_type types.byte t ≡ true → t ≡ types.byte
+of_byte types.byte h = refl
+of_byte _ h = absurd (cc h)
+
+of_integer : (t : Ty) → is_same_type types.integer t ≡ true → t ≡ types.integer
+of_integer types.integer h = refl
+of_integer _ h = absurd (cc h)
+
+of_long : (t : Ty) → is_same_type types.long t ≡ true → t ≡ types.long
+of_long types.long h = refl
+of_long _ h = absurd (cc h)
+
+of_currency : (t : Ty) → is_same_type types.currency t ≡ true → t ≡ types.currency
+of_currency types.currency h = refl
+of_currency _ h = absurd (cc h)
+
+of_str : (t : Ty) → is_same_type types.str t ≡ true → t ≡ types.str
+of_str types.str h = refl
+of_str _ h = absurd (cc h)
+
+same_type : (s t : Ty) → covers_type s ≡ true → is_same_type s t ≡ true → t ≡ s
+same_type types.boolean t c h = of_boolean t h
+same_type types.byte t c h = of_byte t h
+same_type types.integer t c h = of_integer t h
+same_type types.long t c h = of_long t h
+same_type types.currency t c h = of_currency t h
+same_type types.str t c h = of_str t h
+same_type _ t c h = absurd (cc c)
+
+array_of : (e ty : Ty) → covers_type e ≡ true → is_array_of e ty ≡ true → (rank : ℕ) × (ty ≡ types.array e rank)
+array_of e (types.array f rank) c h = (rank, ap (λ z. types.array z rank) (same_type e f c h))
+array_of e _ c h = absurd (cc h)
+
+-- what is covered of an array variable
+pub record ArrayParts (e : Ty) (x : Variable) : Type 0 where
+  pub owner : covers_array_owner x.owner ≡ true
+  pub covers : covers_type e ≡ true
+  pub rank : ℕ
+  pub is_array : x.ty ≡ types.array e rank
+  pub bounds : covers_bounds x.ty x.bounds ≡ true
+  pub plain : x.auto ≡ false
+
+pub array_parts : (e : Ty) (x : Variable) → covers_array_variable e x ≡ true → ArrayParts e x
+array_parts e x h =
+    let bounds = covers_bounds x.ty x.bounds in
+    let a = both_true (covers_array_owner x.owner) (covers_type e && (is_array_of e x.ty && (bounds && not x.auto))) h in
+    let b = both_true (covers_type e) (is_array_of e x.ty && (bounds && not x.auto)) a.1 in
+    let c = both_true (is_array_of e x.ty) (bounds && not x.auto) b.1 in
+    let d = both_true bounds (not x.auto) c.1 in
+    let is = array_of e x.ty b.0 c.0 in
+    record { owner = a.0; covers = b.0; rank = is.0; is_array = is.1; bounds = d.0; plain = not_true x.auto d.1 }
+
+-- a fixed one has bounds of as many dimensions as its rank
+bounds_are : (U : Upgrade) → IsWritten U → (v : ℕ) (x : Variable) (e : Ty) (rank : ℕ) → slice_get U.program.declarations.vars v ≡ Some x
+    → x.ty ≡ types.array e rank → is_flagged U v ≡ false → covers_bounds x.ty x.bounds ≡ true → AreBounds (U.facts.rank v) x.bounds
+bounds_are U I v x e rank is array sound h = by x.bounds (sym (ap (λ ty. covers_bounds ty x.bounds) array) ∙ h)
+  where
+    by : (bs : List (ℤ × ℤ)) → covers_bounds (types.array e rank) bs ≡ true → AreBounds (U.facts.rank v) bs
+    by [] k = tt
+    by (b ∷ bs) k =
+        let t = both_true (nat_eq (length (b ∷ bs)) rank) (list_all is_in_order (b ∷ bs)) k in
+        let count : length (b ∷ bs) ≡ rank = eqb-true (length (b ∷ bs)) rank t.0 in
+        (sym (I.ranks v x e (length bs) is (array ∙ ap (λ n. types.array e n) (sym count)) sound), t.1)
+
+-- an array variable whose statement breaks no rule
+pub usable_array : (U : Upgrade) → IsWritten U → (v : ℕ) (x : Variable) (e : Ty) → slice_get U.program.declarations.vars v ≡ Some x
+    → covers_array_variable e x ≡ true → is_loud_owner U.program v x.owner ≡ true
+    → point_broken U.program.declarations U.facts.marks (variable v) ≡ false → IsArray U v e
+usable_array U I v x e is h loud unbroken =
+    let parts : ArrayParts e x = array_parts e x h in
+    let known : is_unknown (type_of U v) ≡ false =
+    ap (λ (o : Option Variable). is_unknown (type_of_some o)) is ∙ ap (λ ty. is_unknown (Some ty)) parts.is_array ∙ type_known e parts.covers in
+    let sound : is_flagged U v ≡ false =
+    none_of_both (is_flagged_variable U.facts v) (is_unknown (type_of U v)) (variable_unflagged U.program.declarations U.facts v x is unbroken) known in
+    record {
+      known = record { variable = x; is_variable = is; plain = parts.plain; sound = sound };
+      exact = loud_exact U I.known v x is loud;
+      rank = parts.rank;
+      is_array = parts.is_array;
+      covers = parts.covers;
+      bounds = bounds_are U I v x e parts.rank is parts.is_array sound parts.bounds;
+    }
+
+array_loud : (P : Program) (v : ℕ) (x : Variable) (e : Ty) → covers_array_variable e x ≡ true → is_scalar_or_loud P v x ≡ true
+    → is_loud_owner P v x.owner ≡ true
+array_loud P v x e h loud = subst (λ ty. (covers_type ty || is_loud_owner P v x.owner) ≡ true) (array_parts e x h).is_array loud
+
+-- a scalar or an array
+pub usable : (U : Upgrade) → IsWritten U → (v : ℕ) (x : Variable) → slice_get U.program.declarations.vars v ≡ Some x → covers_declared x ≡ true
+    → is_scalar_or_loud U.program v x ≡ true → point_broken U.program.declarations U.facts.marks (variable v) ≡ false → IsUsable U v
+usable U I v x is h loud unbroken = by (covers_variable x) refl h
+  where
+    by : (b : Bool) → covers_variable x ≡ b → (b || covers_array_variable (element_type x.ty) x) ≡ true → IsUsable U v
+    by true e k = inl (readable U I.known v x is e unbroken)
+    by false e k = inr (element_type x.ty, usable_array U I v x (element_type x.ty) is k (array_loud U.program v x (element_type x.ty) k loud) unbroken)
+
+pub usable_sound : (U : Upgrade) (v : ℕ) → IsUsable U v → is_flagged U v ≡ false
+usable_sound U v (inl r) = r.sound
+usable_sound U v (inr a) = a.1.known.sound
 
 -- ---- the parts of what covers a procedure
 
@@ -171,17 +293,18 @@ own_is D s o h =
     by (inl m) = lines_own D s.source_module.file declares (first_statement s) (site_lines s) o m
     by (inr m) = lines_own D s.source_module.file is_code (first_statement s) (site_lines s) o m
 
-pub own_readable : (U : Upgrade) → AreFacts U.program U.known → (p : ℕ) (s : Site) → Covers U.program p s → IsClean U.program U.facts.marks p → (v : ℕ) (y : Variable)
-    → Among (owns_of U.program.declarations s) (own_variable v y) → IsReadable U v
-own_readable U known p s C clean v y h =
+pub own_usable : (U : Upgrade) → IsWritten U → (p : ℕ) (s : Site) → Covers U.program p s → IsClean U.program U.facts.marks p → (v : ℕ) (y : Variable)
+    → Among (owns_of U.program.declarations s) (own_variable v y) → IsUsable U v
+own_usable U I p s C clean v y h =
     let D = U.program.declarations in
     let stands : slice_get D.vars v ≡ Some y = own_is D s (own_variable v y) h in
     let own = by (is_static y.owner) refl stands in
     let owned : belongs_to p y.owner ≡ true = own.0 in
-    let covers : covers_variable y ≡ true =
-    own_covers (belongs_to p y.owner) (covers_variable y)
-    (all_at (λ (x : Variable). cond (belongs_to p x.owner) (covers_variable x) true) D.vars v y C.vars stands) owned in
-    readable U known v y stands covers own.1 (variable_unbroken U.program U.facts.marks p v y clean stands owned)
+    let covers : covers_declared y ≡ true =
+    own_covers (belongs_to p y.owner) (covers_declared y)
+    (all_at (λ (x : Variable). cond (belongs_to p x.owner) (covers_declared x) true) D.vars v y
+    (both_true (list_all (λ (x : Variable). cond (belongs_to p x.owner) (covers_declared x) true) D.vars) (has_extents U.program) C.vars).0 stands) owned in
+    usable U I v y stands covers (or_last (covers_type y.ty) (is_loud_owner U.program v y.owner) own.1) (variable_unbroken U.program U.facts.marks p v y clean stands owned)
   where
     by : (b : Bool) → is_static y.owner ≡ b → slice_get U.program.declarations.vars v ≡ Some y
         → (belongs_to p y.owner ≡ true) × (is_loud_owner U.program v y.owner ≡ true)

@@ -19,7 +19,7 @@ use Rattle.run_statements.specs.Written.{IsWritten, WrittenProcedure, site_scope
 use Rattle.name_laws.proofs.Lines.{clean_lines_are_unreplaced}
 use Rattle.name_laws.proofs.Lists.{among}
 use Rattle.name_laws.proofs.Numbers.{site_procedure}
-use Rattle.name_laws.proofs.Owns.{covered_parts, own_constant_dim, own_readable}
+use Rattle.name_laws.proofs.Owns.{covered_parts, own_constant_dim, own_usable}
 use Rattle.name_laws.proofs.Prologues.{prologue_is}
 
 -- the rules of lines are the same inside of the procedure
@@ -52,6 +52,6 @@ owns_are_kept U I p s x e f W clean h =
     let C = covered_parts U.program p s e h in
     record {
       prologue = prologue_kept U p s x W (site_procedure U.program.declarations p s e) (clean_lines_are_unreplaced U I p s x e f W clean h);
-      variables = λ v y m. own_readable U I.known p s C clean v y (among (owns_of U.program.declarations s) (own_variable v y) m);
+      variables = λ v y m. own_usable U I p s C clean v y (among (owns_of U.program.declarations s) (own_variable v y) m);
       constants = λ c y m. own_constant_dim U p s C clean c y (among (owns_of U.program.declarations s) (own_constant c y) m);
     }

@@ -23,19 +23,20 @@ use Rattle.written_trees.specs.Prologues.{variables_of, constants_of, written_va
 use Rattle.written_trees.specs.Bodies.{procedure_with}
 use Rattle.net_tree.specs.declared.declaration.NetClose.TheVariants.{EndSub, EndFunction}
 use Rattle.net_run.specs.Members.{is_head_named, is_member_named, member_named}
-use Rattle.net_run.specs.Shapes.{first_from, is_same_word}
+use Rattle.net_run.specs.Shapes.{first_from}
 use Rattle.run_matches.specs.Shared.{line_owns, enum_owns, member_owns, is_other, is_other_own, is_other_member, is_variable_of, declares_in}
 use Rattle.run_matches.specs.Sites.{Own, own_variable, own_constant, own_constants}
 use Rattle.name_laws.proofs.Lists.{both_true, and_true, some_same, Among, among_append, among_left, among_right, among_map, map_among, flat_among, any_among}
 use Rattle.name_laws.proofs.Looked.{name_self, FoundFirst, first_found, first_none}
 use Rattle.name_laws.proofs.Others.{members_pass}
 use Rattle.name_laws.proofs.Owned.{variable_of_statement}
+use Rattle.name_laws.proofs.Words.{is_written_as}
 
 -- ---- which members are allowed
 
 abbrev pub is_word_of : Option TypeName → TypeName → Bool
 is_word_of None ty = false
-is_word_of (Some t) ty = is_same_word ty t
+is_word_of (Some t) ty = is_written_as ty t
 
 -- a member of another name, or a variable of this type
 abbrev pub is_allowed : List ℕ → Option TypeName → net.Member → Bool
@@ -189,7 +190,7 @@ pub record IsVariable (word : TypeName) (m : net.Member) : Type 0 where
   pub visibility : NetVisibility
   pub made : net.Variable
   pub is_made : m ≡ net.variable visibility made
-  pub is_word : is_same_word made.ty word ≡ true
+  pub is_word : is_written_as made.ty word ≡ true
 
 negated : (b : Bool) → b ≡ true → not b ≡ true → ⊥
 negated true h e = cc e
@@ -198,7 +199,7 @@ negated false h e = cc h
 variable_named : (name : List ℕ) (word : TypeName) (m : net.Member) → is_member_named name m ≡ true → is_allowed name (Some word) m ≡ true → IsVariable word m
 variable_named name word (net.member_comment units) h e = absurd (cc h)
 variable_named name word (net.variable visibility d) h e =
-    either (is_other name d.name) (is_same_word d.ty word) e (λ f. absurd (negated (is_same_name d.name name) h f))
+    either (is_other name d.name) (is_written_as d.ty word) e (λ f. absurd (negated (is_same_name d.name name) h f))
     (λ f. record { visibility = visibility; made = d; is_made = refl; is_word = f })
 variable_named name word (net.const_member visibility c) h e = absurd (negated (is_same_name c.name name) h e)
 variable_named name word (net.structure s) h e = absurd (cc h)
@@ -210,7 +211,7 @@ pub record FirstVariable (name : List ℕ) (word : TypeName) (ms : List net.Memb
   pub visibility : NetVisibility
   pub made : net.Variable
   pub is_first : member_named name ms ≡ Some (number, net.variable visibility made)
-  pub is_word : is_same_word made.ty word ≡ true
+  pub is_word : is_written_as made.ty word ≡ true
   pub named : is_same_name made.name name ≡ true
 
 pub first_variable : (name : List ℕ) (word : TypeName) (ms : List net.Member) (m : net.Member) → list_all (is_allowed name (Some word)) ms ≡ true → Among ms m

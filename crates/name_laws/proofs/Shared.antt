@@ -20,26 +20,28 @@ use Rattle.written_trees.specs.Names.{Scope, name_in, is_standard_module, variab
 use Rattle.written_trees.specs.Placing.{Placed}
 use Rattle.written_trees.specs.Projects.{first_numbers, makers, has_initializer, module_scope, written_module, modules_from}
 use Rattle.written_trees.specs.Prologues.{written_variable, object_variable, typed_variable}
+use Rattle.written_trees.specs.Types.{type_with}
 use Rattle.net_run.specs.Lines.{NetFrame, NetLine, scope_of}
 use Rattle.net_run.specs.Members.{Code, is_member_named, member_named}
 use Rattle.net_run.specs.Names as net_names
 use Rattle.net_run.specs.Names.{key_of, is_class_at, own_field, at_place, member_reached, some_member, starts, path_start, frame_start, member_start, module_start, module_member}
 use Rattle.net_run.specs.Program.{static_key}
-use Rattle.net_run.specs.Shapes.{scalar, shape_of, members_of, module_at, module_in, module_named, first_from}
+use Rattle.vb6_run.specs.Shapes.{declared_shape, user_shapes}
+use Rattle.run_matches.specs.Likeness.{SameShape}
+use Rattle.net_run.specs.Shapes.{shape_of, members_of, module_at, module_in, module_named, first_from}
 use Rattle.net_run.specs.Store.{root}
 use Rattle.run_matches.specs.Frames.{HasNames}
 use Rattle.run_matches.specs.Shared.{is_other_member, declares_in, declares_none, placed_module, is_of_module, is_free_in}
 use Rattle.run_matches.specs.Sites.{Site, site_of}
-use Rattle.run_matches.specs.Upgrades.{Upgrade, home_of, member_key, static_key_in, owned_key, declared_key, variable_key, code_of, is_dim_named, is_unknown, type_of}
-use Rattle.run_statements.specs.Frames.{IsReadable, IsShared}
+use Rattle.run_matches.specs.Upgrades.{Upgrade, home_of, member_key, static_key_in, owned_key, declared_key, variable_key, code_of, is_dim_named, is_flagged, is_unknown, type_of}
+use Rattle.run_statements.specs.Frames.{IsShared}
 use Rattle.run_statements.specs.Written.{IsWritten, WrittenProcedure, site_scope}
 use Rattle.name_laws.proofs.Lists.{both_true, neither, some_same, all_append}
 use Rattle.name_laws.proofs.Looked.{name_joined, position_at}
 use Rattle.name_laws.proofs.Led.{PlacedAt, placed_at, first_written, Led, LedFrom, led_from, differing}
 use Rattle.name_laws.proofs.Framed.{frame_none}
 use Rattle.name_laws.proofs.Reached.{is_word_of, is_allowed, members_allowed, members_there, none_named, FirstVariable, first_variable}
-use Rattle.name_laws.proofs.Words.{WordOf, word_of}
-use Rattle.name_laws.proofs.Owns.{covered_type}
+use Rattle.name_laws.proofs.Words.{VariableType, is_written_as}
 
 -- ---- items found first
 
@@ -110,8 +112,8 @@ not_static U name (Some c) a b e = by (position (is_dim_named name) c.procedure.
 
 -- ---- the module of the variable
 
-module _ (U : Upgrade) (I : IsWritten U) (p v : ℕ) (r : IsReadable U v) (file : ℕ) (of : r.variable.owner ≡ owner.Module file)
-    (L : Led U.program.declarations p v r.variable.name file) where
+module _ (U : Upgrade) (I : IsWritten U) (p v : ℕ) (y : Variable) (is_variable : slice_get U.program.declarations.vars v ≡ Some y) (sound : is_flagged U v ≡ false)
+    (type_is : VariableType U v y) (file : ℕ) (of : y.owner ≡ owner.Module file) (L : Led U.program.declarations p v y.name file) where
   abbrev D : Declarations
   D = U.program.declarations
 
@@ -119,7 +121,7 @@ module _ (U : Upgrade) (I : IsWritten U) (p v : ℕ) (r : IsReadable U v) (file 
   N = U.written
 
   abbrev name : List ℕ
-  name = r.variable.name
+  name = y.name
 
   abbrev m : Module
   m = L.placed.0
@@ -156,26 +158,23 @@ module _ (U : Upgrade) (I : IsWritten U) (p v : ℕ) (r : IsReadable U v) (file 
   file_is : m.file ≡ file
   file_is = eqb-true m.file file at_file.0
 
-  type_is : WordOf r.variable.ty
-  type_is = word_of r.variable.ty (covered_type r.variable r.covers)
-
   abbrev word : TypeName
   word = type_is.word
 
   -- ---- the member
 
   unflagged : is_flagged_variable U.facts v ≡ false
-  unflagged = (neither (is_flagged_variable U.facts v) (is_unknown (type_of U v)) r.sound).0
+  unflagged = (neither (is_flagged_variable U.facts v) (is_unknown (type_of U v)) sound).0
 
   that_word : (u : ℕ × Variable) → slice_get D.vars u.0 ≡ Some u.1 → is_number (Some v) u.0 ≡ true
       → is_word_of (Some word) (written_variable S u).ty ≡ true
   that_word u e n =
       let number : v ≡ u.0 = eqb-true v u.0 n in
-      let same : r.variable ≡ u.1 = some_same r.variable u.1 (sym r.is_variable ∙ ap (slice_get D.vars) number ∙ e) in
+      let same : y ≡ u.1 = some_same y u.1 (sym is_variable ∙ ap (slice_get D.vars) number ∙ e) in
       let plain : is_flagged_variable U.facts u.0 ≡ false = ap (is_flagged_variable U.facts) (sym number) ∙ unflagged in
       ap (λ b. is_word_of (Some word) (cond b (object_variable u.1.name) (typed_variable S u.0 u.1)).ty) plain
       ∙ subst (λ (x : Variable). is_word_of (Some word) (typed_variable S u.0 x).ty ≡ true) same
-      (type_is.is_written D m.file r.variable.qualified (U.facts.rank u.0))
+      (subst (λ k. is_written_as (type_with D m.file y.qualified (U.facts.rank k) y.ty) word ≡ true) number (type_is.is_written m.file))
 
   allowed : list_all (is_allowed name (Some word)) members ≡ true
   allowed =
@@ -187,7 +186,7 @@ module _ (U : Upgrade) (I : IsWritten U) (p v : ℕ) (r : IsReadable U v) (file 
 
   there : There
   there =
-      let x = members_there U.program S v r.variable r.is_variable A.numbers m.comments m.members
+      let x = members_there U.program S v y is_variable A.numbers m.comments m.members
       (ap (list_any (declares_in D v m.file)) (sym A.placed) ∙ L.declares) in
       first_variable name word members x.0 allowed x.1 x.2
 
@@ -205,7 +204,7 @@ module _ (U : Upgrade) (I : IsWritten U) (p v : ℕ) (r : IsReadable U v) (file 
 
   key_is : variable_key U v ≡ Some key
   key_is =
-      ap (declared_key U) r.is_variable ∙ ap (owned_key U name) of ∙ ap (option_and_then (member_key U name)) L.is_home
+      ap (declared_key U) is_variable ∙ ap (owned_key U name) of ∙ ap (option_and_then (member_key U name)) L.is_home
       ∙ ap (option_map (λ (found : ℕ × net.Member). key_of L.home found.0)) first_is
 
   -- ---- no other variable has the key
@@ -271,7 +270,7 @@ module _ (U : Upgrade) (I : IsWritten U) (p v : ℕ) (r : IsReadable U v) (file 
     from_there = led_from D name m.name file L.home (site_of D p) (slice_get D.procs p) s x is_site is_procedure L.leads
 
     abbrev place : net_names.Reached
-    place = at_place (root (scalar word) (whole (shared key)))
+    place = at_place (root type_is.written (whole (shared key)))
 
     reached : (h : ℕ) → L.home ≡ h → member_reached E None h n (net.variable there.visibility there.made) ≡ place
     reached h e =
@@ -338,21 +337,22 @@ module _ (U : Upgrade) (I : IsWritten U) (p v : ℕ) (r : IsReadable U v) (file 
     path_is : (q : Bool) → variable_path T q v
         ≡ cond (q || (not (nat_eq s.source_module.file file) && true)) (m.name ∷ name ∷ []) (name ∷ [])
     path_is q =
-        ap (variable_path_of T q) r.is_variable ∙ ap (owner_path T q name) of
+        ap (variable_path_of T q) is_variable ∙ ap (owner_path T q name) of
         ∙ ap (λ o. cond (q || (not (nat_eq s.source_module.file file) && is_standard_module o)) (name_in o ∷ name ∷ []) (name ∷ [])) at_file.1
         ∙ ap (λ b. cond (q || (not (nat_eq s.source_module.file file) && not b)) (m.name ∷ name ∷ []) (name ∷ [])) L.standard
 
     pub shared_variable : IsShared U E T v
     shared_variable = record {
-      variable = r.variable;
-      is_variable = r.is_variable;
+      variable = y;
+      is_variable = is_variable;
       file = file;
       is_owner = of;
       standard = L.outer;
       key = key;
       is_key = key_is;
-      word = word;
-      is_word = type_is.is_word;
+      written = type_is.written;
+      same = subst (λ o. SameShape U (declared_shape (user_shapes D) o) type_is.written) (sym is_variable) type_is.same;
+      ranked = type_is.ranked;
       leads = λ q. ap (path_start E false) (path_is q) ∙ path_by q (nat_eq s.source_module.file file) refl;
       differs = differs;
     }

@@ -1,24 +1,30 @@
 -- The variables that clean, covered lines use can be read.
 use Rattle.std.proofs.Common.{◌≡◌, refl, ap, sym, subst, ◌∙◌, ◌&&◌, ℕ, zero, suc, true, false, List, [], ◌∷◌, map, Option, Some, None, slice_get}
 use Rattle.std.specs.List.{Contains, list_any}
+use Rattle.vb_tree.specs.BoundTree.{Ty}
 use Rattle.vb_tree.specs.declared.declared.VarId.{VarId}
 use Rattle.bound_tree.specs.declared.marks.Marks.{Marks}
 use Rattle.bound_tree.specs.Targets.{Aims, aims_of, steps}
 use Rattle.bound_tree.specs.Tree.{Variable, Line, Program}
 use Rattle.bound_tree.specs.declared.body.Mention.{Mention}
-use Rattle.bound_facts.specs.Facts.{AreFacts}
 use Rattle.bound_facts.specs.Clean.{variable, stays, point_broken, IsClean}
 use Rattle.run_base.specs.Machines.{nth_line, line_in, line_at}
 use Rattle.vb6_run.specs.Forms.{SourceLine, with_aims, body_of}
 use Rattle.vb6_run.specs.Lines.{source_lines}
 use Rattle.vb6_run.specs.Programs.{machine_of}
 use Rattle.run_matches.specs.CleanLines.{IsCleanLine, lines_at, or_none, line_points}
-use Rattle.run_matches.specs.Covered.{covers_variable, is_reached, covers_some, is_loud, is_loud_owner, is_mention_of, covers_use}
+use Rattle.run_matches.specs.Covered.{covers_variable, is_reached, covers_some, is_loud, is_loud_owner, is_mention_of, covers_use, uses_in, covers_array_use, covers_array_variable, covers_some_array, is_named_apart}
 use Rattle.run_matches.specs.Upgrades.{Upgrade, runnable_of}
-use Rattle.run_statements.specs.Frames.{IsReadable}
+use Rattle.written_trees.specs.Names.{Scope}
+use Rattle.name_laws.proofs.Inward.{seen_inward}
+use Rattle.run_statements.specs.Frames.{AreReadable, IsArray, IsReadable}
+use Rattle.run_statements.specs.Written.{IsWritten}
 use Rattle.name_laws.proofs.Lists.{both_true, some_same, any_among}
-use Rattle.name_laws.proofs.Arrows.{mentioned_by_clean, mention_is_point}
-use Rattle.name_laws.proofs.Owns.{readable}
+use Rattle.bound_tree.specs.RuleSets.{is_broken}
+use Rattle.written_trees.specs.Facts.{line_set}
+use Rattle.name_laws.proofs.Arrows.{lines_unbroken, mentioned_by_clean, mention_is_point}
+use Rattle.name_laws.proofs.Sets.{unbroken_line, unbroken_that}
+use Rattle.name_laws.proofs.Owns.{readable, usable_array, uses_exact}
 
 -- a covered use is of a variable that is reached
 pub record CoveredUse (P : Program) (p v : ℕ) : Type 0 where
@@ -26,30 +32,52 @@ pub record CoveredUse (P : Program) (p v : ℕ) : Type 0 where
   pub is_used : slice_get P.declarations.vars v ≡ Some used
   pub reached : is_reached P.declarations p v used.name used.owner ≡ true
   pub covers : covers_variable used ≡ true
+
+pub use_is : (P : Program) (p v : ℕ) → covers_some P.declarations p v (slice_get P.declarations.vars v) ≡ true → CoveredUse P p v
+use_is P p v h = by (slice_get P.declarations.vars v) refl h
+  where
+    by : (o : Option Variable) → slice_get P.declarations.vars v ≡ o → covers_some P.declarations p v o ≡ true → CoveredUse P p v
+    by None e k = absurd (cc k)
+    by (Some x) e k =
+        let b = both_true (is_reached P.declarations p v x.name x.owner) (covers_variable x) k in
+        record { used = x; is_used = e; reached = b.0; covers = b.1 }
+
+-- a covered use of an array is of a variable that is reached
+pub record ArrayUse (P : Program) (p v : ℕ) (element : Ty) : Type 0 where
+  pub used : Variable
+  pub is_used : slice_get P.declarations.vars v ≡ Some used
+  pub reached : is_reached P.declarations p v used.name used.owner ≡ true
+  pub covers : covers_array_variable element used ≡ true
+  pub apart : is_named_apart (slice_get P.declarations.procs p) used.name ≡ true
   pub loud : is_loud_owner P v used.owner ≡ true
 
-use_of : (P : Program) (p v : ℕ) → covers_some P.declarations p v (slice_get P.declarations.vars v) ≡ true
-    → is_loud P v (slice_get P.declarations.vars v) ≡ true → CoveredUse P p v
-use_of P p v h loud = by (slice_get P.declarations.vars v) refl h loud
+array_use_of : (P : Program) (p v : ℕ) (element : Ty) → covers_some_array P.declarations p v element (slice_get P.declarations.vars v) ≡ true
+    → is_loud P v (slice_get P.declarations.vars v) ≡ true → ArrayUse P p v element
+array_use_of P p v element h loud = by (slice_get P.declarations.vars v) refl h loud
   where
-    by : (o : Option Variable) → slice_get P.declarations.vars v ≡ o → covers_some P.declarations p v o ≡ true → is_loud P v o ≡ true → CoveredUse P p v
+    by : (o : Option Variable) → slice_get P.declarations.vars v ≡ o → covers_some_array P.declarations p v element o ≡ true → is_loud P v o ≡ true
+        → ArrayUse P p v element
     by None e k l = absurd (cc k)
     by (Some x) e k l =
-        let b = both_true (is_reached P.declarations p v x.name x.owner) (covers_variable x) k in
-        record { used = x; is_used = e; reached = b.0; covers = b.1; loud = l }
-
-pub use_is : (P : Program) (p v : ℕ)
-    → (covers_some P.declarations p v (slice_get P.declarations.vars v) && is_loud P v (slice_get P.declarations.vars v)) ≡ true → CoveredUse P p v
-use_is P p v h =
-    let b = both_true (covers_some P.declarations p v (slice_get P.declarations.vars v)) (is_loud P v (slice_get P.declarations.vars v)) h in
-    use_of P p v b.0 b.1
+        let apart = is_named_apart (slice_get P.declarations.procs p) x.name in
+        let b = both_true (is_reached P.declarations p v x.name x.owner) (covers_array_variable element x && apart) k in
+        let c = both_true (covers_array_variable element x) apart b.1 in
+        record { used = x; is_used = e; reached = b.0; covers = c.0; apart = c.1; loud = l }
 
 -- what a line mentions, and what is covered of it
+pub array_parts : (P : Program) (p : ℕ) (mentions : List Mention) (v : VarId) (element : Ty) → covers_array_use P p mentions v element ≡ true
+    → (list_any (is_mention_of v) mentions ≡ true) × ArrayUse P p v.0 element
+array_parts P p mentions v element h =
+    let covers = covers_some_array P.declarations p v.0 element (slice_get P.declarations.vars v.0) in
+    let loud = is_loud P v.0 (slice_get P.declarations.vars v.0) in
+    let b = both_true (list_any (is_mention_of v) mentions) (covers && loud) h in
+    let c = both_true covers loud b.1 in
+    (b.0, array_use_of P p v.0 element c.0 c.1)
+
 pub used_parts : (P : Program) (p : ℕ) (mentions : List Mention) (v : VarId) → covers_use P p mentions v ≡ true
     → (list_any (is_mention_of v) mentions ≡ true) × CoveredUse P p v.0
 used_parts P p mentions v h =
-    let b = both_true (list_any (is_mention_of v) mentions)
-    (covers_some P.declarations p v.0 (slice_get P.declarations.vars v.0) && is_loud P v.0 (slice_get P.declarations.vars v.0)) h in
+    let b = both_true (list_any (is_mention_of v) mentions) (covers_some P.declarations p v.0 (slice_get P.declarations.vars v.0)) h in
     (b.0, use_is P p v.0 b.1)
 
 -- the lines of the procedure with a line
@@ -66,15 +94,37 @@ has_line P p k l h = by (slice_get P.bodies p) refl h
     by (Some lines) e f = record { lines = lines; are_lines = e; is_line = f }
 
 -- in a clean procedure
-pub uses_are_readable : (U : Upgrade) → AreFacts U.program U.known → (p k : ℕ) (l : Line) → IsClean U.program U.facts.marks p → nth_line (lines_at U.program p) (suc k) ≡ Some l
-    → (v : VarId) → covers_use U.program p l.bindings.mentions v ≡ true → IsReadable U v.0
-uses_are_readable U known p k l clean e v h =
+scalar_readable : (U : Upgrade) → IsWritten U → (p k : ℕ) (l : Line) → IsClean U.program U.facts.marks p
+    → nth_line (lines_at U.program p) (suc k) ≡ Some l → (v : VarId) → covers_use U.program p l.bindings.mentions v ≡ true → IsReadable U v.0
+scalar_readable U I p k l clean e v h =
     let b = used_parts U.program p l.bindings.mentions v h in
     let used : CoveredUse U.program p v.0 = b.1 in
     let at : HasLine U.program p k l = has_line U.program p k l e in
     let m = any_among (is_mention_of v) l.bindings.mentions b.0 in
-    readable U known v.0 used.used used.is_used used.covers used.loud
+    readable U I.known v.0 used.used used.is_used used.covers
     (mentioned_by_clean U.program U.facts.marks p k at.lines l v m.0 clean at.are_lines at.is_line m.1 m.2)
+
+array_readable : (U : Upgrade) → IsWritten U → (p k : ℕ) (l : Line) → IsClean U.program U.facts.marks p
+    → nth_line (lines_at U.program p) (suc k) ≡ Some l → (v : VarId) (element : Ty) → covers_array_use U.program p l.bindings.mentions v element ≡ true
+    → IsArray U v.0 element
+array_readable U I p k l clean e v element h =
+    let b = array_parts U.program p l.bindings.mentions v element h in
+    let used : ArrayUse U.program p v.0 element = b.1 in
+    let at : HasLine U.program p k l = has_line U.program p k l e in
+    let m = any_among (is_mention_of v) l.bindings.mentions b.0 in
+    usable_array U I v.0 used.used element used.is_used used.covers used.loud
+    (mentioned_by_clean U.program U.facts.marks p k at.lines l v m.0 clean at.are_lines at.is_line m.1 m.2)
+
+pub uses_are_readable : (U : Upgrade) → IsWritten U → (p k : ℕ) (l : Line) → IsClean U.program U.facts.marks p → nth_line (lines_at U.program p) (suc k) ≡ Some l
+    → (T : Scope) → T.facts ≡ U.facts → AreReadable U T (uses_in U.program p l.bindings.mentions)
+uses_are_readable U I p k l clean e T same = record {
+  scalars = scalar_readable U I p k l clean e;
+  arrays = array_readable U I p k l clean e;
+  exact = λ v h. uses_exact U I.known v.0 h;
+  facts = same;
+  types = λ v ty h. h;
+  inward = λ q h. seen_inward U.program U.known I.known q h;
+}
 
 -- the line that is clean by itself
 pub clean_line_is : (P : Program) (M : Marks) (p number : ℕ) (l : Line) (C : IsCleanLine P M p number) → nth_line (lines_at P p) number ≡ Some l → C.itself.line ≡ l
@@ -91,12 +141,41 @@ mentioned_unbroken P M p number l v C e h =
     (variable v.0) (stays (variable v.0))
 
 -- in a line that is clean by itself
-pub line_uses_are_readable : (U : Upgrade) → AreFacts U.program U.known → (p number : ℕ) (l : Line) → IsCleanLine U.program U.facts.marks p number → nth_line (lines_at U.program p) number ≡ Some l
-    → (v : VarId) → covers_use U.program p l.bindings.mentions v ≡ true → IsReadable U v.0
-line_uses_are_readable U known p number l C e v h =
+line_scalar_readable : (U : Upgrade) → IsWritten U → (p number : ℕ) (l : Line) → IsCleanLine U.program U.facts.marks p number
+    → nth_line (lines_at U.program p) number ≡ Some l → (v : VarId) → covers_use U.program p l.bindings.mentions v ≡ true → IsReadable U v.0
+line_scalar_readable U I p number l C e v h =
     let b = used_parts U.program p l.bindings.mentions v h in
     let used : CoveredUse U.program p v.0 = b.1 in
-    readable U known v.0 used.used used.is_used used.covers used.loud (mentioned_unbroken U.program U.facts.marks p number l v C e b.0)
+    readable U I.known v.0 used.used used.is_used used.covers (mentioned_unbroken U.program U.facts.marks p number l v C e b.0)
+
+line_array_readable : (U : Upgrade) → IsWritten U → (p number : ℕ) (l : Line) → IsCleanLine U.program U.facts.marks p number
+    → nth_line (lines_at U.program p) number ≡ Some l → (v : VarId) (element : Ty) → covers_array_use U.program p l.bindings.mentions v element ≡ true
+    → IsArray U v.0 element
+line_array_readable U I p number l C e v element h =
+    let b = array_parts U.program p l.bindings.mentions v element h in
+    let used : ArrayUse U.program p v.0 element = b.1 in
+    usable_array U I v.0 used.used element used.is_used used.covers used.loud (mentioned_unbroken U.program U.facts.marks p number l v C e b.0)
+
+pub line_uses_are_readable : (U : Upgrade) → IsWritten U → (p number : ℕ) (l : Line) → IsCleanLine U.program U.facts.marks p number → nth_line (lines_at U.program p) number ≡ Some l
+    → (T : Scope) → T.facts ≡ U.facts → AreReadable U T (uses_in U.program p l.bindings.mentions)
+line_uses_are_readable U I p number l C e T same = record {
+  scalars = line_scalar_readable U I p number l C e;
+  arrays = line_array_readable U I p number l C e;
+  exact = λ v h. uses_exact U I.known v.0 h;
+  facts = same;
+  types = λ v ty h. h;
+  inward = λ q h. seen_inward U.program U.known I.known q h;
+}
+
+-- ---- what lines break
+
+-- a line of a clean procedure breaks no rule
+pub clean_unbroken : (U : Upgrade) (p k : ℕ) → IsClean U.program U.facts.marks p → is_broken (line_set U.facts p k) ≡ false
+clean_unbroken U p k clean = unbroken_line (slice_get U.facts.marks.lines p) k (lines_unbroken U.program U.facts.marks p clean)
+
+-- nor does one that is clean by itself
+pub clean_line_unbroken : (U : Upgrade) (p k : ℕ) → IsCleanLine U.program U.facts.marks p (suc k) → is_broken (line_set U.facts p k) ≡ false
+clean_line_unbroken U p k clean = unbroken_that (slice_get U.facts.marks.lines p) k clean.itself.unbroken
 
 -- ---- the lines of the machine
 

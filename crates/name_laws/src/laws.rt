@@ -1,17 +1,17 @@
 //! What is kept in what is written.
 ghost use Rattle.std.specs.Prelude.{◌≡◌, ℕ, suc, true, Some, slice_get};
-ghost use Rattle.vb_tree.specs.declared.declared.VarId.{VarId};
 ghost use Rattle.bound_tree.specs.Tree.{Line, Procedure};
 ghost use Rattle.bound_facts.specs.Clean.{IsClean};
-ghost use Rattle.bound_facts.specs.Facts.{AreFacts};
 ghost use Rattle.run_base.specs.Machines.{nth_line};
+ghost use Rattle.written_trees.specs.Bodies.{inside_procedure};
+ghost use Rattle.written_trees.specs.Names.{Scope};
 ghost use Rattle.run_matches.specs.CleanLines.{IsCleanLine, lines_at};
-ghost use Rattle.run_matches.specs.Covered.{IsCoveredLine, covers_line, covers_procedure, covers_use};
+ghost use Rattle.run_matches.specs.Covered.{IsCoveredLine, covers_line, covers_procedure, uses_in};
 ghost use Rattle.run_matches.specs.Sites.{Site, site_of};
 ghost use Rattle.run_matches.specs.Upgrades.{Upgrade};
-ghost use Rattle.run_statements.specs.Frames.{IsReadable};
+ghost use Rattle.run_statements.specs.Frames.{AreReadable};
 ghost use Rattle.run_statements.specs.Kept.{IsUnreplaced, NamesAreOpen, OwnsAreKept, StoresAreOwn, UsesArePlaced};
-ghost use Rattle.run_statements.specs.Written.{IsWritten, WrittenProcedure};
+ghost use Rattle.run_statements.specs.Written.{IsWritten, WrittenProcedure, site_scope};
 
 /// A law: where nothing is named as the support module or the library is, their names lead to them.
 pub fn names_are_open()
@@ -40,21 +40,21 @@ pub fn clean_line_is_unreplaced()
 
 /// A law: the variables that the lines of a clean procedure use can be read.
 pub fn uses_are_readable()
-    ensures { (U : Upgrade) → AreFacts U.program U.known → (p k : ℕ) (l : Line) → IsClean U.program U.facts.marks p → nth_line (lines_at U.program p) (suc k) ≡ Some l
-        → (v : VarId) → covers_use U.program p l.bindings.mentions v ≡ true → IsReadable U v.0 }
+    ensures { (U : Upgrade) → IsWritten U → (p k : ℕ) (l : Line) → IsClean U.program U.facts.marks p → nth_line (lines_at U.program p) (suc k) ≡ Some l
+        → (T : Scope) → T.facts ≡ U.facts → AreReadable U T (uses_in U.program p l.bindings.mentions) }
 {}
 
 /// A law: and those that a line uses which is clean by itself.
 pub fn line_uses_are_readable()
-    ensures { (U : Upgrade) → AreFacts U.program U.known → (p number : ℕ) (l : Line) → IsCleanLine U.program U.facts.marks p number → nth_line (lines_at U.program p) number ≡ Some l
-        → (v : VarId) → covers_use U.program p l.bindings.mentions v ≡ true → IsReadable U v.0 }
+    ensures { (U : Upgrade) → IsWritten U → (p number : ℕ) (l : Line) → IsCleanLine U.program U.facts.marks p number → nth_line (lines_at U.program p) number ≡ Some l
+        → (T : Scope) → T.facts ≡ U.facts → AreReadable U T (uses_in U.program p l.bindings.mentions) }
 {}
 
 /// A law: what is written for the variables that covered lines use leads to what stands for them.
 pub fn uses_are_placed()
     ensures { (U : Upgrade) → IsWritten U → (p : ℕ) (s : Site) (x : Procedure) → site_of U.program.declarations p ≡ Some s
         → slice_get U.program.declarations.procs p ≡ Some x → (W : WrittenProcedure U p s x) (l : Line)
-        → ((v : VarId) → covers_use U.program p l.bindings.mentions v ≡ true → IsReadable U v.0) → UsesArePlaced U p s W.code l }
+        → AreReadable U (inside_procedure (site_scope U s) p) (uses_in U.program p l.bindings.mentions) → UsesArePlaced U p s W.code l }
 {}
 
 /// A law: a covered line of a procedure that promises to change nothing but its own stores to its own variables alone.

@@ -1,50 +1,37 @@
 -- A procedure that passes can be called from the lines of another.
-use Rattle.std.proofs.Common.{◌≡◌, refl, sym, ap, subst, ◌∙◌, ℕ, true, false, Option, Some, None, List, ◌++◌, map}
+use Rattle.std.proofs.Common.{◌≡◌, sym, ap, subst, ◌∙◌, ℕ, true, false, Option, Some, ◌++◌, map}
 use Rattle.std.specs.Prelude.{nat_lt, slice_get}
 use Rattle.std.specs.List.{Contains, list_all}
 use Rattle.up_base.proofs.Tests.{both_true}
-use Rattle.vb_tree.specs.declared.declared.VarId.{VarId}
-use Rattle.bound_tree.specs.Tree.{Declarations, Line, Procedure, Expr, Passed, Variable}
+use Rattle.bound_tree.specs.Tree.{Declarations, Line, Procedure, Expr, Passed, typed}
+use Rattle.bound_tree.specs.Tree as tree
 use Rattle.reach_table.specs.Chains.{empty}
 use Rattle.bound_facts.specs.Calls.{count_procedures, line_calls}
 use Rattle.bound_facts.specs.Clean.{Arrow, IsClean, line_arrows, procedure}
-use Rattle.bound_facts.specs.Effects.{params_at}
 use Rattle.bound_facts.specs.Facts.{AreFacts}
 use Rattle.bound_facts.specs.Node.{args_at, called}
 use Rattle.bound_facts.specs.Parts.{line_uses}
 use Rattle.run_base.specs.Machines.{nth_line}
 use Rattle.net_run.specs.Calls.{passings, passings_of_code}
-use Rattle.written_trees.specs.Arguments.{is_property_at, is_property_kind, is_reference_owner, parameter_in, takes_reference_at, takes_reference_of}
-use Rattle.net_run.specs.Members.{Code}
+use Rattle.written_trees.specs.Arguments.{is_property_at, is_property_kind, parameter_in, takes_reference_of}
 use Rattle.run_matches.specs.Callees.{is_found}
 use Rattle.run_matches.specs.CleanLines.{IsCleanLine, line_points, lines_at, result_points}
-use Rattle.run_matches.specs.Covered.{covers_callee, covers_calls, covers_parameter, suits, suits_callee, suits_passed}
+use Rattle.run_matches.specs.Covered.{covers_callee, covers_calls, suits, suits_callee, suits_passed}
 use Rattle.run_matches.specs.Sites.{Site, site_of}
-use Rattle.run_matches.specs.Upgrades.{Upgrade, is_quiet_id}
+use Rattle.run_matches.specs.Upgrades.{Upgrade}
+use Rattle.run_statements.specs.Fitting.{FitsNode, FitsPassed}
 use Rattle.run_statements.specs.Frames.{passing_at, passing_by}
 use Rattle.run_statements.specs.Kept.{CalleesAreFound, CanCallFrom}
-use Rattle.run_statements.specs.Written.{Passes, ProceduresAreWritten, WrittenProcedure, site_scope}
+use Rattle.run_statements.specs.Written.{Passes, ProceduresAreWritten, WrittenProcedure}
 use Rattle.name_laws.proofs.Lists.{Among, all_among, among, among_left, among_right, contains, map_among}
 use Rattle.name_laws.proofs.Uses.{clean_line_is}
-use Rattle.run_laws.proofs.Covered.{CoveredProcedure, all_at, covered_parts, no_property}
+use Rattle.run_laws.proofs.Covered.{CoveredProcedure, covered_parts, no_property, not_none, some_is}
 use Rattle.name_laws.proofs.FrameNames.{params_are}
-use Rattle.run_laws.proofs.Heads.{Parameter, parameter_is, params_pass}
-use Rattle.run_laws.proofs.Names.{names_in_code, code_is}
-use Rattle.name_laws.proofs.Owns.{loud_exact}
+use Rattle.run_laws.proofs.Heads.{params_pass}
+use Rattle.run_laws.proofs.Names.{names_in_code}
 use Rattle.run_laws.proofs.Reaching.{IsLineOf, inward_called, keeps_called}
 
 -- ---- the callee
-
--- no parameter of a covered procedure is quiet
-quiet_by : (U : Upgrade) → AreFacts U.program U.known → (q : ℕ) (vs : List VarId) (i : ℕ) → list_all (covers_parameter U.program q) vs ≡ true
-    → is_quiet_id U.program.declarations U.known (slice_get vs i) ≡ false
-quiet_by U known q vs i h = by (slice_get vs i) refl
-  where
-    by : (o : Option VarId) → slice_get vs i ≡ o → is_quiet_id U.program.declarations U.known o ≡ false
-    by None e = refl
-    by (Some v) e =
-        let k : Parameter U.program q v = parameter_is U.program q v (all_at (covers_parameter U.program q) vs i v h e) in
-        loud_exact U known v.0 k.variable k.is_variable k.loud
 
 -- the parts of the test on what is called
 record CalleeParts (U : Upgrade) (p q : ℕ) (s : Site) : Type 0 where
@@ -72,6 +59,11 @@ pub call_suits : (U : Upgrade) (p q : ℕ) (l : Line) (d : Expr) → covers_call
 call_suits U p q l d h m e =
     subst (λ o. suits_callee U.program.declarations o (args_at d) ≡ true) e
     (all_among (suits U.program.declarations) (line_uses l) d (call_parts U p l h).1 (among (line_uses l) d m))
+
+-- and arrays that are given have the ranks of its parameters
+pub call_fits : (U : Upgrade) (q : ℕ) (d : Expr) → FitsNode U d → called d ≡ Some q → FitsPassed U q 0 (args_at d)
+call_fits U q (typed ty (tree.call f qualified of args)) h e = subst (λ n. FitsPassed U n 0 args) (some_is e) h
+call_fits U q (typed ty _) h e = absurd (not_none e)
 
 -- what a line calls passes the test
 pub callee_covered : (U : Upgrade) (p q : ℕ) (l : Line) → covers_calls U.program p l ≡ true → Contains (line_calls U.program.declarations p l) (p, q)
@@ -113,8 +105,8 @@ module _ (U : Upgrade) (known : AreFacts U.program U.known) (procedures : Proced
       ap (λ ps. passing_at (passings ps) i) (params_are U q c.site c.procedure V)
       ∙ params_pass U c.site q c.procedure.params c.params i
 
-  pub can_call : (args : Passed) → suits_passed U.program.declarations q 0 args ≡ true → CanCallFrom U p s W.code q args
-  can_call args fit w f g k names = record {
+  pub can_call : (args : Passed) → suits_passed U.program.declarations q 0 args ≡ true → FitsPassed U q 0 args → CanCallFrom U p s W.code q args
+  can_call args fit ranks w f g k names = record {
     passes = pass;
     keeps = λ ty h. keeps_called U.program p q x is_procedure parts.within l stands call ty h;
     inward = λ h. inward_called U known p q x is_procedure parts.within l stands call h;
@@ -122,7 +114,7 @@ module _ (U : Upgrade) (known : AreFacts U.program U.known) (procedures : Proced
     is_number = V.is_number;
     plain = ap is_property_at c.is_procedure ∙ no_property c.procedure.kind c.kind;
     suits = fit;
-    loud = λ i. ap (λ o. is_quiet_id D U.known (slice_get (params_at o) i)) c.is_procedure ∙ quiet_by U known q c.procedure.params i c.params;
+    ranks = ranks;
     passings = λ i.
         ap (λ o. passing_at (passings_of_code o) i) V.is_code ∙ passings_are i
         ∙ sym (ap (λ o. passing_by (takes_reference_of D (parameter_in o i))) c.is_procedure);

@@ -1,15 +1,16 @@
 -- What the laws on runs need, by the laws on procedures, names, memories, expressions and lines.
-use Rattle.std.proofs.Common.{suc, true, ap, ◌∙◌}
+use Rattle.std.proofs.Common.{suc, true, refl, ap, ◌∙◌}
 use Rattle.run_base.specs.Machines.{nth_line}
 use Rattle.run_matches.specs.Addresses.{images}
 use Rattle.run_matches.specs.CleanLines.{or_none}
+use Rattle.written_trees.specs.Bodies.{inside_procedure}
 use Rattle.target_laws.proofs.Aims.{same_aims}
 use Rattle.target_laws.proofs.Labels.{same_labels}
 use Rattle.target_laws.proofs.Tests.{same_tests}
 use Rattle.run_matches.specs.Upgrades.{Upgrade}
 use Rattle.run_statements.specs.Frames.{ScalarsAreRead}
 use Rattle.run_statements.specs.Kept.{LinesAgree}
-use Rattle.run_statements.specs.Written.{IsWritten, SameLines, SameRuns}
+use Rattle.run_statements.specs.Written.{IsWritten, SameLines, SameRuns, site_scope}
 use Rattle.placing_laws.proofs.Placing.{procedures_are_written}
 use Rattle.placing_laws.proofs.Labels.{labels_are_found}
 use Rattle.placing_laws.proofs.Lines.{lines_are_written, no_further_lines}
@@ -17,22 +18,25 @@ use Rattle.name_laws.proofs.Open.{names_are_open}
 use Rattle.name_laws.proofs.OwnsKept.{owns_are_kept}
 use Rattle.name_laws.proofs.Arrows.{variable_unbroken}
 use Rattle.name_laws.proofs.Found.{callees_are_found}
-use Rattle.name_laws.proofs.Owns.{readable}
+use Rattle.name_laws.proofs.Owns.{readable, usable}
 use Rattle.name_laws.proofs.Lines.{clean_lines_are_unreplaced, clean_line_is_unreplaced}
 use Rattle.name_laws.proofs.Outward.{stores_are_own}
 use Rattle.name_laws.proofs.Placed.{uses_are_placed}
-use Rattle.name_laws.proofs.Uses.{uses_are_readable, line_uses_are_readable}
+use Rattle.name_laws.proofs.Uses.{clean_line_unbroken, clean_unbroken, line_uses_are_readable, uses_are_readable}
 use Rattle.memory_laws.proofs.Reading.{variables_are_read}
 use Rattle.memory_laws.proofs.Writing.{scalars_are_written}
 use Rattle.memory_laws.proofs.Making.{locals_are_made}
+use Rattle.memory_laws.proofs.ArraysMade.{arrays_are_made, static_arrays_are_laid}
 use Rattle.memory_laws.proofs.Parameters.{values_are_made}
 use Rattle.expression_laws.specs.Statements.{VariablesAreRead}
-use Rattle.expression_laws.proofs.Expressions.{calls_are_made, expressions_agree}
+use Rattle.memory_laws.proofs.Elements.{elements_are_written}
+use Rattle.memory_laws.proofs.Resizing.{arrays_are_erased, arrays_are_resized}
+use Rattle.expression_laws.proofs.Expressions.{arrays_agree, calls_are_made, elements_agree, expressions_agree, indexes_agree_all}
 use Rattle.line_laws.proofs.Lines.{lines_agree}
 use Rattle.run_laws.specs.Premises.{LinePremises, RunPremises}
 use Rattle.run_laws.proofs.Lines as by_itself
 use Rattle.run_matches.specs.Runs.{call_pledge}
-use Rattle.run_laws.proofs.Runs.{made_in_calls, made_with_in_calls}
+use Rattle.run_laws.proofs.Runs.{laid_arrays_in_calls, made_arrays_in_calls, made_in_calls, made_with_in_calls}
 use Rattle.run_laws.proofs.Runs as whole
 
 scalars_are_read : (U : Upgrade) → ScalarsAreRead U
@@ -44,6 +48,8 @@ variables_read U K w ty a b covers h same at = scalars_are_read U K w a b ty cov
 lines_do : (U : Upgrade) → LinesAgree U
 lines_do U =
     lines_agree U (expressions_agree U (variables_read U)) (calls_are_made U (variables_read U)) (scalars_are_read U) (scalars_are_written U)
+    (elements_agree U (variables_read U)) (indexes_agree_all U (variables_read U)) (elements_are_written U) (arrays_agree U) (arrays_are_resized U)
+    (arrays_are_erased U)
 
 run_premises : (U : Upgrade) → IsWritten U → RunPremises U
 run_premises U w = record {
@@ -55,13 +61,19 @@ run_premises U w = record {
   agree = lines_do U;
   owns = owns_are_kept U w;
   unreplaced = clean_lines_are_unreplaced U w;
-  readable = λ p s x site is W clean covered k line here v e. uses_are_readable U w.known p k line clean here v e;
+  readable = λ p s x site is W clean covered k line here. uses_are_readable U w p k line clean here (inside_procedure (site_scope U s) p) refl;
+  fits = λ p k l clean here d m. w.fits p k l here (clean_unbroken U p k clean) d m;
+  resizes = λ p k l clean here. w.resizes p k l here (clean_unbroken U p k clean);
   placed = uses_are_placed U w;
   stores = stores_are_own U w;
-  owned = λ p v x clean e owned covers loud. readable U w.known v x e covers loud (variable_unbroken U.program U.facts.marks p v x clean e owned);
+  owned = λ p v x clean e owned covers loud. usable U w v x e covers loud (variable_unbroken U.program U.facts.marks p v x clean e owned);
+  owned_scalars = λ p v x clean e owned covers loud. readable U w.known v x e covers (variable_unbroken U.program U.facts.marks p v x clean e owned);
   known = w.known;
   found = callees_are_found U w;
   made = made_in_calls U (locals_are_made U);
+  ranked = w.dimensions;
+  made_arrays = made_arrays_in_calls U (arrays_are_made U);
+  laid_arrays = laid_arrays_in_calls U (static_arrays_are_laid U);
   made_with = made_with_in_calls U (values_are_made U);
   read = λ p base me xs ys. variables_read U (call_pledge U p base me xs ys);
 }
@@ -73,7 +85,11 @@ line_premises U w = record {
   names = names_are_open U w;
   agree = lines_do U;
   unreplaced = λ p k s site clean covered. clean_line_is_unreplaced U w p s k site clean covered;
-  readable = λ p k clean covered v e. line_uses_are_readable U w.known p (suc k) covered.line clean (ap (λ o. nth_line (or_none o) (suc k)) covered.are_lines ∙ covered.is_line) v e;
+  readable = λ p k clean covered.
+      line_uses_are_readable U w p (suc k) covered.line clean (ap (λ o. nth_line (or_none o) (suc k)) covered.are_lines ∙ covered.is_line)
+      (inside_procedure (site_scope U covered.site) p) refl;
+  fits = λ p k l clean here d m. w.fits p k l here (clean_line_unbroken U p k clean) d m;
+  resizes = λ p k l clean here. w.resizes p k l here (clean_line_unbroken U p k clean);
   known = w.known;
   placed = uses_are_placed U w;
   stores = stores_are_own U w;

@@ -1,6 +1,6 @@
 -- What the tests of covered procedures and lines say.
 use Rattle.std.proofs.Common.{◌≡◌, refl, sym, ap, subst, ◌∙◌, ℕ, zero, suc, Bool, true, false, cond, not, ◌&&◌, nat_eq, true≢false, Option, Some, None, option_map, List, [], ◌∷◌, map, eq-eqb, eqb-true}
-use Rattle.std.specs.Prelude.{slice_get}
+use Rattle.std.specs.Prelude.{◌||◌, slice_get}
 use Rattle.std.specs.Cmp.Lexicographic.{pointwise}
 use Rattle.std.specs.List.{list_all}
 use Rattle.up_base.proofs.Lists.{all_first, all_rest, all_leads}
@@ -21,8 +21,9 @@ use Rattle.vb6_run.specs.Lines.{source_lines}
 use Rattle.vb6_run.specs.Programs.{answer_in, is_static_of, is_local_of, owned_from}
 use Rattle.vb6_run.specs.Runnables.{is_class_file}
 use Rattle.written_trees.specs.Arguments.{is_property_kind}
+use Rattle.written_trees.specs.Types.{element_type}
 use Rattle.run_matches.specs.Formed.{is_formed}
-use Rattle.run_matches.specs.Covered.{Uses, belongs_to, covers_body, covers_form, covers_head, covers_in_block, covers_kind, covers_label, covers_line, covers_names, covers_owns, covers_procedure, covers_site, covers_use, covers_variable, covers_variables, has_sound_label, has_sound_label_in, is_plain, is_plain_kind, jump_of, keeps_blocks, keeps_blocks_in, are_different, covers_own, covers_all_calls, covers_calls, covers_parameter, covers_result, has_result, is_answer_of, is_value_of, covers_owner, covers_type, is_parameter_of}
+use Rattle.run_matches.specs.Covered.{Uses, belongs_to, covers_body, covers_form, covers_head, covers_in_block, covers_kind, covers_label, covers_line, covers_names, covers_owns, covers_procedure, covers_site, covers_variable, covers_variables, covers_array_owner, covers_array_variable, covers_bounds, covers_declared, has_extents, is_array_of, has_sound_label, has_sound_label_in, is_plain, is_plain_kind, jump_of, keeps_blocks, keeps_blocks_in, are_different, covers_own, covers_all_calls, covers_calls, covers_parameter, covers_result, has_result, is_answer_of, is_value_of, covers_owner, covers_type, is_parameter_of, uses_in}
 use Rattle.run_matches.specs.Callees.{frame_owns}
 use Rattle.run_matches.specs.Frames.{is_exact_head, is_own_head, is_own_line, is_quiet_head}
 use Rattle.run_matches.specs.Sites.{Site, own_name, owns_of, site_of, local_numbers, static_numbers}
@@ -72,6 +73,8 @@ record Head (P : Program) (p : ℕ) (o : Option Procedure) : Type 0 where
   kind : covers_kind procedure.kind ≡ true
   params : list_all (covers_parameter P p) procedure.params ≡ true
   result : has_result P.declarations p procedure procedure.kind ≡ true
+  parameters : map (λ (v : VarId). v.0) procedure.params ≡ owned_from (is_parameter_of p) 0 P.declarations.vars
+  answers : answer_in procedure.answer ≡ owned_from (is_answer_of p) 0 P.declarations.vars
   outer : is_class_file P.declarations procedure.module_number ≡ false
 
 head_parts : (P : Program) (p : ℕ) (o : Option Procedure) → covers_head P p o ≡ true → Head P p o
@@ -84,12 +87,17 @@ head_parts P p (Some x) h =
     let a = both_true (covers_kind x.kind) (list_all (covers_parameter P p) x.params && (covers_result D p x && outer)) h in
     let b = both_true (list_all (covers_parameter P p) x.params) (covers_result D p x && outer) a.1 in
     let c = both_true (covers_result D p x) outer b.1 in
+    let d = both_true (has_result D p x x.kind) numbers c.0 in
+    let e = both_true (pointwise nat_eq (map (λ (v : VarId). v.0) x.params) (owned_from (is_parameter_of p) 0 D.vars))
+    (pointwise nat_eq (answer_in x.answer) (owned_from (is_answer_of p) 0 D.vars)) d.1 in
     record {
       procedure = x;
       is_procedure = refl;
       kind = a.0;
       params = b.0;
-      result = (both_true (has_result D p x x.kind) numbers c.0).0;
+      result = d.0;
+      parameters = same_numbers (map (λ (v : VarId). v.0) x.params) (owned_from (is_parameter_of p) 0 D.vars) e.0;
+      answers = same_numbers (answer_in x.answer) (owned_from (is_answer_of p) 0 D.vars) e.1;
       outer = not_true (is_class_file D x.module_number) c.1;
     }
 
@@ -128,6 +136,8 @@ pub record CoveredProcedure (P : Program) (p : ℕ) : Type 0 where
   pub kind : covers_kind procedure.kind ≡ true
   pub params : list_all (covers_parameter P p) procedure.params ≡ true
   pub result : has_result P.declarations p procedure procedure.kind ≡ true
+  pub parameters : map (λ (v : VarId). v.0) procedure.params ≡ owned_from (is_parameter_of p) 0 P.declarations.vars
+  pub answers : answer_in procedure.answer ≡ owned_from (is_answer_of p) 0 P.declarations.vars
   pub outer : is_class_file P.declarations procedure.module_number ≡ false
   pub site : Site
   pub is_site : site_of P.declarations p ≡ Some site
@@ -174,6 +184,8 @@ covered_parts P p h =
       kind = x.kind;
       params = x.params;
       result = x.result;
+      parameters = x.parameters;
+      answers = x.answers;
       outer = x.outer;
       site = s.site;
       standard = s.standard;
@@ -214,20 +226,35 @@ plain_parts None h = absurd (true≢false (sym h))
 plain_parts (Some x) h = record { procedure = x; is_procedure = refl; kind = plain_kind x.kind h }
 
 abbrev own_covered : (p : ℕ) → Variable → Bool
-own_covered p x = cond (belongs_to p x.owner) (covers_variable x) true
+own_covered p x = cond (belongs_to p x.owner) (covers_declared x) true
 
 -- what the procedure owns is covered
 pub own_covered_at : (P : Program) (p v : ℕ) (x : Variable) → covers_variables P p ≡ true → slice_get P.declarations.vars v ≡ Some x
-    → belongs_to p x.owner ≡ true → covers_variable x ≡ true
+    → belongs_to p x.owner ≡ true → covers_declared x ≡ true
 own_covered_at P p v x h e owned =
-    sym (ap (λ b. cond b (covers_variable x) true) owned) ∙ all_at (own_covered p) P.declarations.vars v x h e
+    sym (ap (λ b. cond b (covers_declared x) true) owned)
+    ∙ all_at (own_covered p) P.declarations.vars v x (both_true (list_all (own_covered p) P.declarations.vars) (has_extents P) h).0 e
+
+pub extents_given : (P : Program) (p : ℕ) → covers_variables P p ≡ true → has_extents P ≡ true
+extents_given P p h = (both_true (list_all (own_covered p) P.declarations.vars) (has_extents P) h).1
+
+-- no array, where there can be none
+pub scalar_declared : (x : Variable) → covers_array_owner x.owner ≡ false → covers_declared x ≡ true → covers_variable x ≡ true
+scalar_declared x none h = by (covers_variable x) refl h
+  where
+    rest : Bool
+    rest = covers_type (element_type x.ty) && (is_array_of (element_type x.ty) x.ty && (covers_bounds x.ty x.bounds && not x.auto))
+
+    by : (b : Bool) → covers_variable x ≡ b → (b || covers_array_variable (element_type x.ty) x) ≡ true → b ≡ true
+    by true e k = refl
+    by false e k = absurd (true≢false (sym (sym (ap (λ c. c && rest) none) ∙ k)))
 
 -- ---- lines
 
 pub form_covered : (P : Program) (p : ℕ) (l : Line) → covers_line P p l ≡ true
-    → covers_form (covers_use P p l.bindings.mentions) l.source.form l.bindings.exprs ≡ true
+    → covers_form (uses_in P p l.bindings.mentions) l.source.form l.bindings.exprs ≡ true
 form_covered P p l h =
-    (both_true (covers_form (covers_use P p l.bindings.mentions) l.source.form l.bindings.exprs) (list_all is_formed l.bindings.exprs) h).0
+    (both_true (covers_form (uses_in P p l.bindings.mentions) l.source.form l.bindings.exprs) (list_all is_formed l.bindings.exprs) h).0
 
 form_keeps_blocks : (uses : Uses) (f : Form) (es : List Expr) → covers_form uses f es ≡ true → keeps_blocks_in f es ≡ true
 form_keeps_blocks uses (source.for_head counter start limit step) [] h = absurd (true≢false (sym h))
@@ -239,7 +266,7 @@ form_keeps_blocks uses _ es h = refl
 
 pub blocks_are_kept : (P : Program) (p : ℕ) (lines : List Line) → list_all (covers_line P p) lines ≡ true → list_all keeps_blocks lines ≡ true
 blocks_are_kept P p lines h =
-    all_leads (covers_line P p) keeps_blocks (λ l e. form_keeps_blocks (covers_use P p l.bindings.mentions) l.source.form l.bindings.exprs (form_covered P p l e)) lines h
+    all_leads (covers_line P p) keeps_blocks (λ l e. form_keeps_blocks (uses_in P p l.bindings.mentions) l.source.form l.bindings.exprs (form_covered P p l e)) lines h
 
 -- labels that can be written
 form_has_sound_label : (uses : Uses) (f : Form) (es : List Expr) → covers_form uses f es ≡ true → has_sound_label_in f ≡ true
@@ -249,7 +276,7 @@ form_has_sound_label uses _ es h = refl
 pub labels_are_sound : (P : Program) (p : ℕ) (lines : List Line) → list_all (covers_line P p) lines ≡ true → list_all has_sound_label lines ≡ true
 labels_are_sound P p lines h =
     all_leads (covers_line P p) has_sound_label
-    (λ l e. form_has_sound_label (covers_use P p l.bindings.mentions) l.source.form l.bindings.exprs (form_covered P p l e)) lines h
+    (λ l e. form_has_sound_label (uses_in P p l.bindings.mentions) l.source.form l.bindings.exprs (form_covered P p l e)) lines h
 
 form_jumps_soundly : (uses : Uses) (f : Form) (es : List Expr) (a : Label6) → covers_form uses f es ≡ true → jump_of f ≡ Some a → covers_label (label_of a) ≡ true
 form_jumps_soundly uses (source.goto b) es a h e = ap (λ c. covers_label (label_of c)) (sym (some_is e)) ∙ h
@@ -258,7 +285,7 @@ form_jumps_soundly uses (source.resume_at b) es a h e = ap (λ c. covers_label (
 form_jumps_soundly uses _ es a h e = absurd (not_none e)
 
 pub jumps_soundly : (P : Program) (p : ℕ) (l : Line) (a : Label6) → covers_line P p l ≡ true → jump_of l.source.form ≡ Some a → covers_label (label_of a) ≡ true
-jumps_soundly P p l a h e = form_jumps_soundly (covers_use P p l.bindings.mentions) l.source.form l.bindings.exprs a (form_covered P p l h) e
+jumps_soundly P p l a h e = form_jumps_soundly (uses_in P p l.bindings.mentions) l.source.form l.bindings.exprs a (form_covered P p l h) e
 
 -- covered lines have no With
 no_own_head : (U : Upgrade) (p : ℕ) (uses : Uses) (f : Form) (es : List Expr) → covers_form uses f es ≡ true → is_own_head U p f es ≡ false
@@ -270,7 +297,7 @@ no_quiet_head U uses (source.with_head e) es h = absurd (true≢false (sym h))
 no_quiet_head U uses _ es h = refl
 
 pub no_own_line : (U : Upgrade) (P : Program) (p : ℕ) (l : Line) → covers_line P p l ≡ true → is_own_line U p l ≡ false
-no_own_line U P p l h = no_own_head U p (covers_use P p l.bindings.mentions) l.source.form l.bindings.exprs (form_covered P p l h)
+no_own_line U P p l h = no_own_head U p (uses_in P p l.bindings.mentions) l.source.form l.bindings.exprs (form_covered P p l h)
 
 pub exact_head : (U : Upgrade) (P : Program) (p : ℕ) (lines : List Line) (h : ℕ) → list_all (covers_line P p) lines ≡ true
     → is_exact_head U (nth_line lines h) ≡ true
@@ -280,7 +307,7 @@ exact_head U P p lines (suc h) c = by (slice_get lines h) refl
     by : (o : Option Line) → slice_get lines h ≡ o → is_exact_head U o ≡ true
     by None e = refl
     by (Some l) e =
-        ap not (no_quiet_head U (covers_use P p l.bindings.mentions) l.source.form l.bindings.exprs (form_covered P p l (all_at (covers_line P p) lines h l c e)))
+        ap not (no_quiet_head U (uses_in P p l.bindings.mentions) l.source.form l.bindings.exprs (form_covered P p l (all_at (covers_line P p) lines h l c e)))
 
 -- ---- the lines of a body
 

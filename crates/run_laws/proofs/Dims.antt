@@ -18,16 +18,19 @@ use Rattle.net_run.specs.Names.{declared_constant, is_class}
 use Rattle.net_run.specs.Program.{dim_made, made_once, object_static, static_at, static_key}
 use Rattle.net_run.specs.Shapes as shape
 use Rattle.net_run.specs.Store as net
-use Rattle.written_trees.specs.Facts.{is_flagged_variable}
+use Rattle.net_run.specs.Structures.{initial_value}
+use Rattle.written_trees.specs.Facts.{Facts, is_flagged_variable}
 use Rattle.written_trees.specs.Names.{Scope}
-use Rattle.written_trees.specs.Prologues.{constant_dim, constant_dim_by, initial, is_static, object_variable, sound_value, typed_variable, variable_dim, written_constant}
+use Rattle.written_trees.specs.Prologues.{constant_dim, constant_dim_by, extents, initial, is_static, object_variable, sound_value, typed_variable, variable_dim, written_constant, written_variable}
 use Rattle.written_trees.specs.Types.{type_with}
+use Rattle.row_laws.proofs.Composing.{then_assoc}
 use Rattle.agreeing_laws.proofs.Outputs.{after_nothing}
 use Rattle.run_matches.specs.Covered.{covers_owner, covers_type}
 use Rattle.run_matches.specs.Likeness.{scalar_word}
 use Rattle.run_matches.specs.Sites.{own_constant, own_variable}
 use Rattle.run_matches.specs.Upgrades.{Upgrade, is_unknown, type_of}
-use Rattle.run_statements.specs.Frames.{IsReadable}
+use Rattle.run_statements.specs.Arrays.{array_initial, array_shape}
+use Rattle.run_statements.specs.Frames.{IsArray, IsReadable}
 use Rattle.run_statements.specs.Kept.{IsConstantDim, own_dim}
 
 -- ---- types
@@ -39,20 +42,21 @@ pub record WordOf (ty : Ty) : Type 0 where
   pub written : (D : Declarations) (file : ℕ) (qualified : Bool) (rank : ℕ) → type_with D file qualified rank ty ≡ word
   pub plain : (S : Scope) (v : ℕ) (x : Variable) → initial S v x ty ≡ None
   pub shaped : (N : net_tree.Project) (home : ℕ) → shape.shape_of N home word ≡ shape.scalar word
+  pub listed : (N : net_tree.Project) (home rank : ℕ) → shape.shape_of N home (words.array_of word rank) ≡ shape.array (shape.scalar word) rank
 
 pub word_of : (ty : Ty) → covers_type ty ≡ true → WordOf ty
 word_of types.boolean h =
-    record { word = words.boolean; is_word = refl; written = λ D f q r. refl; plain = λ S v x. refl; shaped = λ N home. refl }
+    record { word = words.boolean; is_word = refl; written = λ D f q r. refl; plain = λ S v x. refl; shaped = λ N home. refl; listed = λ N home rank. refl }
 word_of types.byte h =
-    record { word = words.byte; is_word = refl; written = λ D f q r. refl; plain = λ S v x. refl; shaped = λ N home. refl }
+    record { word = words.byte; is_word = refl; written = λ D f q r. refl; plain = λ S v x. refl; shaped = λ N home. refl; listed = λ N home rank. refl }
 word_of types.integer h =
-    record { word = words.short; is_word = refl; written = λ D f q r. refl; plain = λ S v x. refl; shaped = λ N home. refl }
+    record { word = words.short; is_word = refl; written = λ D f q r. refl; plain = λ S v x. refl; shaped = λ N home. refl; listed = λ N home rank. refl }
 word_of types.long h =
-    record { word = words.integer; is_word = refl; written = λ D f q r. refl; plain = λ S v x. refl; shaped = λ N home. refl }
+    record { word = words.integer; is_word = refl; written = λ D f q r. refl; plain = λ S v x. refl; shaped = λ N home. refl; listed = λ N home rank. refl }
 word_of types.currency h =
-    record { word = words.decimal; is_word = refl; written = λ D f q r. refl; plain = λ S v x. refl; shaped = λ N home. refl }
+    record { word = words.decimal; is_word = refl; written = λ D f q r. refl; plain = λ S v x. refl; shaped = λ N home. refl; listed = λ N home rank. refl }
 word_of types.str h =
-    record { word = words.str; is_word = refl; written = λ D f q r. refl; plain = λ S v x. refl; shaped = λ N home. refl }
+    record { word = words.str; is_word = refl; written = λ D f q r. refl; plain = λ S v x. refl; shaped = λ N home. refl; listed = λ N home rank. refl }
 word_of _ h = absurd (true≢false (sym h))
 
 -- ---- variables
@@ -144,6 +148,127 @@ static_made U S facts c outer v r static =
           ∙ ap (λ b. some_of (cond b (object_static (static_key c i) me) (Some (shared (static_key c i)))) (static_at U.written c.home d) w) outer
           ∙ ap (λ s. then (made_once U.written c.home (shared (static_key c i)) d (w.cell (whole (shared (static_key c i)))) w)
           (λ u t. gives [] (x.name, net.root s (whole (shared (static_key c i)))) t)) (m.shaped U.written c.home);
+    }
+
+-- ---- arrays
+
+abbrev array_variable : List ℕ → TypeName → Option net_tree.Exp → net_tree.Variable
+array_variable name t value = record { name = name; ty = t; value = value }
+
+-- what is written for the declaration of an array
+pub record ArrayWritten (U : Upgrade) (S : Scope) (v : ℕ) (element : Ty) (r : IsArray U v element) : Type 0 where
+  pub word : TypeName
+  pub is_word : scalar_word element ≡ Some word
+  pub shaped : (home : ℕ) → shape.shape_of U.written home word ≡ shape.scalar word
+  pub listed : (home : ℕ) → shape.shape_of U.written home (words.array_of word (U.facts.rank v)) ≡ array_shape U v word
+  pub is_written :
+      written_variable S (v, r.known.variable)
+      ≡ array_variable r.known.variable.name (words.array_of word (U.facts.rank v)) (Some (array_initial U v word r.known.variable.bounds))
+
+pub array_written : (U : Upgrade) (S : Scope) → S.facts ≡ U.facts → (v : ℕ) (element : Ty) (r : IsArray U v element) → ArrayWritten U S v element r
+array_written U S facts v element r =
+    let x : Variable = r.known.variable in
+    let m : WordOf element = word_of element r.covers in
+    let file = S.file in
+    let unflagged : is_flagged_variable S.facts v ≡ false =
+    ap (λ F. is_flagged_variable F v) facts ∙ (neither (is_flagged_variable U.facts v) (is_unknown (type_of U v)) r.known.sound).0 in
+    let by_type : typed_variable S v x
+    ≡ array_variable x.name (words.array_of (type_with S.declarations file x.qualified (S.facts.rank v) element) (S.facts.rank v))
+    (Some (net_tree.new_array (type_with S.declarations file x.qualified 1 element) (extents (S.facts.rank v) x.bounds))) =
+    ap (λ ty. array_variable x.name (type_with S.declarations file x.qualified (S.facts.rank v) ty) (initial S v x ty)) r.is_array in
+    let by_facts : array_variable x.name (words.array_of (type_with S.declarations file x.qualified (S.facts.rank v) element) (S.facts.rank v))
+    (Some (net_tree.new_array (type_with S.declarations file x.qualified 1 element) (extents (S.facts.rank v) x.bounds)))
+    ≡ array_variable x.name (words.array_of (type_with S.declarations file x.qualified (U.facts.rank v) element) (U.facts.rank v))
+    (Some (net_tree.new_array (type_with S.declarations file x.qualified 1 element) (extents (U.facts.rank v) x.bounds))) =
+    ap (λ (F : Facts). array_variable x.name (words.array_of (type_with S.declarations file x.qualified (F.rank v) element) (F.rank v))
+    (Some (net_tree.new_array (type_with S.declarations file x.qualified 1 element) (extents (F.rank v) x.bounds)))) facts in
+    let by_word : array_variable x.name (words.array_of (type_with S.declarations file x.qualified (U.facts.rank v) element) (U.facts.rank v))
+    (Some (net_tree.new_array (type_with S.declarations file x.qualified 1 element) (extents (U.facts.rank v) x.bounds)))
+    ≡ array_variable x.name (words.array_of m.word (U.facts.rank v)) (Some (array_initial U v m.word x.bounds)) =
+    ap (λ t. array_variable x.name (words.array_of t (U.facts.rank v))
+    (Some (net_tree.new_array (type_with S.declarations file x.qualified 1 element) (extents (U.facts.rank v) x.bounds))))
+    (m.written S.declarations file x.qualified (U.facts.rank v))
+    ∙ ap (λ t. array_variable x.name (words.array_of m.word (U.facts.rank v)) (Some (net_tree.new_array t (extents (U.facts.rank v) x.bounds))))
+    (m.written S.declarations file x.qualified 1) in
+    record {
+      word = m.word;
+      is_word = m.is_word;
+      shaped = m.shaped U.written;
+      listed = λ home. m.listed U.written home (U.facts.rank v);
+      is_written =
+          ap (λ b. cond b (object_variable x.name) (typed_variable S v x)) unflagged ∙ by_type ∙ by_facts ∙ by_word;
+    }
+
+-- The declaration of an array makes one of its rank, under its name.
+pub record ArrayDim (U : Upgrade) (S : Scope) (c : Code) (v : ℕ) (element : Ty) (r : IsArray U v element) : Type 0 where
+  pub word : TypeName
+  pub is_word : scalar_word element ≡ Some word
+  pub shaped : shape.shape_of U.written c.home word ≡ shape.scalar word
+  pub is_made :
+      (me : Option ℕ) (i : ℕ) (w : net.Memory)
+      → dim_made U.written c me i (own_dim S (own_variable v r.known.variable)) w
+      ≡ then
+      (then (initial_value U.written c.home (array_shape U v word) (Some (array_initial U v word r.known.variable.bounds)) w)
+      (λ x w. net.made_with (array_shape U v word) x w))
+      (λ b t. gives [] (r.known.variable.name, b) t)
+
+pub array_made : (U : Upgrade) (S : Scope) → S.facts ≡ U.facts → (c : Code) (v : ℕ) (element : Ty) (r : IsArray U v element)
+    → is_static r.known.variable.owner ≡ false → ArrayDim U S c v element r
+array_made U S facts c v element r local =
+    let x : Variable = r.known.variable in
+    let m : ArrayWritten U S v element r = array_written U S facts v element r in
+    let e : net_tree.Exp = array_initial U v m.word x.bounds in
+    let d : net_tree.Variable = array_variable x.name (words.array_of m.word (U.facts.rank v)) (Some e) in
+    let dim : variable_dim S (v, x) ≡ net_tree.local d =
+    ap (λ b. cond b (net_tree.static_local (written_variable S (v, x))) (net_tree.local (written_variable S (v, x)))) local
+    ∙ ap (λ y. net_tree.local y) m.is_written in
+    record {
+      word = m.word;
+      is_word = m.is_word;
+      shaped = m.shaped c.home;
+      is_made = λ me i w.
+          ap (λ d. dim_made U.written c me i d w) dim
+          ∙ ap (λ s. then (initial_value U.written c.home s (Some e) w) (λ y w. then (net.made_with s y w) (λ b t. gives [] (x.name, b) t))) (m.listed c.home)
+          ∙ sym (then_assoc (initial_value U.written c.home (array_shape U v m.word) (Some e) w) (λ y w. net.made_with (array_shape U v m.word) y w)
+          (λ b t. gives [] (x.name, b) t));
+    }
+
+-- The declaration of a Static makes one at its key, where none is there.
+pub record ArrayStatic (U : Upgrade) (S : Scope) (c : Code) (v : ℕ) (element : Ty) (r : IsArray U v element) : Type 0 where
+  pub word : TypeName
+  pub is_word : scalar_word element ≡ Some word
+  pub element_shaped : shape.shape_of U.written c.home word ≡ shape.scalar word
+  pub made : net_tree.Variable
+  pub begins : made.value ≡ Some (array_initial U v word r.known.variable.bounds)
+  pub shaped : shape.shape_of U.written c.home made.ty ≡ array_shape U v word
+  pub is_made :
+      (me : Option ℕ) (i : ℕ) (w : net.Memory)
+      → dim_made U.written c me i (own_dim S (own_variable v r.known.variable)) w
+      ≡ then (made_once U.written c.home (shared (static_key c i)) made (w.cell (whole (shared (static_key c i)))) w)
+      (λ u t. gives [] (r.known.variable.name, net.root (array_shape U v word) (whole (shared (static_key c i)))) t)
+
+pub array_static_made : (U : Upgrade) (S : Scope) → S.facts ≡ U.facts → (c : Code) → is_class U.written c.home ≡ false → (v : ℕ) (element : Ty)
+    (r : IsArray U v element) → is_static r.known.variable.owner ≡ true → ArrayStatic U S c v element r
+array_static_made U S facts c outer v element r static =
+    let x : Variable = r.known.variable in
+    let m : ArrayWritten U S v element r = array_written U S facts v element r in
+    let e : net_tree.Exp = array_initial U v m.word x.bounds in
+    let d : net_tree.Variable = array_variable x.name (words.array_of m.word (U.facts.rank v)) (Some e) in
+    let dim : variable_dim S (v, x) ≡ net_tree.static_local d =
+    ap (λ b. cond b (net_tree.static_local (written_variable S (v, x))) (net_tree.local (written_variable S (v, x)))) static
+    ∙ ap (λ y. net_tree.static_local y) m.is_written in
+    record {
+      word = m.word;
+      is_word = m.is_word;
+      element_shaped = m.shaped c.home;
+      made = d;
+      begins = refl;
+      shaped = m.listed c.home;
+      is_made = λ me i w.
+          ap (λ e. dim_made U.written c me i e w) dim
+          ∙ ap (λ b. some_of (cond b (object_static (static_key c i) me) (Some (shared (static_key c i)))) (static_at U.written c.home d) w) outer
+          ∙ ap (λ s. then (made_once U.written c.home (shared (static_key c i)) d (w.cell (whole (shared (static_key c i)))) w)
+          (λ u t. gives [] (x.name, net.root s (whole (shared (static_key c i)))) t)) (m.listed c.home);
     }
 
 -- ---- constants

@@ -1,24 +1,23 @@
 -- The entry of a covered procedure makes frames that match.
-use Rattle.std.proofs.Common.{◌≡◌, refl, sym, ap, subst, ◌∙◌, ℕ, arith, true, false, not, nat_eq, Option, Some, None, option_map, List, [], ◌∷◌, ◌++◌, map, ◌⊎◌, inl, inr, true≢false}
-use Rattle.std.specs.Prelude.{slice_get, is_some}
+use Rattle.std.proofs.Common.{◌≡◌, refl, sym, ap, subst, ◌∙◌, ℕ, ◌+◌, arith, true, false, nat_eq, Option, Some, None, option_map, List, [], ◌∷◌, ◌++◌, map, ◌⊎◌, inl, inr, true≢false}
+use Rattle.std.specs.Prelude.{slice_get, ◌&&◌}
 use Rattle.std.specs.List.{list_any, list_all}
 use Rattle.written_trees.specs.Prologues.{is_static}
 use Rattle.std.specs.Map.{lookup}
 use Rattle.up_base.proofs.Lists.{all_first, all_rest}
 use Rattle.vb_tree.specs.declared.declared.VarId.{VarId}
-use Rattle.vb_tree.specs.Tree as source_form
 use Rattle.bound_tree.specs.Tree.{Declarations, Procedure, Variable}
-use Rattle.bound_facts.specs.Facts.{is_quiet}
+use Rattle.bound_facts.specs.Effects.{params_at}
 use Rattle.net_tree.specs.Tree as net_tree
 use Rattle.net_tree.specs.Types.{TypeName}
 use Rattle.run_base.specs.Frames.{first_frame}
 use Rattle.run_base.specs.Outcomes.{Outcome, after, gives, some_of, then}
 use Rattle.run_base.specs.Positions.{Root, made, shared, whole}
 use Rattle.vb6_run.specs.Programs.{answer_in, entered_as, entry, is_local_of, is_static_of, lay_statics, made_each, owned_from, parameters}
-use Rattle.vb6_run.specs.Shapes.{variable_shape, simple}
+use Rattle.vb6_run.specs.Shapes.{variable_shape}
 use Rattle.vb6_run.specs.Store.{Address, Locked, Memory, SourceFrame, SourceGiven, locked_by, make}
 use Rattle.net_run.specs.Lines.{NetFrame}
-use Rattle.net_run.specs.Members.{params_of, result_of, result_by}
+use Rattle.net_run.specs.Members.{params_of, result_of}
 use Rattle.net_run.specs.Names.{var_in, is_class, is_class_at}
 use Rattle.net_run.specs.Program as target
 use Rattle.net_run.specs.Program.{dims_made, enter, frame_made}
@@ -28,50 +27,57 @@ use Rattle.written_trees.specs.Bodies.{inside_procedure}
 use Rattle.written_trees.specs.Heads as heads
 use Rattle.written_trees.specs.Names.{Scope, variable_name_of}
 use Rattle.written_trees.specs.Types.{type_with}
-use Rattle.run_matches.specs.Addresses.{ArgsMatch, both_nothing, images, AllLocked, AllMatched, AllRanked, IsPlain}
+use Rattle.run_matches.specs.Addresses.{ArgsMatch, both_nothing, AllLocked, IsPlain}
 use Rattle.run_matches.specs.Agreeing.{Agrees}
-use Rattle.run_matches.specs.Covered.{are_different, covers_type, belongs_to, covers_parameter, covers_own, is_loud_owner}
-use Rattle.run_matches.specs.Frames.{FrameMatch, HasNames, SameVariable, declared_names, dim_name, result_names, static_of, SameStatic, name_of, GivenPlace, is_own_of}
+use Rattle.run_laws.proofs.Given.{stands_itself}
+use Rattle.run_matches.specs.Covered.{are_different, covers_type, belongs_to, covers_line, covers_parameter, covers_own, is_scalar_or_loud}
+use Rattle.run_matches.specs.Frames.{FrameMatch, HasNames, SameVariable, declared_names, dim_name, result_names, static_of, SameStatic, name_of, GivenAddress, frame_pledge, is_element, is_own_of, lines_of, stands_in}
+use Rattle.run_matches.specs.CleanLines.{or_none}
 use Rattle.run_matches.specs.Callees.{answer_owns, own_of_some, parameter_owns}
-use Rattle.run_matches.specs.Likeness.{scalar_word, SameShape, same_scalar}
-use Rattle.run_matches.specs.Maps.{Below, Mark, World, mark, IsMatched, key_or_none, moved_at}
+use Rattle.run_matches.specs.Likeness.{scalar_word}
+use Rattle.run_matches.specs.Maps.{Below, Mark, World, mark, key_or_none, moved_at}
 use Rattle.run_matches.specs.Match.{MemoryMatch, StoreMatch}
-use Rattle.run_matches.specs.Pledges.{Later, NetGiven, Pledge}
+use Rattle.run_matches.specs.Pledges.{IsOld, Later, NetGiven, Pledge}
 use Rattle.run_matches.specs.Runs.{IsObject, call_pledge}
 use Rattle.run_matches.specs.Sites.{Own, own_name, own_variable, owns_of, own_constant, local_numbers, static_number, static_numbers}
 use Rattle.run_matches.specs.Upgrades.{Upgrade, runnable_of, is_auto}
-use Rattle.run_statements.specs.Frames.{IsReadable}
+use Rattle.run_statements.specs.Arrays.{ArraysAreMadeBy, StaticArraysAreLaidBy}
+use Rattle.run_statements.specs.Frames.{HasRankOf, IsReadable, IsUsable}
 use Rattle.run_statements.specs.Kept.{OwnsAreKept, own_dim}
 use Rattle.run_statements.specs.Written.{WrittenProcedure, site_scope}
 use Rattle.row_laws.proofs.Composing.{then_assoc, then_gives}
 use Rattle.agreeing_laws.proofs.Agreeing.{agrees_gives, right_alone, then_agrees}
 use Rattle.agreeing_laws.proofs.Lasting.{later_then}
-use Rattle.agreeing_laws.proofs.Made.{below_then, more}
+use Rattle.agreeing_laws.proofs.Made.{below_self, below_then, more}
 use Rattle.agreeing_laws.proofs.Moves.{locks_later}
 use Rattle.agreeing_laws.proofs.Scalars.{object_later}
 use Rattle.expression_laws.proofs.Types.{same_of}
-use Rattle.memory_laws.proofs.Making.{readable_shape}
 use Rattle.name_laws.proofs.FrameNames.{own_names, parameter_names, params_are}
 use Rattle.name_laws.proofs.Lists.{Among, all_among, among_right, flat_among, map_append}
 use Rattle.name_laws.proofs.Owned.{owned_is}
 use Rattle.name_laws.proofs.Owns.{number_if, own_is}
 use Rattle.run_laws.specs.Entered.{AllKeyed, AllSound, GivenVariable, LocalsMatch, OwnPlace, RunMatch, StaticMatch, next_constant, next_static, next_variable, no_locals}
-use Rattle.run_laws.specs.Premises.{LocalsAreMadeBy, ValuesAreMadeBy}
+use Rattle.run_laws.specs.Premises.{ArraysHaveRanks, LocalsAreMadeBy, ValuesAreMadeBy}
 use Rattle.run_laws.proofs.Covered.{CoveredProcedure, some_is}
 use Rattle.run_laws.proofs.Dims.{WordOf, word_of}
 use Rattle.run_laws.proofs.Heads.{HasAnswer, HasNone, Parameter, a_result, answer_names, answer_parts, no_result, parameter_belongs, parameter_is}
 use Rattle.run_laws.proofs.Names.{code_is}
+use Rattle.run_laws.proofs.Pledged.{call_is_weaker, frame_with}
 use Rattle.run_laws.proofs.Owns.{owns_sound}
+use Rattle.run_laws.proofs.Passing.{passing_listed}
 use Rattle.run_laws.proofs.StaticOrder.{each_next, in_order, laid_as_statics, made_in_order}
 use Rattle.run_laws.proofs.StaticKeys.{IsDeclaredOwn, StaticFound, all_keyed, static_found, static_there}
 use Rattle.run_laws.proofs.Locals.{Found, Locals, listed_behind, local_found, local_later, local_listed, local_names, local_places, local_there, locals_agree, locals_later}
-use Rattle.run_laws.proofs.Parameters.{AreParameters, Local, Parameters, local_is_made, none_quiet, parameters_agree, readable_type}
-use Rattle.run_laws.proofs.Standing.{different_behind, made_object, module_in_is, nothing_by, nothing_kept, plain_place, simple_owns, static_root_is}
+use Rattle.run_laws.proofs.Parameters.{AreParameters, Local, Parameters, local_is_made, parameters_agree, readable_type}
+use Rattle.run_laws.proofs.Standing.{different_behind, made_object, module_in_is, nothing_by, nothing_kept, plain_place, flat_owns, static_root_is}
+
+none_before : (j : ℕ) → 0 + j ≡ j
+none_before j = omega arith
 
 module _ (U : Upgrade) (p : ℕ) (c : CoveredProcedure U.program p) (W : WrittenProcedure U p c.site c.procedure)
     (kept : OwnsAreKept U p c.site c.procedure W)
-    (readable : (v : ℕ) (x : Variable) → slice_get U.program.declarations.vars v ≡ Some x → belongs_to p x.owner ≡ true
-    → is_loud_owner U.program v x.owner ≡ true → IsReadable U v) where
+    (usable : (v : ℕ) (x : Variable) → slice_get U.program.declarations.vars v ≡ Some x → belongs_to p x.owner ≡ true
+    → is_scalar_or_loud U.program v x ≡ true → IsUsable U v) (answers : (h : HasAnswer U.program.declarations p c.procedure) → IsReadable U h.id.0) (ranked : ArraysHaveRanks U) where
   abbrev D : Declarations
   D = U.program.declarations
 
@@ -104,13 +110,11 @@ module _ (U : Upgrade) (p : ℕ) (c : CoveredProcedure U.program p) (W : Written
   sound_append (a ∷ ks) bs h k = (h.0, sound_append ks bs h.1 k)
 
   pub parameter_sound : AreParameters U p
-  parameter_sound v q =
-      let r : IsReadable U v.0 = readable v.0 q.variable q.is_variable (parameter_belongs p q.variable.owner q.parameter) q.loud in
-      (r, some_is (sym r.is_variable ∙ q.is_variable))
+  parameter_sound v q = usable v.0 q.variable q.is_variable (parameter_belongs p q.variable.owner q.parameter) q.loud
 
-  answer_sound : (h : HasAnswer D p x) → (r : IsReadable U h.id.0) × (r.variable ≡ h.variable)
-  answer_sound h =
-      let r : IsReadable U h.id.0 = readable h.id.0 h.variable h.is_variable (ap (belongs_to p) h.owner ∙ h.own) (ap (is_loud_owner U.program h.id.0) h.owner) in
+  answer_readable : (h : HasAnswer D p x) → (r : IsReadable U h.id.0) × (r.variable ≡ h.variable)
+  answer_readable h =
+      let r : IsReadable U h.id.0 = answers h in
       (r, some_is (sym r.is_variable ∙ h.is_variable))
 
   parameters_sound : (vs : List VarId) → list_all (covers_parameter U.program p) vs ≡ true → AllSound U S (parameter_owns D vs)
@@ -118,14 +122,14 @@ module _ (U : Upgrade) (p : ℕ) (c : CoveredProcedure U.program p) (W : Written
   parameters_sound (v ∷ vs) h =
       let q : Parameter U.program p v = parameter_is U.program p v (all_first (covers_parameter U.program p) v vs h) in
       sound_append (own_of_some v.0 (slice_get D.vars v.0)) (parameter_owns D vs)
-      (subst (λ o. AllSound U S (own_of_some v.0 o)) (sym q.is_variable) (parameter_sound v q, tt))
+      (subst (λ o. AllSound U S (own_of_some v.0 o)) (sym q.is_variable) ((parameter_sound v q, q.is_variable), tt))
       (parameters_sound vs (all_rest (covers_parameter U.program p) v vs h))
 
   answers_sound : HasNone x ⊎ HasAnswer D p x → AllSound U S (answer_owns D x.answer)
   answers_sound (inl h) = subst (λ a. AllSound U S (answer_owns D a)) (sym h.is_answer) tt
   answers_sound (inr h) =
       subst (λ a. AllSound U S (answer_owns D a)) (sym h.is_answer)
-      (subst (λ o. AllSound U S (own_of_some h.id.0 o)) (sym h.is_variable) (answer_sound h, tt))
+      (subst (λ o. AllSound U S (own_of_some h.id.0 o)) (sym h.is_variable) ((inl (answers h), h.is_variable), tt))
 
   pub all_sound : AllSound U S all
   all_sound =
@@ -147,7 +151,11 @@ module _ (U : Upgrade) (p : ℕ) (c : CoveredProcedure U.program p) (W : Written
 
   -- ---- under the pledge of a call
 
+  covered_lines : list_all (covers_line U.program p) (lines_of U p) ≡ true
+  covered_lines = subst (λ ls. list_all (covers_line U.program p) ls ≡ true) (sym (ap or_none c.are_lines)) c.covers
+
   module _ (base : Mark) (me : Option ℕ) (xs : List SourceGiven) (ys : List NetGiven) (made_alike : LocalsAreMadeBy U (call_pledge U p base me xs ys))
+      (made_arrays : ArraysAreMadeBy U (call_pledge U p base me xs ys)) (laid_arrays : StaticArraysAreLaidBy U (call_pledge U p base me xs ys))
       (made_with : ValuesAreMadeBy U (call_pledge U p base me xs ys)) (locked : Locked) where
     abbrev K : Pledge
     K = call_pledge U p base me xs ys
@@ -172,11 +180,14 @@ module _ (U : Upgrade) (p : ℕ) (c : CoveredProcedure U.program p) (W : Written
       place_of v a (inl k) own = k
       place_of v a (inr k) own = absurd (true≢false (sym own ∙ k.foreign p))
 
-      given_of : (v : ℕ) (a : Address) → OwnPlace U K u v a ⊎ GivenVariable U u v a → GivenPlace U v a
+      given_of : (v : ℕ) (a : Address) → OwnPlace U K u v a ⊎ GivenVariable U u v a → GivenAddress U v a
       given_of v a (inl k) = record {
-        position = whole (made k.place.place);
-        stands = k.place.stands;
-        target = inl (record { place = k.place.place; shape = variable_shape U.program.declarations v; path = []; stands = k.place.stands });
+        whole = ap is_element k.place.stands;
+        place = λ exact. record {
+          position = whole (made k.place.place);
+          stands = stands_itself (variable_shape U.program.declarations v) a (whole (made k.place.place)) k.place.stands;
+          target = inl (record { place = k.place.place; shape = variable_shape U.program.declarations v; path = []; stands = k.place.stands });
+        };
       }
       given_of v a (inr k) = k.given
 
@@ -185,8 +196,9 @@ module _ (U : Upgrade) (p : ℕ) (c : CoveredProcedure U.program p) (W : Written
           let z : Found U K u v a all bs = found_at v a e in
           record {
             address = z.address;
-            found = ap (λ o. var_in bs (variable_name_of o)) z.readable.is_variable ∙ z.found;
-            bound = images (not (is_quiet D U.known v)) a z.address z.match.same;
+            found = ap (λ o. var_in bs (variable_name_of o)) z.is_variable ∙ z.found;
+            bound = z.match.bound;
+            ranked = λ element rank e. subst (λ d. HasRankOf U v d) e z.match.ranked;
             plain = plain_of v a z.match.standing;
           }
 
@@ -195,20 +207,17 @@ module _ (U : Upgrade) (p : ℕ) (c : CoveredProcedure U.program p) (W : Written
           let y = static_root_is U p x me v r (slice_get D.vars v) refl c.is_procedure c.outer e in
           let z = static_there D p v y.0 os c.statics y.1 y.2 in
           let there = among_right (parameter_owns D x.params) others (own_variable v z.0) (among_right (answer_owns D x.answer) os (own_variable v z.0) z.1) in
-          let t : StaticFound U v z.0 bs = static_found U K u v z.0 z.2 all ks bs m c.different there in
+          let t : StaticFound U u v z.0 bs = static_found U K u v z.0 z.2 all ks bs m c.different there in
           let named : name_of U v ≡ z.0.name = ap (λ o. variable_name_of o) (own_is D c.site (own_variable v z.0) z.1) in
-          let s : StaticMatch U v t.address = t.match in
-          let standing : net.root (shape.scalar s.word) (moved_at U u.map (whole (shared (v ∷ [])))) ≡ t.address =
-          ap (λ o. net.root (shape.scalar s.word) (whole (shared (key_or_none o)))) s.is_key ∙ sym s.stands in
-          let matched : IsMatched U u (whole (shared (v ∷ []))) =
-          record { is_made = tt; counterpart = ap is_some s.is_key; sound = ap not s.readable.sound } in
-          let shaped : variable_shape D v ≡ simple s.readable.variable.ty = readable_shape U v s.readable in
+          let s : StaticMatch U u v t.address = t.match in
+          let standing : net.root s.written (moved_at U u.map (whole (shared (v ∷ [])))) ≡ t.address =
+          ap (λ o. net.root s.written (whole (shared (key_or_none o)))) s.is_key ∙ sym s.stands in
           subst (λ q. SameStatic U u v q g) y.3 (record {
-            written = shape.scalar s.word;
+            written = s.written;
             found = ap (λ n. var_in bs n) named ∙ t.found ∙ ap (λ b. Some b) (sym standing);
-            same = subst (λ t. SameShape U t (shape.scalar s.word)) (sym shaped) (same_scalar s.readable.variable.ty s.word s.is_word);
-            is_matched = subst (λ t. AllMatched U u t (whole (shared (v ∷ [])))) (sym shaped) matched;
-            ranked = subst (λ t. AllRanked U u t (shape.scalar s.word) (whole (shared (v ∷ [])))) (sym shaped) tt;
+            same = s.same;
+            is_matched = s.matched;
+            ranked = s.ranked;
           })
 
       frames_match : FrameMatch U K u p f g
@@ -231,22 +240,25 @@ module _ (U : Upgrade) (p : ℕ) (c : CoveredProcedure U.program p) (W : Written
             (listed_behind v (parameter_owns D x.params) others
             (listed_behind v (answer_owns D x.answer) os
             (subst (λ ns. list_any (nat_eq v) ns ≡ true) (sym c.locals) (local_listed p v 0 v D.vars is (omega arith)))));
+        has_passing = λ v is. local_there U S K u all ks bs m v (passing_listed U.program p c v is);
         locks = subst (λ z. AllLocked U K u z) (sym is) (locks_later U K w u locked lat held);
         low = below_then base (mark w.src) (mark u.src) low lat.grows;
       }
 
+      grown : Below base (mark u.src)
+      grown = below_then base (mark w.src) (mark u.src) low lat.grows
+
+      places_are_new : (n : ℕ) → list_any (λ (x : ℕ × Address). is_own_of U p x.0 && stands_in n x.1) ks ≡ true → IsOld K (made n) → ⊥
+      places_are_new = local_places U S K u p all ks bs m
+
       run_match : RunMatch U K p me u f g
       run_match = record {
-        next = record {
-          same_object = refl;
-          frames = frames_match;
-          owns = record {
-            variables = λ v a e is. (place_of v a (found_at v a e).match.standing is).own;
-            heads = λ h l a e is k. absurd (nothing_kept a k);
-          };
-        };
-        exact = λ v a e. (found_at v a e).readable.exact;
-        places = local_places U S K u p all ks bs m;
+        same_object = refl;
+        frames =
+            frame_with U K (frame_pledge U p u f) u lat.match (call_is_weaker U p covered_lines base me xs ys u f refl grown places_are_new) p f g
+            (below_self (mark u.src)) frames_match;
+        low = grown;
+        places = places_are_new;
         given = λ v a e is. given_of v a (found_at v a e).match.standing;
       }
 
@@ -288,7 +300,7 @@ module _ (U : Upgrade) (p : ℕ) (c : CoveredProcedure U.program p) (W : Written
     ordered G w =
         ap (λ f. then (made_each D (local_numbers os) w) f)
         (λ i more v. then (laid_as_statics D me x.module_number c.outer (static_numbers os) v i) (λ u z. G more z))
-        ∙ in_order D os (simple_owns U S os sound) G w
+        ∙ in_order D os (flat_owns U S os sound) G w
 
     -- ---- the result variable and what the lines declare
 
@@ -316,11 +328,11 @@ module _ (U : Upgrade) (p : ℕ) (c : CoveredProcedure U.program p) (W : Written
         (right_alone U K w (Locals U K os) r (then r' (λ dims t. gives [] dims t))
         (subst (λ z. Agrees U K w (Locals U K os) r z) (sym (then_gives r'))
         (subst (λ z. Agrees U K w (Locals U K os) z r') (sym (ordered (λ more w. gives [] more w) w.src ∙ then_gives (made_in_order D os w.src)))
-        (locals_agree U K made_alike S refl W.code to outer_home w 0 os sound keyed low start)))))
+        (locals_agree U K made_alike made_arrays laid_arrays ranked S refl W.code to outer_home w 0 os sound keyed low start)))))
     others_agree w to (inr h) low start =
         let y : Variable = h.variable in
-        let r : IsReadable U h.id.0 = (answer_sound h).0 in
-        let is : r.variable ≡ y = (answer_sound h).1 in
+        let r : IsReadable U h.id.0 = (answer_readable h).0 in
+        let is : r.variable ≡ y = (answer_readable h).1 in
         let typed : covers_type y.ty ≡ true = subst (λ (z : Variable). covers_type z.ty ≡ true) is (readable_type U h.id.0 r) in
         let m : WordOf y.ty = word_of y.ty typed in
         let word : scalar_word r.variable.ty ≡ Some m.word = ap (λ (z : Variable). scalar_word z.ty) is ∙ m.is_word in
@@ -360,10 +372,10 @@ module _ (U : Upgrade) (p : ℕ) (c : CoveredProcedure U.program p) (W : Written
         (then (dims_made U.written W.code to 0 ds u.net) (λ dims t. gives [] ((x.name, b) ∷ dims) t))
         (then_agrees U K u (Locals U K os) R (made_in_order D os u.src) (dims_made U.written W.code to 0 ds u.net)
         (λ more s. gives [] ((h.id.0, a) ∷ more) s) (λ dims t. gives [] ((x.name, b) ∷ dims) t) later.match
-        (locals_agree U K made_alike S refl W.code to outer_home u 0 os sound keyed (below_then base (mark w.src) (mark u.src) low later.grows) later.match)
+        (locals_agree U K made_alike made_arrays laid_arrays ranked S refl W.code to outer_home u 0 os sound keyed (below_then base (mark w.src) (mark u.src) low later.grows) later.match)
         (λ ks bs z ms more.
         agrees_gives U K z R ((h.id.0, a) ∷ ks) ((x.name, b) ∷ bs) more.match
-        (next_variable h.id.0 y a (x.name, b) os ks bs (ap is_static h.owner) (sym h.name) (local_later U K u z h.id.0 a b more n) ms))))))))))
+        (next_variable h.id.0 y a (x.name, b) os ks bs (ap is_static h.owner) (sym h.name) (local_later U K u z h.id.0 a b later.match more n) ms))))))))))
 
     -- ---- the entries
 
@@ -441,14 +453,14 @@ module _ (U : Upgrade) (p : ℕ) (c : CoveredProcedure U.program p) (W : Written
     entries_agree w0 w start args l obj held low h =
         let to = option_map w.map.objects me in
         let R = RunMatch U K p me in
-        let quiet = none_quiet U p x c.is_procedure c.params parameter_sound in
+        let placed = λ (j : ℕ). ap (λ o. slice_get (params_at o) (0 + j)) c.is_procedure ∙ ap (λ n. slice_get x.params n) (none_before j) in
         let r = parameters (runnable_of U) p 0 x.params xs w.src in
         let r' = target.parameters U.written W.code.home (heads.params_of H false x.params) ys w.net in
         subst (λ z. Agrees U K w R z (enter U.written W.number to tt ys w.net)) (sym (source_entry w.src))
         (subst (λ z. Agrees U K w R (then r source_rest) z) (sym (target_entry to w.net))
-        (then_agrees U K w (Parameters U p H refl W.code.home K made_alike made_with w0 start parameter_sound quiet x.params xs) R r r' source_rest
+        (then_agrees U K w (Parameters U p H refl refl W.code.home K made_alike made_with w0 start parameter_sound x.params xs) R r r' source_rest
         (target_rest to) h
-        (parameters_agree U p H refl W.code.home K made_alike made_with w0 start parameter_sound quiet x.params c.params 0 xs ys args w l low h)
+        (parameters_agree U p H refl refl W.code.home K made_alike made_with w0 start parameter_sound x.params c.params 0 placed xs ys args w l low h)
         (λ ds gs u m later.
         then_agrees U K u (Locals U K others) R (all_others x.answer u.src) (net_others (result_of W.code) to u.net)
         (λ more w. gives [] (begun_frame me (locked_by xs ++ locked) (ds ++ more)) w) (λ more t. gives [] (net_begun to (gs ++ more)) t) later.match
@@ -457,5 +469,5 @@ module _ (U : Upgrade) (p : ℕ) (c : CoveredProcedure U.program p) (W : Written
         let lat : Later U K w z = later_then U K w u z h later more in
         agrees_gives U K z R (begun_frame me (locked_by xs ++ locked) (ds ++ es)) (net_begun to (gs ++ hs)) more.match
         (run_match w z lat obj held low (ds ++ es) (gs ++ hs)
-        (match_append z (parameter_owns D x.params) others ds es gs hs (locals_later U K u z (parameter_owns D x.params) ds gs more m.0) n)
+        (match_append z (parameter_owns D x.params) others ds es gs hs (locals_later U K u z (parameter_owns D x.params) ds gs later.match more m.0) n)
         (locked_by xs ++ locked) (ap (λ ls. ls ++ locked) m.1))))))

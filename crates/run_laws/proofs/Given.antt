@@ -1,34 +1,38 @@
 -- What a parameter by reference is bound to.
-use Rattle.std.proofs.Common.{◌≡◌, refl, sym, ap, subst, ◌∙◌, inl, inr, ℕ, Bool, true, false, nat_eq, true≢false, Option, Some, List, [], ◌∷◌}
+use Rattle.std.proofs.Common.{◌≡◌, refl, sym, ap, subst, ◌∙◌, ◌&&◌, inl, inr, ℕ, suc, ℤ, Bool, true, false, nat_eq, true≢false, eq-eqb, Option, Some, List, [], ◌∷◌}
 use Rattle.vb_tree.specs.BoundTree as types
 use Rattle.vb_tree.specs.BoundTree.{Ty}
 use Rattle.vb_tree.specs.declared.declared.Owner.{Owner}
 use Rattle.vb_tree.specs.declared.declared.Owner.TheVariants as owner
 use Rattle.net_tree.specs.Types.{TypeName}
 use Rattle.run_base.specs.Frames.{by_address, by_value}
-use Rattle.run_base.specs.Outcomes.{Outcome}
+use Rattle.run_base.specs.Outcomes.{Outcome, after, gives, outside, then}
 use Rattle.run_base.specs.Positions.{Position, made, shared, whole}
 use Rattle.vb6_run.specs.Programs.{bound_to}
 use Rattle.vb6_run.specs.Shapes.{Shape, group, array, endless, is_same_shape, simple, variable_shape}
-use Rattle.vb6_run.specs.Store.{Address, Memory, SourceGiven, is_address_of, locked_by, make_with, root}
-use Rattle.vb6_run.specs.Values.{Value}
+use Rattle.vb6_run.specs.Store.{Address, Memory, SourceGiven, is_address_of, item, laid, locked_by, make_with, provided, root, write}
+use Rattle.vb6_run.specs.Values.{Value, elements, fields, is_makeable, scalar}
 use Rattle.net_run.specs.Program.{parameter_by}
 use Rattle.net_run.specs.Shapes as shape
 use Rattle.net_run.specs.Store as net
 use Rattle.net_run.specs.Values as net_value
 use Rattle.written_trees.specs.Heads as heads
-use Rattle.run_matches.specs.Addresses.{IsTarget, Same}
+use Rattle.run_matches.specs.Addresses.{HasParameterRank, IsTarget, Same, same_item, same_root}
+use Rattle.run_matches.specs.Agreeing.{Agrees}
 use Rattle.run_matches.specs.Covered.{covers_type, is_parameter_of}
-use Rattle.run_matches.specs.Frames.{GivenPlace}
-use Rattle.run_matches.specs.Likeness.{scalar_word}
+use Rattle.run_matches.specs.Frames.{GivenPlace, StandsAs}
+use Rattle.run_matches.specs.Likeness.{SameShape, same_array, same_class, same_scalar, scalar_word}
 use Rattle.run_matches.specs.Maps.{World}
 use Rattle.run_matches.specs.Pledges.{Pledge}
-use Rattle.run_matches.specs.Upgrades.{Upgrade}
-use Rattle.run_statements.specs.Frames.{IsReadable}
+use Rattle.run_matches.specs.Upgrades.{Upgrade, parameter_rank}
+use Rattle.run_statements.specs.Arrays.{array_shape}
+use Rattle.run_statements.specs.Frames.{HasRankOf, IsArray, IsReadable, IsUsable}
 use Rattle.expression_laws.proofs.Types.{same_of}
 use Rattle.memory_laws.proofs.Making.{readable_shape, readable_type}
 use Rattle.memory_laws.proofs.Reading.{ScalarImage, scalar_image}
+use Rattle.agreeing_laws.proofs.Agreeing.{agrees_outside}
 use Rattle.run_laws.proofs.Covered.{some_is}
+use Rattle.run_laws.proofs.Usable.{array_shape_is}
 
 -- ---- values
 
@@ -52,24 +56,50 @@ simple_same ty (group t fs) c h = absurd (true≢false (sym h))
 simple_same ty (array e bounds) c h = absurd (true≢false (sym h))
 simple_same ty endless c h = absurd (true≢false (sym h))
 
-module _ (U : Upgrade) (v : ℕ) (r : IsReadable U v) where
-  shaped : (a : Address) (s : Shape) (q : Position) → a ≡ root s q → is_address_of (variable_shape U.program.declarations v) a ≡ true
-      → a ≡ root (variable_shape U.program.declarations v) q
-  shaped a s q e h =
-      let same : is_same_shape (simple r.variable.ty) s ≡ true =
-      ap (λ d. is_same_shape d s) (sym (readable_shape U v r)) ∙ (sym (ap (is_address_of (variable_shape U.program.declarations v)) e) ∙ h) in
-      e ∙ ap (λ d. root d q) (simple_same r.variable.ty s (readable_type U v r) same ∙ sym (readable_shape U v r))
+-- an array of the same elements, perhaps with other bounds
+array_same : (element : Ty) (bounds : List (ℤ × ℤ)) (s : Shape) → covers_type element ≡ true → is_same_shape (array (simple element) bounds) s ≡ true
+    → (others : List (ℤ × ℤ)) × (s ≡ array (simple element) others)
+array_same element bounds (simple t) c h = absurd (true≢false (sym h))
+array_same element bounds (group t fs) c h = absurd (true≢false (sym h))
+array_same element bounds (array e others) c h = (others, ap (λ z. array z others) (simple_same element e c h))
+array_same element bounds endless c h = absurd (true≢false (sym h))
 
+-- the same shape
+address_same : (s d : Shape) (a : Address) (q : Position) → a ≡ root d q → is_address_of s a ≡ true → is_same_shape s d ≡ true
+address_same s d a q e h = sym (ap (is_address_of s) e) ∙ h
+
+stands_as : (U : Upgrade) (v : ℕ) → IsUsable U v → (a : Address) (s : Shape) (q : Position) → a ≡ root s q
+    → is_address_of (variable_shape U.program.declarations v) a ≡ true → StandsAs (variable_shape U.program.declarations v) a q
+stands_as U v (inl r) a s q e h =
+    let is : variable_shape U.program.declarations v ≡ simple r.variable.ty = readable_shape U v r in
+    subst (λ d. StandsAs d a q) (sym is)
+    (e ∙ ap (λ d. root d q)
+    (simple_same r.variable.ty s (readable_type U v r) (address_same (simple r.variable.ty) s a q e (subst (λ d. is_address_of d a ≡ true) is h))))
+stands_as U v (inr x) a s q e h =
+    let r : IsArray U v x.0 = x.1 in
+    let bounds = r.known.variable.bounds in
+    let is : variable_shape U.program.declarations v ≡ array (simple x.0) bounds = array_shape_is U v x.0 r in
+    let z = array_same x.0 bounds s r.covers (address_same (array (simple x.0) bounds) s a q e (subst (λ d. is_address_of d a ≡ true) is h)) in
+    subst (λ d. StandsAs d a q) (sym is) (z.0, e ∙ ap (λ d. root d q) z.1)
+
+-- an address of a shape stands as that shape
+pub stands_itself : (s : Shape) (a : Address) (q : Position) → a ≡ root s q → StandsAs s a q
+stands_itself (simple ty) a q e = e
+stands_itself (group t fs) a q e = e
+stands_itself (array f bounds) a q e = (bounds, e)
+stands_itself endless a q e = e
+
+module _ (U : Upgrade) (v : ℕ) (r : IsUsable U v) where
   -- an address of the parameter's shape that can be written
   pub given_place : (a : Address) → IsTarget U a → is_address_of (variable_shape U.program.declarations v) a ≡ true → GivenPlace U v a
   given_place a (inl p) h = record {
     position = record { root = made p.place; path = p.path };
-    stands = shaped a p.shape (record { root = made p.place; path = p.path }) p.stands h;
+    stands = stands_as U v r a p.shape (record { root = made p.place; path = p.path }) p.stands h;
     target = inl p;
   }
   given_place a (inr k) h = record {
     position = whole (shared (k.variable ∷ []));
-    stands = shaped a k.of_shape (whole (shared (k.variable ∷ []))) k.stands h;
+    stands = stands_as U v r a k.of_shape (whole (shared (k.variable ∷ []))) k.stands h;
     target = inr k;
   }
 
@@ -90,6 +120,95 @@ shape_taken U K w ty t a b c e same at =
     let word : i.type_name ≡ t = some_is (sym i.is_name ∙ e) in
     ap (λ z. shape.is_same_shape (net.shape_at z) (shape.scalar t)) i.at_target
     ∙ ap (λ z. shape.is_same_word z t) word ∙ word_itself ty t c e
+
+-- ---- arrays
+
+root_shape : (s t : Shape) (q p : Position) → root s q ≡ root t p → s ≡ t
+root_shape s t q p e = cc e
+
+no_item : (e s : Shape) (q p : Position) (j : ℕ) (path : List ℕ) → item e q j path ≡ root s p → ⊥
+no_item e s q p j path x = cc x
+
+-- what is written for an array has some rank
+element_written : (U : Upgrade) (ty : Ty) (t : TypeName) (d : shape.Shape) → covers_type ty ≡ true → scalar_word ty ≡ Some t → SameShape U (simple ty) d
+    → d ≡ shape.scalar t
+element_written U _ t _ c w (same_scalar ty u e) = ap (λ z. shape.scalar z) (some_is (sym e ∙ w))
+element_written U _ t _ c w (same_class k home e) = absurd (true≢false (sym c))
+
+list_written : (U : Upgrade) (e : Shape) (bounds : List (ℤ × ℤ)) (d : shape.Shape) → SameShape U (array e bounds) d
+    → (x : shape.Shape) × (rank : ℕ) × (d ≡ shape.array x rank) × SameShape U e x
+list_written U _ _ _ (same_array e bounds d rank s) = (d, rank, refl, s)
+
+array_written : (U : Upgrade) (element : Ty) (bounds : List (ℤ × ℤ)) (t : TypeName) (d : shape.Shape) → covers_type element ≡ true
+    → scalar_word element ≡ Some t → SameShape U (array (simple element) bounds) d → (rank : ℕ) × (d ≡ shape.array (shape.scalar t) rank)
+array_written U element bounds t d c w same =
+    let x = list_written U (simple element) bounds d same in
+    (x.1, x.2 ∙ ap (λ z. shape.array z x.1) (element_written U element t x.0 c w x.3))
+
+image_written : (U : Upgrade) (K : Pledge) (w : World) (element : Ty) (t : TypeName) (bounds : List (ℤ × ℤ)) (a : Address) (b : net.Address) (p : Position)
+    → covers_type element ≡ true → scalar_word element ≡ Some t → Same U K w a b → a ≡ root (array (simple element) bounds) p
+    → (rank : ℕ) × (net.shape_at b ≡ shape.array (shape.scalar t) rank)
+image_written U K w element t bounds _ _ p c word (same_root s d q sh m r) e =
+    array_written U element bounds t d c word (subst (λ z. SameShape U z d) (root_shape s (array (simple element) bounds) q p e) sh)
+image_written U K w element t bounds _ _ p c word (same_item e s d q k j path keeps m has part sh) is =
+    absurd (no_item e (array (simple element) bounds) q p j path is)
+
+-- its image has the parameter's type exactly, where it has the rank of the parameter
+pub array_taken : (U : Upgrade) (K : Pledge) (w : World) (v : ℕ) (element : Ty) (t : TypeName) (bounds : List (ℤ × ℤ)) (a : Address) (b : net.Address)
+    (p : Position) → covers_type element ≡ true → scalar_word element ≡ Some t → Same U K w a b → a ≡ root (array (simple element) bounds) p
+    → HasRankOf U v (net.shape_at b) → shape.is_same_shape (net.shape_at b) (array_shape U v t) ≡ true
+array_taken U K w v element t bounds a b p c word same at ranked =
+    let x = image_written U K w element t bounds a b p c word same at in
+    let rank : x.0 ≡ U.facts.rank v = subst (λ d. HasRankOf U v d) x.1 ranked in
+    ap (λ z. shape.is_same_shape z (array_shape U v t)) x.1
+    ∙ ap (λ b. b && nat_eq x.0 (U.facts.rank v)) (word_itself element t c word) ∙ eq-eqb x.0 (U.facts.rank v) rank
+
+-- a parameter's rank
+pub rank_for : (U : Upgrade) (p i v : ℕ) (d : shape.Shape) → parameter_rank U p i ≡ U.facts.rank v → HasParameterRank U p i d → HasRankOf U v d
+rank_for U p i v (shape.array d rank) e h = h ∙ e
+rank_for U p i v (shape.scalar t) e h = tt
+rank_for U p i v (shape.class home) e h = tt
+rank_for U p i v (shape.structured home member fs) e h = tt
+rank_for U p i v shape.shapeless e h = tt
+
+-- ---- values that are no arrays, given to one
+
+abbrev pub IsNoElements : Value → Type 0
+IsNoElements (scalar ty z) = Unit {0}
+IsNoElements (fields t xs) = Unit {0}
+IsNoElements (elements e dims xs) = ⊥
+
+write_none : (e : Shape) (bounds : List (ℤ × ℤ)) (x : Value) (q : Position) (m : Memory) → IsNoElements x
+    → write [] x (root (array e bounds) q) m ≡ outside []
+write_none e [] (scalar ty z) q m n = refl
+write_none e [] (fields t xs) q m n = refl
+write_none e [] (elements f dims xs) q m n = absurd n
+write_none e (b ∷ bounds) x q m n = refl
+
+abbrev lays : Bool → Shape → Position → Memory → Outcome Memory Unit
+lays b s q m = provided b (λ v. gives [] tt (laid s q v)) m
+
+pub made_none : {A B : Type 0} (U : Upgrade) (K : Pledge) (w : World) (R : World → A → B → Type 0) (e : Shape) (bounds : List (ℤ × ℤ)) (x : Value)
+    → IsNoElements x → (k : Address → Memory → Outcome Memory A) (r' : Outcome net.Memory B)
+    → Agrees U K w R (then (make_with (array e bounds) x w.src) k) r'
+made_none {A} {B} U K w R e bounds x n k r' = by (is_makeable s)
+  where
+    s : Shape
+    s = array e bounds
+
+    q : Position
+    q = whole (made w.src.next)
+
+    writes : Address → Memory → Outcome Memory Address
+    writes a m = then (write [] x a m) (λ u m. gives [] a m)
+
+    by : (b : Bool)
+        → Agrees U K w R
+        (then (then (then (lays b s q (record w.src { next = suc w.src.next })) (λ u m. gives [] (root s q) m)) writes) k) r'
+    by true =
+        subst (λ z. Agrees U K w R (then (after [] (then z (λ u m. gives [] (root s q) m))) k) r')
+        (sym (write_none e bounds x q (laid s q (record w.src { next = suc w.src.next })) n)) (agrees_outside U K w R r')
+    by false = agrees_outside U K w R r'
 
 -- it locks no array
 pub given_unlocked : (U : Upgrade) (a : Address) (xs : List SourceGiven) → IsTarget U a → locked_by (by_address a ∷ xs) ≡ locked_by xs

@@ -1,5 +1,5 @@
 -- What is written for the head of a covered procedure: its parameters, and the result variable of a Function.
-use Rattle.std.proofs.Common.{◌≡◌, ◌⊎◌, inl, inr, refl, sym, ap, subst, ◌∙◌, ℕ, zero, suc, Bool, true, false, cond, not, ◌&&◌, nat_eq, true≢false, Option, Some, None, option_map, List, [], ◌∷◌, ◌++◌, map}
+use Rattle.std.proofs.Common.{◌≡◌, ◌⊎◌, inl, inr, refl, sym, ap, ◌∙◌, ℕ, zero, suc, Bool, true, false, cond, not, ◌&&◌, nat_eq, true≢false, Option, Some, None, List, [], ◌∷◌, ◌++◌, map, ◌||◌}
 use Rattle.std.specs.Prelude.{is_some, slice_get}
 use Rattle.std.specs.Cmp.Lexicographic.{pointwise}
 use Rattle.std.specs.List.{list_all}
@@ -14,15 +14,14 @@ use Rattle.vb_tree.specs.declared.declared.VarId.{VarId}
 use Rattle.bound_tree.specs.Tree.{Declarations, Procedure, Program, Variable}
 use Rattle.bound_facts.specs.Locks.{is_same_type}
 use Rattle.net_tree.specs.declared.declaration.NetPassing.TheVariants as passing
-use Rattle.net_tree.specs.Tree as net_tree
 use Rattle.net_run.specs.Calls.{passings}
-use Rattle.net_run.specs.Members.{params_of, result_of, Code, params_by, result_by}
+use Rattle.net_run.specs.Members.{result_of}
 use Rattle.written_trees.specs.Arguments.{is_reference_owner, takes_reference_at, takes_reference_of}
 use Rattle.written_trees.specs.Heads as heads
 use Rattle.written_trees.specs.Heads.{is_function}
 use Rattle.written_trees.specs.Names.{Scope}
-use Rattle.run_matches.specs.Callees.{answer_owns, own_of_some, own_at, parameter_owns}
-use Rattle.run_matches.specs.Covered.{covers_parameter, has_answer, has_result, is_answer_of, is_result_in, is_value_in, is_value_of, belongs_to, is_loud, is_loud_owner, is_parameter_in, is_parameter_of}
+use Rattle.run_matches.specs.Callees.{answer_owns, own_of_some}
+use Rattle.run_matches.specs.Covered.{covers_parameter, has_answer, has_result, is_answer_of, is_result_in, belongs_to, covers_type, is_loud_owner, is_parameter_of, is_scalar_or_loud, is_taken_in}
 use Rattle.run_matches.specs.Frames.{result_names}
 use Rattle.run_matches.specs.Sites.{Site, own_name}
 use Rattle.run_matches.specs.Upgrades.{Upgrade}
@@ -38,15 +37,15 @@ pub record Parameter (P : Program) (p : ℕ) (v : VarId) : Type 0 where
   pub variable : Variable
   pub is_variable : slice_get P.declarations.vars v.0 ≡ Some variable
   pub parameter : is_parameter_of p variable.owner ≡ true
-  pub loud : is_loud_owner P v.0 variable.owner ≡ true
+  pub loud : is_scalar_or_loud P v.0 variable ≡ true
 
 pub parameter_is : (P : Program) (p : ℕ) (v : VarId) → covers_parameter P p v ≡ true → Parameter P p v
 parameter_is P p v h = by (slice_get P.declarations.vars v.0) refl h
   where
-    by : (o : Option Variable) → slice_get P.declarations.vars v.0 ≡ o → (is_parameter_in p o && is_loud P v.0 o) ≡ true → Parameter P p v
+    by : (o : Option Variable) → slice_get P.declarations.vars v.0 ≡ o → is_taken_in P p v.0 o ≡ true → Parameter P p v
     by None e k = absurd (true≢false (sym k))
     by (Some y) e k =
-        let both = both_true (is_parameter_of p y.owner) (is_loud_owner P v.0 y.owner) k in
+        let both = both_true (is_parameter_of p y.owner) (is_scalar_or_loud P v.0 y) k in
         record { variable = y; is_variable = e; parameter = both.0; loud = both.1 }
 
 -- it belongs to its procedure
@@ -169,3 +168,11 @@ answer_names U p s x W (inr h) =
     ∙ ap (λ o. map own_name (own_of_some h.id.0 o)) h.is_variable
     ∙ ap {B = List (List ℕ)} (λ n. n ∷ []) h.name
     ∙ sym (ap result_names (a_result U p s x W h))
+
+-- it is no quiet parameter
+pub answer_sound : (U : Upgrade) (p : ℕ) {x : Procedure} (a : HasAnswer U.program.declarations p x) → is_scalar_or_loud U.program a.id.0 a.variable ≡ true
+answer_sound U p a = or_last (covers_type a.variable.ty) (is_loud_owner U.program a.id.0 a.variable.owner) (ap (is_loud_owner U.program a.id.0) a.owner)
+  where
+    or_last : (b c : Bool) → c ≡ true → (b || c) ≡ true
+    or_last true c h = refl
+    or_last false c h = h

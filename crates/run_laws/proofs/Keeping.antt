@@ -13,7 +13,9 @@ use Rattle.run_base.specs.Machines.{behind_error, caught, go, handled, if_active
 use Rattle.run_base.specs.Outcomes.{Output, Outcome, gives, raises, spent, outside, after, then, answered, some_of}
 use Rattle.vb6_run.specs.Expressions.{Context, address_of, scalar_of, scalar_value, value_of, parts_of}
 use Rattle.vb6_run.specs.Forms.{SourceLine, form_does, idle_machine}
-use Rattle.vb6_run.specs.Lines.{branch, case_of, chosen, condition, counted, exit_does, for_does, for_from, goes_if, goes_on, handles_by, has_passed, items_text, keeping_limit, keeps_at, let_to, line_of_label, next_of, print, some_fits, step_of, sum_of, when_done, with_one}
+use Rattle.vb6_run.specs.Lines.{branch, case_of, chosen, condition, counted, exit_does, for_does, for_from, goes_if, goes_on, handles_by, has_passed, items_text, keeping_limit, keeps_at, let_to, line_of_label, next_of, print, redim_does, some_fits, step_of, sum_of, when_done, with_one}
+use Rattle.bound_facts.specs.Parts.{resizes}
+use Rattle.vb6_run.specs.Arrays.{erase}
 use Rattle.vb6_run.specs.Programs.{line_does, machine_of}
 use Rattle.vb6_run.specs.Runnables.{Runnable}
 use Rattle.vb6_run.specs.Store.{Address, Memory, SourceFrame, read, set_err, write}
@@ -182,6 +184,12 @@ form_keeps C uses (source.resume_at a) es w h =
     some_keeps C (line_of_label C a) (λ n w. resume_at (idle_machine C.runnable) n C.frame w) w
     (λ n. active_keeps C C.frame.active (λ w. gives [] (resumed_at n C.frame) w) w refl)
 form_keeps C uses (source.exit kind) es w h = exit_keeps C kind w
+form_keeps C uses (source.redim preserve items) es w h =
+    yields_then (HasVars C.frame) (redim_does C preserve (resizes items es) w) (λ x w. goes_on C w) (λ x w. refl)
+form_keeps C uses (source.erase target) [] w h = absurd (true≢false (sym h))
+form_keeps C uses (source.erase target) (e ∷ []) w h =
+    yields_then (HasVars C.frame) (then (address_of C e w) (erase C.frame.env)) (λ x w. goes_on C w) (λ x w. refl)
+form_keeps C uses (source.erase target) (e ∷ d ∷ es) w h = absurd (true≢false (sym h))
 form_keeps C uses _ es w h = absurd (true≢false (sym h))
 
 module _ (R : Runnable) (f : SourceFrame) (l : SourceLine) where

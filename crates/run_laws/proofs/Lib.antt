@@ -1,6 +1,7 @@
 pub mod Covered
 pub mod Keeping
 pub mod Dims
+pub mod Usable
 pub mod StaticOrder
 pub mod StaticKeys
 pub mod Locals
@@ -9,6 +10,7 @@ pub mod Names
 pub mod Heads
 pub mod Given
 pub mod Parameters
+pub mod Passing
 pub mod Standing
 pub mod Entries
 pub mod Pledged

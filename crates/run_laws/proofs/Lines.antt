@@ -3,30 +3,31 @@ use Rattle.std.proofs.Common.{◌≡◌, sym, ap, subst, ◌∙◌, ℕ, zero, s
 use Rattle.std.specs.Prelude.{slice_get}
 use Rattle.std.specs.List.{Contains, list_all}
 use Rattle.std.proofs.lemmas.Option.{slice_get-map}
-use Rattle.vb_tree.specs.declared.declared.VarId.{VarId}
 use Rattle.bound_tree.specs.Tree.{Expr, Line, Procedure}
 use Rattle.bound_facts.specs.Calls.{line_calls}
 use Rattle.bound_facts.specs.Node.{args_at, called}
 use Rattle.bound_facts.specs.Parts.{line_uses}
 use Rattle.run_base.specs.Machines.{go, line_at, line_in, nth_line}
+use Rattle.written_trees.specs.Bodies.{inside_procedure}
 use Rattle.vb6_run.specs.Forms.{SourceLine, body_of}
 use Rattle.vb6_run.specs.Programs as source
 use Rattle.net_run.specs.Lines.{NetFrame, NetLine, scope_of}
 use Rattle.net_run.specs.Program as target
 use Rattle.run_matches.specs.CleanLines.{IsCleanLine, or_none, lines_at}
-use Rattle.run_matches.specs.Covered.{IsCoveredLine, covers_in_block, covers_line, covers_names, covers_use, jump_of, keeps_blocks, resumes}
+use Rattle.run_matches.specs.Covered.{IsCoveredLine, covers_in_block, covers_line, covers_names, jump_of, keeps_blocks, resumes, uses_in}
 use Rattle.run_matches.specs.Frames.{HasNames, lines_of}
 use Rattle.run_matches.specs.Runs.{LineDoesTheSame, CallsAgree}
 use Rattle.run_matches.specs.Sites.{Site, site_of}
 use Rattle.run_matches.specs.Upgrades.{Upgrade, code_of, runnable_of}
-use Rattle.run_statements.specs.Frames.{IsOpen, IsReadable}
+use Rattle.run_statements.specs.Fitting.{FitsLine, FitsNode}
+use Rattle.run_statements.specs.Frames.{AreReadable, IsOpen}
 use Rattle.run_statements.specs.Kept.{IsUnreplaced, LineStands, LinesAgree, LinesAreWritten, NamesAreOpen, StoresAreOwn, UsesArePlaced, CanCallFrom, SameLineIn}
-use Rattle.run_statements.specs.Written.{SameLines, WrittenLine, WrittenProcedure, Passes}
+use Rattle.run_statements.specs.Written.{SameLines, WrittenLine, WrittenProcedure, Passes, site_scope}
 use Rattle.run_laws.specs.Premises.{LinePremises}
 use Rattle.run_laws.proofs.Covered.{PlainProcedure, bound_line, not_none, plain_parts, some_is}
 use Rattle.line_laws.proofs.Called.{use_calls}
-use Rattle.run_laws.proofs.Callees.{call_suits, callee_covered, called_clean, can_call}
-use Rattle.run_laws.proofs.Names.{code_is}
+use Rattle.run_laws.proofs.Callees.{call_fits, call_suits, callee_covered, called_clean, can_call}
+use Rattle.run_laws.proofs.Names.{code_is, is_below}
 
 -- the bound lines of a procedure, as its lines
 pub body_is : (U : Upgrade) (p : ℕ) (lines : List Line) → slice_get U.program.bodies p ≡ Some lines
@@ -55,16 +56,17 @@ module _ (U : Upgrade) (lines_written : LinesAreWritten U) (names_open : NamesAr
 
   pub line_same : (k : ℕ) (l : SourceLine) → line_at (source.machine_of (runnable_of U)) p (suc k) ≡ Some l → list_all keeps_blocks lines ≡ true
       → IsUnreplaced U p s k → covers_names U.program.declarations ≡ true → covers_line U.program p l.form ≡ true
-      → ((v : VarId) → covers_use U.program p l.form.bindings.mentions v ≡ true → IsReadable U v.0) → UsesArePlaced U p s W.code l.form → StoresAreOwn U p l.form
-      → ((d : Expr) (q : ℕ) → Contains (line_uses l.form) d → called d ≡ Some q → CanCallFrom U p s W.code q (args_at d)) → LineStands U p s W.number W.code (suc k) l
+      → AreReadable U (inside_procedure (site_scope U s) p) (uses_in U.program p l.form.bindings.mentions) → UsesArePlaced U p s W.code l.form → StoresAreOwn U p l.form
+      → ((d : Expr) (q : ℕ) → Contains (line_uses l.form) d → called d ≡ Some q → CanCallFrom U p s W.code q (args_at d))
+      → ((d : Expr) → Contains (line_uses l.form) d → FitsNode U d) → FitsLine U p l.form → LineStands U p s W.number W.code (suc k) l
       → LineSame U p W.number (suc k) l
-  line_same k l e blocks unreplaced names covers readable placed own can there =
+  line_same k l e blocks unreplaced names covers readable placed own can fits resizes there =
       let L : WrittenLine U p s W.number (suc k) l = lines_written p s x stands W k l e (blocks_in blocks) unreplaced in
       record {
         line = L.line;
         is_line = L.is_line;
         same = λ turns calls.
-            lines_agree p s W.number (suc k) turns l W.code L W.is_code (names_in names) readable placed own calls can covers there;
+            lines_agree p s W.number (suc k) turns l W.code L W.is_code (names_in names) readable placed own calls can fits resizes covers there;
       }
 
 -- ---- lines by themselves
@@ -80,6 +82,7 @@ module _ (U : Upgrade) (h : LinePremises U) where
       (record { lines = c.lines; are_lines = c.are_lines; place = k; stands = c.is_line }) call (callee_covered U p q c.line c.calls call)
       (called_clean U p (suc k) c.line clean (ap (λ o. nth_line (or_none o) (suc k)) c.are_lines ∙ c.is_line) q call, c.entered q call)
       (args_at d) (call_suits U p q c.line d c.calls m e)
+      (call_fits U q d (h.fits p k c.line clean (ap (λ o. nth_line (or_none o) (suc k)) c.are_lines ∙ c.is_line) d m) e)
 
   one_line : (p k : ℕ) → IsCleanLine U.program U.facts.marks p (suc k) → IsCoveredLine U.program p (suc k) → LineDoesTheSame U p (suc k)
   one_line p k clean c =
@@ -91,16 +94,19 @@ module _ (U : Upgrade) (h : LinePremises U) where
       let form : l.form ≡ c.line = found.2 in
       let is : line_at (source.machine_of (runnable_of U)) p (suc k) ≡ Some l = line_is U p c.lines (suc k) c.are_lines ∙ found.1 in
       let covers : covers_line U.program p l.form ≡ true = subst (λ m. covers_line U.program p m ≡ true) (sym form) c.covers in
-      let readable : (v : VarId) → covers_use U.program p l.form.bindings.mentions v ≡ true → IsReadable U v.0 =
-      λ v e. h.readable p k clean c v (subst (λ (m : Line). covers_use U.program p m.bindings.mentions v ≡ true) form e) in
+      let readable : AreReadable U (inside_procedure (site_scope U c.site) p) (uses_in U.program p l.form.bindings.mentions) =
+      subst (λ (m : Line). AreReadable U (inside_procedure (site_scope U c.site) p) (uses_in U.program p m.bindings.mentions)) (sym form)
+      (h.readable p k clean c) in
       let here : nth_line (lines_at U.program p) (suc k) ≡ Some l.form =
       ap (λ o. nth_line (or_none o) (suc k)) c.are_lines ∙ c.is_line ∙ ap {B = Option Line} (λ m. Some m) (sym form) in
       let z : LineSame U p W.number (suc k) l =
       line_same U h.lines h.names h.agree p c.site x.procedure c.is_site W c.lines c.are_lines k l is c.blocks
       (h.unreplaced p k c.site c.is_site clean c) c.names covers readable
       (h.placed p c.site x.procedure c.is_site x.is_procedure W l.form readable) (h.stores p x.procedure x.is_procedure k l.form here covers)
-      (λ d q m e. can_call_from p k clean c x W d q (subst (λ (n : Line). Contains (line_uses n) d) form m) e)
+      (λ d q m e. can_call_from p k clean c x W d q (subst (λ (n : Line). Contains (line_uses n) d) form m) e) (h.fits p k l.form clean here)
+      (h.resizes p k l.form clean here)
       (record {
+        is_procedure = is_below U.program.declarations.procs p x.procedure x.is_procedure;
         is_there = here;
         in_block = subst (λ ls. covers_in_block U.program p ls l ≡ true) (sym lines_are) (c.stands l found.1);
         label = λ a e. absurd (not_none (sym (ap (λ (m : Line). jump_of m.source.form) form ∙ c.stays) ∙ e));

@@ -12,11 +12,9 @@ use Rattle.run_matches.specs.Sites.{Own, Site, own_constant, own_constants, own_
 use Rattle.vb_tree.specs.Blocks.{is_code}
 use Rattle.written_trees.specs.Prologues.{declares}
 use Rattle.run_matches.specs.Upgrades.{Upgrade}
-use Rattle.run_statements.specs.Frames.{IsReadable}
 use Rattle.run_statements.specs.Kept.{OwnsAreKept}
 use Rattle.run_statements.specs.Written.{WrittenProcedure, site_scope}
 use Rattle.run_laws.specs.Entered.{AllSound, IsSound}
-use Rattle.run_laws.proofs.Covered.{some_is}
 
 contains_first : {A : Type 0} (x : A) (xs : List A) → Contains (x ∷ xs) x
 contains_first x xs = Contains-append_left (x ∷ []) xs x (Contains-push [] x)
@@ -91,7 +89,7 @@ module _ (D : Declarations) where
 module _ (U : Upgrade) (p : ℕ) (s : Site) (x : Procedure) (W : WrittenProcedure U p s x) (kept : OwnsAreKept U p s x W) where
   one_sound : (o : Own) → Contains (owns_of U.program.declarations s) o → IsDeclared U.program.declarations o
       → IsSound U (inside_procedure (site_scope U s) p) o
-  one_sound (own_variable v y) h e = let r : IsReadable U v = kept.variables v y h in (r, some_is (sym r.is_variable ∙ e))
+  one_sound (own_variable v y) h e = (kept.variables v y h, e)
   one_sound (own_constant c y) h e = kept.constants c y h
 
   sound_among : (os : List Own) → ((o : Own) → Contains os o → Contains (owns_of U.program.declarations s) o) → AllDeclared U.program.declarations os

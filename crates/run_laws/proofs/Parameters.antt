@@ -1,68 +1,86 @@
 -- The parameters and the result variable of an entry are made on both sides.
 use Rattle.vb_tree.specs.declared.declared.Owner.{Owner}
-use Rattle.std.proofs.Common.{◌≡◌, refl, sym, ap, subst, ◌∙◌, ℕ, suc, Bool, true, false, not, ◌&&◌, true≢false, Option, Some, None, List, [], ◌∷◌, ◌++◌, inl, inr, cond, nat_eq}
+use Rattle.std.proofs.Common.{◌≡◌, refl, sym, ap, subst, ◌∙◌, ℕ, suc, Bool, true, false, not, ◌&&◌, true≢false, Some, List, [], ◌∷◌, ◌++◌, inl, inr, cond, ◌+◌, arith}
 use Rattle.std.specs.Prelude.{slice_get}
 use Rattle.std.specs.List.{list_all}
 use Rattle.up_base.proofs.Lists.{all_first, all_rest}
 use Rattle.up_base.proofs.Tests.{both_true}
+use Rattle.vb_tree.specs.BoundTree as types
 use Rattle.vb_tree.specs.BoundTree.{Ty}
 use Rattle.vb_tree.specs.declared.declared.Owner.TheVariants as owner
 use Rattle.vb_tree.specs.declared.declared.ProcId.{ProcId}
 use Rattle.vb_tree.specs.declared.declared.VarId.{VarId}
-use Rattle.bound_tree.specs.Tree.{Declarations, Procedure, Variable}
+use Rattle.bound_tree.specs.Tree.{Declarations, Variable}
 use Rattle.bound_facts.specs.Effects.{params_at, is_own_owner, is_own_variable}
-use Rattle.bound_facts.specs.Facts.{is_quiet_owner, is_quiet_variable}
-use Rattle.net_tree.specs.declared.declaration.NetPassing.TheVariants as passing
+use Rattle.bound_facts.specs.Facts.{Known, is_quiet, is_quiet_owner, is_quiet_variable}
+use Rattle.bound_facts.specs.Node.{is_array_type}
 use Rattle.net_tree.specs.Tree as net_tree
+use Rattle.net_tree.specs.Types as words
 use Rattle.net_tree.specs.Types.{TypeName}
 use Rattle.run_base.specs.Frames.{by_address, by_value}
 use Rattle.run_base.specs.Outcomes.{Outcome, after, gives, some_of, then, outside}
-use Rattle.run_base.specs.Positions.{made, whole}
-use Rattle.vb6_run.specs.Programs.{bound_to, parameters}
-use Rattle.vb6_run.specs.Shapes.{Shape, variable_shape, simple}
-use Rattle.vb6_run.specs.Store.{Address, Memory, SourceGiven, locked_by, make, make_with, root, write, is_address_of, lay, provided}
-use Rattle.vb6_run.specs.Values.{Value, is_makeable}
+use Rattle.run_base.specs.Positions.{Position, made, whole}
+use Rattle.vb6_run.specs.Programs.{bound_to, parameters, temporary}
+use Rattle.vb6_run.specs.Shapes.{Shape, array, simple, variable_shape}
+use Rattle.vb6_run.specs.Store.{Address, Memory, SourceGiven, constant, is_address_of, locked_by, make, make_with, provided, root, write}
+use Rattle.vb6_run.specs.Values.{Value, elements, fields, scalar}
 use Rattle.net_run.specs.Program as target
 use Rattle.net_run.specs.Shapes as shape
 use Rattle.net_run.specs.Store as net
 use Rattle.net_run.specs.Values as net_value
 use Rattle.written_trees.specs.Heads as heads
+use Rattle.written_trees.specs.Facts.{Facts, is_array_variable}
 use Rattle.written_trees.specs.Names.{Scope}
+use Rattle.written_trees.specs.Types.{type_with}
 use Rattle.written_trees.specs.Prologues.{is_static}
-use Rattle.run_matches.specs.Addresses.{ArgsMatch, address_args, no_args, source_bound, target_bound, value_args, IsPlain, IsTarget, Same}
+use Rattle.run_matches.specs.Addresses.{ArgsMatch, Bound, GivesNoArray, HasParameterRank, IsPlain, IsTarget, IsTypedAs, Mirrors, Same, address_args, images, mirrored, no_args, source_bound, target_bound, value_args}
 use Rattle.run_matches.specs.Agreeing.{Agrees}
 use Rattle.run_matches.specs.Callees.{own_of_some, parameter_owns}
 use Rattle.run_matches.specs.Covered.{covers_owner, covers_parameter, covers_type, is_parameter_of}
-use Rattle.run_matches.specs.Frames.{GivenPlace}
+use Rattle.run_matches.specs.Frames.{GivenPlace, StandsAs, is_element, is_own_of}
 use Rattle.run_matches.specs.Likeness.{LikeV, scalar_word}
 use Rattle.run_matches.specs.Maps.{Below, World, mark}
 use Rattle.run_matches.specs.Match.{MemoryMatch, StoreMatch}
 use Rattle.run_matches.specs.Pledges.{Later, NetGiven, Pledge}
 use Rattle.run_matches.specs.Sites.{own_variable}
-use Rattle.run_matches.specs.Upgrades.{Upgrade, is_quiet_id, runnable_of}
-use Rattle.run_statements.specs.Frames.{IsReadable, MadeMatch}
+use Rattle.run_matches.specs.Upgrades.{Upgrade, is_array_id, is_quiet_id, parameter_rank, rank_of_id, runnable_of, takes_array}
+use Rattle.run_statements.specs.Arrays.{array_shape}
+use Rattle.run_statements.specs.Frames.{HasRankOf, IsArray, IsReadable, IsUsable, MadeMatch}
 use Rattle.agreeing_laws.specs.Promises.{Yields}
-use Rattle.row_laws.proofs.Composing.{then_assoc}
-use Rattle.agreeing_laws.proofs.Agreeing.{agrees_gives, agrees_outside, agrees_weaker, agrees_yields, left_alone, right_alone, then_agrees}
+use Rattle.row_laws.proofs.Composing.{then_assoc, then_gives}
+use Rattle.agreeing_laws.proofs.Agreeing.{agrees_gives, agrees_outside, agrees_weaker, agrees_yields, right_alone, then_agrees}
 use Rattle.agreeing_laws.proofs.Lasting.{later_from, weaker_self}
 use Rattle.agreeing_laws.proofs.Made.{below_then}
 use Rattle.agreeing_laws.proofs.Moves.{address_later}
 use Rattle.line_laws.proofs.Bounds as bounds
 use Rattle.line_laws.proofs.Bounds.{plain_later}
 use Rattle.memory_laws.proofs.Making.{readable_shape}
+use Rattle.memory_laws.proofs.Quiet.{QuietMatch, source_is_bound, target_is_bound, values_bound}
 use Rattle.run_laws.specs.Entered.{LocalMatch, LocalsMatch, next_variable, no_locals}
 use Rattle.run_laws.specs.Premises.{LocalsAreMadeBy, ValuesAreMadeBy}
-use Rattle.run_laws.proofs.Covered.{all_at}
+use Rattle.run_laws.proofs.Covered.{some_is}
+use Rattle.run_laws.proofs.Usable.{array_shape_is}
 use Rattle.run_laws.proofs.Dims.{WordOf, word_of}
-use Rattle.run_laws.proofs.Given.{given_place, given_unlocked, shape_taken, value_bound, value_taken}
+use Rattle.run_laws.proofs.Given.{IsNoElements, array_taken, given_place, given_unlocked, made_none, rank_for, shape_taken, value_bound, value_taken}
 use Rattle.run_laws.proofs.Heads.{Parameter, parameter_is}
 use Rattle.run_laws.proofs.Keeping.{yields_after, yields_then}
 use Rattle.run_laws.proofs.Locals.{local_later, makes_next, new_place}
+
+none_more : (i : ℕ) → i ≡ i + 0
+none_more i = omega arith
+
+one_more : (i j : ℕ) → suc i + j ≡ i + suc j
+one_more i j = omega arith
 
 -- a parameter is no Static
 never_static : (p : ℕ) (o : Owner) → is_parameter_of p o ≡ true → is_static o ≡ false
 never_static p (owner.Static q) h = absurd (true≢false (sym h))
 never_static p _ h = refl
+
+-- what is given by reference is no element
+whole_of : (U : Upgrade) (a : Address) → IsTarget U a → is_element a ≡ false
+whole_of U a (inl p) = ap is_element p.stands
+whole_of U a (inr k) = ap is_element k.stands
 
 -- ---- making
 
@@ -92,7 +110,11 @@ module _ (U : Upgrade) (K : Pledge) (made_alike : LocalsAreMadeBy U K) (made_wit
       let s : Shape = variable_shape U.program.declarations v in
       let Q : Address → Memory → Type 0 = λ a u. a ≡ root s (whole (made w.src.next)) in
       agrees_weaker U K w (λ u a b. MadeMatch U K v ty t u a b × Q a u.src) (Local v) r r'
-      (λ u a b l m. record { same = m.0.same; standing = inl (record { place = m.0.place; own = new_place K w a s low m.1 }) }) (agrees_yields U K w (MadeMatch U K v ty t) Q r r' y h)
+      (λ u a b l m. record {
+        bound = images (not (is_quiet U.program.declarations U.known v)) a b m.0.same;
+        ranked = subst (λ d. HasRankOf U v (net.shape_at d)) (sym m.0.target_shape.1) tt;
+        standing = inl (record { place = m.0.place; own = new_place K w a s low m.1 });
+      }) (agrees_yields U K w (MadeMatch U K v ty t) Q r r' y h)
 
   -- a variable with its first value
   pub local_is_made : (w : World) (v : ℕ) (r : IsReadable U v) (t : TypeName) → scalar_word r.variable.ty ≡ Some t → Below K.base (mark w.src)
@@ -115,45 +137,90 @@ module _ (U : Upgrade) (K : Pledge) (made_alike : LocalsAreMadeBy U K) (made_wit
 
 -- ---- quiet parameters
 
--- a parameter can be read
+-- a parameter is a scalar or an array
 abbrev pub AreParameters : Upgrade → (p : ℕ) → Type 0
-AreParameters U p = (v : VarId) (q : Parameter U.program p v) → (r : IsReadable U v.0) × (r.variable ≡ q.variable)
+AreParameters U p = (v : VarId) → Parameter U.program p v → IsUsable U v.0
 
-quiet_by : (U : Upgrade) (p : ℕ) (vs : List VarId) (i : ℕ) → list_all (covers_parameter U.program p) vs ≡ true → AreParameters U p
-    → is_quiet_id U.program.declarations U.known (slice_get vs i) ≡ false
-quiet_by U p vs i h readable = by (slice_get vs i) refl
-  where
-    by : (o : Option VarId) → slice_get vs i ≡ o → is_quiet_id U.program.declarations U.known o ≡ false
-    by None e = refl
-    by (Some v) e = (readable v (parameter_is U.program p v (all_at (covers_parameter U.program p) vs i v h e))).0.exact
-
--- none is quiet
-pub none_quiet : (U : Upgrade) (p : ℕ) (x : Procedure) → slice_get U.program.declarations.procs p ≡ Some x
-    → list_all (covers_parameter U.program p) x.params ≡ true → AreParameters U p → (i : ℕ) → (runnable_of U).quiet p i ≡ false
-none_quiet U p x e h readable i =
-    ap (λ o. is_quiet_id U.program.declarations U.known (slice_get (params_at o) i)) e ∙ quiet_by U p x.params i h readable
+-- a quiet one takes a reference
+quiet_reference : (F : Known) (o : Owner) (b : Bool) → (is_quiet_owner F o && not b) ≡ true → (id : ProcId) × (o ≡ owner.Reference id)
+quiet_reference F (owner.Reference id) b h = (id, refl)
+quiet_reference F _ b h = absurd (true≢false (sym h))
 
 -- ---- one parameter
 
 abbrev param_of : Owner → List ℕ → TypeName → net_tree.Param
 param_of o name t = record { passing = heads.passing_of o; name = name; ty = t }
 
-module _ (U : Upgrade) (p : ℕ) (S : Scope) (same : S.declarations ≡ U.program.declarations) (home : ℕ) where
+module _ (U : Upgrade) (p : ℕ) (S : Scope) (same : S.declarations ≡ U.program.declarations) (facts : S.facts ≡ U.facts) (home : ℕ) where
   abbrev D : Declarations
   D = U.program.declarations
 
+  abbrev ps : List VarId
+  ps = params_at (slice_get D.procs p)
+
+  -- the type of a parameter, and its shape, which what is given by reference has exactly
+  pub record ParamWritten (v : VarId) (q : Parameter U.program p v) : Type 1 where
+    pub word : TypeName
+    pub written : shape.Shape
+    pub is_param : heads.param_by S false v.0 (slice_get S.declarations.vars v.0) ≡ param_of q.variable.owner q.variable.name word ∷ []
+    pub shaped : shape.shape_of U.written home word ≡ written
+    pub taken :
+        (K : Pledge) (w : World) (a : Address) (b : net.Address) (z : Position) → Same U K w a b → StandsAs (variable_shape D v.0) a z
+        → HasRankOf U v.0 (net.shape_at b) → shape.is_same_shape (net.shape_at b) written ≡ true
+
   -- what is written for a parameter
-  param_is : (v : VarId) (q : Parameter U.program p v) (m : WordOf q.variable.ty)
-      → heads.param_by S false v.0 (slice_get S.declarations.vars v.0) ≡ param_of q.variable.owner q.variable.name m.word ∷ []
-  param_is v q m =
+  param_is : (v : VarId) (q : Parameter U.program p v) (t : TypeName)
+      → type_with S.declarations S.file q.variable.qualified (S.facts.rank v.0) q.variable.ty ≡ t
+      → heads.param_by S false v.0 (slice_get S.declarations.vars v.0) ≡ param_of q.variable.owner q.variable.name t ∷ []
+  param_is v q t written =
       let y : Variable = q.variable in
       ap (λ E. heads.param_by S false v.0 (slice_get E.vars v.0)) same
       ∙ ap (heads.param_by S false v.0) q.is_variable
-      ∙ (λ i. record {
-        passing = heads.passing_of y.owner;
-        name = y.name;
-        ty = m.written S.declarations S.file y.qualified (S.facts.rank v.0) i;
-      } ∷ [])
+      ∙ ap (λ z. param_of y.owner y.name z ∷ []) written
+
+  param_written : (v : VarId) (q : Parameter U.program p v) → IsUsable U v.0 → ParamWritten v q
+  param_written v q (inl r) =
+      let y : Variable = q.variable in
+      let joined : r.variable ≡ y = some_is (sym r.is_variable ∙ q.is_variable) in
+      let m : WordOf y.ty = word_of y.ty (subst (λ (z : Variable). covers_type z.ty ≡ true) joined (readable_type U v.0 r)) in
+      let word : scalar_word r.variable.ty ≡ Some m.word = ap (λ (z : Variable). scalar_word z.ty) joined ∙ m.is_word in
+      record {
+        word = m.word;
+        written = shape.scalar m.word;
+        is_param = param_is v q m.word (m.written S.declarations S.file y.qualified (S.facts.rank v.0));
+        shaped = m.shaped U.written home;
+        taken = λ K w a b z same stands ranked.
+            shape_taken U K w r.variable.ty m.word a b (readable_type U v.0 r) word same
+            (z, subst (λ d. StandsAs d a z) (readable_shape U v.0 r) stands);
+      }
+  param_written v q (inr x) =
+      let y : Variable = q.variable in
+      let element : Ty = x.0 in
+      let r : IsArray U v.0 element = x.1 in
+      let joined : r.known.variable ≡ y = some_is (sym r.known.is_variable ∙ q.is_variable) in
+      let m : WordOf element = word_of element r.covers in
+      let is : y.ty ≡ types.array element r.rank = sym (ap (λ (z : Variable). z.ty) joined) ∙ r.is_array in
+      let listed : type_with S.declarations S.file y.qualified (S.facts.rank v.0) y.ty ≡ words.array_of m.word (U.facts.rank v.0) =
+      ap (λ ty. type_with S.declarations S.file y.qualified (S.facts.rank v.0) ty) is
+      ∙ ap (λ t. words.array_of t (S.facts.rank v.0)) (m.written S.declarations S.file y.qualified (S.facts.rank v.0))
+      ∙ ap (λ (F : Facts). words.array_of m.word (F.rank v.0)) facts in
+      record {
+        word = words.array_of m.word (U.facts.rank v.0);
+        written = array_shape U v.0 m.word;
+        is_param = param_is v q (words.array_of m.word (U.facts.rank v.0)) listed;
+        shaped = m.listed U.written home (U.facts.rank v.0);
+        taken = λ K w a b z same stands ranked.
+            let at = subst (λ d. StandsAs d a z) (array_shape_is U v.0 element r) stands in
+            array_taken U K w v.0 element m.word at.0 a b z r.covers m.is_word same at.1 ranked;
+      }
+
+  -- an array is one where it is taken
+  array_there : (v : VarId) (i : ℕ) (element : Ty) → IsArray U v.0 element → slice_get ps i ≡ Some v → takes_array U.program.declarations p i ≡ true
+  array_there v i element r at =
+      ap (is_array_id D) at ∙ ap is_array_variable r.known.is_variable ∙ ap is_array_type r.is_array
+
+  rank_there : (v : VarId) (i : ℕ) → slice_get ps i ≡ Some v → parameter_rank U p i ≡ U.facts.rank v.0
+  rank_there v i at = ap (rank_of_id U) at
 
   -- what the source binds to it
   bound_is : (v : VarId) (q : Parameter U.program p v) (quiet : Bool) (g : SourceGiven) (w : Memory)
@@ -165,8 +232,8 @@ module _ (U : Upgrade) (p : ℕ) (S : Scope) (same : S.declarations ≡ U.progra
   owns_is v q vs = ap (λ o. own_of_some v.0 o ++ parameter_owns D vs) q.is_variable
 
   module _ (K : Pledge) (made_alike : LocalsAreMadeBy U K) (made_with : ValuesAreMadeBy U K) (w0 : World) (start : StoreMatch U w0)
-      (readable : AreParameters U p) (quiet : (i : ℕ) → (runnable_of U).quiet p i ≡ false) where
-    -- the variables of parameters, given values alone
+      (readable : AreParameters U p) where
+    -- the variables of parameters, which lock no array
     abbrev pub Parameters : List VarId → List SourceGiven → World → List (ℕ × Address) → List (List ℕ × net.Address) → Type 0
     Parameters vs xs u ks bs = LocalsMatch U K u (parameter_owns D vs) ks bs × (locked_by xs ≡ [])
 
@@ -179,147 +246,293 @@ module _ (U : Upgrade) (p : ℕ) (S : Scope) (same : S.declarations ≡ U.progra
     abbrev source_from : (v : VarId) → Outcome Memory Address → (i : ℕ) → List VarId → List SourceGiven → Outcome Memory (List (ℕ × Address))
     source_from v r i vs xs = then r (λ a w. then (parameters (runnable_of U) p i vs xs w) (λ rest w. gives [] ((v.0, a) ∷ rest) w))
 
-    -- an address at a parameter that takes a value
-    first_outside : (v : VarId) (q : Parameter U.program p v) (id : ProcId) → q.variable.owner ≡ owner.Value id → (i : ℕ) (vs : List VarId) (a : Address)
-        (xs : List SourceGiven) (w : World) (r' : Outcome net.Memory (List (List ℕ × net.Address)))
-        → Agrees U K w (Parameters (v ∷ vs) (by_address a ∷ xs)) (parameters (runnable_of U) p i (v ∷ vs) (by_address a ∷ xs) w.src) r'
-    first_outside v q id is i vs a xs w r' =
-        subst (λ z. Agrees U K w (Parameters (v ∷ vs) (by_address a ∷ xs)) (source_from v z (suc i) vs xs) r')
-        (sym (bound_is v q ((runnable_of U).quiet p i) (by_address a) w.src
-        ∙ ap (λ o. bound_to ((runnable_of U).quiet p i) o (variable_shape D v.0) (by_address a) w.src) is))
-        (agrees_outside U K w (Parameters (v ∷ vs) (by_address a ∷ xs)) r')
+    -- the parameters stand at their places
+    first_there : (i : ℕ) (v : VarId) (vs : List VarId) → ((j : ℕ) → slice_get ps (i + j) ≡ slice_get (v ∷ vs) j) → slice_get ps i ≡ Some v
+    first_there i v vs there = ap (λ n. slice_get ps n) (none_more i) ∙ there 0
 
-    next_agrees : (v : VarId) (q : Parameter U.program p v) (i : ℕ) (vs : List VarId) (x : Value) (y : net_value.Value) (xs : List SourceGiven) (ys : List NetGiven)
-        → LikeV U w0 x y → Rest vs (suc i) xs ys → (w : World) → Later U K w0 w → Below K.base (mark w.src) → MemoryMatch U w
-        → Agrees U K w (Parameters (v ∷ vs) (by_value x ∷ xs)) (parameters (runnable_of U) p i (v ∷ vs) (by_value x ∷ xs) w.src)
-        (target.parameters U.written home (heads.params_of S false (v ∷ vs)) (by_value y ∷ ys) w.net)
-    next_agrees v q i vs x y xs ys like rest w l low h =
-        let r : IsReadable U v.0 = (readable v q).0 in
-        let is : r.variable ≡ q.variable = (readable v q).1 in
-        let m : WordOf q.variable.ty = word_of q.variable.ty (subst (λ (z : Variable). covers_type z.ty ≡ true) is (readable_type U v.0 r)) in
-        let word : scalar_word r.variable.ty ≡ Some m.word = ap (λ (z : Variable). scalar_word z.ty) is ∙ m.is_word in
-        let s : Shape = variable_shape D v.0 in
-        let R = Parameters (v ∷ vs) (by_value x ∷ xs) in
-        let name = q.variable.name in
-        let ps = heads.params_of S false vs in
-        let made = net.made_with (shape.scalar m.word) y w.net in
-        let from = λ (z : Outcome net.Memory (List ℕ × net.Address)).
-        then z (λ b t. then (target.parameters U.written home ps ys t) (λ bs t. gives [] (b ∷ bs) t)) in
-        subst (λ z. Agrees U K w R (source_from v z (suc i) vs xs) (target.parameters U.written home (heads.params_of S false (v ∷ vs)) (by_value y ∷ ys) w.net))
-        (sym (bound_is v q ((runnable_of U).quiet p i) (by_value x) w.src
-        ∙ ap (λ t. bound_to t q.variable.owner s (by_value x) w.src) (quiet i) ∙ value_bound p q.variable.owner q.parameter s x w.src))
-        (subst (λ z. Agrees U K w R (source_from v (make_with s x w.src) (suc i) vs xs) (target.parameters U.written home (z ++ ps) (by_value y ∷ ys) w.net))
-        (sym (param_is v q m))
-        (subst (λ z. Agrees U K w R (source_from v (make_with s x w.src) (suc i) vs xs)
-        (from (then z (λ a t. gives [] (name, a) t))))
-        (sym (value_taken p q.variable.owner q.parameter (shape.shape_of U.written home m.word) y w.net ∙ ap (λ z. net.made_with z y w.net) (m.shaped U.written home)))
-        (subst (λ z. Agrees U K w R (source_from v (make_with s x w.src) (suc i) vs xs) z)
-        (sym (then_assoc made (λ a t. gives [] (name, a) t) (λ b t. then (target.parameters U.written home ps ys t) (λ bs t. gives [] (b ∷ bs) t))))
-        (then_agrees U K w (Local U K made_alike made_with v.0) R (make_with s x w.src) made
-        (λ a w. then (parameters (runnable_of U) p (suc i) vs xs w) (λ rest w. gives [] ((v.0, a) ∷ rest) w))
-        (λ b t. after [] (then (target.parameters U.written home ps ys t) (λ bs t. gives [] ((name, b) ∷ bs) t))) h
-        (value_is_made U K made_alike made_with w0 w v.0 r m.word x y word low l like)
-        (λ a b u n later.
-        right_alone U K u R (then (parameters (runnable_of U) p (suc i) vs xs u.src) (λ rest w. gives [] ((v.0, a) ∷ rest) w))
-        (then (target.parameters U.written home ps ys u.net) (λ bs t. gives [] ((name, b) ∷ bs) t))
-        (then_agrees U K u (Parameters vs xs) R (parameters (runnable_of U) p (suc i) vs xs u.src) (target.parameters U.written home ps ys u.net)
-        (λ rest w. gives [] ((v.0, a) ∷ rest) w) (λ bs t. gives [] ((name, b) ∷ bs) t) later.match
-        (rest u (later_from U K K w0 w u start (weaker_self w0 K) l later) (below_then K.base (mark w.src) (mark u.src) low later.grows) later.match)
-        (λ ks bs z ms more.
-        agrees_gives U K z R ((v.0, a) ∷ ks) ((name, b) ∷ bs) more.match (
-          subst (λ os. LocalsMatch U K z os ((v.0, a) ∷ ks) ((name, b) ∷ bs)) (sym (owns_is v q vs))
-              (next_variable v.0 q.variable a (name, b) (parameter_owns D vs) ks bs (never_static p q.variable.owner q.parameter) refl (local_later U K u z v.0 a b more n) ms.0),
-          ms.1,
-        ))))))))
+    rest_there : (i : ℕ) (v : VarId) (vs : List VarId) → ((j : ℕ) → slice_get ps (i + j) ≡ slice_get (v ∷ vs) j) → (j : ℕ)
+        → slice_get ps (suc i + j) ≡ slice_get vs j
+    rest_there i v vs there j = ap (λ n. slice_get ps n) (one_more i j) ∙ there (suc j)
 
-    -- an address at a parameter by reference of its type
-    given_agrees : (v : VarId) (q : Parameter U.program p v) (id : ProcId) → q.variable.owner ≡ owner.Reference id → (i : ℕ) (vs : List VarId) (a : Address)
-        (b : net.Address) (xs : List SourceGiven) (ys : List NetGiven) → Same U K w0 a b → IsTarget U a → IsPlain U w0 a → Rest vs (suc i) xs ys
-        → (w : World) → Later U K w0 w → Below K.base (mark w.src) → MemoryMatch U w → (t : Bool) → is_address_of (variable_shape D v.0) a ≡ t
-        → Agrees U K w (Parameters (v ∷ vs) (by_address a ∷ xs))
-        (source_from v (provided t (λ w. gives [] a w) w.src) (suc i) vs xs)
-        (target.parameters U.written home (heads.params_of S false (v ∷ vs)) (by_address b ∷ ys) w.net)
-    given_agrees v q id is i vs a b xs ys same at plain rest w l low h false e =
-        agrees_outside U K w (Parameters (v ∷ vs) (by_address a ∷ xs))
-        (target.parameters U.written home (heads.params_of S false (v ∷ vs)) (by_address b ∷ ys) w.net)
-    given_agrees v q id is i vs a b xs ys same at plain rest w l low h true e =
-        let r : IsReadable U v.0 = (readable v q).0 in
-        let joined : r.variable ≡ q.variable = (readable v q).1 in
-        let typed : covers_type q.variable.ty ≡ true = subst (λ (z : Variable). covers_type z.ty ≡ true) joined (readable_type U v.0 r) in
-        let m : WordOf q.variable.ty = word_of q.variable.ty typed in
-        let word : scalar_word r.variable.ty ≡ Some m.word = ap (λ (z : Variable). scalar_word z.ty) joined ∙ m.is_word in
-        let place : GivenPlace U v.0 a = given_place U v.0 r a at e in
-        let stands : a ≡ root (simple r.variable.ty) place.position = place.stands ∙ ap (λ d. root d place.position) (readable_shape U v.0 r) in
-        let taken : shape.is_same_shape (net.shape_at b) (shape.scalar m.word) ≡ true =
-        shape_taken U K w0 r.variable.ty m.word a b (readable_type U v.0 r) word same (place.position, stands) in
-        let R = Parameters (v ∷ vs) (by_address a ∷ xs) in
-        let name = q.variable.name in
-        let ps = heads.params_of S false vs in
-        let source = then (parameters (runnable_of U) p (suc i) vs xs w.src) (λ rest w. gives [] ((v.0, a) ∷ rest) w) in
-        let targets = then (target.parameters U.written home ps ys w.net) (λ bs t. gives [] ((name, b) ∷ bs) t) in
-        let from = λ (z : Outcome net.Memory (List ℕ × net.Address)).
-        then z (λ b t. then (target.parameters U.written home ps ys t) (λ bs t. gives [] (b ∷ bs) t)) in
-        let here : LocalMatch U K w v.0 a b = record {
-          same = address_later U K w0 w a b l same;
-          standing =
-              inr (record {
-                given = place;
-                plain = plain_later U w0 w a l.extends (λ z k. bounds.same_made U K w0 a b same z k) plain;
-                foreign = λ n. ap (is_own_variable n) r.is_variable ∙ ap (λ (z : Variable). is_own_owner n z.owner) joined ∙ ap (is_own_owner n) is;
-              });
-        } in
-        subst (λ z. Agrees U K w R (after [] source) (target.parameters U.written home (z ++ ps) (by_address b ∷ ys) w.net)) (sym (param_is v q m))
-        (subst (λ z. Agrees U K w R (after [] source) (from (then z (λ a t. gives [] (name, a) t))))
-        (sym (ap (λ o. target.parameter_by (heads.passing_of o) (shape.shape_of U.written home m.word) (by_address b) w.net) is
-        ∙ ap (λ z. cond (shape.is_same_shape (net.shape_at b) z) (gives [] b w.net) (outside [])) (m.shaped U.written home)
-        ∙ ap (λ z. cond z (gives [] b w.net) (outside [])) taken))
-        (left_alone U K w R source (after [] targets)
-        (right_alone U K w R source targets
-        (then_agrees U K w (Parameters vs xs) R (parameters (runnable_of U) p (suc i) vs xs w.src) (target.parameters U.written home ps ys w.net)
-        (λ rest w. gives [] ((v.0, a) ∷ rest) w) (λ bs t. gives [] ((name, b) ∷ bs) t) h (rest w l low h)
-        (λ ks bs z ms more.
-        agrees_gives U K z R ((v.0, a) ∷ ks) ((name, b) ∷ bs) more.match (
-          subst (λ os. LocalsMatch U K z os ((v.0, a) ∷ ks) ((name, b) ∷ bs)) (sym (owns_is v q vs))
-              (next_variable v.0 q.variable a (name, b) (parameter_owns D vs) ks bs (never_static p q.variable.owner q.parameter) refl (local_later U K w z v.0 a b more here) ms.0),
-          given_unlocked U a xs at ∙ ms.1,
-        ))))))
+    -- one parameter
+    module _ (v : VarId) (q : Parameter U.program p v) (i : ℕ) (at : slice_get ps i ≡ Some v) (vs : List VarId) where
+      abbrev s : Shape
+      s = variable_shape D v.0
 
-    address_agrees : (v : VarId) (q : Parameter U.program p v) (o : Owner) → q.variable.owner ≡ o → is_parameter_of p o ≡ true → (i : ℕ) (vs : List VarId)
-        (a : Address) (b : net.Address) (xs : List SourceGiven) (ys : List NetGiven) → Same U K w0 a b → IsTarget U a → IsPlain U w0 a → Rest vs (suc i) xs ys
-        → (w : World) → Later U K w0 w → Below K.base (mark w.src) → MemoryMatch U w
-        → Agrees U K w (Parameters (v ∷ vs) (by_address a ∷ xs)) (parameters (runnable_of U) p i (v ∷ vs) (by_address a ∷ xs) w.src)
-        (target.parameters U.written home (heads.params_of S false (v ∷ vs)) (by_address b ∷ ys) w.net)
-    address_agrees v q (owner.Value id) is h i vs a b xs ys same at plain rest w l low m =
-        first_outside v q id is i vs a xs w (target.parameters U.written home (heads.params_of S false (v ∷ vs)) (by_address b ∷ ys) w.net)
-    address_agrees v q (owner.Reference id) is h i vs a b xs ys same at plain rest w l low m =
-        subst (λ z. Agrees U K w (Parameters (v ∷ vs) (by_address a ∷ xs)) (source_from v z (suc i) vs xs)
-        (target.parameters U.written home (heads.params_of S false (v ∷ vs)) (by_address b ∷ ys) w.net))
-        (sym (bound_is v q ((runnable_of U).quiet p i) (by_address a) w.src
-        ∙ ap (λ o. bound_to ((runnable_of U).quiet p i) o (variable_shape D v.0) (by_address a) w.src) is))
-        (given_agrees v q id is i vs a b xs ys same at plain rest w l low m (is_address_of (variable_shape D v.0) a) refl)
-    address_agrees v q _ is h i vs a b xs ys same at plain rest w l low m = absurd (true≢false (sym h))
+      quiet_at : (runnable_of U).quiet p i ≡ is_quiet D U.known v.0
+      quiet_at = ap (is_quiet_id D U.known) at
+
+      -- what both bind to it
+      abbrev BoundHere : World → IsUsable U v.0 → (quiet : Bool) → Owner → SourceGiven → NetGiven → Type 0
+      BoundHere w u quiet o g h =
+          Agrees U K w (Local U K made_alike made_with v.0) (bound_to quiet o s g w.src)
+          (target.parameter_by (heads.passing_of o) (param_written v q u).written h w.net)
+
+      -- what is bound to a parameter by reference is no variable of the procedure's own
+      foreign : (id : ProcId) → q.variable.owner ≡ owner.Reference id → (n : ℕ) → is_own_of U n v.0 ≡ false
+      foreign id is n = ap (is_own_variable n) q.is_variable ∙ ap (is_own_owner n) is
+
+      -- a scalar
+      module _ (r : IsReadable U v.0) where
+        abbrev joined : r.variable ≡ q.variable
+        joined = some_is (sym r.is_variable ∙ q.is_variable)
+
+        abbrev m : WordOf q.variable.ty
+        m = word_of q.variable.ty (subst (λ (z : Variable). covers_type z.ty ≡ true) joined (readable_type U v.0 r))
+
+        word : scalar_word r.variable.ty ≡ Some m.word
+        word = ap (λ (z : Variable). scalar_word z.ty) joined ∙ m.is_word
+
+        shaped : variable_shape D v.0 ≡ simple r.variable.ty
+        shaped = readable_shape U v.0 r
+
+        -- a value makes a place of its own
+        scalar_agrees : (w : World) (x : Value) (y : net_value.Value) → LikeV U w0 x y → Later U K w0 w → Below K.base (mark w.src)
+            → BoundHere w (inl r) false q.variable.owner (by_value x) (by_value y)
+        unfolding param_written
+        scalar_agrees w x y like l low =
+            subst (λ z. Agrees U K w (Local U K made_alike made_with v.0) z (target.parameter_by (heads.passing_of q.variable.owner) (shape.scalar m.word) (by_value y) w.net))
+            (sym (value_bound p q.variable.owner q.parameter s x w.src))
+            (subst (λ z. Agrees U K w (Local U K made_alike made_with v.0) (make_with s x w.src) z)
+            (sym (value_taken p q.variable.owner q.parameter (shape.scalar m.word) y w.net))
+            (value_is_made U K made_alike made_with w0 w v.0 r m.word x y word low l like))
+
+        module _ (quiet : is_quiet D U.known v.0 ≡ true) (id : ProcId) (is : q.variable.owner ≡ owner.Reference id) where
+          -- a quiet one stands for values
+          quiet_local : (t : TypeName) (u : World) (a : Address) (b : net.Address) → QuietMatch U K t u a b → LocalMatch U K u v.0 a b
+          quiet_local t u a b n = record {
+            bound = subst (λ t. Bound U K u (not t) a b) (sym quiet) (mirrored a b n.mirrors);
+            ranked = subst (λ d. HasRankOf U v.0 d) (sym n.shape_is) tt;
+            standing =
+                inr (record { given = record { whole = n.whole; place = λ exact. absurd (true≢false (sym quiet ∙ exact)) }; plain = n.plain; foreign = foreign id is });
+          }
+
+          quiet_agrees : (w : World) (z : Outcome Memory Address) (z' : Outcome net.Memory net.Address)
+              → Agrees U K w (QuietMatch U K m.word) z z'
+              → Agrees U K w (Local U K made_alike made_with v.0) z z'
+          quiet_agrees w z z' h =
+              agrees_weaker U K w (QuietMatch U K m.word) (Local U K made_alike made_with v.0) z z'
+              (λ u a b l n. quiet_local m.word u a b n) h
+
+          -- values on both sides
+          quiet_value : (w : World) (x : Value) (y : net_value.Value) → LikeV U w0 x y → Later U K w0 w
+              → BoundHere w (inl r) true (owner.Reference id) (by_value x) (by_value y)
+          unfolding param_written
+          quiet_value w x y like l =
+              quiet_agrees w (temporary true s x w.src) (net.made_with (shape.scalar m.word) y w.net)
+              (subst (λ d. Agrees U K w (QuietMatch U K m.word) (temporary true d x w.src)
+              (net.made_with (shape.scalar m.word) y w.net)) (sym shaped)
+              (values_bound U K r.variable.ty m.word (readable_type U v.0 r) word w0 w x y l like))
+
+          -- a value on the source's side alone
+          target_agrees : (w : World) (x : Value) (b : net.Address) → Mirrors U K w0 (constant x) b → IsTypedAs U x (net.shape_at b) → Later U K w0 w
+              → BoundHere w (inl r) true (owner.Reference id) (by_value x) (by_address b)
+          unfolding param_written
+          target_agrees w x b mirrors typed l =
+              let z' = cond (shape.is_same_shape (net.shape_at b) (shape.scalar m.word)) (gives [] b w.net) (outside []) in
+              quiet_agrees w (temporary true s x w.src) z'
+              (subst (λ d. Agrees U K w (QuietMatch U K m.word) (temporary true d x w.src) z') (sym shaped)
+              (target_is_bound U K r.variable.ty m.word (readable_type U v.0 r) word w0 w b start l x mirrors typed))
+
+          -- a value on the target's side alone
+          source_agrees : (w : World) (a : Address) (k : shape.Shape) (y : net_value.Value) → Mirrors U K w0 a (net.constant k y) → IsTarget U a → IsPlain U w a
+              → Later U K w0 w → BoundHere w (inl r) true (owner.Reference id) (by_address a) (by_value y)
+          unfolding param_written
+          source_agrees w a k y mirrors at plain l = by (is_address_of s a) refl
+            where
+              by : (t : Bool) → is_address_of (variable_shape D v.0) a ≡ t
+                  → Agrees U K w (Local U K made_alike made_with v.0) (provided t (λ w. gives [] a w) w.src) (net.made_with (shape.scalar m.word) y w.net)
+              by false e = agrees_outside U K w (Local U K made_alike made_with v.0) (net.made_with (shape.scalar m.word) y w.net)
+              by true e =
+                  let place : GivenPlace U v.0 a = given_place U v.0 (inl r) a at e in
+                  quiet_agrees w (gives [] a w.src) (net.made_with (shape.scalar m.word) y w.net)
+                  (source_is_bound U K r.variable.ty m.word (readable_type U v.0 r) word w0 w a k y start l mirrors
+                  (place.position, subst (λ d. StandsAs d a place.position) shaped place.stands) plain)
+
+      -- variables on both sides
+      address_agrees : (u : IsUsable U v.0) (id : ProcId) → q.variable.owner ≡ owner.Reference id → (quiet : Bool) (w : World) (a : Address) (b : net.Address)
+          → Same U K w0 a b → IsTarget U a → IsPlain U w0 a → HasParameterRank U p i (net.shape_at b) → Later U K w0 w → MemoryMatch U w
+          → BoundHere w u quiet (owner.Reference id) (by_address a) (by_address b)
+      address_agrees u id is quiet w a b alike target plain ranked l h = by (is_address_of s a) refl
+        where
+          by : (t : Bool) → is_address_of (variable_shape D v.0) a ≡ t
+              → Agrees U K w (Local U K made_alike made_with v.0) (provided t (λ w. gives [] a w) w.src)
+              (cond (shape.is_same_shape (net.shape_at b) (param_written v q u).written) (gives [] b w.net) (outside []))
+          by false e =
+              agrees_outside U K w (Local U K made_alike made_with v.0)
+              (cond (shape.is_same_shape (net.shape_at b) (param_written v q u).written) (gives [] b w.net) (outside []))
+          by true e =
+              let place : GivenPlace U v.0 a = given_place U v.0 u a target e in
+              let rank : HasRankOf U v.0 (net.shape_at b) = rank_for U p i v.0 (net.shape_at b) (rank_there v i at) ranked in
+              let taken : shape.is_same_shape (net.shape_at b) (param_written v q u).written ≡ true =
+              (param_written v q u).taken K w0 a b place.position alike place.stands rank in
+              subst (λ t. Agrees U K w (Local U K made_alike made_with v.0) (gives [] a w.src) (cond t (gives [] b w.net) (outside []))) (sym taken)
+              (agrees_gives U K w (Local U K made_alike made_with v.0) a b h
+              (record {
+                bound = images (not (is_quiet D U.known v.0)) a b (address_later U K w0 w a b l alike);
+                ranked = rank;
+                standing =
+                    inr (record {
+                      given = record { whole = whole_of U a target; place = λ exact. place };
+                      plain = plain_later U w0 w a l.extends (λ z k. bounds.same_made U K w0 a b alike z k) plain;
+                      foreign = foreign id is;
+                    });
+              }))
+
+      -- then the others
+      next_agrees : (u : IsUsable U v.0) (g : SourceGiven) (h : NetGiven) (xs : List SourceGiven) (ys : List NetGiven) → locked_by (g ∷ xs) ≡ locked_by xs
+          → Rest vs (suc i) xs ys → (w : World) → Later U K w0 w → Below K.base (mark w.src) → MemoryMatch U w
+          → BoundHere w u ((runnable_of U).quiet p i) q.variable.owner g h
+          → Agrees U K w (Parameters (v ∷ vs) (g ∷ xs)) (parameters (runnable_of U) p i (v ∷ vs) (g ∷ xs) w.src)
+          (target.parameters U.written home (heads.params_of S false (v ∷ vs)) (h ∷ ys) w.net)
+      next_agrees u g h xs ys unlocked rest w l low start_w bound_here =
+          let n : ParamWritten v q = param_written v q u in
+          let R = Parameters (v ∷ vs) (g ∷ xs) in
+          let name = q.variable.name in
+          let others = heads.params_of S false vs in
+          let z = bound_to ((runnable_of U).quiet p i) q.variable.owner s g w.src in
+          let z' = target.parameter_by (heads.passing_of q.variable.owner) n.written h w.net in
+          let from = λ (x : Outcome net.Memory (List ℕ × net.Address)).
+          then x (λ b t. then (target.parameters U.written home others ys t) (λ bs t. gives [] (b ∷ bs) t)) in
+          subst (λ x. Agrees U K w R (source_from v x (suc i) vs xs) (target.parameters U.written home (heads.params_of S false (v ∷ vs)) (h ∷ ys) w.net))
+          (sym (bound_is v q ((runnable_of U).quiet p i) g w.src))
+          (subst (λ x. Agrees U K w R (source_from v z (suc i) vs xs) (target.parameters U.written home (x ++ others) (h ∷ ys) w.net)) (sym n.is_param)
+          (subst (λ x. Agrees U K w R (source_from v z (suc i) vs xs)
+          (from (then (target.parameter_by (heads.passing_of q.variable.owner) x h w.net) (λ a t. gives [] (name, a) t)))) (sym n.shaped)
+          (subst (λ x. Agrees U K w R (source_from v z (suc i) vs xs) x)
+          (sym (then_assoc z' (λ a t. gives [] (name, a) t) (λ b t. then (target.parameters U.written home others ys t) (λ bs t. gives [] (b ∷ bs) t))))
+          (then_agrees U K w (Local U K made_alike made_with v.0) R z z'
+          (λ a w. then (parameters (runnable_of U) p (suc i) vs xs w) (λ rest w. gives [] ((v.0, a) ∷ rest) w))
+          (λ b t. after [] (then (target.parameters U.written home others ys t) (λ bs t. gives [] ((name, b) ∷ bs) t))) start_w bound_here
+          (λ a b u n later.
+          right_alone U K u R (then (parameters (runnable_of U) p (suc i) vs xs u.src) (λ rest w. gives [] ((v.0, a) ∷ rest) w))
+          (then (target.parameters U.written home others ys u.net) (λ bs t. gives [] ((name, b) ∷ bs) t))
+          (then_agrees U K u (Parameters vs xs) R (parameters (runnable_of U) p (suc i) vs xs u.src) (target.parameters U.written home others ys u.net)
+          (λ rest w. gives [] ((v.0, a) ∷ rest) w) (λ bs t. gives [] ((name, b) ∷ bs) t) later.match
+          (rest u (later_from U K K w0 w u start (weaker_self w0 K) l later) (below_then K.base (mark w.src) (mark u.src) low later.grows) later.match)
+          (λ ks bs z ms more.
+          agrees_gives U K z R ((v.0, a) ∷ ks) ((name, b) ∷ bs) more.match (
+            subst (λ os. LocalsMatch U K z os ((v.0, a) ∷ ks) ((name, b) ∷ bs)) (sym (owns_is v q vs))
+                (next_variable v.0 q.variable a (name, b) (parameter_owns D vs) ks bs (never_static p q.variable.owner q.parameter) refl
+                (local_later U K u z v.0 a b later.match more n) ms.0),
+            unlocked ∙ ms.1,
+          ))))))))
+
+      -- an address at a parameter that takes a value
+      first_outside : (id : ProcId) → q.variable.owner ≡ owner.Value id → (a : Address) (xs : List SourceGiven) (w : World)
+          (r' : Outcome net.Memory (List (List ℕ × net.Address)))
+          → Agrees U K w (Parameters (v ∷ vs) (by_address a ∷ xs)) (parameters (runnable_of U) p i (v ∷ vs) (by_address a ∷ xs) w.src) r'
+      first_outside id is a xs w r' =
+          subst (λ z. Agrees U K w (Parameters (v ∷ vs) (by_address a ∷ xs)) (source_from v z (suc i) vs xs) r')
+          (sym (bound_is v q ((runnable_of U).quiet p i) (by_address a) w.src
+          ∙ ap (λ o. bound_to ((runnable_of U).quiet p i) o (variable_shape D v.0) (by_address a) w.src) is))
+          (agrees_outside U K w (Parameters (v ∷ vs) (by_address a ∷ xs)) r')
+
+      by_reference_here : (runnable_of U).quiet p i ≡ true → (id : ProcId) × (q.variable.owner ≡ owner.Reference id)
+      by_reference_here is =
+          quiet_reference U.known q.variable.owner (U.known.touched v.0)
+          (sym (ap (λ o. is_quiet_variable U.known o && not (U.known.touched v.0)) q.is_variable) ∙ (sym quiet_at ∙ is))
+
+      -- an array is no quiet one
+      array_exact : (e : Ty) → IsArray U v.0 e → (runnable_of U).quiet p i ≡ false
+      array_exact e r = quiet_at ∙ r.exact
+
+      -- ---- one argument
+
+      -- a value that is no array, at a parameter that is one
+      none_agrees : (element : Ty) (r : IsArray U v.0 element) (x : Value) (w : World) (z' : Outcome net.Memory net.Address) → IsNoElements x
+          → Agrees U K w (Local U K made_alike made_with v.0) (bound_to ((runnable_of U).quiet p i) q.variable.owner s (by_value x) w.src) z'
+      none_agrees element r x w z' n =
+          let R = Local U K made_alike made_with v.0 in
+          subst (λ t. Agrees U K w R (bound_to t q.variable.owner s (by_value x) w.src) z') (sym (array_exact element r))
+          (subst (λ z. Agrees U K w R z z') (sym (value_bound p q.variable.owner q.parameter s x w.src))
+          (subst (λ d. Agrees U K w R (make_with d x w.src) z') (sym (array_shape_is U v.0 element r))
+          (subst (λ z. Agrees U K w R z z') (then_gives (make_with (array (simple element) r.known.variable.bounds) x w.src))
+          (made_none U K w R (simple element) r.known.variable.bounds x n (λ a w. gives [] a w) z'))))
+
+      value_first : (u : IsUsable U v.0) (x : Value) (y : net_value.Value) → LikeV U w0 x y → GivesNoArray U p i x → (w : World) → Later U K w0 w
+          → Below K.base (mark w.src) → BoundHere w u ((runnable_of U).quiet p i) q.variable.owner (by_value x) (by_value y)
+      value_first (inl r) x y like none w l low = by ((runnable_of U).quiet p i) refl
+        where
+          by : (t : Bool) → (runnable_of U).quiet p i ≡ t → BoundHere w (inl r) t q.variable.owner (by_value x) (by_value y)
+          by false e = scalar_agrees r w x y like l low
+          by true e =
+              let o = by_reference_here e in
+              subst (λ z. BoundHere w (inl r) true z (by_value x) (by_value y)) (sym o.1) (quiet_value r (sym quiet_at ∙ e) o.0 o.1 w x y like l)
+      value_first (inr r) (scalar ty z) y like none w l low =
+          none_agrees r.0 r.1 (scalar ty z) w (target.parameter_by (heads.passing_of q.variable.owner) (param_written v q (inr r)).written (by_value y) w.net) tt
+      value_first (inr r) (fields t zs) y like none w l low =
+          none_agrees r.0 r.1 (fields t zs) w (target.parameter_by (heads.passing_of q.variable.owner) (param_written v q (inr r)).written (by_value y) w.net) tt
+      value_first (inr r) (elements e dims zs) y like none w l low = absurd (true≢false (sym (array_there v i r.0 r.1 at) ∙ none))
+
+      address_first : (u : IsUsable U v.0) (a : Address) (b : net.Address) (xs : List SourceGiven) (ys : List NetGiven) → Same U K w0 a b → IsTarget U a
+          → IsPlain U w0 a → HasParameterRank U p i (net.shape_at b) → Rest vs (suc i) xs ys → (w : World) → Later U K w0 w → Below K.base (mark w.src)
+          → MemoryMatch U w → (o : Owner) → q.variable.owner ≡ o → is_parameter_of p o ≡ true
+          → Agrees U K w (Parameters (v ∷ vs) (by_address a ∷ xs)) (parameters (runnable_of U) p i (v ∷ vs) (by_address a ∷ xs) w.src)
+          (target.parameters U.written home (heads.params_of S false (v ∷ vs)) (by_address b ∷ ys) w.net)
+      address_first u a b xs ys alike target_is plain ranked rest w l low h (owner.Value id) is k =
+          first_outside id is a xs w (target.parameters U.written home (heads.params_of S false (v ∷ vs)) (by_address b ∷ ys) w.net)
+      address_first u a b xs ys alike target_is plain ranked rest w l low h (owner.Reference id) is k =
+          next_agrees u (by_address a) (by_address b) xs ys (given_unlocked U a xs target_is) rest w l low h
+          (subst (λ z. BoundHere w u ((runnable_of U).quiet p i) z (by_address a) (by_address b)) (sym is)
+          (address_agrees u id is ((runnable_of U).quiet p i) w a b alike target_is plain ranked l h))
+      address_first u a b xs ys alike target_is plain ranked rest w l low h _ is k = absurd (true≢false (sym k))
+
+      source_first : (u : IsUsable U v.0) (a : Address) (k : shape.Shape) (y : net_value.Value) → (runnable_of U).quiet p i ≡ true
+          → Mirrors U K w0 a (net.constant k y) → IsTarget U a → (w : World) → IsPlain U w a → Later U K w0 w
+          → BoundHere w u ((runnable_of U).quiet p i) q.variable.owner (by_address a) (by_value y)
+      source_first (inl r) a k y e mirrors target_is w plain l =
+          let o = by_reference_here e in
+          subst (λ t. BoundHere w (inl r) t q.variable.owner (by_address a) (by_value y)) (sym e)
+          (subst (λ z. BoundHere w (inl r) true z (by_address a) (by_value y)) (sym o.1)
+          (source_agrees r (sym quiet_at ∙ e) o.0 o.1 w a k y mirrors target_is plain l))
+      source_first (inr r) a k y e mirrors target_is w plain l = absurd (true≢false (sym e ∙ array_exact r.0 r.1))
+
+      target_first : (u : IsUsable U v.0) (x : Value) (b : net.Address) → (runnable_of U).quiet p i ≡ true → Mirrors U K w0 (constant x) b
+          → IsTypedAs U x (net.shape_at b) → (w : World) → Later U K w0 w
+          → BoundHere w u ((runnable_of U).quiet p i) q.variable.owner (by_value x) (by_address b)
+      target_first (inl r) x b e mirrors typed w l =
+          let o = by_reference_here e in
+          subst (λ t. BoundHere w (inl r) t q.variable.owner (by_value x) (by_address b)) (sym e)
+          (subst (λ z. BoundHere w (inl r) true z (by_value x) (by_address b)) (sym o.1)
+          (target_agrees r (sym quiet_at ∙ e) o.0 o.1 w x b mirrors typed l))
+      target_first (inr r) x b e mirrors typed w l = absurd (true≢false (sym e ∙ array_exact r.0 r.1))
 
     -- the parameters from one on
-    pub parameters_agree : (vs : List VarId) → list_all (covers_parameter U.program p) vs ≡ true → (i : ℕ) (xs : List SourceGiven) (ys : List NetGiven)
-        → ArgsMatch U K w0 p i xs ys → Rest vs i xs ys
-    parameters_agree [] h i _ _ (no_args _) w l low m =
+    pub parameters_agree : (vs : List VarId) → list_all (covers_parameter U.program p) vs ≡ true → (i : ℕ)
+        → ((j : ℕ) → slice_get ps (i + j) ≡ slice_get vs j) → (xs : List SourceGiven) (ys : List NetGiven) → ArgsMatch U K w0 p i xs ys → Rest vs i xs ys
+    parameters_agree [] h i there _ _ (no_args _) w l low m =
         agrees_gives U K w (Parameters [] []) [] [] m (no_locals, refl)
-    parameters_agree [] h i _ ys (value_args _ x y xs others like rest) w l low m =
+    parameters_agree [] h i there _ ys (value_args _ x y xs others like none rest) w l low m =
         agrees_outside U K w (Parameters [] (by_value x ∷ xs)) (target.parameters U.written home [] ys w.net)
-    parameters_agree [] h i _ ys (address_args _ a b xs others same at plain rest) w l low m =
+    parameters_agree [] h i there _ ys (address_args _ a b xs others same target_is plain ranked rest) w l low m =
         agrees_outside U K w (Parameters [] (by_address a ∷ xs)) (target.parameters U.written home [] ys w.net)
-    parameters_agree [] h i _ ys (source_bound _ a s y xs others is mirrors rest) w l low m =
+    parameters_agree [] h i there _ ys (source_bound _ a s y xs others is mirrors target_is made_there plain rest) w l low m =
         agrees_outside U K w (Parameters [] (by_address a ∷ xs)) (target.parameters U.written home [] ys w.net)
-    parameters_agree [] h i _ ys (target_bound _ x b xs others is mirrors rest) w l low m =
+    parameters_agree [] h i there _ ys (target_bound _ x b xs others is mirrors typed rest) w l low m =
         agrees_outside U K w (Parameters [] (by_value x ∷ xs)) (target.parameters U.written home [] ys w.net)
-    parameters_agree (v ∷ vs) h i _ ys (no_args _) w l low m =
+    parameters_agree (v ∷ vs) h i there _ ys (no_args _) w l low m =
         agrees_outside U K w (Parameters (v ∷ vs) []) (target.parameters U.written home (heads.params_of S false (v ∷ vs)) ys w.net)
-    parameters_agree (v ∷ vs) h i _ _ (value_args _ x y xs ys like rest) w l low m =
-        next_agrees v (parameter_is U.program p v (all_first (covers_parameter U.program p) v vs h)) i vs x y xs ys like
-        (parameters_agree vs (all_rest (covers_parameter U.program p) v vs h) (suc i) xs ys rest) w l low m
-    parameters_agree (v ∷ vs) h i _ _ (address_args _ a b xs ys same at plain rest) w l low m =
+    parameters_agree (v ∷ vs) h i there _ _ (value_args _ x y xs ys like none rest) w l low m =
         let q : Parameter U.program p v = parameter_is U.program p v (all_first (covers_parameter U.program p) v vs h) in
-        address_agrees v q q.variable.owner refl q.parameter i vs a b xs ys same at plain
-        (parameters_agree vs (all_rest (covers_parameter U.program p) v vs h) (suc i) xs ys rest) w l low m
-    parameters_agree (v ∷ vs) h i _ _ (source_bound _ a s y xs ys is mirrors rest) w l low m = absurd (true≢false (sym is ∙ quiet i))
-    parameters_agree (v ∷ vs) h i _ _ (target_bound _ x b xs ys is mirrors rest) w l low m = absurd (true≢false (sym is ∙ quiet i))
+        let at : slice_get ps i ≡ Some v = first_there i v vs there in
+        next_agrees v q i at vs (readable v q) (by_value x) (by_value y) xs ys refl
+        (parameters_agree vs (all_rest (covers_parameter U.program p) v vs h) (suc i) (rest_there i v vs there) xs ys rest) w l low m
+        (value_first v q i at vs (readable v q) x y like none w l low)
+    parameters_agree (v ∷ vs) h i there _ _ (address_args _ a b xs ys same target_is plain ranked rest) w l low m =
+        let q : Parameter U.program p v = parameter_is U.program p v (all_first (covers_parameter U.program p) v vs h) in
+        address_first v q i (first_there i v vs there) vs (readable v q) a b xs ys same target_is plain ranked
+        (parameters_agree vs (all_rest (covers_parameter U.program p) v vs h) (suc i) (rest_there i v vs there) xs ys rest) w l low m
+        q.variable.owner refl q.parameter
+    parameters_agree (v ∷ vs) h i there _ _ (source_bound _ a s y xs ys is mirrors target_is made_there plain rest) w l low m =
+        let q : Parameter U.program p v = parameter_is U.program p v (all_first (covers_parameter U.program p) v vs h) in
+        let at : slice_get ps i ≡ Some v = first_there i v vs there in
+        next_agrees v q i at vs (readable v q) (by_address a) (by_value y) xs ys (given_unlocked U a xs target_is)
+        (parameters_agree vs (all_rest (covers_parameter U.program p) v vs h) (suc i) (rest_there i v vs there) xs ys rest) w l low m
+        (source_first v q i at vs (readable v q) a s y is mirrors target_is w (plain_later U w0 w a l.extends made_there plain) l)
+    parameters_agree (v ∷ vs) h i there _ _ (target_bound _ x b xs ys is mirrors typed rest) w l low m =
+        let q : Parameter U.program p v = parameter_is U.program p v (all_first (covers_parameter U.program p) v vs h) in
+        let at : slice_get ps i ≡ Some v = first_there i v vs there in
+        next_agrees v q i at vs (readable v q) (by_value x) (by_address b) xs ys refl
+        (parameters_agree vs (all_rest (covers_parameter U.program p) v vs h) (suc i) (rest_there i v vs there) xs ys rest) w l low m
+        (target_first v q i at vs (readable v q) x b is mirrors typed w l)

@@ -23,13 +23,11 @@ use Rattle.net_run.specs.Names.{var_in}
 use Rattle.net_run.specs.Program as target
 use Rattle.net_run.specs.Program.{result_at, result_by, result_in}
 use Rattle.net_run.specs.Store as net
-use Rattle.net_run.specs.Values as net_value
-use Rattle.written_trees.specs.Heads as heads
 use Rattle.written_trees.specs.Names.{variable_name_of}
-use Rattle.run_matches.specs.Addresses.{Bound, Same, images, mirrored}
+use Rattle.run_matches.specs.Addresses.{Bound, Same, images, mirrored, same_item, same_root}
 use Rattle.run_matches.specs.Agreeing.{Agrees, ResultMatch}
 use Rattle.run_matches.specs.Covered.{are_different, is_named_in}
-use Rattle.run_matches.specs.Frames.{FrameMatch, HasPlace, SameVariable, declared_names, dim_name, is_own_of, result_names}
+use Rattle.run_matches.specs.Frames.{FrameMatch, HasPlace, SameVariable, declared_names, dim_name, frame_pledge, is_own_of, result_names}
 use Rattle.run_matches.specs.Likeness.{LikeV}
 use Rattle.run_matches.specs.Maps.{Mark, World}
 use Rattle.run_matches.specs.Match.{MemoryMatch}
@@ -37,6 +35,7 @@ use Rattle.run_matches.specs.Pledges.{NetGiven, Pledge, arrays_in}
 use Rattle.run_matches.specs.Runs.{call_pledge}
 use Rattle.run_matches.specs.Upgrades.{Upgrade, runnable_of}
 use Rattle.run_statements.specs.Frames.{IsReadable, ScalarMatch}
+use Rattle.line_laws.proofs.Uses.{own_exact}
 use Rattle.run_statements.specs.Written.{WrittenProcedure}
 use Rattle.agreeing_laws.proofs.Agreeing.{agrees_gives, agrees_outside, then_agrees}
 use Rattle.expression_laws.specs.Statements.{VariablesAreReadBy}
@@ -124,7 +123,12 @@ module _ (U : Upgrade) (p : ℕ) (c : CoveredProcedure U.program p) (W : Written
       (subst (λ r. Agrees U K w (ResultMatch U) (gives [] None w.src) (result_by W.code r g w.net)) (sym (no_result U p c.site x W h))
       (agrees_gives U K w (ResultMatch U) None None m tt))
 
-  module _ (h : HasAnswer D p x) (r : IsReadable U h.id.0) (w : World) (f : SourceFrame) (g : NetFrame) (m : MemoryMatch U w) (F : FrameMatch U K w p f g) where
+  -- a line keeps the arrays that the call keeps
+  of_call : (w : World) (f : SourceFrame) (a : Address) (b : net.Address) → Same U (frame_pledge U p w f) w a b → Same U K w a b
+  of_call w f _ _ (same_root s d q sh m k) = same_root s d q sh m k
+  of_call w f _ _ (same_item e s d q k j path keeps m has part sh) = same_item e s d q k j path keeps m has part sh
+
+  module _ (h : HasAnswer D p x) (r : IsReadable U h.id.0) (w : World) (f : SourceFrame) (g : NetFrame) (m : MemoryMatch U w) (F : FrameMatch U (frame_pledge U p w f) w p f g) where
     abbrev ns : List (List ℕ)
     ns = declared_names W.code
 
@@ -166,13 +170,14 @@ module _ (U : Upgrade) (p : ℕ) (c : CoveredProcedure U.program p) (W : Written
         → Agrees U K w (ResultMatch U) (some_of o (λ a w. then (read a w) (λ x w. gives [] (Some x) w)) w.src) (gives [] (Some (net.looked_up there.0.1 w.net)) w.net)
     found_agrees None e = agrees_outside U K w (ResultMatch U) (gives [] (Some (net.looked_up there.0.1 w.net)) w.net)
     found_agrees (Some a) e =
-        let s : SameVariable U K w h.id.0 a g = F.vars h.id.0 a e r.sound in
+        let s : SameVariable U (frame_pledge U p w f) w h.id.0 a g = F.vars h.id.0 a e r.sound in
         let place : HasPlace U w h.id.0 a = F.own h.id.0 a e is_own in
         let name : var_in g.vars x.name ≡ Some s.address =
         subst (λ n. var_in g.vars n ≡ Some s.address) (ap variable_name_of h.is_variable ∙ h.name) s.found in
         let same_address : there.0.1 ≡ s.address = some_is (sym first_there ∙ name) in
         let same : Same U K w a s.address =
-        exact_is U K w (not (is_quiet D U.known h.id.0)) a s.address (ap not r.exact) s.bound in
+        of_call w f a s.address
+        (exact_is U (frame_pledge U p w f) w (not (is_quiet D U.known h.id.0)) a s.address (ap not (own_exact U h.id.0 r p is_own)) s.bound) in
         subst (λ b. Agrees U K w (ResultMatch U) (then (read a w.src) (λ x w. gives [] (Some x) w)) (gives [] (Some (net.looked_up b w.net)) w.net)) (sym same_address)
         (then_agrees U K w (ScalarMatch U r.variable.ty) (ResultMatch U) (read a w.src) (expressions.read s.address w.net) (λ x w. gives [] (Some x) w)
         (λ y t. gives [] (Some y) t) m
@@ -198,12 +203,12 @@ module _ (U : Upgrade) (p : ℕ) (c : CoveredProcedure U.program p) (W : Written
         (gives [] (Some (net.looked_up there.0.1 w.net)) w.net)) (sym address_is) (found_agrees (lookup (nat_eq h.id.0) f.vars) refl)))
 
   by_answer : HasNone x ⊎ HasAnswer D p x → ((h : HasAnswer D p x) → IsReadable U h.id.0) → (w : World) (f : SourceFrame) (g : NetFrame) → MemoryMatch U w
-      → FrameMatch U K w p f g
+      → FrameMatch U (frame_pledge U p w f) w p f g
       → Agrees U K w (ResultMatch U) (answer_of (runnable_of U) f x.answer w.src) (result_by W.code (members.result_of W.code) g w.net)
   by_answer (inl h) readable w f g m F = none_agrees h w f g m
   by_answer (inr h) readable w f g m F = some_agrees h (readable h) w f g m F
 
-  pub results_agree : ((h : HasAnswer D p x) → IsReadable U h.id.0) → (w : World) (f : SourceFrame) (g : NetFrame) → MemoryMatch U w → FrameMatch U K w p f g
+  pub results_agree : ((h : HasAnswer D p x) → IsReadable U h.id.0) → (w : World) (f : SourceFrame) (g : NetFrame) → MemoryMatch U w → FrameMatch U (frame_pledge U p w f) w p f g
       → Agrees U K w (ResultMatch U) (result_of (runnable_of U) p f w.src) (target.result U.written W.number g w.net)
   results_agree readable w f g m F =
       subst (λ z. Agrees U K w (ResultMatch U) z (target.result U.written W.number g w.net)) (sym (source_is f w.src))

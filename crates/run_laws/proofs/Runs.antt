@@ -25,14 +25,15 @@ use Rattle.net_run.specs.Store as net
 use Rattle.run_matches.specs.Addresses.{AllLocked, ArgsMatch}
 use Rattle.run_matches.specs.Agreeing.{Agrees, ResultMatch}
 use Rattle.run_matches.specs.CleanLines.{lines_at, or_none}
-use Rattle.run_matches.specs.Covered.{covers_in_block, covers_line, covers_procedure, covers_use, has_sound_label, keeps_blocks, are_different, belongs_to, covers_calls, is_loud_owner}
-use Rattle.run_matches.specs.Frames.{is_exact_head, lines_of, declared_names}
+use Rattle.run_matches.specs.Covered.{covers_in_block, covers_line, covers_procedure, has_sound_label, keeps_blocks, are_different, belongs_to, covers_array_owner, covers_calls, is_scalar_or_loud, uses_in}
+use Rattle.run_matches.specs.Frames.{lines_of, declared_names}
 use Rattle.run_matches.specs.Maps.{World, mark, Below, Mark}
 use Rattle.run_matches.specs.Match.{MemoryMatch, StoreMatch}
 use Rattle.run_matches.specs.Pledges.{Later, NetGiven, Pledge}
 use Rattle.run_matches.specs.Runs.{CallsAgree, IsObject, SameRun, call_pledge}
 use Rattle.run_matches.specs.Upgrades.{Upgrade, runnable_of}
-use Rattle.run_statements.specs.Frames.{IsReadable, LocalsAreMade, ValuesAreMade}
+use Rattle.run_statements.specs.Arrays.{ArraysAreMade, StaticArraysAreLaid}
+use Rattle.run_statements.specs.Frames.{IsReadable, IsUsable, LocalsAreMade, ValuesAreMade}
 use Rattle.run_statements.specs.Kept.{CanCallFrom, OwnsAreKept, SameWays}
 use Rattle.run_statements.specs.Written.{Passes, SameRuns, WrittenLine, WrittenProcedure}
 use Rattle.agreeing_laws.specs.Beside.{beside, with_steps}
@@ -43,12 +44,13 @@ use Rattle.agreeing_laws.proofs.Machines.{stepped_agrees}
 use Rattle.agreeing_laws.proofs.Made.{below_self, below_then}
 use Rattle.agreeing_laws.proofs.Moves.{locks_later}
 use Rattle.run_laws.specs.Entered.{RunMatch}
-use Rattle.run_laws.specs.Premises.{LocalsAreMadeInCalls, RunPremises, ValuesAreMadeInCalls}
-use Rattle.run_laws.proofs.Covered.{CoveredProcedure, all_at, blocks_are_kept, covered_parts, exact_head, form_at, form_covered, jumps_soundly, labels_are_sound, no_property, not_none, some_is, own_covered_at}
+use Rattle.run_laws.specs.Premises.{ArraysAreMadeInCalls, ArraysHaveRanks, LocalsAreMadeInCalls, RunPremises, StaticArraysAreLaidInCalls, ValuesAreMadeInCalls}
+use Rattle.run_laws.proofs.Covered.{CoveredProcedure, all_at, blocks_are_kept, covered_parts, form_at, form_covered, jumps_soundly, labels_are_sound, no_property, not_none, some_is, extents_given, own_covered_at, scalar_declared}
 use Rattle.run_laws.proofs.Entries.{all_names, entries_agree}
 use Rattle.line_laws.proofs.Called.{use_calls}
-use Rattle.run_laws.proofs.Callees.{call_suits, callee_covered, callee_within, can_call}
-use Rattle.run_laws.proofs.Heads.{HasAnswer}
+use Rattle.run_laws.proofs.Callees.{call_fits, call_suits, callee_covered, callee_within, can_call}
+use Rattle.run_laws.proofs.Names.{is_below}
+use Rattle.run_laws.proofs.Heads.{HasAnswer, answer_sound}
 use Rattle.run_laws.proofs.Keeping.{line_keeps}
 use Rattle.run_laws.proofs.Lines.{LineSame, body_is, line_is, line_same}
 use Rattle.run_laws.proofs.Reaching.{IsLineOf, clean_called, covered_called}
@@ -85,13 +87,22 @@ module _ (U : Upgrade) (h : RunPremises U) where
     kept : OwnsAreKept U p (parts p pass).site (parts p pass).procedure (written p pass)
     kept = h.owns p c.site c.procedure c.is_site c.is_procedure W pass.0 covered
 
-    -- what it owns can be read
-    readable : (v : ℕ) (x : Variable) → slice_get U.program.declarations.vars v ≡ Some x → belongs_to p x.owner ≡ true
-        → is_loud_owner U.program v x.owner ≡ true → IsReadable U v
-    readable v x e owned loud = h.owned p v x pass.0 e owned (own_covered_at U.program p v x c.variables e owned) loud
+    -- what it owns can be used
+    usable : (v : ℕ) (x : Variable) → slice_get U.program.declarations.vars v ≡ Some x → belongs_to p x.owner ≡ true
+        → is_scalar_or_loud U.program v x ≡ true → IsUsable U v
+    usable v x e owned loud = h.owned p v x pass.0 e owned (own_covered_at U.program p v x c.variables e owned) loud
 
+    -- and each array has a dimension
+    ranked : ArraysHaveRanks U
+    ranked = h.ranked (extents_given U.program p c.variables)
+
+    -- its result variable is a scalar
     answer_readable : (a : HasAnswer U.program.declarations p (parts p pass).procedure) → IsReadable U a.id.0
-    answer_readable a = readable a.id.0 a.variable a.is_variable (ap (belongs_to p) a.owner ∙ a.own) (ap (is_loud_owner U.program a.id.0) a.owner)
+    answer_readable a =
+        let owned : belongs_to p a.variable.owner ≡ true = ap (belongs_to p) a.owner ∙ a.own in
+        h.owned_scalars p a.id.0 a.variable pass.0 a.is_variable owned
+        (scalar_declared a.variable (ap covers_array_owner a.owner) (own_covered_at U.program p a.id.0 a.variable c.variables a.is_variable owned))
+        (answer_sound U p a)
 
     -- ---- lines
 
@@ -110,7 +121,7 @@ module _ (U : Upgrade) (h : RunPremises U) where
         can_call U h.known h.procedures h.found p q c.site c.procedure c.is_site c.is_procedure (no_property c.procedure.kind c.kind) W l stands call test (
           clean_called U.program p q c.procedure c.is_procedure within l stands call U.facts.marks pass.0,
           covered_called U.program p q c.procedure c.is_procedure within l stands call pass.1,
-        ) (args_at d) (call_suits U p q l d calls m e)
+        ) (args_at d) (call_suits U p q l d calls m e) (call_fits U q d (h.fits p k l pass.0 (ap (λ (ls : List Line). slice_get ls k) lines_are ∙ at) d m) e)
 
     -- no line is replaced, so each line and the written one of its number go the same ways
     same_ways : (n : ℕ) (o : Option SourceLine) → line_at (source.machine_of R) p n ≡ o → SameWays o (line_at (target.machine_of N) (written p pass).number n)
@@ -136,8 +147,9 @@ module _ (U : Upgrade) (h : RunPremises U) where
         line_same U h.lines h.names h.agree p c.site c.procedure c.is_site W c.lines c.are_lines k l e (blocks_are_kept U.program p c.lines c.covers)
         (h.unreplaced p c.site c.procedure c.is_site c.is_procedure W pass.0 covered k) c.names covers used
         (h.placed p c.site c.procedure c.is_site c.is_procedure W l.form used) (h.stores p c.procedure c.is_procedure k l.form here covers)
-        (can_call_from k l.form at)
+        (can_call_from k l.form at) (h.fits p k l.form pass.0 here) (h.resizes p k l.form pass.0 here)
         (record {
+          is_procedure = is_below U.program.declarations.procs p c.procedure c.is_procedure;
           is_there = here;
           in_block =
               subst (λ ls. covers_in_block U.program p ls l ≡ true) (sym lines_are)
@@ -152,11 +164,11 @@ module _ (U : Upgrade) (h : RunPremises U) where
           line = z.line;
           is_line = z.is_line;
           same = z.same;
-          keeps = λ f turns w. line_keeps R f l (covers_use U.program p l.form.bindings.mentions) p turns w (form_covered U.program p l.form covers);
+          keeps = λ f turns w. line_keeps R f l (uses_in U.program p l.form.bindings.mentions) p turns w (form_covered U.program p l.form covers);
         }
 
     names_differ : are_different (declared_names (written p pass).code) ≡ true
-    names_differ = subst (λ ns. are_different ns ≡ true) (all_names U p c W kept readable) c.different
+    names_differ = subst (λ ns. are_different ns ≡ true) (all_names U p c W kept usable answer_readable ranked) c.different
 
     pub body : BodyRuns U p (written p pass).number
     body = record {
@@ -168,7 +180,6 @@ module _ (U : Upgrade) (h : RunPremises U) where
       ends = h.no_further p c.site c.procedure c.is_site c.is_procedure W;
       result = λ base me xs ys w f g m F. results_agree U p c W names_differ base me xs ys (h.read p base me xs ys) answer_readable w f g m F;
       covers = subst (λ ls. list_all (covers_line U.program p) ls ≡ true) (sym lines_are) c.covers;
-      heads = λ n. subst (λ ls. is_exact_head U (nth_line ls n) ≡ true) (sym lines_are) (exact_head U U.program p c.lines n c.covers);
     }
 
   -- ---- turns
@@ -194,7 +205,8 @@ module _ (U : Upgrade) (h : RunPremises U) where
       then_agrees U K w (RunMatch U K p me) (ResultMatch U) (entered_as R p me locked xs w.src)
       (target.enter N W.number (option_map w.map.objects me) tt ys w.net) (λ f s. go (source.machine_of R) n (runs p f) s)
       (λ g t. go (target.machine_of N) n (runs W.number g) t) m
-      (entries_agree U p c W (kept p pass) (readable p pass) base me xs ys (h.made p base me xs ys) (h.made_with p base me xs ys) locked w0 w start args l obj held low m)
+      (entries_agree U p c W (kept p pass) (usable p pass) (answer_readable p pass) (ranked p pass) base me xs ys (h.made p base me xs ys) (h.made_arrays p base me xs ys)
+      (h.laid_arrays p base me xs ys) (h.made_with p base me xs ys) locked w0 w start args l obj held low m)
       (λ f g u r later. turns.rests p pass base me xs ys u f g r later.match)
 
   locked_steps : (K : Pledge) (w : World) (j : ℕ) (locked : Locked) → Later U K w (with_steps w j) → AllLocked U K w locked → AllLocked U K (with_steps w j) locked
@@ -270,3 +282,9 @@ made_in_calls U made p base me xs ys = made (call_pledge U p base me xs ys)
 
 pub made_with_in_calls : (U : Upgrade) → ValuesAreMade U → ValuesAreMadeInCalls U
 made_with_in_calls U made p base me xs ys = made (call_pledge U p base me xs ys)
+
+pub made_arrays_in_calls : (U : Upgrade) → ArraysAreMade U → ArraysAreMadeInCalls U
+made_arrays_in_calls U made p base me xs ys = made (call_pledge U p base me xs ys)
+
+pub laid_arrays_in_calls : (U : Upgrade) → StaticArraysAreLaid U → StaticArraysAreLaidInCalls U
+laid_arrays_in_calls U laid p base me xs ys = laid (call_pledge U p base me xs ys)

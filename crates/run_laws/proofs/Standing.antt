@@ -5,7 +5,6 @@ use Rattle.up_base.proofs.Tests.{both_true}
 use Rattle.vb_tree.specs.Tree.{Form}
 use Rattle.vb_tree.specs.Tree as source_form
 use Rattle.bound_tree.specs.Tree.{Expr, Procedure, Variable}
-use Rattle.bound_facts.specs.Facts.{is_quiet}
 use Rattle.bound_facts.specs.SelfMade.{module_of}
 use Rattle.net_tree.specs.Tree as net_tree
 use Rattle.run_base.specs.Frames.{Kept, keeps_address, keeps_nothing}
@@ -28,12 +27,11 @@ use Rattle.run_matches.specs.Maps.{World, is_auto_root, is_auto_variable}
 use Rattle.run_matches.specs.Runs.{IsObject}
 use Rattle.run_matches.specs.Sites.{Own, own_variable, own_constant}
 use Rattle.run_matches.specs.Upgrades.{Upgrade, is_auto}
-use Rattle.run_statements.specs.Frames.{IsReadable}
 use Rattle.agreeing_laws.proofs.Made.{more}
-use Rattle.memory_laws.proofs.Making.{readable_shape}
 use Rattle.run_laws.specs.Entered.{AllSound}
 use Rattle.run_laws.proofs.Covered.{not_none, some_is}
-use Rattle.run_laws.proofs.StaticOrder.{AllSimple}
+use Rattle.run_laws.proofs.StaticOrder.{AllFlat}
+use Rattle.run_laws.proofs.Usable.{usable_flat}
 use Rattle.run_laws.proofs.Locals.{position_is}
 
 -- ---- the frames of an entry
@@ -56,16 +54,12 @@ plain_place U w v a h auto q e =
     subst (λ (z : Position). is_auto_root U w.map z.root ≡ false) (position_is a (variable_shape U.program.declarations v) (whole (made h.place)) q h.stands e)
     (ap (is_auto_variable U) h.declared ∙ auto)
 
--- a variable that can be read is no quiet parameter
-pub readable_exact : (U : Upgrade) (v : ℕ) → IsReadable U v → is_quiet U.program.declarations U.known v ≡ false
-readable_exact U v r = r.exact
-
 -- ---- Statics
 
-pub simple_owns : (U : Upgrade) (S : Scope) (os : List Own) → AllSound U S os → AllSimple U.program.declarations os
-simple_owns U S [] h = tt
-simple_owns U S (own_variable v x ∷ os) h = ((h.0.0.variable.ty, readable_shape U v h.0.0), simple_owns U S os h.1)
-simple_owns U S (own_constant d x ∷ os) h = simple_owns U S os h.1
+pub flat_owns : (U : Upgrade) (S : Scope) (os : List Own) → AllSound U S os → AllFlat U.program.declarations os
+flat_owns U S [] h = tt
+flat_owns U S (own_variable v x ∷ os) h = (usable_flat U v h.0.0, flat_owns U S os h.1)
+flat_owns U S (own_constant d x ∷ os) h = flat_owns U S os h.1
 
 pub module_in_is : (ms : List net_tree.Module) (k : ℕ) → module_in ms k ≡ slice_get ms k
 module_in_is [] k = refl

@@ -163,10 +163,10 @@ module _ (U : Upgrade) (p : ℕ) (c : Code) (is_code : code_of U p ≡ Some c) (
 
 -- ---- the frame of the target
 
-pub record StaticFound (U : Upgrade) (v : ℕ) (x : Variable) (ys : List (List ℕ × net.Address)) : Type 0 where
+pub record StaticFound (U : Upgrade) (w : World) (v : ℕ) (x : Variable) (ys : List (List ℕ × net.Address)) : Type 0 where
   pub address : net.Address
   pub found : var_in ys x.name ≡ Some address
-  pub match : StaticMatch U v address
+  pub match : StaticMatch U w v address
 
 abbrev number_of : Own → ℕ
 number_of (own_variable v x) = v
@@ -178,7 +178,7 @@ variable_or y (own_constant c x) = y
 
 module _ (U : Upgrade) (K : Pledge) (w : World) (v : ℕ) (x : Variable) (static : is_static x.owner ≡ true) where
   behind : (o : Own) (b : List ℕ × net.Address) (os : List Own) (ys : List (List ℕ × net.Address)) → b.0 ≡ own_name o → is_named_in (own_name o) (map own_name os) ≡ false
-      → Among os (own_variable v x) → StaticFound U v x ys → StaticFound U v x (b ∷ ys)
+      → Among os (own_variable v x) → StaticFound U w v x ys → StaticFound U w v x (b ∷ ys)
   behind o b os ys e other m f = record {
     address = f.address;
     found =
@@ -187,7 +187,7 @@ module _ (U : Upgrade) (K : Pledge) (w : World) (v : ℕ) (x : Variable) (static
   }
 
   pub static_found : (os : List Own) (xs : List (ℕ × Address)) (ys : List (List ℕ × net.Address)) → LocalsMatch U K w os xs ys
-      → are_different (map own_name os) ≡ true → Among os (own_variable v x) → StaticFound U v x ys
+      → are_different (map own_name os) ≡ true → Among os (own_variable v x) → StaticFound U w v x ys
   static_found _ _ _ no_locals different m = absurd m
   static_found _ _ _ (next_variable u y a b os xs ys local name l rest) different (inl e) =
       absurd (true≢false (sym static ∙ sym (ap (λ (o : Own). is_static (variable_or x o).owner) e) ∙ local))
@@ -200,7 +200,7 @@ module _ (U : Upgrade) (K : Pledge) (w : World) (v : ℕ) (x : Variable) (static
       record {
         address = b.1;
         found = ap (λ t. cond t (Some b.1) (var_in ys x.name)) here;
-        match = subst (λ n. StaticMatch U n b.1) (ap number_of e) l;
+        match = subst (λ n. StaticMatch U w n b.1) (ap number_of e) l;
       }
   static_found _ _ _ (next_static u y b os xs ys is name l rest) different (inr m) =
       let f = first_differs (own_variable u y) os different in

@@ -1,17 +1,17 @@
 -- In the source the Statics of an entry are laid behind its local variables; they could as well be laid where they stand among them.
-use Rattle.std.proofs.Common.{◌≡◌, refl, sym, ap, subst, ◌∙◌, ℕ, suc, Bool, true, false, cond, List, [], ◌∷◌, ◌++◌, Option, Some}
-use Rattle.vb_tree.specs.BoundTree.{Ty}
+use Rattle.std.proofs.Common.{◌≡◌, refl, sym, ap, subst, ◌∙◌, ℕ, suc, Bool, true, false, cond, List, [], ◌∷◌, ◌++◌, map, Option, Some}
 use Rattle.bound_tree.specs.Tree.{Declarations}
-use Rattle.run_base.specs.Outcomes.{Outcome, gives, after, then, some_of}
+use Rattle.run_base.specs.Outcomes.{Outcome, gives, outside, after, then, some_of}
 use Rattle.run_base.specs.Positions.{Key, Root, shared, made, field, Position, whole, updated}
 use Rattle.vb6_run.specs.Programs.{Bindings, made_each, lay_if_blank, lay_statics}
 use Rattle.vb6_run.specs.Runnables.{is_class_file, object_root}
-use Rattle.vb6_run.specs.Shapes.{simple, variable_shape}
-use Rattle.vb6_run.specs.Store.{Address, Held, blank, single, table, parts, Memory, root, with_held, make}
-use Rattle.vb6_run.specs.Values.{first_scalar}
+use Rattle.vb6_run.specs.Shapes.{Shape, array, endless, group, simple, variable_shape}
+use Rattle.vb6_run.specs.Store.{Address, Held, blank, single, table, parts, Memory, provided, root, with_held, make}
+use Rattle.vb6_run.specs.Values.{dimension_of, first_scalar, first_value, is_makeable, repeated, size}
 use Rattle.written_trees.specs.Prologues.{is_static}
 use Rattle.run_matches.specs.Sites.{Own, own_variable, own_constant, local_numbers, static_numbers}
 use Rattle.agreeing_laws.proofs.Outputs.{after_nothing, then_then}
+use Rattle.run_laws.proofs.Usable.{IsFlat}
 
 -- ---- changes at a key and in a place
 
@@ -33,45 +33,74 @@ swapped_memory : (w : Memory) (k : Key) (x y : Held)
     → with_held (whole (shared k)) x (with_next (whole (made w.next)) y w) ≡ with_next (whole (made w.next)) y (with_held (whole (shared k)) x w)
 swapped_memory w k x y = ap (λ (h : Position → Held). record w { held = h; next = suc w.next }) (swapped w.held k w.next y x)
 
+-- ---- what is laid and made
+
+-- what stands there first
+abbrev first_held : Shape → Held
+first_held (simple ty) = single ty (first_scalar ty)
+first_held (group t fs) = parts
+first_held (array e bounds) = table e (map dimension_of bounds) (repeated (size (map dimension_of bounds)) (first_value e))
+first_held endless = blank
+
+abbrev put : Bool → Position → Held → Memory → Outcome Memory Unit
+put b q x w = provided b (λ v. gives [] tt (with_held q x v)) w
+
+abbrev made_by : Bool → Held → Shape → Memory → Outcome Memory Address
+made_by b x l w = then (put b (whole (made w.next)) x (record w { next = suc w.next })) (λ u v. gives [] (root l (whole (made w.next))) v)
+
+abbrev once_by : Bool → Held → Key → Held → Memory → Outcome Memory Unit
+once_by b x k blank w = put b (whole (shared k)) x w
+once_by b x k (single t z) w = gives [] tt w
+once_by b x k (table e dims xs) w = gives [] tt w
+once_by b x k parts w = gives [] tt w
+
+made_is : (l : Shape) → IsFlat l → (w : Memory) → make l w ≡ made_by (is_makeable l) (first_held l) l w
+made_is (simple ty) f w = refl
+made_is (group t fs) f w = absurd f
+made_is (array e bounds) f w = refl
+made_is endless f w = absurd f
+
+once_is : (s : Shape) → IsFlat s → (k : Key) (h : Held) (w : Memory)
+    → lay_if_blank s (shared k) h w ≡ once_by (is_makeable s) (first_held s) k h w
+once_is (simple ty) f k blank w = refl
+once_is (array e bounds) f k blank w = refl
+once_is (group t fs) f k blank w = absurd f
+once_is endless f k blank w = absurd f
+once_is s f k (single t z) w = refl
+once_is s f k (table e dims xs) w = refl
+once_is s f k parts w = refl
+
 -- ---- one Static behind one local variable, and before it
 
-module _ {A : Type 0} (k : Key) (s l : Ty) (G : Address → Memory → Outcome Memory A) where
-  abbrev local : Memory → Outcome Memory Address
-  local w = make (simple l) w
+module _ {A : Type 0} (k : Key) (x y : Held) (l : Shape) (G : Address → Memory → Outcome Memory A) where
+  behind_made : (b : Bool) (h : Held) (w : Memory)
+      → after [] (then (once_by b x k h (with_next (whole (made w.next)) y w)) (λ u v. G (root l (whole (made w.next))) v))
+      ≡ then (once_by b x k h w) (λ u v. then (made_by true y l v) G)
+  behind_made true blank w =
+      ap (λ m. after [] (after [] (G (root l (whole (made w.next))) m))) (swapped_memory w k x y)
+  behind_made false blank w = refl
+  behind_made b (single t z) w = refl
+  behind_made b (table e dims xs) w = refl
+  behind_made b parts w = refl
 
-  one_by : (h : Held) (w : Memory)
-      → then (lay_if_blank (simple s) (shared k) h (with_next (whole (made w.next)) (single l (first_scalar l)) w))
-      (λ u v. G (root (simple l) (whole (made w.next))) v)
-      ≡ then (lay_if_blank (simple s) (shared k) h w) (λ u v. then (local v) G)
-  one_by blank w =
-      ap (λ m. after [] (G (root (simple l) (whole (made w.next))) m)) (swapped_memory w k (single s (first_scalar s)) (single l (first_scalar l)))
-      ∙ ap (λ r. after [] r) (sym (after_nothing (G (root (simple l) (whole (made w.next)))
-      (with_next (whole (made w.next)) (single l (first_scalar l)) (with_held (whole (shared k)) (single s (first_scalar s)) w)))))
-  one_by (single t x) w =
-      ap (λ r. after [] r) (sym (after_nothing (G (root (simple l) (whole (made w.next))) (with_next (whole (made w.next)) (single l (first_scalar l)) w))))
-  one_by (table e dims xs) w =
-      ap (λ r. after [] r) (sym (after_nothing (G (root (simple l) (whole (made w.next))) (with_next (whole (made w.next)) (single l (first_scalar l)) w))))
-  one_by parts w =
-      ap (λ r. after [] r) (sym (after_nothing (G (root (simple l) (whole (made w.next))) (with_next (whole (made w.next)) (single l (first_scalar l)) w))))
+  behind_none : (b : Bool) (h : Held) (w : Memory) → outside [] ≡ then (once_by b x k h w) (λ u v. then (made_by false y l v) G)
+  behind_none true blank w = refl
+  behind_none false blank w = refl
+  behind_none b (single t z) w = refl
+  behind_none b (table e dims xs) w = refl
+  behind_none b parts w = refl
 
-  pub one_swapped : (w : Memory)
-      → then (local w) (λ a v. then (lay_if_blank (simple s) (shared k) (v.held (whole (shared k))) v) (λ u v. G a v))
-      ≡ then (lay_if_blank (simple s) (shared k) (w.held (whole (shared k))) w) (λ u v. then (local v) G)
-  one_swapped w =
-      after_nothing
-      (then (lay_if_blank (simple s) (shared k) (w.held (whole (shared k))) (with_next (whole (made w.next)) (single l (first_scalar l)) w))
-      (λ u v. G (root (simple l) (whole (made w.next))) v))
-      ∙ one_by (w.held (whole (shared k))) w
+  one_swapped : (b c : Bool) (w : Memory)
+      → then (made_by c y l w) (λ a v. then (once_by b x k (v.held (whole (shared k))) v) (λ u v. G a v))
+      ≡ then (once_by b x k (w.held (whole (shared k))) w) (λ u v. then (made_by c y l v) G)
+  one_swapped b true w = behind_made b (w.held (whole (shared k))) w
+  one_swapped b false w = behind_none b (w.held (whole (shared k))) w
 
 -- ---- behind all local variables
 
--- a variable of a scalar shape
-abbrev pub IsSimple : Declarations → ℕ → Type 0
-IsSimple D v = (ty : Ty) × (variable_shape D v ≡ simple ty)
-
-abbrev pub AreSimple : Declarations → List ℕ → Type 0
-AreSimple D [] = Unit {0}
-AreSimple D (v ∷ vs) = IsSimple D v × AreSimple D vs
+abbrev pub AreFlat : Declarations → List ℕ → Type 0
+AreFlat D [] = Unit {0}
+AreFlat D (v ∷ vs) = IsFlat (variable_shape D v) × AreFlat D vs
 
 -- a Static of a standard module is made where none is there
 abbrev pub laid_once : Declarations → (variable : ℕ) → Memory → Outcome Memory Unit
@@ -82,16 +111,20 @@ laid_all D [] w = gives [] tt w
 laid_all D (k ∷ ks) w = then (laid_once D k w) (λ u w. laid_all D ks w)
 
 module _ (D : Declarations) {A : Type 0} where
-  one_past : (k l : ℕ) → IsSimple D k → IsSimple D l → (G : Address → Memory → Outcome Memory A) (w : Memory)
+  one_past : (k l : ℕ) → IsFlat (variable_shape D k) → IsFlat (variable_shape D l) → (G : Address → Memory → Outcome Memory A) (w : Memory)
       → then (make (variable_shape D l) w) (λ a v. then (laid_once D k v) (λ u v. G a v))
       ≡ then (laid_once D k w) (λ u v. then (make (variable_shape D l) v) G)
   one_past k l s t G w =
-      subst
-      (λ x. then (make x w) (λ a v. then (laid_once D k v) (λ u v. G a v)) ≡ then (laid_once D k w) (λ u v. then (make x v) G)) (sym t.1)
-      (subst
-      (λ y. then (make (simple t.0) w) (λ a v. then (lay_if_blank y (shared (k ∷ [])) (v.held (whole (shared (k ∷ [])))) v) (λ u v. G a v))
-      ≡ then (lay_if_blank y (shared (k ∷ [])) (w.held (whole (shared (k ∷ [])))) w) (λ u v. then (make (simple t.0) v) G)) (sym s.1)
-      (one_swapped (k ∷ []) s.0 t.0 G w))
+      let z = variable_shape D k in
+      let y = variable_shape D l in
+      let made = λ (v : Memory). made_by (is_makeable y) (first_held y) y v in
+      let once = λ (v : Memory). once_by (is_makeable z) (first_held z) (k ∷ []) (v.held (whole (shared (k ∷ [])))) v in
+      ap (λ r. then r (λ a v. then (laid_once D k v) (λ u v. G a v))) (made_is y t w)
+      ∙ ap (λ f. then (made w) f)
+      (λ i a v. then (once_is z s (k ∷ []) (v.held (whole (shared (k ∷ [])))) v i) (λ u v. G a v))
+      ∙ one_swapped (k ∷ []) (first_held z) (first_held y) y G (is_makeable z) (is_makeable y) w
+      ∙ ap (λ f. then (once w) f) (λ i u v. let e = sym (made_is y t v) in then (e i) G)
+      ∙ ap (λ r. then r (λ u v. then (make y v) G)) (sym (once_is z s (k ∷ []) (w.held (whole (shared (k ∷ [])))) w))
 
   -- what follows a list of variables that begins with one
   pub each_next : (l : ℕ) (ls : List ℕ) (J : Bindings → Memory → Outcome Memory A) (w : Memory)
@@ -104,7 +137,7 @@ module _ (D : Declarations) {A : Type 0} where
       ∙ ap (λ k. then (make (variable_shape D l) w) k)
       (λ i a v. then (made_each D ls v) (λ rest z. after_nothing (J ((l, a) ∷ rest) z) i))
 
-  all_past : (k : ℕ) → IsSimple D k → (ls : List ℕ) → AreSimple D ls → (G : Bindings → Memory → Outcome Memory A) (w : Memory)
+  all_past : (k : ℕ) → IsFlat (variable_shape D k) → (ls : List ℕ) → AreFlat D ls → (G : Bindings → Memory → Outcome Memory A) (w : Memory)
       → then (made_each D ls w) (λ xs v. then (laid_once D k v) (λ u v. G xs v))
       ≡ then (laid_once D k w) (λ u v. then (made_each D ls v) G)
   all_past k s [] ts G w =
@@ -118,10 +151,10 @@ module _ (D : Declarations) {A : Type 0} where
 
 -- ---- among the declarations of a procedure
 
-abbrev pub AllSimple : Declarations → List Own → Type 0
-AllSimple D [] = Unit {0}
-AllSimple D (own_variable v x ∷ os) = IsSimple D v × AllSimple D os
-AllSimple D (own_constant c x ∷ os) = AllSimple D os
+abbrev pub AllFlat : Declarations → List Own → Type 0
+AllFlat D [] = Unit {0}
+AllFlat D (own_variable v x ∷ os) = IsFlat (variable_shape D v) × AllFlat D os
+AllFlat D (own_constant c x ∷ os) = AllFlat D os
 
 -- a variable of a procedure is made, or laid where it is a Static
 abbrev pub made_own : Declarations → (static : Bool) → (variable : ℕ) → (Memory → Outcome Memory Bindings) → Memory → Outcome Memory Bindings
@@ -134,21 +167,21 @@ made_in_order D [] w = gives [] [] w
 made_in_order D (own_variable v x ∷ os) w = made_own D (is_static x.owner) v (made_in_order D os) w
 made_in_order D (own_constant c x ∷ os) w = made_in_order D os w
 
-simple_locals : (D : Declarations) (os : List Own) → AllSimple D os → AreSimple D (local_numbers os)
-simple_locals D [] h = tt
-simple_locals D (own_variable v x ∷ os) h = by (is_static x.owner) (simple_locals D os h.1)
+flat_locals : (D : Declarations) (os : List Own) → AllFlat D os → AreFlat D (local_numbers os)
+flat_locals D [] h = tt
+flat_locals D (own_variable v x ∷ os) h = by (is_static x.owner) (flat_locals D os h.1)
   where
-    by : (b : Bool) → AreSimple D (local_numbers os) → AreSimple D (cond b [] (v ∷ []) ++ local_numbers os)
+    by : (b : Bool) → AreFlat D (local_numbers os) → AreFlat D (cond b [] (v ∷ []) ++ local_numbers os)
     by true more = more
     by false more = (h.0, more)
-simple_locals D (own_constant c x ∷ os) h = simple_locals D os h
+flat_locals D (own_constant c x ∷ os) h = flat_locals D os h
 
 module _ (D : Declarations) {A : Type 0} where
   -- locals, then Statics, then the rest
   abbrev Both : List ℕ → List ℕ → (Bindings → Memory → Outcome Memory A) → Memory → Outcome Memory A
   Both ls ss G w = then (made_each D ls w) (λ xs v. then (laid_all D ss v) (λ u v. G xs v))
 
-  own_by : (v : ℕ) → IsSimple D v → (b : Bool) (ls ss : List ℕ) → AreSimple D ls → (rest : Memory → Outcome Memory Bindings)
+  own_by : (v : ℕ) → IsFlat (variable_shape D v) → (b : Bool) (ls ss : List ℕ) → AreFlat D ls → (rest : Memory → Outcome Memory Bindings)
       → ((G : Bindings → Memory → Outcome Memory A) (w : Memory) → Both ls ss G w ≡ then (rest w) G) → (G : Bindings → Memory → Outcome Memory A) (w : Memory)
       → Both (cond b [] (v ∷ []) ++ ls) (cond b (v ∷ []) [] ++ ss) G w ≡ then (made_own D b v rest w) G
   own_by v s true ls ss are rest more G w =
@@ -164,11 +197,11 @@ module _ (D : Declarations) {A : Type 0} where
       ∙ sym (then_then (make (variable_shape D v) w) (λ a z. then (rest z) (λ xs y. gives [] ((v, a) ∷ xs) y)) G)
 
   -- it makes no difference
-  pub in_order : (os : List Own) → AllSimple D os → (G : Bindings → Memory → Outcome Memory A) (w : Memory)
+  pub in_order : (os : List Own) → AllFlat D os → (G : Bindings → Memory → Outcome Memory A) (w : Memory)
       → Both (local_numbers os) (static_numbers os) G w ≡ then (made_in_order D os w) G
   in_order [] h G w = ap (λ r. after [] r) (after_nothing (G [] w))
   in_order (own_variable v x ∷ os) h G w =
-      own_by v h.0 (is_static x.owner) (local_numbers os) (static_numbers os) (simple_locals D os h.1) (made_in_order D os) (λ G w. in_order os h.1 G w) G w
+      own_by v h.0 (is_static x.owner) (local_numbers os) (static_numbers os) (flat_locals D os h.1) (made_in_order D os) (λ G w. in_order os h.1 G w) G w
   in_order (own_constant c x ∷ os) h G w = in_order os h G w
 
 -- ---- the Statics of a standard module

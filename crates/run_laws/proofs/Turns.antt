@@ -14,7 +14,7 @@ use Rattle.net_tree.specs.Tree.{Project}
 use Rattle.vb6_run.specs.Runnables.{Runnable}
 use Rattle.run_matches.specs.Agreeing.{Agrees, ResultMatch}
 use Rattle.run_matches.specs.Covered.{covers_line}
-use Rattle.run_matches.specs.Frames.{FrameMatch, NextMatch, frame_pledge, is_exact_head, lines_of}
+use Rattle.run_matches.specs.Frames.{FrameMatch, NextMatch, frame_pledge, lines_of}
 use Rattle.run_matches.specs.Maps.{Mark, World}
 use Rattle.run_matches.specs.Match.{MemoryMatch}
 use Rattle.run_matches.specs.Pledges.{NetGiven, Pledge}
@@ -27,7 +27,7 @@ use Rattle.agreeing_laws.proofs.Agreeing.{agrees_promised, agrees_yields, then_a
 use Rattle.run_laws.specs.Entered.{RunMatch}
 use Rattle.run_laws.proofs.Covered.{not_none}
 use Rattle.run_laws.proofs.Keeping.{HasVars}
-use Rattle.run_laws.proofs.Pledged.{call_is_weaker, frame_goes_on, frame_in_line}
+use Rattle.run_laws.proofs.Pledged.{call_is_weaker, frame_goes_on}
 
 -- a line takes its step, then the rest follows
 stepped_then : {M K V A E L B C : Type 0} (machine : Machine M K V A E L) (n : ℕ) (does : M → Outcome M B) (k : B → M → Outcome M C) (w : M)
@@ -54,10 +54,9 @@ pub record BodyRuns (U : Upgrade) (p q : ℕ) : Type 0 where
   pub ends : (n : ℕ) → line_at (source.machine_of (runnable_of U)) p n ≡ None → line_at (target.machine_of U.written) q n ≡ None
   pub result :
       (base : Mark) (me : Option ℕ) (xs : List SourceGiven) (ys : List NetGiven) (w : World) (f : SourceFrame) (g : NetFrame) → MemoryMatch U w
-      → FrameMatch U (call_pledge U p base me xs ys) w p f g
+      → FrameMatch U (frame_pledge U p w f) w p f g
       → Agrees U (call_pledge U p base me xs ys) w (ResultMatch U) ((source.machine_of (runnable_of U)).result p f w.src) ((target.machine_of U.written).result q g w.net)
   pub covers : list_all (covers_line U.program p) (lines_of U p) ≡ true
-  pub heads : (h : ℕ) → is_exact_head U (nth_line (lines_of U p) h) ≡ true
 
 module _ (U : Upgrade) (p q : ℕ) (b : BodyRuns U p q) (base : Mark) (me : Option ℕ) (xs : List SourceGiven) (ys : List NetGiven) where
   abbrev R : Runnable
@@ -99,15 +98,16 @@ module _ (U : Upgrade) (p q : ℕ) (b : BodyRuns U p q) (base : Mark) (me : Opti
       (subst (λ z. Agrees U K w (ResultMatch U) (then one k) z) (sym (stepped_then T (T.left w.net) does' k' w.net))
       (then_agrees U K w (GoesOn w f) (ResultMatch U) one one' k k' h
       (agrees_yields U K w (NextMatch U (frame_pledge U p w f) p f.me) (HasVars f) one one' (x.keeps f n w.src)
-      (agrees_promised U K (frame_pledge U p w f) w (NextMatch U (frame_pledge U p w f) p f.me) one one' h (call_is_weaker U p base me xs ys w f g b.covers r)
-      (x.same n calls w f g refl h (frame_in_line U p base me xs ys w f g b.covers r b.heads) (λ v a used is e. r.given v.0 a e is))))
-      (λ f2 g2 u m lat. rest u f2 g2 (frame_goes_on U p base me xs ys w f g b.covers r b.heads u f2 g2 lat.grows m.1 m.0) lat.match)))
+      (agrees_promised U K (frame_pledge U p w f) w (NextMatch U (frame_pledge U p w f) p f.me) one one' h
+      (call_is_weaker U p b.covers base me xs ys w f r.same_object r.low r.places)
+      (x.same n calls w f g refl h r.frames (λ v a used is e. r.given v.0 a e is))))
+      (λ f2 g2 u m lat. rest u f2 g2 (frame_goes_on U p b.covers K me w f g r u f2 g2 lat.match lat.grows m.1 m.0) lat.match)))
 
   at_agrees : (n : ℕ) → Rest n → Calls n → (w : World) (f : SourceFrame) (g : NetFrame) → RunMatch U K p me w f g → MemoryMatch U w
       → (o : Option SourceLine) (i : Option NetLine) → line_at (source.machine_of R) p f.line ≡ o → line_at (target.machine_of N) q f.line ≡ i
       → Agrees U K w (ResultMatch U) (line_turn (source.machine_of R) (go (source.machine_of R) n) p f o w.src)
       (line_turn (target.machine_of N) (go (target.machine_of N) n) q g i w.net)
-  at_agrees n rest calls w f g r h None None e d = b.result base me xs ys w f g h r.next.frames
+  at_agrees n rest calls w f g r h None None e d = b.result base me xs ys w f g h r.frames
   at_agrees n rest calls w f g r h None (Some k) e d = absurd (not_none (sym (b.ends f.line e) ∙ d))
   at_agrees n rest calls w f g r h (Some l) i e d =
       let x : LineRuns U p q f.line l = b.line f.line l e in
@@ -122,6 +122,6 @@ module _ (U : Upgrade) (p q : ℕ) (b : BodyRuns U p q) (base : Mark) (me : Opti
       subst (λ z. Agrees U K w (ResultMatch U) (body_turn M (go M n) p f z w.src) (body_turn T (go T n) q g (slice_get T.bodies q) w.net)) (sym b.are_lines)
       (subst (λ z. Agrees U K w (ResultMatch U) (line_turn M (go M n) p f (nth_line b.lines f.line) w.src) (body_turn T (go T n) q g z w.net)) (sym b.are_net_lines)
       (subst (λ z. Agrees U K w (ResultMatch U) (line_turn M (go M n) p f (nth_line b.lines f.line) w.src) (line_turn T (go T n) q g (nth_line b.net_lines z) w.net))
-      (sym r.next.frames.line)
+      (sym r.frames.line)
       (at_agrees n rest calls w f g r h (nth_line b.lines f.line) (nth_line b.net_lines f.line) (ap (λ z. line_in z f.line) b.are_lines)
       (ap (λ z. line_in z f.line) b.are_net_lines))))

@@ -1,10 +1,11 @@
 -- What the laws on runs need of declarations, names, memories and lines.
 use Rattle.std.specs.Prelude.{◌≡◌, ℕ, suc, true, Option, Some, slice_get, List}
-use Rattle.vb_tree.specs.declared.declared.VarId.{VarId}
-use Rattle.bound_tree.specs.Tree.{Line, Procedure, Variable}
+use Rattle.std.specs.List.{Contains}
+use Rattle.bound_tree.specs.Tree.{Expr, Line, Procedure, Variable}
 use Rattle.bound_facts.specs.Clean.{IsClean}
 use Rattle.run_base.specs.Machines.{nth_line, go}
 use Rattle.bound_facts.specs.Facts.{AreFacts}
+use Rattle.bound_facts.specs.Parts.{line_uses}
 use Rattle.net_tree.specs.Types.{TypeName}
 use Rattle.vb6_run.specs.Shapes.{variable_shape}
 use Rattle.vb6_run.specs.Store.{make, SourceGiven, make_with}
@@ -16,7 +17,9 @@ use Rattle.net_run.specs.Store as net
 use Rattle.net_run.specs.Values as net_value
 use Rattle.run_matches.specs.Agreeing.{Agrees}
 use Rattle.run_matches.specs.CleanLines.{IsCleanLine, lines_at}
-use Rattle.run_matches.specs.Covered.{IsCoveredLine, covers_line, covers_procedure, covers_use, belongs_to, covers_variable, is_loud_owner}
+use Rattle.written_trees.specs.Bodies.{inside_procedure}
+use Rattle.written_trees.specs.Facts.{is_array_variable}
+use Rattle.run_matches.specs.Covered.{IsCoveredLine, covers_line, covers_procedure, uses_in, belongs_to, covers_declared, covers_variable, has_extents, is_scalar_or_loud}
 use Rattle.run_matches.specs.Likeness.{scalar_word, LikeV}
 use Rattle.run_matches.specs.Maps.{Mark, World}
 use Rattle.run_matches.specs.Match.{MemoryMatch}
@@ -24,9 +27,11 @@ use Rattle.run_matches.specs.Pledges.{Later, NetGiven, Pledge}
 use Rattle.run_matches.specs.Runs.{CallsAgree, call_pledge}
 use Rattle.run_matches.specs.Sites.{Site, site_of}
 use Rattle.run_matches.specs.Upgrades.{Upgrade, runnable_of}
-use Rattle.run_statements.specs.Frames.{IsReadable, MadeMatch}
+use Rattle.run_statements.specs.Fitting.{FitsLine, FitsNode}
+use Rattle.run_statements.specs.Arrays.{ArraysAreMadeBy, StaticArraysAreLaidBy}
+use Rattle.run_statements.specs.Frames.{AreReadable, IsReadable, IsUsable, MadeMatch}
 use Rattle.run_statements.specs.Kept.{IsUnreplaced, LabelsAreFound, LinesAgree, LinesAreWritten, NamesAreOpen, OwnsAreKept, NoFurtherLines, StoresAreOwn, UsesArePlaced, CalleesAreFound}
-use Rattle.run_statements.specs.Written.{ProceduresAreWritten, WrittenProcedure, Passes}
+use Rattle.run_statements.specs.Written.{ProceduresAreWritten, WrittenProcedure, Passes, site_scope}
 use Rattle.expression_laws.specs.Statements.{VariablesAreReadBy}
 
 -- ---- clean procedures that are covered
@@ -47,14 +52,14 @@ CleanUsesAreReadable U =
     (p : ℕ) (s : Site) (x : Procedure) → site_of U.program.declarations p ≡ Some s → slice_get U.program.declarations.procs p ≡ Some x
     → (W : WrittenProcedure U p s x) → IsClean U.program U.facts.marks p → covers_procedure U.program p ≡ true
     → (k : ℕ) (l : Line) → nth_line (lines_at U.program p) (suc k) ≡ Some l
-    → (v : VarId) → covers_use U.program p l.bindings.mentions v ≡ true → IsReadable U v.0
+    → AreReadable U (inside_procedure (site_scope U s) p) (uses_in U.program p l.bindings.mentions)
 
 -- what is written for the variables that a line uses leads to what stands for them
 abbrev pub CoveredUsesArePlaced : Upgrade → Type 0
 CoveredUsesArePlaced U =
     (p : ℕ) (s : Site) (x : Procedure) → site_of U.program.declarations p ≡ Some s → slice_get U.program.declarations.procs p ≡ Some x
     → (W : WrittenProcedure U p s x) (l : Line)
-    → ((v : VarId) → covers_use U.program p l.bindings.mentions v ≡ true → IsReadable U v.0) → UsesArePlaced U p s W.code l
+    → AreReadable U (inside_procedure (site_scope U s) p) (uses_in U.program p l.bindings.mentions) → UsesArePlaced U p s W.code l
 
 -- a covered line of a steady procedure stores to what is its own
 abbrev pub CoveredStoresAreOwn : Upgrade → Type 0
@@ -62,11 +67,17 @@ CoveredStoresAreOwn U =
     (p : ℕ) (x : Procedure) → slice_get U.program.declarations.procs p ≡ Some x → (k : ℕ) (l : Line)
     → nth_line (lines_at U.program p) (suc k) ≡ Some l → covers_line U.program p l ≡ true → StoresAreOwn U p l
 
--- what a clean procedure owns can be read where it is covered
+-- what a clean procedure owns can be used where it is covered
+abbrev pub OwnedAreUsable : Upgrade → Type 0
+OwnedAreUsable U =
+    (p v : ℕ) (x : Variable) → IsClean U.program U.facts.marks p → slice_get U.program.declarations.vars v ≡ Some x → belongs_to p x.owner ≡ true
+    → covers_declared x ≡ true → is_scalar_or_loud U.program v x ≡ true → IsUsable U v
+
+-- a scalar can be read
 abbrev pub OwnedAreReadable : Upgrade → Type 0
 OwnedAreReadable U =
     (p v : ℕ) (x : Variable) → IsClean U.program U.facts.marks p → slice_get U.program.declarations.vars v ≡ Some x → belongs_to p x.owner ≡ true
-    → covers_variable x ≡ true → is_loud_owner U.program v x.owner ≡ true → IsReadable U v
+    → covers_variable x ≡ true → is_scalar_or_loud U.program v x ≡ true → IsReadable U v
 
 -- a local variable is made on both sides, under a pledge and under those of calls
 abbrev pub LocalsAreMadeBy : Upgrade → Pledge → Type 0
@@ -79,6 +90,19 @@ LocalsAreMadeBy U K =
 abbrev pub LocalsAreMadeInCalls : Upgrade → Type 0
 LocalsAreMadeInCalls U =
     (p : ℕ) (base : Mark) (me : Option ℕ) (xs : List SourceGiven) (ys : List NetGiven) → LocalsAreMadeBy U (call_pledge U p base me xs ys)
+
+-- so is a local array, and a Static one where none is there yet
+abbrev pub ArraysAreMadeInCalls : Upgrade → Type 0
+ArraysAreMadeInCalls U =
+    (p : ℕ) (base : Mark) (me : Option ℕ) (xs : List SourceGiven) (ys : List NetGiven) → ArraysAreMadeBy U (call_pledge U p base me xs ys)
+
+abbrev pub StaticArraysAreLaidInCalls : Upgrade → Type 0
+StaticArraysAreLaidInCalls U =
+    (p : ℕ) (base : Mark) (me : Option ℕ) (xs : List SourceGiven) (ys : List NetGiven) → StaticArraysAreLaidBy U (call_pledge U p base me xs ys)
+
+-- an array has a dimension
+abbrev pub ArraysHaveRanks : Upgrade → Type 0
+ArraysHaveRanks U = (v : ℕ) → is_array_variable (slice_get U.program.declarations.vars v) ≡ true → U.facts.rank v ≡ 0 → ⊥
 
 -- so is a parameter with a value that matched
 abbrev pub ValuesAreMadeBy : Upgrade → Pledge → Type 0
@@ -98,6 +122,17 @@ abbrev pub ResultsAreRead : Upgrade → Type 0
 ResultsAreRead U =
     (p : ℕ) (base : Mark) (me : Option ℕ) (xs : List SourceGiven) (ys : List NetGiven) → VariablesAreReadBy U (call_pledge U p base me xs ys)
 
+-- what the lines of a clean procedure use suits the ranks of arrays
+abbrev pub CleanUsesFit : Upgrade → Type 0
+CleanUsesFit U =
+    (p k : ℕ) (l : Line) → IsClean U.program U.facts.marks p → nth_line (lines_at U.program p) (suc k) ≡ Some l
+    → (d : Expr) → Contains (line_uses l) d → FitsNode U d
+
+-- and what they make anew suits their lower bounds too
+abbrev pub CleanResizesFit : Upgrade → Type 0
+CleanResizesFit U =
+    (p k : ℕ) (l : Line) → IsClean U.program U.facts.marks p → nth_line (lines_at U.program p) (suc k) ≡ Some l → FitsLine U p l
+
 -- ---- lines by themselves
 
 abbrev pub CleanLinesAreUnreplaced : Upgrade → Type 0
@@ -108,7 +143,16 @@ CleanLinesAreUnreplaced U =
 abbrev pub LineUsesAreReadable : Upgrade → Type 0
 LineUsesAreReadable U =
     (p k : ℕ) → IsCleanLine U.program U.facts.marks p (suc k) → (covered : IsCoveredLine U.program p (suc k))
-    → (v : VarId) → covers_use U.program p covered.line.bindings.mentions v ≡ true → IsReadable U v.0
+    → AreReadable U (inside_procedure (site_scope U covered.site) p) (uses_in U.program p covered.line.bindings.mentions)
+
+abbrev pub LineUsesFit : Upgrade → Type 0
+LineUsesFit U =
+    (p k : ℕ) (l : Line) → IsCleanLine U.program U.facts.marks p (suc k) → nth_line (lines_at U.program p) (suc k) ≡ Some l
+    → (d : Expr) → Contains (line_uses l) d → FitsNode U d
+
+abbrev pub LineResizesFit : Upgrade → Type 0
+LineResizesFit U =
+    (p k : ℕ) (l : Line) → IsCleanLine U.program U.facts.marks p (suc k) → nth_line (lines_at U.program p) (suc k) ≡ Some l → FitsLine U p l
 
 -- ---- the whole
 
@@ -120,6 +164,8 @@ pub record LinePremises (U : Upgrade) : Type 0 where
   pub agree : LinesAgree U
   pub unreplaced : CleanLinesAreUnreplaced U
   pub readable : LineUsesAreReadable U
+  pub fits : LineUsesFit U
+  pub resizes : LineResizesFit U
   pub placed : CoveredUsesArePlaced U
   pub stores : CoveredStoresAreOwn U
   pub known : AreFacts U.program U.known
@@ -137,11 +183,17 @@ pub record RunPremises (U : Upgrade) : Type 0 where
   pub owns : OwnsOfClean U
   pub unreplaced : CleanAreUnreplaced U
   pub readable : CleanUsesAreReadable U
+  pub fits : CleanUsesFit U
+  pub resizes : CleanResizesFit U
   pub placed : CoveredUsesArePlaced U
   pub stores : CoveredStoresAreOwn U
-  pub owned : OwnedAreReadable U
+  pub owned : OwnedAreUsable U
+  pub owned_scalars : OwnedAreReadable U
   pub known : AreFacts U.program U.known
   pub found : CalleesAreFound U
   pub made : LocalsAreMadeInCalls U
+  pub ranked : has_extents U.program ≡ true → ArraysHaveRanks U
+  pub made_arrays : ArraysAreMadeInCalls U
+  pub laid_arrays : StaticArraysAreLaidInCalls U
   pub made_with : ValuesAreMadeInCalls U
   pub read : ResultsAreRead U

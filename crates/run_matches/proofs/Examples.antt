@@ -1,28 +1,31 @@
 -- The relation speaks of something: where things of a small program stand in what is written for it, that its stores match at the start,
 -- and what is covered.
-use Rattle.std.proofs.Common.{◌≡◌, refl, sym, ◌∙◌, ℕ, zero, suc, ◌+◌, ◌<◌, ◌≤◌, pos, Bool, true, false, cond, List, [], ◌∷◌, ◌++◌, codes, Some, None, arith}
+use Rattle.std.proofs.Common.{◌≡◌, inl, inr, refl, sym, subst, ◌∙◌, ℕ, zero, suc, ◌+◌, ◌<◌, ◌≤◌, pos, Bool, true, false, cond, List, [], ◌∷◌, ◌++◌, codes, Some, None, arith}
 use Rattle.std.proofs.lemmas.Bool.{true≢false}
 use Rattle.vb_tree.specs.BoundTree.{long}
 use Rattle.vb_tree.specs.declared.value.Value6.TheVariants as v
 use Rattle.std.specs.Fmt.{digits}
+use Rattle.std.specs.Prelude.{slice_get}
 use Rattle.bound_facts.specs.Calls.{Reaches}
 use Rattle.bound_tree.specs.RuleSets.{has, none, both}
+use Rattle.bound_tree.specs.Tree.{Variable}
 use Rattle.reach_table.specs.Chains.{empty, longer}
 use Rattle.run_base.specs.Outcomes.{Outcome, gives, raises, spent, outside, outputs, printed}
 use Rattle.run_base.specs.Positions.{Root, shared, made, field, Position, whole, is_same_position}
-use Rattle.vb6_run.specs.Programs.{run_program, empty_memory, lay_module_variables}
+use Rattle.vb6_run.specs.Programs.{run_program, empty_memory, is_module_variable, lay_module_variables}
 use Rattle.vb6_run.specs.Store.{Memory, blank, single}
 use Rattle.net_meaning.specs.declared.value.ValueN.TheVariants as n
 use Rattle.net_run.specs.Program.{program_runs, modules_start}
 use Rattle.net_run.specs.Store as net
 use Rattle.run_matches.specs.Upgrades.{Upgrade, written_number, class_home, variable_key, runnable_of}
 use Rattle.run_matches.specs.Maps.{World, Mark, Below, IsMatched, mark, net_mark, IsUnmade, moved_at}
-use Rattle.run_matches.specs.Match.{MemoryMatch, Holds, holds_blank, holds_single, StoreMatch}
+use Rattle.run_matches.specs.Match.{MemoryMatch, HeldAs, Holds, holds_blank, holds_single, StoreMatch}
 use Rattle.run_matches.specs.Addresses.{no_args}
 use Rattle.run_matches.specs.Pledges.{Pledge, Later}
 use Rattle.run_matches.specs.Runs.{Start}
 use Rattle.net_meaning.specs.ValueMatch.{longs}
 use Rattle.run_matches.specs.Covered.{covers_procedure, IsCovered}
+use Rattle.run_matches.proofs.Lasting.{keeps_self}
 use Rattle.run_matches.proofs.Samples.{program, upgrade}
 
 -- ---- where things stand
@@ -136,6 +139,24 @@ nothing_net_unmade (field o k) path u = refl
 below_zero : (a : ℕ) {B : Type 0} → a < 0 → B
 below_zero a lt = absurd (omega arith)
 
+-- n holds a Long, and nothing else stands in a standard module
+not_module : (x y : Variable) → Some x ≡ Some y → is_module_variable program.declarations x.owner ≡ false
+    → is_module_variable program.declarations y.owner ≡ false
+not_module x y e f = subst (λ z. is_module_variable program.declarations z.owner ≡ false) (from_some x y e) f
+  where
+    from_some : (x y : Variable) → Some x ≡ Some y → x ≡ y
+    from_some x y e = cc
+
+kinds_at : (x : ℕ) (y : Variable) → slice_get program.declarations.vars x ≡ Some y
+    → HeldAs program.declarations x y.owner (start.held (whole (shared (x ∷ []))))
+kinds_at zero y e = inr (v.Long (pos 0), refl)
+kinds_at (suc zero) y e = inl (refl, not_module _ y e refl)
+kinds_at (suc (suc zero)) y e = inl (refl, not_module _ y e refl)
+kinds_at (suc (suc (suc zero))) y e = inl (refl, not_module _ y e refl)
+kinds_at (suc (suc (suc (suc zero)))) y e = inl (refl, not_module _ y e refl)
+kinds_at (suc (suc (suc (suc (suc zero))))) y e = inl (refl, not_module _ y e refl)
+kinds_at (suc (suc (suc (suc (suc (suc x)))))) y e = cc
+
 stores_match : StoreMatch upgrade world
 unfolding has none both
 stores_match = record {
@@ -152,6 +173,7 @@ stores_match = record {
   unmade = λ q u. nothing_unmade q.root q.path u;
   net_unmade = λ q u. nothing_net_unmade q.root q.path u;
   errors = refl;
+  kinds = λ x y e f. kinds_at x y e;
 }
 
 -- so do arguments, of which there are none
@@ -184,6 +206,7 @@ lasts U K w h = record {
   grows = below_itself (mark w.src);
   net_grows = below_itself (net_mark w.net);
   arrays_grow = omega arith;
+  same_kinds = λ q. keeps_self (w.src.held q);
   same_values = λ q l i. refl;
   same_cells = λ q m l i. refl;
   same_elements = λ q k m l e. refl;

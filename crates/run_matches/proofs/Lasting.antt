@@ -4,11 +4,12 @@ use Rattle.std.specs.Prelude.{nat_lt}
 use Rattle.std.proofs.lemmas.Bool.{true≢false, ltb-true, ltb-false, lt-ltb}
 use Rattle.vb6_run.specs.Shapes.{Shape}
 use Rattle.run_base.specs.Positions.{Root, shared, made, field, Position}
-use Rattle.vb6_run.specs.Store.{Held, blank}
+use Rattle.vb6_run.specs.Store.{Held, blank, single, table, parts}
 use Rattle.net_meaning.specs.declared.value.ValueN.TheVariants as n
 use Rattle.net_run.specs.Store as net
 use Rattle.run_matches.specs.Upgrades.{Upgrade}
 use Rattle.run_matches.specs.Maps.{World, Mark, Below, IsMade, IsMatched, IsUnmapped, Extends, is_sound_part, is_auto_variable, is_fixed_variable, is_fixed_position, has_counterpart, root_variable, mark, net_mark, moved, moved_at, moved_key}
+use Rattle.run_matches.specs.Kinds.{KeepsKind}
 use Rattle.run_matches.specs.Match.{Holds, holds_single, holds_table, HasArray, StoreMatch, MemoryMatch}
 use Rattle.run_matches.specs.Pledges.{Pledge, IsLasting, IsHeld, Stays, kept_type, lasting, fixed_array, Later}
 
@@ -43,6 +44,18 @@ tell a b = tell_by a b (nat_lt a b) refl
 not_blank : (U : Upgrade) (w : World) (h : Held) (k : ℕ) → Holds U w h (net.holds (n.Array k)) → h ≡ blank → ⊥
 not_blank U w _ k (holds_single ty x y z) e = cc
 not_blank U w _ k (holds_table f dims xs j z) e = cc
+
+pub keeps_self : (h : Held) → KeepsKind h h
+keeps_self blank = tt
+keeps_self (single ty x) = (x, refl)
+keeps_self (table e dims xs) = (dims, xs, refl)
+keeps_self parts = refl
+
+keeps_then : (g h k : Held) → KeepsKind g h → KeepsKind h k → KeepsKind g k
+keeps_then blank h k a b = tt
+keeps_then (single ty x) h k a b = subst (λ z. KeepsKind z k) a.1 b
+keeps_then (table e dims xs) h k a b = subst (λ z. KeepsKind z k) a.2 b
+keeps_then parts h k a b = subst (λ z. KeepsKind z k) a b
 
 -- ---- what was made at the first of two worlds goes on to be what it was
 
@@ -152,6 +165,7 @@ then_later U K w0 w1 w2 low h a b =
       grows = below_then (mark w0.src) (mark w1.src) (mark w2.src) ga gb;
       net_grows = below_then (net_mark w0.net) (net_mark w1.net) (net_mark w2.net) na nb;
       arrays_grow = omega arith;
+      same_kinds = λ q. keeps_then (w0.src.held q) (w1.src.held q) (w2.src.held q) (a.same_kinds q) (b.same_kinds q);
       same_values = λ q l i. b.same_values q (go q l) (λ z. i (sym (a.same_values q l i) ∙ z)) ∙ a.same_values q l i;
       same_cells = λ q m l i.
           ap w2.net.cell (sym (same_at U w0 w1 x q m.is_made))
@@ -207,6 +221,7 @@ stores_dropped U w0 w h = record {
   unmade = h.unmade;
   net_unmade = h.net_unmade;
   errors = h.errors;
+  kinds = h.kinds;
 }
 
 kept_alone : (b a c : Bool) → b ≡ true → a ≡ c → cond b a true ≡ c
@@ -230,6 +245,7 @@ drops U K w0 w l = record {
   grows = l.grows;
   net_grows = l.net_grows;
   arrays_grow = l.arrays_grow;
+  same_kinds = l.same_kinds;
   same_values = l.same_values;
   same_cells = l.same_cells;
   same_elements = l.same_elements;

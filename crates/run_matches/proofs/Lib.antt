@@ -4,6 +4,8 @@ pub mod UpgradeExamples
 pub mod Examples
 pub mod CallSamples
 mod ReferenceSamples
+mod QuietSamples
+mod ArraySamples
 pub mod StoreExamples
 mod CoveredExamples
 mod LibraryExamples

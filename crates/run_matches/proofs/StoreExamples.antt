@@ -1,13 +1,16 @@
 -- Stores in which something stands: a variable, an object with a field, a local and an array, whose places are exchanged in the target.
-use Rattle.std.proofs.Common.{◌≡◌, refl, sym, ap, ◌∙◌, ℕ, zero, suc, ◌<◌, ◌^◌, pos, Bool, true, false, List, [], ◌∷◌, length, Option, Some, None, arith}
+use Rattle.std.proofs.Common.{◌≡◌, inl, inr, refl, sym, ap, subst, ◌∙◌, ℕ, zero, suc, ◌<◌, ◌^◌, pos, Bool, true, false, List, [], ◌∷◌, length, Option, Some, None, arith}
 use Rattle.std.proofs.lemmas.Bool.{true≢false}
+use Rattle.std.specs.Prelude.{slice_get}
 use Rattle.vb_tree.specs.BoundTree.{integer, long, currency}
 use Rattle.vb_tree.specs.declared.value.Value6.TheVariants as v
 use Rattle.bound_tree.specs.RuleSets.{has, none, both}
+use Rattle.bound_tree.specs.Tree.{Variable}
 use Rattle.net_meaning.specs.declared.value.ValueN.TheVariants as n
 use Rattle.net_meaning.specs.ValueMatch.{integers, longs, currencies}
 use Rattle.net_tree.specs.Types as word
 use Rattle.run_base.specs.Positions.{Root, shared, made, field, Position, whole}
+use Rattle.vb6_run.specs.Programs.{is_module_variable}
 use Rattle.vb6_run.specs.Shapes.{simple}
 use Rattle.vb6_run.specs.Store.{Memory, Held, blank, single, table}
 use Rattle.vb6_run.specs.Values.{Dimension, Values, scalar, no_values, next_value}
@@ -16,8 +19,8 @@ use Rattle.net_run.specs.Store as net
 use Rattle.net_run.specs.Values as net_value
 use Rattle.run_matches.specs.Maps.{World, IsMatched, mark, net_mark, IsUnmade, root_variable, moved_at}
 use Rattle.run_matches.specs.Likeness.{same_scalar, same_counts, like_scalar, no_items, next_item, same_elements}
-use Rattle.run_matches.specs.Match.{Holds, holds_blank, holds_single, holds_table, SameClass, StoreMatch}
-use Rattle.run_matches.proofs.Samples.{upgrade}
+use Rattle.run_matches.specs.Match.{HeldAs, Holds, holds_blank, holds_single, holds_table, SameClass, StoreMatch}
+use Rattle.run_matches.proofs.Samples.{program, upgrade}
 
 -- ---- the source: n is 7, the object 0 of Node has 3 in k, the place 0 is c with 1.1, and the place 1 an array from 1 to 2 with 5 and 6
 
@@ -106,9 +109,9 @@ holds_at (made zero) [] h = holds_single currency (v.Cur (pos 11000)) (n.Decimal
 holds_at (made zero) (i ∷ path) h = holds_blank
 holds_at (made (suc zero)) [] h =
     holds_table (simple integer) (two ∷ []) items 0
-    (same_elements (simple integer) (two ∷ []) items _ (same_scalar integer word.short refl) (same_counts two [] refl)
+    (same_elements (simple integer) (two ∷ []) items _ (same_scalar integer word.short refl) (same_counts two [] refl refl)
     (next_item _ _ _ _ (like_scalar integer (v.Int (pos 5)) (n.Short (pos 5)) (integers (pos 5) refl))
-    (next_item _ _ _ _ (like_scalar integer (v.Int (pos 6)) (n.Short (pos 6)) (integers (pos 6) refl)) no_items)))
+    (next_item _ _ _ _ (like_scalar integer (v.Int (pos 6)) (n.Short (pos 6)) (integers (pos 6) refl)) no_items)) refl refl)
 holds_at (made (suc zero)) (i ∷ path) h = holds_blank
 holds_at (made (suc (suc p))) path h = let lt : suc (suc p) < 2 = h.is_made in absurd (omega arith)
 holds_at (field zero []) path h = holds_blank
@@ -241,6 +244,24 @@ class_at : (o : ℕ) → o < 1 → SameClass upgrade (classes_at o) (homes_at (s
 class_at zero lt = (refl, refl)
 class_at (suc o) lt = absurd (omega arith)
 
+-- n holds a Long, and nothing else stands in a standard module
+not_module : (x y : Variable) → Some x ≡ Some y → is_module_variable program.declarations x.owner ≡ false
+    → is_module_variable program.declarations y.owner ≡ false
+not_module x y e f = subst (λ z. is_module_variable program.declarations z.owner ≡ false) (from_some x y e) f
+  where
+    from_some : (x y : Variable) → Some x ≡ Some y → x ≡ y
+    from_some x y e = cc
+
+kinds_at : (x : ℕ) (y : Variable) → slice_get program.declarations.vars x ≡ Some y
+    → HeldAs program.declarations x y.owner (held_at (shared (x ∷ [])) [])
+kinds_at zero y e = inr (v.Long (pos 7), refl)
+kinds_at (suc zero) y e = inl (refl, not_module _ y e refl)
+kinds_at (suc (suc zero)) y e = inl (refl, not_module _ y e refl)
+kinds_at (suc (suc (suc zero))) y e = inl (refl, not_module _ y e refl)
+kinds_at (suc (suc (suc (suc zero)))) y e = inl (refl, not_module _ y e refl)
+kinds_at (suc (suc (suc (suc (suc zero))))) y e = inl (refl, not_module _ y e refl)
+kinds_at (suc (suc (suc (suc (suc (suc x)))))) y e = cc
+
 stores_match : StoreMatch upgrade world
 stores_match = record {
   into = λ a lt e. exchanged_into a lt;
@@ -256,4 +277,5 @@ stores_match = record {
   unmade = λ q u. unmade_at q.root q.path u;
   net_unmade = λ q u. net_unmade_at q.root q.path u;
   errors = refl;
+  kinds = λ x y e f. kinds_at x y e;
 }

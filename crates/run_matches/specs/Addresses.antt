@@ -9,25 +9,28 @@ use Rattle.run_base.specs.Positions.{Key, Position, inner, made, shared, whole}
 use Rattle.vb6_run.specs.Expressions as source
 use Rattle.vb6_run.specs.Shapes.{Shape, simple, group, array, endless, Shapes, no_shapes, next_shape, part_shape}
 use Rattle.vb6_run.specs.Store.{Address, root, item, constant, Locked, SourceGiven, held_at}
-use Rattle.vb6_run.specs.Values.{Dimension, Value, scalar, elements, Values}
+use Rattle.vb6_run.specs.Values.{Dimension, Value, scalar, fields, elements, Values}
 use Rattle.net_run.specs.Names as net_part
 use Rattle.net_run.specs.Shapes as shape
 use Rattle.net_run.specs.Store as net
 use Rattle.net_run.specs.Values as net_value
-use Rattle.run_matches.specs.Upgrades.{Upgrade, class_home, variable_key, is_flagged_field, runnable_of}
+use Rattle.run_matches.specs.Upgrades.{Upgrade, class_home, variable_key, is_flagged_field, parameter_rank, runnable_of, takes_array}
 use Rattle.run_matches.specs.Maps.{World, mark, IsMade, IsMatched, moved_at, is_auto_root, is_fixed_position}
 use Rattle.run_matches.specs.Likeness.{SameShape, LikeV, ShapedAs}
+use Rattle.run_matches.specs.Kinds.{IsKind}
 use Rattle.run_matches.specs.Match.{IsLoose, HasArray, HasRank}
 use Rattle.run_matches.specs.Pledges.{Pledge, Later, type_of_shape, NetGiven, taken_by}
 
 -- ---- variables
 
 abbrev mutual
-  -- A variable of a shape is compared, with all fields whose declarations carry no issue. Where a fixed array stands, each address says so.
+  -- A variable of a shape holds what the shape says and is compared, with all fields whose declarations carry no issue. Where a fixed array
+  -- stands, each address says so.
   pub AllMatched : Upgrade → World → Shape → Position → Type 0
-  AllMatched U w (simple ty) q = IsMatched U w q
-  AllMatched U w (group t fs) q = IsMatched U w q × FieldsMatched U w t 0 fs q
-  AllMatched U w (array e bounds) q = IsMatched U w q × (is_fixed_position U w.map q ≡ true → bounds ≡ [] → ⊥)
+  AllMatched U w (simple ty) q = IsMatched U w q × IsKind (simple ty) (w.src.held q)
+  AllMatched U w (group t fs) q = IsMatched U w q × IsKind (group t fs) (w.src.held q) × FieldsMatched U w t 0 fs q
+  AllMatched U w (array e bounds) q =
+      IsMatched U w q × IsKind (array e bounds) (w.src.held q) × (is_fixed_position U w.map q ≡ true → bounds ≡ [] → ⊥)
   AllMatched U w endless q = ⊥
 
   pub FieldsMatched : Upgrade → World → (user_type field : ℕ) → Shapes → Position → Type 0
@@ -181,22 +184,41 @@ pub data KeptMatch (U : Upgrade) (K : Pledge) (w : World) (exact : Bool) : Kept 
 abbrev pub IsPlain : Upgrade → World → Address → Type 0
 IsPlain U w a = (q : Position) → position_of a ≡ Some q → is_auto_root U w.map q.root ≡ false
 
+-- a parameter that is an array is given one by reference
+abbrev pub GivesNoArray : Upgrade → (procedure place : ℕ) → Value → Type 0
+GivesNoArray U p i (scalar ty x) = Unit {0}
+GivesNoArray U p i (fields t xs) = Unit {0}
+GivesNoArray U p i (elements e dims xs) = takes_array U.program.declarations p i ≡ false
+
+-- an array is given to a parameter of its rank
+abbrev pub HasParameterRank : Upgrade → (procedure place : ℕ) → shape.Shape → Type 0
+HasParameterRank U p i (shape.array d rank) = rank ≡ parameter_rank U p i
+HasParameterRank U p i d = Unit {0}
+
+-- an address of what was made
+abbrev pub IsThere : World → Address → Type 0
+IsThere w a = (q : Position) → position_of a ≡ Some q → IsMade (mark w.src) q.root
+
+-- where there is a scalar, the variable has its type
+abbrev pub IsTypedAs : Upgrade → Value → shape.Shape → Type 0
+IsTypedAs U x s = (ty : Ty) (z : Value6) → x ≡ scalar ty z → SameShape U (simple ty) s
+
 -- Arguments from a place on. An ordinary reference parameter is bound by reference on both sides, quiet or not. At a quiet one either
 -- side alone may have a value, and the target has one where it is an index parameter of a property.
 pub data ArgsMatch (U : Upgrade) (K : Pledge) (w : World) (p : ℕ) : (place : ℕ) → List SourceGiven → List NetGiven → Type 0 where
   no_args : (i : ℕ) → ArgsMatch U K w p i [] []
   value_args :
-      (i : ℕ) (x : Value) (y : net_value.Value) (xs : List SourceGiven) (ys : List NetGiven) → LikeV U w x y → ArgsMatch U K w p (suc i) xs ys
-      → ArgsMatch U K w p i (by_value x ∷ xs) (by_value y ∷ ys)
+      (i : ℕ) (x : Value) (y : net_value.Value) (xs : List SourceGiven) (ys : List NetGiven) → LikeV U w x y → GivesNoArray U p i x
+      → ArgsMatch U K w p (suc i) xs ys → ArgsMatch U K w p i (by_value x ∷ xs) (by_value y ∷ ys)
   address_args :
       (i : ℕ) (a : Address) (b : net.Address) (xs : List SourceGiven) (ys : List NetGiven) → Same U K w a b → IsTarget U a → IsPlain U w a
-      → ArgsMatch U K w p (suc i) xs ys → ArgsMatch U K w p i (by_address a ∷ xs) (by_address b ∷ ys)
+      → HasParameterRank U p i (net.shape_at b) → ArgsMatch U K w p (suc i) xs ys → ArgsMatch U K w p i (by_address a ∷ xs) (by_address b ∷ ys)
   source_bound :
       (i : ℕ) (a : Address) (s : shape.Shape) (y : net_value.Value) (xs : List SourceGiven) (ys : List NetGiven) → (runnable_of U).quiet p i ≡ true
-      → Mirrors U K w a (net.constant s y) → ArgsMatch U K w p (suc i) xs ys → ArgsMatch U K w p i (by_address a ∷ xs) (by_value y ∷ ys)
+      → Mirrors U K w a (net.constant s y) → IsTarget U a → IsThere w a → IsPlain U w a → ArgsMatch U K w p (suc i) xs ys → ArgsMatch U K w p i (by_address a ∷ xs) (by_value y ∷ ys)
   target_bound :
       (i : ℕ) (x : Value) (b : net.Address) (xs : List SourceGiven) (ys : List NetGiven) → (runnable_of U).quiet p i ≡ true
-      → Mirrors U K w (constant x) b → ArgsMatch U K w p (suc i) xs ys → ArgsMatch U K w p i (by_value x ∷ xs) (by_address b ∷ ys)
+      → Mirrors U K w (constant x) b → IsTypedAs U x (net.shape_at b) → ArgsMatch U K w p (suc i) xs ys → ArgsMatch U K w p i (by_value x ∷ xs) (by_address b ∷ ys)
 
 -- The arguments match, and each array in a value occurs once, in no position that is compared.
 pub record ArgsOk (U : Upgrade) (K : Pledge) (w : World) (p : ℕ) (xs : List SourceGiven) (ys : List NetGiven) : Type 0 where

@@ -1,5 +1,5 @@
 -- Which procedures and lines are proved to do the same: the one file that a form group edits. What isn't covered is translated all the same.
-use Rattle.std.specs.Prelude.{◌≡◌, ℕ, suc, pos, negsuc, Bool, true, false, cond, not, ◌&&◌, ◌||◌, nat_eq, Option, Some, None, is_some, List, [], ◌∷◌, map, slice_get, nat_lt}
+use Rattle.std.specs.Prelude.{◌≡◌, ◌⊎◌, ℕ, ℤ, suc, pos, negsuc, Bool, true, false, cond, not, ◌&&◌, ◌||◌, int_le, nat_eq, Option, Some, None, is_some, List, [], ◌∷◌, length, map, slice_get, nat_lt}
 use Rattle.std.specs.Cmp.Lexicographic.{pointwise}
 use Rattle.std.specs.List.{list_all, list_any, Contains}
 use Rattle.up_base.specs.Names.{is_same_name}
@@ -15,6 +15,7 @@ use Rattle.vb_tree.specs.declared.declared.VarId.{VarId}
 use Rattle.vb_tree.specs.declared.expression.BinOp.{BinOp}
 use Rattle.vb_tree.specs.declared.expression.BinOp.TheVariants as b
 use Rattle.vb_tree.specs.declared.form_parts.Label6.{Label6}
+use Rattle.vb_tree.specs.declared.value.Value6.{Value6}
 use Rattle.vb_tree.specs.ProjectLines.{is_reserved}
 use Rattle.vb_tree.specs.Tree.{CaseItem, Form, Module}
 use Rattle.vb_tree.specs.Tree as source
@@ -24,25 +25,33 @@ use Rattle.bound_tree.specs.Labels.{Label, label_of}
 use Rattle.bound_tree.specs.Labels as mark
 use Rattle.bound_tree.specs.Tree.{Variable, Constant, Procedure, Declarations, Program, Expr, typed, Term, constant, variable, field, element, call, library, unary, binary, convert, new_object, me, with_object, err_number, err_raise, err_clear, is_same, loose, Exprs, no_exprs, next_expr, Object, no_object, of_object, Argument, by_value, by_reference, Passed, no_passed, next_passed}
 use Rattle.bound_tree.specs.Tree as tree
+use Rattle.bound_facts.specs.Bounds.{ranks}
+use Rattle.bound_facts.specs.CanRaise.{raises_by}
 use Rattle.bound_facts.specs.Calls.{Reaches, line_calls, count_procedures, count_variables}
 use Rattle.bound_facts.specs.Effects.{touched}
 use Rattle.bound_facts.specs.Facts.{acts}
+use Rattle.bound_facts.specs.Folded.{folded}
 use Rattle.bound_facts.specs.Leading.{is_in}
 use Rattle.bound_facts.specs.Locks.{is_same_type}
-use Rattle.bound_facts.specs.Node.{type_at, called, args_at}
-use Rattle.bound_facts.specs.Parts.{line_uses}
+use Rattle.bound_facts.specs.Node.{type_at, called, args_at, is_array_type}
+use Rattle.bound_facts.specs.Nodes.{nodes, nodes_of_all}
+use Rattle.bound_facts.specs.Parts.{line_uses, Extent, Resize, resizes}
+use Rattle.vb6_meaning.specs.Answers.{Answer}
+use Rattle.vb6_meaning.specs.Answers as answer
+use Rattle.vb6_meaning.specs.Values.{coerce}
 use Rattle.run_base.specs.Machines.{nth_line}
-use Rattle.net_tree.specs.Tree as net
-use Rattle.written_trees.specs.Arguments.{has_address, is_conversion, kept, takes_reference}
-use Rattle.written_trees.specs.Conversions.{converted}
-use Rattle.written_trees.specs.Operators.{binary_exp, unary_exp}
+use Rattle.written_trees.specs.Arguments.{is_conversion, takes_reference}
 use Rattle.written_trees.specs.Prologues.{variables_of, constants_of}
+use Rattle.written_trees.specs.Types.{element_type}
 use Rattle.vb6_run.specs.Forms.{SourceLine, body_of}
 use Rattle.vb6_run.specs.Programs.{is_local_of, owned_from, answer_in, is_static_of}
 use Rattle.vb6_run.specs.Runnables.{is_class_file}
+use Rattle.vb6_run.specs.Values.{is_typed}
 use Rattle.run_matches.specs.Callees.{frame_owns, is_found}
 use Rattle.run_matches.specs.Formed.{is_formed}
+use Rattle.run_matches.specs.Inward.{is_inward_in}
 use Rattle.run_matches.specs.Shared.{names_lead, others_differ, is_alone_static}
+use Rattle.run_matches.specs.Upgrades.{takes_array}
 use Rattle.run_matches.specs.Sites.{Site, site_of, Own, own_variable, own_constant, own_name, owns_of, local_numbers, static_numbers, statement_of}
 
 -- ---- types
@@ -120,11 +129,65 @@ is_loud P v None = false
 is_loud P v (Some x) = is_loud_owner P v x.owner
 
 -- Variables of the procedure, but for Statics in classes, and those of standard modules to which names lead; the line that uses them mentions
--- them. A parameter by reference is no quiet one.
+-- them.
 abbrev pub covers_use : Program → (procedure : ℕ) → List Mention → VarId → Bool
-covers_use P p mentions v =
+covers_use P p mentions v = list_any (is_mention_of v) mentions && covers_some P.declarations p v.0 (slice_get P.declarations.vars v.0)
+
+-- ---- arrays
+
+-- an array of elements of a type
+abbrev pub is_array_of : (element : Ty) → Ty → Bool
+is_array_of e (types.array f rank) = is_same_type e f
+is_array_of e _ = false
+
+-- arrays of modules, local ones and Statics, and parameters by reference
+abbrev pub covers_array_owner : Owner → Bool
+covers_array_owner (owner.Module file) = true
+covers_array_owner (owner.Local p) = true
+covers_array_owner (owner.Static p) = true
+covers_array_owner (owner.Value p) = false
+covers_array_owner (owner.Reference p) = true
+covers_array_owner (owner.Answer p) = false
+covers_array_owner (owner.Field t) = false
+
+abbrev pub is_in_order : ℤ × ℤ → Bool
+is_in_order b = int_le b.0 b.1
+
+-- a fixed array has bounds of all dimensions, of which none ends before it begins; a dynamic one has none
+abbrev pub covers_bounds : Ty → List (ℤ × ℤ) → Bool
+covers_bounds (types.array f rank) bounds = nat_eq (length bounds) rank && list_all is_in_order bounds
+covers_bounds ty bounds = false
+
+abbrev pub covers_array_variable : (element : Ty) → Variable → Bool
+covers_array_variable e x =
+    covers_array_owner x.owner && (covers_type e && (is_array_of e x.ty && (covers_bounds x.ty x.bounds && not x.auto)))
+
+-- a scalar, or an array of scalars
+abbrev pub covers_declared : Variable → Bool
+covers_declared x = covers_variable x || covers_array_variable (element_type x.ty) x
+
+-- before indexes the name of a Function would lead to the Function
+abbrev pub is_named_apart : Option Procedure → (name : List ℕ) → Bool
+is_named_apart None name = false
+is_named_apart (Some q) name = not (is_same_name q.name name)
+
+abbrev pub covers_some_array : Declarations → (procedure variable : ℕ) → (element : Ty) → Option Variable → Bool
+covers_some_array D p v e None = false
+covers_some_array D p v e (Some x) =
+    is_reached D p v x.name x.owner && (covers_array_variable e x && is_named_apart (slice_get D.procs p) x.name)
+
+abbrev pub has_rank : ℕ × ℕ → Bool
+has_rank x = nat_lt 0 x.1
+
+-- each ReDim of the project gives its arrays a dimension
+abbrev pub has_extents : Program → Bool
+has_extents P = list_all has_rank (ranks P)
+
+-- array variables of the procedure, and of standard modules, as scalars are, which don't have its name
+abbrev pub covers_array_use : Program → (procedure : ℕ) → List Mention → VarId → (element : Ty) → Bool
+covers_array_use P p mentions v e =
     list_any (is_mention_of v) mentions
-    && (covers_some P.declarations p v.0 (slice_get P.declarations.vars v.0) && is_loud P v.0 (slice_get P.declarations.vars v.0))
+    && (covers_some_array P.declarations p v.0 e (slice_get P.declarations.vars v.0) && is_loud P v.0 (slice_get P.declarations.vars v.0))
 
 -- ---- operators and the library
 
@@ -182,9 +245,32 @@ covers_library lib.InputBox = true
 
 -- ---- expressions
 
--- which variables are covered
-abbrev pub Uses : Type 0
-Uses = VarId → Bool
+-- which variables are covered: as scalars, and as arrays of elements of a type; and which are no quiet parameters
+pub record Uses : Type 0 where
+  pub scalar : VarId → Bool
+  pub array : VarId → (element : Ty) → Bool
+  -- variables that are declared with a type
+  pub is_of : VarId → Ty → Bool
+  -- procedures that are seen to be inward
+  pub inward : (procedure : ℕ) → Bool
+  pub exact : VarId → Bool
+
+abbrev pub IsUsed : Uses → VarId → Type 0
+IsUsed uses v = (uses.scalar v ≡ true) ⊎ ((element : Ty) × (uses.array v element ≡ true))
+
+abbrev pub is_declared_as : Ty → Option Variable → Bool
+is_declared_as ty None = false
+is_declared_as ty (Some x) = is_same_type ty x.ty
+
+-- those that a line of a procedure uses and mentions
+abbrev pub uses_in : Program → (procedure : ℕ) → List Mention → Uses
+uses_in P p mentions = record {
+  scalar = covers_use P p mentions;
+  array = covers_array_use P p mentions;
+  is_of = λ v ty. is_declared_as ty (slice_get P.declarations.vars v.0);
+  inward = is_inward_in P;
+  exact = λ v. is_loud P v.0 (slice_get P.declarations.vars v.0);
+}
 
 abbrev pub is_without_object : Object → Bool
 is_without_object no_object = true
@@ -197,25 +283,79 @@ is_variable_in t = false
 abbrev pub is_variable : Expr → Bool
 is_variable (typed ty t) = is_variable_in t
 
--- literals and uses of constants, variables, operators, conversions, calls of the library, and calls without an object
+abbrev pub is_changeable_in : Uses → Term → Bool
+is_changeable_in uses (variable v qualified) = uses.exact v
+is_changeable_in uses t = false
+
+-- a variable that is changed, and so is no quiet parameter
+abbrev pub is_changeable : Uses → Expr → Bool
+is_changeable uses (typed ty t) = is_changeable_in uses t
+
+abbrev pub is_passable_in : Uses → Term → Bool
+is_passable_in uses (variable v qualified) = uses.exact v
+is_passable_in uses t = true
+
+-- nor is a variable that is given by reference
+abbrev pub is_passable : Uses → Expr → Bool
+is_passable uses (typed ty t) = is_passable_in uses t
+
+abbrev pub covers_array_term : Uses → (element : Ty) → Term → Bool
+covers_array_term uses e (variable v qualified) = uses.array v e
+covers_array_term uses e t = false
+
+abbrev pub covers_array_as : Uses → Ty → Term → Bool
+covers_array_as uses (types.array e rank) t = covers_array_term uses e t
+covers_array_as uses ty t = false
+
+-- an array variable
+abbrev pub covers_array : Uses → Expr → Bool
+covers_array uses (typed ty t) = covers_array_as uses ty t
+
+-- ---- bounds of arrays
+
+abbrev pub is_bound : LibCall → Bool
+is_bound lib.UBound = true
+is_bound lib.LBound = true
+is_bound _ = false
+
+abbrev pub is_constant_in : Term → Bool
+is_constant_in (constant x origin) = true
+is_constant_in t = false
+
+abbrev pub is_constant : Expr → Bool
+is_constant (typed ty t) = is_constant_in t
+
+-- a dimension that is named by a constant, or none
+abbrev pub covers_dimension : Exprs → Bool
+covers_dimension no_exprs = true
+covers_dimension (next_expr e no_exprs) = is_constant e
+covers_dimension (next_expr e (next_expr d rest)) = false
+
+-- an array variable and perhaps a dimension
+abbrev pub covers_bounded : Uses → Exprs → Bool
+covers_bounded uses no_exprs = false
+covers_bounded uses (next_expr a rest) = covers_array uses a && covers_dimension rest
+
+-- literals and uses of constants, variables, elements, operators, conversions, calls of the library, bounds of arrays, Err.Number, and calls
+-- without an object
 abbrev mutual
   pub covers_expr : Uses → Expr → Bool
   covers_expr uses (typed ty t) = covers_type ty && covers_term uses t
 
   pub covers_term : Uses → Term → Bool
   covers_term uses (constant x origin) = true
-  covers_term uses (variable v qualified) = uses v
+  covers_term uses (variable v qualified) = uses.scalar v
   covers_term uses (field e k) = false
-  covers_term uses (element e indexes) = false
+  covers_term uses (element e indexes) = covers_array uses e && covers_exprs uses indexes
   covers_term uses (call p qualified of args) = is_without_object of && covers_passed uses args
-  covers_term uses (library f args) = covers_library f && covers_exprs uses args
+  covers_term uses (library f args) = (covers_library f && covers_exprs uses args) || (is_bound f && covers_bounded uses args)
   covers_term uses (unary op e) = covers_expr uses e
   covers_term uses (binary op d e) = covers_operator op && (covers_expr uses d && covers_expr uses e)
   covers_term uses (convert to e) = covers_type to && covers_expr uses e
   covers_term uses (new_object c) = false
   covers_term uses me = false
   covers_term uses (with_object root) = false
-  covers_term uses err_number = false
+  covers_term uses err_number = true
   covers_term uses (err_raise e) = false
   covers_term uses err_clear = false
   covers_term uses (is_same d e) = false
@@ -232,23 +372,105 @@ abbrev mutual
   -- arguments by value and by reference
   pub covers_argument : Uses → Argument → Bool
   covers_argument uses (by_value e) = covers_expr uses e
-  covers_argument uses (by_reference e) = covers_expr uses e
+  covers_argument uses (by_reference e) = (is_passable uses e && covers_expr uses e) || covers_array uses e
+
+-- an expression of a type
+abbrev pub covers_value : Uses → Ty → Expr → Bool
+covers_value uses ty e = is_same_type ty (type_at e) && covers_expr uses e
+
+-- ---- the order of an element's indexes and the value that is stored there
+
+abbrev pub is_raising : Expr → Bool
+is_raising (typed ty t) = raises_by t
+
+-- where both can raise, what is written evaluates the value first, by a Put function
+abbrev pub both_raise : (indexes : Exprs) → (value : Expr) → Bool
+both_raise indexes e = list_any is_raising (nodes_of_all indexes) && list_any is_raising (nodes e)
+
+abbrev pub gives_typed : Ty → Answer Value6 → Bool
+gives_typed ty (answer.gives x) = is_typed ty x
+gives_typed ty (answer.raises number) = false
+gives_typed ty answer.outside = false
+
+abbrev pub converts_constant_in : (to : Ty) → Term → Bool
+converts_constant_in to (constant x origin) = gives_typed to (coerce x to)
+converts_constant_in to t = false
+
+abbrev pub converts_constant : (to : Ty) → Expr → Bool
+converts_constant to (typed ty t) = converts_constant_in to t
+
+-- a constant, or the conversion of one
+abbrev pub is_literal_term : Ty → Term → Bool
+is_literal_term ty (constant x origin) = true
+is_literal_term ty (convert to e) = is_same_type to ty && converts_constant to e
+is_literal_term ty t = false
+
+abbrev pub is_literal_value : Expr → Bool
+is_literal_value (typed ty t) = is_literal_term ty t
+
+-- a conversion that has a value for each value of its first type
+abbrev pub widens : (from to : Ty) → Bool
+widens types.boolean types.byte = true
+widens types.boolean types.integer = true
+widens types.boolean types.long = true
+widens types.boolean types.currency = true
+widens types.byte types.integer = true
+widens types.byte types.long = true
+widens types.byte types.currency = true
+widens types.integer types.long = true
+widens types.integer types.currency = true
+widens types.long types.currency = true
+widens from to = false
+
+-- what always has a value, and does nothing: constants, variables of their types, and conversions of such
+abbrev mutual
+  pub is_calm : Uses → Expr → Bool
+  is_calm uses (typed ty t) = is_calm_term uses ty t
+
+  pub is_calm_term : Uses → Ty → Term → Bool
+  is_calm_term uses ty (constant x origin) = true
+  is_calm_term uses ty (variable v qualified) = uses.scalar v && (uses.exact v && uses.is_of v ty)
+  is_calm_term uses ty (convert to e) = is_same_type to ty && (widens (type_at e) to && is_calm uses e)
+  is_calm_term uses ty t = false
+
+abbrev pub are_calm : Uses → Exprs → Bool
+are_calm uses no_exprs = true
+are_calm uses (next_expr e rest) = is_calm uses e && are_calm uses rest
+
+abbrev pub is_seen_inward : Uses → Option ℕ → Bool
+is_seen_inward uses None = true
+is_seen_inward uses (Some q) = uses.inward q
+
+-- calls of inward procedures alone
+abbrev pub are_still : Uses → List Expr → Bool
+are_still uses es = list_all (λ d. is_seen_inward uses (called d)) es
+
+-- Both can raise, or the value is constant, or one is calm and the other still. What breaks no rule on the order of effects is mostly so;
+-- what reads an element, or has an operator, isn't calm, and a fixed array isn't told from others.
+abbrev pub keeps_order : Uses → (indexes : Exprs) → (value : Expr) → Bool
+keeps_order uses indexes e =
+    both_raise indexes e
+    || (is_literal_value e || ((are_calm uses indexes && are_still uses (nodes e)) || (is_calm uses e && are_still uses (nodes_of_all indexes))))
 
 -- ---- lines
 
--- an assignment to a variable
+abbrev pub is_ordered_in : Uses → Ty → (target : Term) → (value : Expr) → Bool
+is_ordered_in uses ty (element a indexes) e = is_same_type ty (type_at e) && keeps_order uses indexes e
+is_ordered_in uses ty t e = false
+
+-- an element of the type of the value, before which its indexes may be evaluated
+abbrev pub is_ordered : Uses → (target value : Expr) → Bool
+is_ordered uses (typed ty t) e = is_ordered_in uses ty t e
+
+-- an assignment to a variable or an element
 abbrev pub covers_store : Uses → List Expr → Bool
-covers_store uses (to ∷ e ∷ []) = is_variable to && (covers_expr uses to && covers_expr uses e)
+covers_store uses (to ∷ e ∷ []) = (is_changeable uses to || is_ordered uses to e) && (covers_expr uses to && covers_expr uses e)
 covers_store uses es = false
 
 -- a condition, or what a Select Case compares: one expression
 abbrev pub covers_condition : Uses → List Expr → Bool
 covers_condition uses (e ∷ []) = covers_expr uses e
 covers_condition uses es = false
-
--- an expression of a type
-abbrev pub covers_value : Uses → Ty → Expr → Bool
-covers_value uses ty e = is_same_type ty (type_at e) && covers_expr uses e
 
 abbrev pub is_comparison : BinOp → Bool
 is_comparison b.Equal = true
@@ -319,7 +541,29 @@ abbrev pub covers_call : Uses → List Expr → Bool
 covers_call uses (e ∷ []) = covers_called uses e
 covers_call uses es = false
 
--- assignments to variables, calls, Debug.Print, If, Select Case, For, Do, While, labels, GoTo, On Error, Resume and Exit
+-- a lower bound that is a constant, or none
+abbrev pub covers_low : Uses → Option Expr → Bool
+covers_low uses None = true
+covers_low uses (Some e) = is_some (folded e) && covers_expr uses e
+
+-- bounds of one dimension: the upper one is a Long
+abbrev pub covers_extent : Uses → Extent → Bool
+covers_extent uses x = covers_low uses x.0 && covers_value uses types.long x.1
+
+-- an array that is made anew; its elements are kept in one dimension alone
+abbrev pub covers_resize : Uses → (preserve : Bool) → Resize → Bool
+covers_resize uses preserve r =
+    covers_array uses r.array && (list_all (covers_extent uses) r.extents && (not preserve || nat_eq (length r.extents) 1))
+
+abbrev pub covers_resizes : Uses → (preserve : Bool) → List Resize → Bool
+covers_resizes uses preserve rs = list_all (covers_resize uses preserve) rs
+
+-- an array that is erased
+abbrev pub covers_erased : Uses → List Expr → Bool
+covers_erased uses (e ∷ []) = covers_array uses e
+covers_erased uses es = false
+
+-- assignments to variables, calls, Debug.Print, If, Select Case, For, Do, While, labels, GoTo, On Error, Resume, Exit, ReDim and Erase
 abbrev pub covers_form : Uses → Form → List Expr → Bool
 covers_form uses (source.assign target value) es = covers_store uses es
 covers_form uses (source.set target value) es = false
@@ -357,8 +601,8 @@ covers_form uses source.resume es = true
 covers_form uses source.resume_next es = true
 covers_form uses (source.resume_at l) es = covers_label (label_of l)
 covers_form uses (source.exit kind) es = true
-covers_form uses (source.redim preserve items) es = false
-covers_form uses (source.erase target) es = false
+covers_form uses (source.redim preserve items) es = covers_resizes uses preserve (resizes items es)
+covers_form uses (source.erase target) es = covers_erased uses es
 covers_form uses (source.opaque tokens) es = false
 covers_form uses (source.attribute tokens) es = false
 covers_form uses source.option_explicit es = false
@@ -387,13 +631,24 @@ covers_form uses (source.event_variables word declarators) es = false
 
 -- a code line of a procedure, whose expressions are well formed
 abbrev pub covers_line : Program → (procedure : ℕ) → tree.Line → Bool
-covers_line P p l = covers_form (covers_use P p l.bindings.mentions) l.source.form l.bindings.exprs && list_all is_formed l.bindings.exprs
+covers_line P p l = covers_form (uses_in P p l.bindings.mentions) l.source.form l.bindings.exprs && list_all is_formed l.bindings.exprs
 
 -- ---- lines in their blocks
 
 abbrev pub is_local_in : (procedure : ℕ) → Option Variable → Bool
 is_local_in p None = false
 is_local_in p (Some x) = is_local_of p x.owner
+
+-- a parameter or the result variable
+abbrev pub is_passing_of : (procedure : ℕ) → Owner → Bool
+is_passing_of p (owner.Value q) = nat_eq p q.0
+is_passing_of p (owner.Reference q) = nat_eq p q.0
+is_passing_of p (owner.Answer q) = nat_eq p q.0
+is_passing_of p _ = false
+
+abbrev pub is_passing_in : (procedure : ℕ) → Option Variable → Bool
+is_passing_in p None = false
+is_passing_in p (Some x) = is_passing_of p x.owner
 
 abbrev pub is_local_term : Program → (procedure : ℕ) → Term → Bool
 is_local_term P p (variable v qualified) = is_local_in p (slice_get P.declarations.vars v.0)
@@ -497,9 +752,17 @@ abbrev pub is_parameter_in : (procedure : ℕ) → Option Variable → Bool
 is_parameter_in p None = false
 is_parameter_in p (Some x) = is_parameter_of p x.owner
 
--- parameters by value, and those by reference that aren't quiet
+-- a scalar, or no quiet parameter
+abbrev pub is_scalar_or_loud : Program → (variable : ℕ) → Variable → Bool
+is_scalar_or_loud P v x = covers_type x.ty || is_loud_owner P v x.owner
+
+abbrev pub is_taken_in : Program → (procedure variable : ℕ) → Option Variable → Bool
+is_taken_in P p v None = false
+is_taken_in P p v (Some x) = is_parameter_of p x.owner && is_scalar_or_loud P v x
+
+-- parameters by value and by reference; an array is no quiet one
 abbrev pub covers_parameter : Program → (procedure : ℕ) → VarId → Bool
-covers_parameter P p v = is_parameter_in p (slice_get P.declarations.vars v.0) && is_loud P v.0 (slice_get P.declarations.vars v.0)
+covers_parameter P p v = is_taken_in P p v.0 (slice_get P.declarations.vars v.0)
 
 abbrev pub is_result_in : (procedure : ℕ) → Procedure → Option Variable → Bool
 is_result_in p x None = false
@@ -529,9 +792,10 @@ covers_head P p (Some x) =
     && (list_all (covers_parameter P p) x.params
     && (covers_result P.declarations p x && not (is_class_file P.declarations x.module_number)))
 
--- each variable of the procedure is covered
+-- each variable of the procedure is covered, and each ReDim of the project gives extents
 abbrev pub covers_variables : Program → (procedure : ℕ) → Bool
-covers_variables P p = list_all (λ (x : Variable). cond (belongs_to p x.owner) (covers_variable x) true) P.declarations.vars
+covers_variables P p =
+    list_all (λ (x : Variable). cond (belongs_to p x.owner) (covers_declared x) true) P.declarations.vars && has_extents P
 
 -- all lines, also in their blocks
 abbrev pub covers_body : Program → (procedure : ℕ) → Option (List tree.Line) → Bool
@@ -583,38 +847,18 @@ covers_callee P p (Some s) q =
     nat_lt q (count_procedures P)
     && is_found P.declarations (slice_get P.declarations.procs p) s (slice_get P.declarations.procs q) (site_of P.declarations q)
 
--- what is written by its outermost part as a value
-abbrev pub is_valued : net.Exp → Bool
-is_valued (net.lit l) = true
-is_valued net.nothing = true
-is_valued (net.cast word e) = true
-is_valued (net.unary op e) = true
-is_valued (net.binary op e f) = true
-is_valued e = false
+-- a variable, or a conversion, which is a temporary
+abbrev pub is_referred : Expr → Bool
+is_referred e = is_variable e || is_conversion e
 
--- a constant, or an operator or a conversion that is written as one
-abbrev pub is_valued_term : Ty → Term → Bool
-is_valued_term ty (constant x origin) = true
-is_valued_term ty (unary o e) = is_valued (unary_exp o ty e net.me)
-is_valued_term ty (binary o d e) = is_valued (binary_exp o ty d e net.me net.me)
-is_valued_term ty (convert to e) = is_valued (converted to e net.me)
-is_valued_term ty t = false
+-- an array goes to a parameter that takes one
+abbrev pub suits_array : Declarations → (procedure place : ℕ) → Expr → Bool
+suits_array D q i e = not (is_array_type (type_at e)) || takes_array D q i
 
-abbrev pub is_valued_as : Expr → Bool
-is_valued_as (typed ty t) = is_valued_term ty t
-
--- a temporary: what is written in parentheses, or as such a value
-abbrev pub is_temporary : Declarations → Expr → Bool
-is_temporary D e = has_address D (kept e) || is_valued_as e
-
--- a variable, or one with a conversion, which is a temporary
-abbrev pub is_referred : Declarations → Expr → Bool
-is_referred D e = is_variable e || (is_conversion e && is_temporary D e)
-
--- a reference goes to a parameter that takes one, and there a value is a temporary
+-- a reference goes to a parameter that takes one
 abbrev pub suits_argument : Declarations → (procedure place : ℕ) → Argument → Bool
-suits_argument D q i (by_value e) = cond (takes_reference D q i) (is_temporary D e) true
-suits_argument D q i (by_reference e) = takes_reference D q i && is_referred D e
+suits_argument D q i (by_value e) = true
+suits_argument D q i (by_reference e) = takes_reference D q i && (is_referred e && suits_array D q i e)
 
 abbrev pub suits_passed : Declarations → (procedure place : ℕ) → Passed → Bool
 suits_passed D q i no_passed = true

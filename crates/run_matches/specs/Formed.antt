@@ -71,10 +71,23 @@ is_row_of_call lib.CLng ts ty = is_conversion_to types.long ts ty
 is_row_of_call lib.CCur ts ty = is_conversion_to types.currency ts ty
 is_row_of_call lib.CStr ts ty = is_conversion_to types.str ts ty
 is_row_of_call lib.IsEmpty ts ty = is_call (types.variant ∷ []) types.boolean ts ty
-is_row_of_call lib.UBound ts ty = false
-is_row_of_call lib.LBound ts ty = false
+is_row_of_call lib.UBound ts ty = is_same_type types.long ty
+is_row_of_call lib.LBound ts ty = is_same_type types.long ty
 is_row_of_call lib.MsgBox ts ty = is_call (types.str ∷ []) types.nothing ts ty
 is_row_of_call lib.InputBox ts ty = is_call (types.str ∷ []) types.str ts ty
+
+-- ---- elements
+
+-- elements of a type
+abbrev pub has_elements : Ty → Ty → Bool
+has_elements (types.array e rank) ty = is_same_type e ty
+has_elements _ ty = false
+
+-- one or two indexes of type Long
+abbrev pub are_longs : List Ty → Bool
+are_longs (t ∷ []) = is_same_type types.long t
+are_longs (s ∷ t ∷ []) = is_same_type types.long s && is_same_type types.long t
+are_longs ts = false
 
 -- ---- expressions
 
@@ -86,7 +99,7 @@ abbrev mutual
   is_formed_term ty (constant x origin) = is_same_type (type_of_constant x) ty && (is_within x && is_literal x)
   is_formed_term ty (variable v qualified) = true
   is_formed_term ty (field e k) = false
-  is_formed_term ty (element e indexes) = false
+  is_formed_term ty (element e indexes) = has_elements (type_at e) ty && (are_longs (types_of indexes) && are_formed indexes)
   is_formed_term ty (call p qualified of args) = passed_are_formed args
   is_formed_term ty (library f args) = is_row_of_call f (types_of args) ty && are_formed args
   is_formed_term ty (unary o e) = is_row_of_one ty (write_unary o (type_at e)) && is_formed e
@@ -95,7 +108,7 @@ abbrev mutual
   is_formed_term ty (new_object c) = false
   is_formed_term ty me = false
   is_formed_term ty (with_object root) = false
-  is_formed_term ty err_number = false
+  is_formed_term ty err_number = is_same_type types.long ty
   is_formed_term ty (err_raise e) = is_same_type (type_at e) types.long && is_formed e
   is_formed_term ty err_clear = true
   is_formed_term ty (is_same d e) = false

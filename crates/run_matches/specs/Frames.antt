@@ -1,5 +1,5 @@
 -- When frames of both languages match, and what a frame has as its own.
-use Rattle.std.specs.Prelude.{◌≡◌, ℕ, suc, ◌<◌, Bool, true, false, not, ◌&&◌, ◌||◌, cond, nat_eq, Option, Some, None, option_map, List, [], ◌∷◌, ◌++◌, map, slice_get}
+use Rattle.std.specs.Prelude.{◌≡◌, ℕ, ℤ, suc, ◌<◌, Bool, true, false, not, ◌&&◌, ◌||◌, cond, nat_eq, Option, Some, None, option_map, List, [], ◌∷◌, ◌++◌, map, slice_get}
 use Rattle.std.specs.List.{list_any}
 use Rattle.std.specs.Map.{lookup}
 use Rattle.vb_tree.specs.BoundTree.{Ty}
@@ -21,7 +21,7 @@ use Rattle.run_base.specs.Positions.{Root, Position, shared, made, field, whole}
 use Rattle.vb6_run.specs.Programs.{is_static_of}
 use Rattle.vb6_run.specs.Runnables.{static_root}
 use Rattle.run_base.specs.Machines.{nth_line}
-use Rattle.vb6_run.specs.Shapes.{Shape, simple, variable_shape}
+use Rattle.vb6_run.specs.Shapes.{Shape, simple, group, array, endless, variable_shape}
 use Rattle.vb6_run.specs.Store.{Address, root, item, constant, SourceFrame}
 use Rattle.vb6_run.specs.Values.{Value, scalar}
 use Rattle.net_run.specs.Lines.{NetFrame}
@@ -31,7 +31,7 @@ use Rattle.net_run.specs.Shapes as shape
 use Rattle.net_run.specs.Store as net
 use Rattle.net_run.specs.Values as net_value
 use Rattle.run_matches.specs.CleanLines.{lines_at}
-use Rattle.run_matches.specs.Covered.{covers_line, covers_use, is_local_in, is_reference_in}
+use Rattle.run_matches.specs.Covered.{IsUsed, covers_line, uses_in, is_local_in, is_passing_in, is_reference_in}
 use Rattle.run_matches.specs.Upgrades.{Upgrade, code_of, is_flagged, is_auto}
 use Rattle.run_matches.specs.Maps.{World, mark, Below, moved_at}
 use Rattle.run_matches.specs.Likeness.{SameShape}
@@ -49,6 +49,8 @@ pub record SameVariable (U : Upgrade) (K : Pledge) (w : World) (v : ℕ) (a : Ad
   pub address : net.Address
   pub found : var_in g.vars (name_of U v) ≡ Some address
   pub bound : Bound U K w (not (is_quiet U.program.declarations U.known v)) a address
+  -- an array has the rank of its declaration
+  pub ranked : (element : shape.Shape) (rank : ℕ) → net.shape_at address ≡ shape.array element rank → rank ≡ U.facts.rank v
   pub plain : is_auto U v ≡ false → IsPlain U w a
 
 -- the source finds a Static in its module, the target in its frame
@@ -200,6 +202,8 @@ pub record FrameMatch (U : Upgrade) (K : Pledge) (w : World) (p : ℕ) (f : Sour
       → KeptBy f.vars l.source.form l.bindings.exprs (f.kept h) (g.kept h)
   -- the local variables of the procedure are there
   pub has_locals : (v : ℕ) → is_local_in p (slice_get U.program.declarations.vars v) ≡ true → (a : Address) × (lookup (nat_eq v) f.vars ≡ Some a)
+  -- and so are its parameters and its result variable
+  pub has_passing : (v : ℕ) → is_passing_in p (slice_get U.program.declarations.vars v) ≡ true → (a : Address) × (lookup (nat_eq v) f.vars ≡ Some a)
   pub locks : AllLocked U K w f.env
   pub low : Below K.base (mark w.src)
 
@@ -209,17 +213,34 @@ pub record FrameMatch (U : Upgrade) (K : Pledge) (w : World) (p : ℕ) (f : Sour
 abbrev pub is_reference_of : Upgrade → (procedure variable : ℕ) → Bool
 is_reference_of U p v = is_reference_in p (slice_get U.program.declarations.vars v)
 
+-- a variable of a shape; an array may have other bounds, as a fixed one that is given to a parameter
+abbrev pub StandsAs : Shape → Address → Position → Type 0
+StandsAs (simple ty) a q = a ≡ root (simple ty) q
+StandsAs (group t fs) a q = a ≡ root (group t fs) q
+StandsAs (array e bounds) a q = (others : List (ℤ × ℤ)) × (a ≡ root (array e others) q)
+StandsAs endless a q = a ≡ root endless q
+
 -- it is bound to a variable of the shape of its declaration, which can be written
 pub record GivenPlace (U : Upgrade) (v : ℕ) (a : Address) : Type 0 where
   pub position : Position
-  pub stands : a ≡ root (variable_shape U.program.declarations v) position
+  pub stands : StandsAs (variable_shape U.program.declarations v) a position
   pub target : IsTarget U a
 
--- So are those that a line uses. No element of an array is one yet: nothing keeps arrays apart that stand in elements.
+abbrev pub is_element : Address → Bool
+is_element (root s q) = false
+is_element (item e q j path) = true
+is_element (constant x) = false
+
+-- A quiet parameter may stand for a value. None stands for an element of an array yet: nothing keeps arrays apart that stand in elements.
+pub record GivenAddress (U : Upgrade) (v : ℕ) (a : Address) : Type 0 where
+  pub whole : is_element a ≡ false
+  pub place : is_quiet U.program.declarations U.known v ≡ false → GivenPlace U v a
+
+-- so it is with those that a line uses
 abbrev pub GivenStand : Upgrade → (procedure : ℕ) → SourceFrame → Line → Type 0
 GivenStand U p f l =
-    (v : VarId) (a : Address) → covers_use U.program p l.bindings.mentions v ≡ true → is_reference_of U p v.0 ≡ true → lookup (nat_eq v.0) f.vars ≡ Some a
-    → GivenPlace U v.0 a
+    (v : VarId) (a : Address) → IsUsed (uses_in U.program p l.bindings.mentions) v → is_reference_of U p v.0 ≡ true → lookup (nat_eq v.0) f.vars ≡ Some a
+    → GivenAddress U v.0 a
 
 -- ---- what a frame may change
 

@@ -1,6 +1,7 @@
 pub mod Upgrades
 pub mod Maps
 pub mod Likeness
+pub mod Kinds
 pub mod Match
 pub mod Pledges
 pub mod Sites
@@ -14,4 +15,5 @@ pub mod Typed
 pub mod Owing
 pub mod Formed
 pub mod Callees
+pub mod Inward
 pub mod Covered

@@ -1,5 +1,6 @@
 -- When types and values of both languages match: scalars, user types field by field, and arrays against arrays by number.
-use Rattle.std.specs.Prelude.{◌≡◌, ℕ, ℤ, suc, nat_eq, nat_lt, ◌&&◌, Bool, true, Option, Some, None, List, [], ◌∷◌, map, length}
+use Rattle.std.specs.Prelude.{◌≡◌, ℕ, ℤ, suc, nat_eq, nat_lt, ◌&&◌, Bool, true, false, Option, Some, None, List, [], ◌∷◌, map, length}
+use Rattle.std.specs.List.{list_all}
 use Rattle.vb_tree.specs.BoundTree.{Ty, boolean, byte, integer, long, currency, str, fixed, user, class, object, variant, nothing, unknown}
 use Rattle.vb_tree.specs.BoundTree as types
 use Rattle.vb_tree.specs.declared.value.Value6.{Value6}
@@ -9,7 +10,7 @@ use Rattle.net_meaning.specs.declared.value.ValueN.{ValueN}
 use Rattle.net_meaning.specs.declared.value.ValueN.TheVariants as n
 use Rattle.net_meaning.specs.ValueMatch.{Matches}
 use Rattle.vb6_run.specs.Shapes.{Shape, simple, group, array, Shapes, no_shapes, next_shape}
-use Rattle.vb6_run.specs.Values.{Dimension, Value, scalar, fields, elements, Values, no_values, next_value, size}
+use Rattle.vb6_run.specs.Values.{Dimension, Value, scalar, fields, elements, Values, no_values, next_value, size, is_within_limits}
 use Rattle.net_run.specs.Shapes as shape
 use Rattle.net_run.specs.Store.{Array, product}
 use Rattle.net_run.specs.Values as net
@@ -83,12 +84,26 @@ Like w ty x y = Matches (are_same w) ty x y
 abbrev pub counts_of : List Dimension → List ℕ
 counts_of dims = map (λ (d : Dimension). d.count) dims
 
--- An array that isn't allocated has one without elements. Another has at least one element, and as many indexes in each dimension.
+-- An array that isn't allocated has one without elements. Another has at least one element, is within the limits, and has as many indexes
+-- in each dimension.
 pub data SameCounts : List Dimension → List ℕ → Type 0 where
   no_counts : (counts : List ℕ) → product counts ≡ 0 → SameCounts [] counts
-  same_counts : (d : Dimension) (dims : List Dimension) → nat_lt 0 (size (d ∷ dims)) ≡ true → SameCounts (d ∷ dims) (counts_of (d ∷ dims))
+  same_counts : (d : Dimension) (dims : List Dimension) → nat_lt 0 (size (d ∷ dims)) ≡ true → is_within_limits (d ∷ dims) ≡ true
+      → SameCounts (d ∷ dims) (counts_of (d ∷ dims))
 
 -- ---- values
+
+abbrev mutual
+  -- a value without an array in it
+  pub is_flat : net.Value → Bool
+  is_flat net.unknown = true
+  is_flat (net.single (n.Array k)) = false
+  is_flat (net.single y) = true
+  is_flat (net.fields ys) = are_flat ys
+
+  pub are_flat : net.Values → Bool
+  are_flat net.no_values = true
+  are_flat (net.next_value y ys) = is_flat y && are_flat ys
 
 -- an array in a field of a user type has the rank of the field
 abbrev pub IsFieldRanked : Upgrade → Numbers → (user_type field : ℕ) → net.Value → Type 0
@@ -116,9 +131,10 @@ mutual
     next_item : (x : Value) (y : net.Value) (xs : Values) (ys : List net.Value) → ValueLike U N x y → ItemsLike U N xs ys
         → ItemsLike U N (next_value x xs) (y ∷ ys)
 
+  -- It has as many elements as its counts say. None has an array in it, since the declaration would carry an issue.
   pub data ArrayLike (U : Upgrade) (N : Numbers) : (element : Shape) → List Dimension → Values → Array → Type 0 where
     same_elements : (e : Shape) (dims : List Dimension) (xs : Values) (a : Array) → SameShape U e a.element → SameCounts dims a.counts
-        → ItemsLike U N xs a.elements → ArrayLike U N e dims xs a
+        → ItemsLike U N xs a.elements → length a.elements ≡ product a.counts → list_all is_flat a.elements ≡ true → ArrayLike U N e dims xs a
 
 -- a value of the target stands for one of the source
 abbrev pub LikeV : Upgrade → World → Value → net.Value → Type 0

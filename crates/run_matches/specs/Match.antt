@@ -1,17 +1,21 @@
 -- When stores of the written program stand for those of the source.
-use Rattle.std.specs.Prelude.{◌≡◌, ℕ, ◌<◌, ◌^◌, false, Option, Some, None, List, length}
+use Rattle.std.specs.Prelude.{◌≡◌, ◌⊎◌, ℕ, ◌<◌, ◌^◌, false, Option, Some, None, List, [], ◌∷◌, length, slice_get}
 use Rattle.vb_tree.specs.BoundTree.{Ty}
+use Rattle.vb_tree.specs.declared.declared.Owner.{Owner}
 use Rattle.vb_tree.specs.declared.value.Value6.{Value6}
+use Rattle.bound_tree.specs.Tree.{Variable, Declarations}
 use Rattle.bound_facts.specs.Members.{terminator}
 use Rattle.net_meaning.specs.declared.value.ValueN.{ValueN}
 use Rattle.net_meaning.specs.declared.value.ValueN.TheVariants as n
 use Rattle.net_meaning.specs.ValueMatch.{Matches}
-use Rattle.run_base.specs.Positions.{Position}
-use Rattle.vb6_run.specs.Shapes.{Shape}
+use Rattle.run_base.specs.Positions.{Position, shared, whole}
+use Rattle.vb6_run.specs.Programs.{is_module_variable}
+use Rattle.vb6_run.specs.Shapes.{Shape, variable_shape}
 use Rattle.vb6_run.specs.Store.{Held, blank, single, table, parts}
 use Rattle.vb6_run.specs.Values.{Dimension, Values}
 use Rattle.net_run.specs.Store as net
-use Rattle.run_matches.specs.Upgrades.{Upgrade, class_home, part_variable}
+use Rattle.run_matches.specs.Kinds.{IsKind}
+use Rattle.run_matches.specs.Upgrades.{Upgrade, class_home, is_flagged, part_variable}
 use Rattle.run_matches.specs.Maps.{World, moved_at, mark, net_mark, IsUnmade, IsMatched, root_variable}
 use Rattle.run_matches.specs.Likeness.{Numbers, numbers_of, ArrayLike}
 
@@ -32,6 +36,9 @@ SameClass U None None = Unit {0}
 SameClass U None (Some home) = ⊥
 SameClass U (Some c) None = ⊥
 SameClass U (Some c) (Some home) = (class_home U c ≡ Some home) × (terminator U.program.declarations c ≡ None)
+
+abbrev pub HeldAs : Declarations → (variable : ℕ) → Owner → Held → Type 0
+HeldAs D v of h = ((h ≡ blank) × (is_module_variable D of ≡ false)) ⊎ IsKind (variable_shape D v) h
 
 -- The target's store stands for the source's under the map: it maps what was made to what was made, one to one, and objects to objects of
 -- their class; what is compared matches, and no two positions share an array. Nothing stands where nothing was made.
@@ -55,6 +62,10 @@ pub record StoreMatch (U : Upgrade) (w : World) : Type 0 where
   pub unmade : (q : Position) → IsUnmade (mark w.src) q.root → w.src.held q ≡ blank
   pub net_unmade : (q : Position) → IsUnmade (net_mark w.net) q.root → w.net.cell q ≡ net.blank
   pub errors : w.net.err ≡ w.src.err
+  -- a variable of a standard module holds what its declaration says, and so does a Static that was made
+  pub kinds :
+      (v : ℕ) (x : Variable) → slice_get U.program.declarations.vars v ≡ Some x → is_flagged U v ≡ false
+      → HeldAs U.program.declarations v x.owner (w.src.held (whole (shared (v ∷ []))))
 
 -- the stores match, as many steps are left, and the same inputs are to come
 pub record MemoryMatch (U : Upgrade) (w : World) : Type 0 where

@@ -14,6 +14,7 @@ use Rattle.net_run.specs.Store as net
 use Rattle.net_run.specs.Values as net_value
 use Rattle.run_matches.specs.Upgrades.{Upgrade}
 use Rattle.run_matches.specs.Maps.{World, Mark, mark, net_mark, Below, IsMade, IsMatched, IsUnmapped, Extends, moved_at, is_auto_root, is_fixed_position}
+use Rattle.run_matches.specs.Kinds.{KeepsKind}
 use Rattle.run_matches.specs.Match.{MemoryMatch, IsLoose, HasArray, HasRank}
 
 -- ---- what is a procedure's own
@@ -135,6 +136,8 @@ pub record Later (U : Upgrade) (K : Pledge) (w0 w : World) : Type 0 where
   pub grows : Below (mark w0.src) (mark w.src)
   pub net_grows : Below (net_mark w0.net) (net_mark w.net)
   pub arrays_grow : w0.net.next_array ≤ w.net.next_array
+  -- a position goes on to hold a thing of its kind
+  pub same_kinds : (q : Position) → KeepsKind (w0.src.held q) (w.src.held q)
   pub same_values : (q : Position) → IsLasting U K w0 q → IsHeld w0 q → w.src.held q ≡ w0.src.held q
   pub same_cells :
       (q : Position) → IsMatched U w0 q → IsLasting U K w0 q → IsHeld w0 q → w.net.cell (moved_at U w0.map q) ≡ w0.net.cell (moved_at U w0.map q)

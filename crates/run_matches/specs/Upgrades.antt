@@ -15,7 +15,7 @@ use Rattle.bound_facts.specs.Node.{auto_class}
 use Rattle.net_tree.specs.Tree as net
 use Rattle.up_base.specs.Names.{is_same_name}
 use Rattle.written_trees.specs.Facts as deciding
-use Rattle.written_trees.specs.Facts.{Facts, is_flagged_variable}
+use Rattle.written_trees.specs.Facts.{Facts, is_array_variable, is_flagged_variable}
 use Rattle.written_trees.specs.Names.{variable_name}
 use Rattle.written_trees.specs.Order.{written_order}
 use Rattle.written_trees.specs.Projects.{written_project}
@@ -155,6 +155,22 @@ field_name U t k = variable_name U.program.declarations (field_variable U t k)
 abbrev pub rank_of_some : Upgrade → Option ℕ → ℕ
 rank_of_some U None = 0
 rank_of_some U (Some v) = U.facts.rank v
+
+abbrev pub rank_of_id : Upgrade → Option VarId → ℕ
+rank_of_id U None = 0
+rank_of_id U (Some v) = U.facts.rank v.0
+
+-- the rank of the parameter at a place of a procedure
+abbrev pub parameter_rank : Upgrade → (procedure place : ℕ) → ℕ
+parameter_rank U p i = rank_of_id U (slice_get (params_at (slice_get U.program.declarations.procs p)) i)
+
+abbrev pub is_array_id : Declarations → Option VarId → Bool
+is_array_id D None = false
+is_array_id D (Some v) = is_array_variable (slice_get D.vars v.0)
+
+-- a procedure takes an array at a place
+abbrev pub takes_array : Declarations → (procedure place : ℕ) → Bool
+takes_array D p i = is_array_id D (slice_get (params_at (slice_get D.procs p)) i)
 
 abbrev pub field_rank : Upgrade → (user_type field : ℕ) → ℕ
 field_rank U t k = rank_of_some U (field_variable U t k)

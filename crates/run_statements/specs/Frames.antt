@@ -1,8 +1,10 @@
 -- What variables, expressions and assignments do in frames that match.
-use Rattle.std.specs.Prelude.{◌≡◌, ◌⊎◌, ℕ, Bool, true, false, Some, [], slice_get, None, zero, suc, nat_eq, List}
-use Rattle.vb_tree.specs.BoundTree.{Ty}
+use Rattle.std.specs.List.{list_all}
+use Rattle.std.specs.Prelude.{◌≡◌, ◌⊎◌, ℕ, ℤ, Bool, true, false, Some, [], ◌∷◌, slice_get, None, zero, suc, nat_eq, List, length}
+use Rattle.vb_tree.specs.BoundTree.{Ty, array}
 use Rattle.vb_tree.specs.declared.declared.Owner.TheVariants as owner
 use Rattle.std.specs.Map.{lookup}
+use Rattle.vb_tree.specs.declared.bound.LibCall.{LibCall}
 use Rattle.vb_tree.specs.declared.declared.ProcId.{ProcId}
 use Rattle.vb_tree.specs.declared.declared.VarId.{VarId}
 use Rattle.vb_tree.specs.declared.value.Value6.{Value6}
@@ -34,24 +36,47 @@ use Rattle.net_run.specs.Names as net_names
 use Rattle.net_run.specs.Shapes as shape
 use Rattle.net_run.specs.Store as net
 use Rattle.net_run.specs.Values as net_value
+use Rattle.net_meaning.specs.declared.value.ValueN.TheVariants as n
 use Rattle.written_trees.specs.Exprs.{exp_of, passed_of}
 use Rattle.written_trees.specs.Names.{Scope, variable_path, procedure_path}
-use Rattle.run_matches.specs.Addresses.{Same, IsTarget}
+use Rattle.run_matches.specs.Addresses.{Same, IsPlain, IsTarget, SameIndexes}
 use Rattle.written_trees.specs.Arguments.{is_property, takes_reference}
 use Rattle.run_matches.specs.Agreeing.{Agrees}
 use Rattle.run_matches.specs.Formed.{passed_are_formed, is_formed}
-use Rattle.run_matches.specs.Covered.{Uses, covers_type, covers_variable, covers_expr, covers_passed, suits_passed}
-use Rattle.run_matches.specs.Frames.{FrameMatch, GivenPlace, HasPlace, IsOwnAddress, is_own_of, is_reference_of}
-use Rattle.run_matches.specs.Likeness.{LikeV, scalar_word}
-use Rattle.run_matches.specs.Maps.{World}
-use Rattle.run_matches.specs.Match.{MemoryMatch}
+use Rattle.run_matches.specs.Covered.{Uses, IsUsed, covers_type, covers_variable, covers_array, covers_expr, covers_exprs, covers_passed, is_declared_as, is_in_order, suits_passed}
+use Rattle.run_matches.specs.Frames.{FrameMatch, GivenAddress, HasPlace, IsOwnAddress, is_own_of, is_reference_of}
+use Rattle.run_matches.specs.Likeness.{LikeV, SameShape, scalar_word}
+use Rattle.run_matches.specs.Maps.{IsMatched, World}
+use Rattle.run_matches.specs.Match.{HasArray, MemoryMatch}
 use Rattle.run_matches.specs.Pledges.{Pledge, Later, is_inward}
 use Rattle.run_matches.specs.Upgrades.{Upgrade, runnable_of, is_flagged, variable_key, written_number}
 use Rattle.row_laws.specs.Uncaptured.{IsUncaptured, IsTextUncaptured, IsMathUncaptured}
 use Rattle.run_matches.specs.Runs.{CallsAgree}
+use Rattle.run_statements.specs.Fitting.{FitsBounds, FitsRank, rank_of, FitsPassed}
 use Rattle.run_statements.specs.Written.{Passes}
 
 -- ---- variables
+
+-- a variable that is no As New one, whose declaration carries no issue
+pub record IsKnown (U : Upgrade) (v : ℕ) : Type 0 where
+  pub variable : Variable
+  pub is_variable : slice_get U.program.declarations.vars v ≡ Some variable
+  pub plain : variable.auto ≡ false
+  pub sound : is_flagged U v ≡ false
+
+-- the bounds of a fixed array, as many as its rank, of which none ends before it begins
+abbrev pub AreBounds : (rank : ℕ) → List (ℤ × ℤ) → Type 0
+AreBounds rank [] = Unit {0}
+AreBounds rank (b ∷ bounds) = (length (b ∷ bounds) ≡ rank) × (list_all is_in_order (b ∷ bounds) ≡ true)
+
+-- an array of elements of a covered type, which is no quiet parameter
+pub record IsArray (U : Upgrade) (v : ℕ) (element : Ty) : Type 0 where
+  pub known : IsKnown U v
+  pub exact : is_quiet U.program.declarations U.known v ≡ false
+  pub rank : ℕ
+  pub is_array : known.variable.ty ≡ array element rank
+  pub covers : covers_type element ≡ true
+  pub bounds : AreBounds (U.facts.rank v) known.variable.bounds
 
 -- a variable of a covered type, whose declaration carries no issue
 pub record IsReadable (U : Upgrade) (v : ℕ) : Type 0 where
@@ -59,11 +84,24 @@ pub record IsReadable (U : Upgrade) (v : ℕ) : Type 0 where
   pub is_variable : slice_get U.program.declarations.vars v ≡ Some variable
   pub covers : covers_variable variable ≡ true
   pub sound : is_flagged U v ≡ false
-  -- it is no quiet parameter
-  pub exact : is_quiet U.program.declarations U.known v ≡ false
 
-abbrev pub AreReadable : Upgrade → Uses → Type 0
-AreReadable U uses = (v : VarId) → uses v ≡ true → IsReadable U v.0
+-- a scalar or an array of scalars
+abbrev pub IsUsable : Upgrade → (variable : ℕ) → Type 0
+IsUsable U v = IsReadable U v ⊎ ((element : Ty) × IsArray U v element)
+
+-- What is known of the variables that are used where a scope is written, which has the facts of the program.
+pub record AreReadable (U : Upgrade) (T : Scope) (uses : Uses) : Type 0 where
+  pub scalars : (v : VarId) → uses.scalar v ≡ true → IsReadable U v.0
+  pub arrays : (v : VarId) (element : Ty) → uses.array v element ≡ true → IsArray U v.0 element
+  pub exact : (v : VarId) → uses.exact v ≡ true → is_quiet U.program.declarations U.known v.0 ≡ false
+  pub facts : T.facts ≡ U.facts
+  pub types : (v : VarId) (ty : Ty) → uses.is_of v ty ≡ true → is_declared_as ty (slice_get U.program.declarations.vars v.0) ≡ true
+  pub inward : (q : ℕ) → uses.inward q ≡ true → is_inward U q ≡ true
+
+-- an array has the rank of its declaration
+abbrev pub HasRankOf : Upgrade → (variable : ℕ) → shape.Shape → Type 0
+HasRankOf U v (shape.array d rank) = rank ≡ U.facts.rank v
+HasRankOf U v d = Unit {0}
 
 -- A variable of a standard module is written as a member of a module, to which names lead where something is written, and no other variable
 -- is written as that member.
@@ -75,11 +113,12 @@ pub record IsShared (U : Upgrade) (S : net_names.Scope) (T : Scope) (v : ℕ) : 
   pub standard : is_class_file U.program.declarations file ≡ false
   pub key : Key
   pub is_key : variable_key U v ≡ Some key
-  pub word : TypeName
-  pub is_word : scalar_word variable.ty ≡ Some word
+  pub written : shape.Shape
+  pub same : SameShape U (variable_shape U.program.declarations v) written
+  pub ranked : HasRankOf U v written
   pub leads :
       (qualified : Bool) → net_names.path_start S false (variable_path T qualified v)
-      ≡ net_names.starts (net_names.at_place (net.root (shape.scalar word) (whole (shared key)))) []
+      ≡ net_names.starts (net_names.at_place (net.root written (whole (shared key)))) []
   pub differs : (u : ℕ) → variable_key U u ≡ Some key → v ≡ u
 
 -- A Static of the procedure stands in its standard module, and no other variable is written with its key.
@@ -92,17 +131,23 @@ pub record IsOwnStatic (U : Upgrade) (p v : ℕ) : Type 0 where
   pub standard : is_class_file U.program.declarations file ≡ false
   pub differs : (key : Key) (u : ℕ) → variable_key U v ≡ Some key → variable_key U u ≡ Some key → v ≡ u
 
--- a parameter by reference, which the frame has bound to what can be written
+-- a parameter by reference, which the frame has bound to what can be written, or, where it is quiet, to what can be read
 pub record IsGiven (U : Upgrade) (p : ℕ) (f : SourceFrame) (v : ℕ) : Type 0 where
   pub reference : is_reference_of U p v ≡ true
-  pub stands : (a : Address) → lookup (nat_eq v) f.vars ≡ Some a → GivenPlace U v a
+  pub stands : (a : Address) → lookup (nat_eq v) f.vars ≡ Some a → GivenAddress U v a
 
 -- the procedure's own, a Static of it, one of a standard module, or one that is given by reference
 abbrev pub IsPlaced : Upgrade → (procedure : ℕ) → SourceFrame → net_names.Scope → Scope → (variable : ℕ) → Type 0
 IsPlaced U p f S T v = (is_own_of U p v ≡ true) ⊎ (IsOwnStatic U p v ⊎ (IsShared U S T v ⊎ IsGiven U p f v))
 
-abbrev pub ArePlaced : Upgrade → (procedure : ℕ) → SourceFrame → net_names.Scope → Scope → Uses → Type 0
-ArePlaced U p f S T uses = (v : VarId) → uses v ≡ true → IsPlaced U p f S T v.0
+-- what is written for an array leads to it before indexes too: it isn't the name of a Function in its own lines
+abbrev pub LeadsBefore : net_names.Scope → Scope → (variable : ℕ) → Type 0
+LeadsBefore S T v =
+    (qualified : Bool) → net_names.path_start S true (variable_path T qualified v) ≡ net_names.path_start S false (variable_path T qualified v)
+
+pub record ArePlaced (U : Upgrade) (p : ℕ) (f : SourceFrame) (S : net_names.Scope) (T : Scope) (uses : Uses) : Type 0 where
+  pub places : (v : VarId) → IsUsed uses v → IsPlaced U p f S T v.0
+  pub leads : (v : VarId) (element : Ty) → uses.array v element ≡ true → LeadsBefore S T v.0
 
 -- ---- values
 
@@ -173,18 +218,24 @@ pub record IsOpen (S : net_names.Scope) : Type 0 where
 
 -- ---- calls
 
+-- what is demanded of calls with their arguments, of elements by their arrays and indexes, and of calls of the library that ask for bounds
+pub record Demands : Type 1 where
+  pub calls : (procedure : ℕ) → Passed → Type 0
+  pub elements : (array : Expr) → (indexes : Exprs) → Type 0
+  pub bounds : LibCall → (arguments : Exprs) → Type 0
+
 abbrev mutual
-  -- a property of each procedure that a covered expression calls, with its arguments
-  pub AllCalled : (ℕ → Passed → Type 0) → Expr → Type 0
+  -- what is demanded of each procedure that a covered expression calls, with its arguments, and of each use of an array
+  pub AllCalled : Demands → Expr → Type 0
   AllCalled Q (typed ty t) = AllCalledIn Q t
 
-  pub AllCalledIn : (ℕ → Passed → Type 0) → Term → Type 0
+  pub AllCalledIn : Demands → Term → Type 0
   AllCalledIn Q (constant x origin) = Unit {0}
   AllCalledIn Q (variable v qualified) = Unit {0}
   AllCalledIn Q (field e k) = Unit {0}
-  AllCalledIn Q (element e indexes) = Unit {0}
-  AllCalledIn Q (call p qualified of args) = Q p.0 args × AllCalledFor Q args
-  AllCalledIn Q (library f args) = AllCalledAll Q args
+  AllCalledIn Q (element e indexes) = Q.elements e indexes × AllCalledAll Q indexes
+  AllCalledIn Q (call p qualified of args) = Q.calls p.0 args × AllCalledFor Q args
+  AllCalledIn Q (library f args) = Q.bounds f args × AllCalledAll Q args
   AllCalledIn Q (unary op e) = AllCalled Q e
   AllCalledIn Q (binary op d e) = AllCalled Q d × AllCalled Q e
   AllCalledIn Q (convert to e) = AllCalled Q e
@@ -197,15 +248,15 @@ abbrev mutual
   AllCalledIn Q (is_same d e) = Unit {0}
   AllCalledIn Q (loose e rules) = Unit {0}
 
-  pub AllCalledAll : (ℕ → Passed → Type 0) → Exprs → Type 0
+  pub AllCalledAll : Demands → Exprs → Type 0
   AllCalledAll Q no_exprs = Unit {0}
   AllCalledAll Q (next_expr e rest) = AllCalled Q e × AllCalledAll Q rest
 
-  pub AllCalledFor : (ℕ → Passed → Type 0) → Passed → Type 0
+  pub AllCalledFor : Demands → Passed → Type 0
   AllCalledFor Q no_passed = Unit {0}
   AllCalledFor Q (next_passed a rest) = AllCalledBy Q a × AllCalledFor Q rest
 
-  pub AllCalledBy : (ℕ → Passed → Type 0) → Argument → Type 0
+  pub AllCalledBy : Demands → Argument → Type 0
   AllCalledBy Q (by_value e) = AllCalled Q e
   AllCalledBy Q (by_reference e) = AllCalled Q e
 
@@ -218,7 +269,7 @@ passing_by true = passing.Reference
 passing_by false = passing.Value
 
 -- A procedure that can be called with arguments from where something is written: it passes, and promises what is promised there; the
--- arguments suit its parameters, none of which is quiet; what is written for it takes them as it does, and is found by its name.
+-- arguments suit its parameters; what is written for it takes them as it does, and is found by its name.
 pub record CanCall (U : Upgrade) (K : Pledge) (S : net_names.Scope) (T : Scope) (q : ℕ) (args : Passed) : Type 0 where
   pub passes : Passes U q
   pub keeps : (ty : Ty) → K.keeps ty → Keeps U.program q ty
@@ -227,18 +278,50 @@ pub record CanCall (U : Upgrade) (K : Pledge) (S : net_names.Scope) (T : Scope) 
   pub is_number : written_number U q ≡ Some number
   pub plain : is_property U.program.declarations q ≡ false
   pub suits : suits_passed U.program.declarations q 0 args ≡ true
-  pub loud : (i : ℕ) → (runnable_of U).quiet q i ≡ false
+  pub ranks : FitsPassed U q 0 args
   pub passings : (i : ℕ) → passing_at (passings_at U.written (Some number)) i ≡ passing_by (takes_reference U.program.declarations q i)
   pub found :
       (qualified : Bool) → net_names.path_start S true (procedure_path T qualified q) ≡ net_names.starts (net_names.named (net_names.to_procedure None number)) []
+
+-- ---- arrays
+
+-- what is demanded where expressions are written
+abbrev pub demands : Upgrade → Pledge → net_names.Scope → Scope → Demands
+demands U K S T = record { calls = CanCall U K S T; elements = FitsRank U; bounds = FitsBounds U }
+
+-- An element of an array of scalars: the array is compared and stands on both sides, and its indexes are the same.
+pub record ElementMatch (U : Upgrade) (ty : Ty) (w : World) (x : source.Parts) (r : net_names.Reached) : Type 0 where
+  pub position : Position
+  pub bounds : List (ℤ × ℤ)
+  pub written : shape.Shape
+  pub array : ℕ
+  pub is_matched : IsMatched U w position
+  pub has : HasArray U w position (simple ty) array
+  pub same : SameShape U (simple ty) written
+  pub indexes : List ℤ
+  pub net_indexes : List net_value.Value
+  pub stands : x ≡ source.at_element (root (source_shape.array (simple ty) bounds) position) indexes
+  pub net_stands : r ≡ net_names.found_at (net_names.at_element written (net_value.single (n.Array array)) net_indexes)
+  pub same_indexes : SameIndexes has.dims indexes net_indexes
+  pub counted : length (w.net.arrays array).counts ≡ length net_indexes
+
+-- the images of an array variable of a rank
+pub record ArrayMatch (U : Upgrade) (K : Pledge) (element : Ty) (rank : ℕ) (w : World) (a : Address) (b : net.Address) : Type 0 where
+  pub bounds : List (ℤ × ℤ)
+  pub position : Position
+  pub stands : a ≡ root (source_shape.array (simple element) bounds) position
+  pub same : Same U K w a b
+  pub ranked : shape.rank_of (net.shape_at b) ≡ rank
+  pub target : IsTarget U a
+  pub plain : IsPlain U w a
 
 -- A covered expression that is well formed and what is written for it give values that match, where calls of what it calls agree.
 abbrev pub ExpressionsAgree : Upgrade → Type 1
 ExpressionsAgree U =
     (K : Pledge) (w : World) (p : ℕ) (f : SourceFrame) (g : NetFrame) (oracle : SourceCalls) (net_oracle : Jobs) (l : SourceLine) (k : NetLine) (c : Code)
     (T : Scope) (uses : Uses) (e : Expr) → MemoryMatch U w → FrameMatch U K w p f g → T.declarations ≡ U.program.declarations
-    → IsOpen (scope_of U.written c g k) → AreReadable U uses → ArePlaced U p f (scope_of U.written c g k) T uses → CallsAgree U (Passes U) oracle net_oracle
-    → AllCalled (CanCall U K (scope_of U.written c g k) T) e → covers_expr uses e ≡ true → is_formed e ≡ true
+    → IsOpen (scope_of U.written c g k) → AreReadable U T uses → ArePlaced U p f (scope_of U.written c g k) T uses → CallsAgree U (Passes U) oracle net_oracle
+    → AllCalled (demands U K (scope_of U.written c g k) T) e → covers_expr uses e ≡ true → is_formed e ≡ true
     → Agrees U K w (ScalarMatch U (type_at e))
     (source.value_of (context_of U oracle p f l) e w.src)
     (target.value_of (scope_of U.written c g k) net_oracle (exp_of T e) w.net)
@@ -251,9 +334,31 @@ abbrev pub CallsAreMade : Upgrade → Type 1
 CallsAreMade U =
     (K : Pledge) (w : World) (p : ℕ) (f : SourceFrame) (g : NetFrame) (oracle : SourceCalls) (net_oracle : Jobs) (l : SourceLine) (k : NetLine) (c : Code)
     (T : Scope) (uses : Uses) (ty : Ty) (q : ProcId) (qualified : Bool) (args : Passed) → MemoryMatch U w → FrameMatch U K w p f g
-    → T.declarations ≡ U.program.declarations → IsOpen (scope_of U.written c g k) → AreReadable U uses → ArePlaced U p f (scope_of U.written c g k) T uses
-    → CallsAgree U (Passes U) oracle net_oracle → AllCalled (CanCall U K (scope_of U.written c g k) T) (typed ty (call q qualified no_object args))
+    → T.declarations ≡ U.program.declarations → IsOpen (scope_of U.written c g k) → AreReadable U T uses → ArePlaced U p f (scope_of U.written c g k) T uses
+    → CallsAgree U (Passes U) oracle net_oracle → AllCalled (demands U K (scope_of U.written c g k) T) (typed ty (call q qualified no_object args))
     → covers_passed uses args ≡ true → passed_are_formed args ≡ true
     → Agrees U K w AnyParts
     (source.term_parts (context_of U oracle p f l) ty (call q qualified no_object args) w.src)
     (target.address_of (scope_of U.written c g k) net_oracle (call_of (path (procedure_path T qualified q.0)) (passed_of T q.0 0 args)) w.net)
+
+-- the address of a covered array variable
+abbrev pub ArraysAgree : Upgrade → Type 1
+ArraysAgree U =
+    (K : Pledge) (w : World) (p : ℕ) (f : SourceFrame) (g : NetFrame) (oracle : SourceCalls) (net_oracle : Jobs) (l : SourceLine) (k : NetLine) (c : Code)
+    (T : Scope) (uses : Uses) (element : Ty) (rank : ℕ) (t : Term) → MemoryMatch U w → FrameMatch U K w p f g → T.declarations ≡ U.program.declarations
+    → AreReadable U T uses → ArePlaced U p f (scope_of U.written c g k) T uses → covers_array uses (typed (array element rank) t) ≡ true
+    → Agrees U K w (ArrayMatch U K element (rank_of U (typed (array element rank) t)))
+    (source.address_of (context_of U oracle p f l) (typed (array element rank) t) w.src)
+    (target.address_of (scope_of U.written c g k) net_oracle (exp_of T (typed (array element rank) t)) w.net)
+
+-- an element of a covered array, before the last check of its index
+abbrev pub ElementsAgree : Upgrade → Type 1
+ElementsAgree U =
+    (K : Pledge) (w : World) (p : ℕ) (f : SourceFrame) (g : NetFrame) (oracle : SourceCalls) (net_oracle : Jobs) (l : SourceLine) (k : NetLine) (c : Code)
+    (T : Scope) (uses : Uses) (ty : Ty) (a : Expr) (indexes : Exprs) → MemoryMatch U w → FrameMatch U K w p f g → T.declarations ≡ U.program.declarations
+    → IsOpen (scope_of U.written c g k) → AreReadable U T uses → ArePlaced U p f (scope_of U.written c g k) T uses → CallsAgree U (Passes U) oracle net_oracle
+    → AllCalled (demands U K (scope_of U.written c g k) T) (typed ty (element a indexes)) → covers_array uses a ≡ true → covers_exprs uses indexes ≡ true
+    → is_formed (typed ty (element a indexes)) ≡ true
+    → Agrees U K w (ElementMatch U ty)
+    (source.term_parts (context_of U oracle p f l) ty (element a indexes) w.src)
+    (target.reach (scope_of U.written c g k) net_oracle false (exp_of T (typed ty (element a indexes))) w.net)

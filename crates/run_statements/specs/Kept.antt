@@ -1,11 +1,12 @@
 -- What clean procedures and lines that are covered keep in what is written for them.
-use Rattle.std.specs.Prelude.{◌≡◌, ◌||◌, ℕ, suc, true, false, Option, Some, None, List, map, slice_get, Bool, []}
+use Rattle.std.specs.Prelude.{◌≡◌, ◌||◌, ℕ, suc, true, false, Option, Some, None, List, map, slice_get, Bool, [], nat_lt}
 use Rattle.std.specs.List.{Contains, list_all}
 use Rattle.vb_tree.specs.declared.declared.VarId.{VarId}
 use Rattle.vb_tree.specs.declared.form_parts.Label6.{Label6}
 use Rattle.bound_tree.specs.declared.rule_set.RuleSet.{RuleSet}
 use Rattle.bound_tree.specs.Labels.{label_of, label_at, labels}
 use Rattle.bound_tree.specs.Tree.{Procedure, Constant, Variable, Line, Expr, Passed}
+use Rattle.bound_facts.specs.Calls.{count_procedures}
 use Rattle.bound_facts.specs.Effects.{is_outside}
 use Rattle.bound_facts.specs.Node.{args_at, called, root}
 use Rattle.bound_facts.specs.Parts.{line_stores, line_uses}
@@ -24,13 +25,14 @@ use Rattle.vb6_run.specs.Store.{SourceFrame}
 use Rattle.net_run.specs.Members.{Code, code_at}
 use Rattle.net_run.specs.Names as net_names
 use Rattle.net_run.specs.Program as net_program
-use Rattle.run_matches.specs.Covered.{covers_in_block, covers_label, covers_line, covers_names, covers_use, has_sound_label, jump_of, keeps_blocks, resumes}
+use Rattle.run_matches.specs.Covered.{covers_in_block, covers_label, covers_line, covers_names, has_sound_label, jump_of, keeps_blocks, resumes, uses_in}
 use Rattle.run_matches.specs.Frames.{HasNames, lines_of, FrameMatch, NextMatch, frame_pledge, GivenStand}
 use Rattle.run_matches.specs.Pledges.{is_inward, is_self_made}
 use Rattle.run_matches.specs.Runs.{CallsAgree, line_result}
 use Rattle.run_matches.specs.Sites.{Own, own_variable, own_constant, Site, site_of, site_lines, first_statement, owns_of}
 use Rattle.run_matches.specs.Upgrades.{Upgrade, code_of, runnable_of}
-use Rattle.run_statements.specs.Frames.{IsOpen, IsReadable, ArePlaced, CanCall}
+use Rattle.run_statements.specs.Fitting.{FitsLine, FitsNode}
+use Rattle.run_statements.specs.Frames.{AreReadable, IsOpen, IsReadable, ArePlaced, CanCall, IsUsable}
 use Rattle.run_statements.specs.Written.{WrittenProcedure, WrittenLine, site_scope, Passes}
 use Rattle.run_matches.specs.Agreeing.{Agrees}
 use Rattle.run_matches.specs.Callees.{is_found}
@@ -68,7 +70,7 @@ IsConstantDim d = ⊥
 
 pub record OwnsAreKept (U : Upgrade) (p : ℕ) (s : Site) (x : Procedure) (W : WrittenProcedure U p s x) : Type 0 where
   pub prologue : W.code.procedure.prologue ≡ map (own_dim (inside_procedure (site_scope U s) p)) (owns_of U.program.declarations s)
-  pub variables : (v : ℕ) (y : Variable) → Contains (owns_of U.program.declarations s) (own_variable v y) → IsReadable U v
+  pub variables : (v : ℕ) (y : Variable) → Contains (owns_of U.program.declarations s) (own_variable v y) → IsUsable U v
   pub constants :
       (c : ℕ) (x : Constant) → Contains (owns_of U.program.declarations s) (own_constant c x)
       → IsConstantDim (constant_dim (inside_procedure (site_scope U s) p) (c, x))
@@ -107,7 +109,7 @@ StoresAreOwn U p l =
 abbrev pub UsesArePlaced : Upgrade → (procedure : ℕ) → Site → Code → Line → Type 0
 UsesArePlaced U p s c l =
     (f : SourceFrame) (g : NetFrame) (k : NetLine) → HasNames (code_of U p) g → GivenStand U p f l
-    → ArePlaced U p f (scope_of U.written c g k) (inside_procedure (site_scope U s) p) (covers_use U.program p l.bindings.mentions)
+    → ArePlaced U p f (scope_of U.written c g k) (inside_procedure (site_scope U s) p) (uses_in U.program p l.bindings.mentions)
 
 -- ---- labels
 
@@ -145,6 +147,7 @@ AllSameWays U p written =
 
 -- the line of a number, in a block that suits it
 pub record LineStands (U : Upgrade) (p : ℕ) (s : Site) (written : ℕ) (c : Code) (number : ℕ) (l : SourceLine) : Type 0 where
+  pub is_procedure : nat_lt p (count_procedures U.program) ≡ true
   pub is_there : nth_line (lines_of U p) number ≡ Some l.form
   pub in_block : covers_in_block U.program p (lines_of U p) l ≡ true
   pub label : LabelIsKept U p s c l
@@ -171,10 +174,12 @@ abbrev pub LinesAgree : Upgrade → Type 0
 LinesAgree U =
     (p : ℕ) (s : Site) (written number turns : ℕ) (l : SourceLine) (c : Code) (L : WrittenLine U p s written number l) → code_at U.written written ≡ Some c
     → ((g : NetFrame) (k : NetLine) → HasNames (code_of U p) g → IsOpen (scope_of U.written c g k))
-    → ((v : VarId) → covers_use U.program p l.form.bindings.mentions v ≡ true → IsReadable U v.0)
+    → AreReadable U (inside_procedure (site_scope U s) p) (uses_in U.program p l.form.bindings.mentions)
     → UsesArePlaced U p s c l.form → StoresAreOwn U p l.form
     → CallsAgree U (Passes U) (go (machine_of (runnable_of U)) turns) (go (net_program.machine_of U.written) turns)
     → ((d : Expr) (q : ℕ) → Contains (line_uses l.form) d → called d ≡ Some q → CanCallFrom U p s c q (args_at d))
+    → ((d : Expr) → Contains (line_uses l.form) d → FitsNode U d)
+    → FitsLine U p l.form
     → covers_line U.program p l.form ≡ true
     → LineStands U p s written c number l
     → SameLineIn U p written number turns l L.line

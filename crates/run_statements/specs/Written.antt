@@ -1,17 +1,20 @@
 -- What is known of a bound program, and what is written for its procedures and their lines.
-use Rattle.std.specs.Prelude.{◌≡◌, ◌+◌, ℕ, true, false, Some, None, List, map, slice_get}
+use Rattle.std.specs.List.{Contains}
+use Rattle.std.specs.Prelude.{◌≡◌, ◌+◌, ℕ, suc, true, false, Some, None, List, map, slice_get}
+use Rattle.vb_tree.specs.BoundTree.{Ty, array}
 use Rattle.vb_tree.specs.Blocks.{is_code}
 use Rattle.vb_tree.specs.FlatLines.{code_lines}
 use Rattle.vb_tree.specs.Tree as source
 use Rattle.bound_tree.specs.declared.marks.Marks.{Marks}
-use Rattle.bound_tree.specs.RuleSets.{none}
-use Rattle.bound_tree.specs.Tree.{Procedure, Line, Declarations, Program}
+use Rattle.bound_tree.specs.RuleSets.{is_broken, none}
+use Rattle.bound_tree.specs.Tree.{Procedure, Line, Declarations, Expr, Program, Variable}
 use Rattle.bound_facts.specs.Clean.{IsClean}
 use Rattle.bound_facts.specs.Facts.{AreFacts}
+use Rattle.bound_facts.specs.Parts.{line_uses}
 use Rattle.net_tree.specs.declared.declaration.NetClose.{NetClose}
 use Rattle.written_trees.specs.Arguments.{is_property_kind}
 use Rattle.written_trees.specs.Bodies.{procedure_with, inside_procedure}
-use Rattle.written_trees.specs.Facts.{Facts}
+use Rattle.written_trees.specs.Facts.{Facts, is_array_variable, line_set}
 use Rattle.written_trees.specs.Heads.{head_of}
 use Rattle.written_trees.specs.Lines.{line_of}
 use Rattle.written_trees.specs.Names.{Scope}
@@ -19,15 +22,16 @@ use Rattle.written_trees.specs.Placing.{Numbers}
 use Rattle.written_trees.specs.Projects.{module_scope, written_module, written_project}
 use Rattle.bound_tree.specs.Labels.{labels}
 use Rattle.vb6_run.specs.Forms.{SourceLine}
-use Rattle.run_base.specs.Machines.{line_at}
+use Rattle.run_base.specs.Machines.{line_at, nth_line}
 use Rattle.net_run.specs.Lines.{NetLine}
 use Rattle.net_run.specs.Members.{Code, code_at}
 use Rattle.net_run.specs.Program as net_program
-use Rattle.run_matches.specs.Covered.{IsCovered, IsCoveredLine}
-use Rattle.run_matches.specs.CleanLines.{IsCleanLine}
+use Rattle.run_matches.specs.Covered.{IsCovered, IsCoveredLine, has_extents}
+use Rattle.run_matches.specs.CleanLines.{IsCleanLine, lines_at}
 use Rattle.run_matches.specs.Runs.{RunsTheSame, LineDoesTheSame}
 use Rattle.run_matches.specs.Sites.{Site, site_of, site_lines, first_statement}
-use Rattle.run_matches.specs.Upgrades.{Upgrade, written_number}
+use Rattle.run_matches.specs.Upgrades.{Upgrade, written_number, is_flagged}
+use Rattle.run_statements.specs.Fitting.{FitsLine, FitsNode}
 
 -- ---- what a bound program keeps
 
@@ -55,6 +59,20 @@ pub record IsWritten (U : Upgrade) : Type 0 where
   pub parts : PartsStandTogether U.program.declarations
   pub bodies : (p : ℕ) (s : Site) → site_of U.program.declarations p ≡ Some s → HasBody U.program p s
   pub forms : (p : ℕ) (s : Site) → site_of U.program.declarations p ≡ Some s → HasQuietForms U.facts s
+  -- what a line that breaks no rule uses suits the ranks of arrays
+  pub fits :
+      (p k : ℕ) (l : Line) → nth_line (lines_at U.program p) (suc k) ≡ Some l → is_broken (line_set U.facts p k) ≡ false
+      → (d : Expr) → Contains (line_uses l) d → FitsNode U d
+  -- and what it makes anew suits their ranks and lower bounds
+  pub resizes :
+      (p k : ℕ) (l : Line) → nth_line (lines_at U.program p) (suc k) ≡ Some l → is_broken (line_set U.facts p k) ≡ false → FitsLine U p l
+  -- a fixed array whose declaration carries no issue has the rank of its type
+  pub ranks :
+      (v : ℕ) (x : Variable) (e : Ty) (rank : ℕ) → slice_get U.program.declarations.vars v ≡ Some x → x.ty ≡ array e (suc rank) → is_flagged U v ≡ false
+      → U.facts.rank v ≡ suc rank
+  -- where each ReDim gives a dimension, each array has one
+  pub dimensions :
+      has_extents U.program ≡ true → (v : ℕ) → is_array_variable (slice_get U.program.declarations.vars v) ≡ true → U.facts.rank v ≡ 0 → ⊥
 
 -- ---- procedures
 

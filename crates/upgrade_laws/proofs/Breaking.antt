@@ -15,7 +15,7 @@ pub none_whole : is_broken none ≡ false
 unfolding has none
 none_whole = refl
 
-passes : (p : ℕ → Bool) (ns : List ℕ) → is_some (first p ns) ≡ list_any p ns
+pub passes : (p : ℕ → Bool) (ns : List ℕ) → is_some (first p ns) ≡ list_any p ns
 passes p [] = refl
 passes p (n ∷ ns) = by (p n) (passes p ns)
   where

@@ -19,4 +19,7 @@ pub mod Settling
 pub mod Owned
 pub mod Together
 pub mod Read
+pub mod Ranks
+pub mod Fits
+pub mod Fitted
 pub mod Making

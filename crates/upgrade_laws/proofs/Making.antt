@@ -1,5 +1,5 @@
 -- What is made of a project is what the laws on runs are said of.
-use Rattle.std.proofs.Common.{ℕ, List, [], ◌∷◌, refl, sym, subst}
+use Rattle.std.proofs.Common.{ℕ, List, [], ◌∷◌, refl, sym, subst, arith}
 use Rattle.vb_tree.specs.Tree.{Project}
 use Rattle.bound_tree.specs.declared.marks.Marks.{Marks}
 use Rattle.bound_tree.specs.Tree.{Program}
@@ -21,6 +21,7 @@ use Rattle.upgrade_laws.specs.Separate.{HaveDifferentFiles}
 use Rattle.upgrade_laws.specs.Upgrades.{CountsClean, Parts, UpgradeOf}
 use Rattle.upgrade_laws.proofs.Bodies.{bodies_are_bound}
 use Rattle.upgrade_laws.proofs.Cleanness.{clean_apart, clean_together}
+use Rattle.upgrade_laws.proofs.Fitted.{dimensions_suit, ranks_suit, resizes_suit, uses_suit}
 use Rattle.upgrade_laws.proofs.Forms.{forms_are_quiet}
 use Rattle.upgrade_laws.proofs.Read.{grammar_orderly}
 use Rattle.upgrade_laws.proofs.Together.{parts_stand_together}
@@ -73,7 +74,9 @@ written_for : (P : Project) (u : Upgraded) (is : IsUpgraded P u) → AreOrderly 
 written_for P u is orderly =
     let b = is.bound in
     let w = is.made.made.tree in
-    let told = is.made.are_found.facts_are in
+    let ms = all_marks (passes_of b is.made.found) in
+    let arrays = is.made.found.arrays.marks in
+    let U = made_upgrade P u is in
     record {
       known = facts_are_known (program_of b) is.made.found is.made.are_found;
       is_written = w.exact;
@@ -81,6 +84,10 @@ written_for P u is orderly =
       bodies = bodies_are_bound P b is.is_bound;
       forms = forms_are_quiet (program_of b) (all_marks (passes_of b is.made.found)) w.facts w.are_facts
           (subst (λ (Q : Project). HaveDifferentFiles Q.modules) (sym is.is_bound.project) orderly.files);
+      fits = uses_suit U ms w.are_facts.marks w.are_facts.are arrays (6, omega arith, refl) is.made.are_found.arrays;
+      resizes = resizes_suit U ms w.are_facts.marks w.are_facts.are arrays (6, omega arith, refl) is.made.are_found.arrays;
+      ranks = ranks_suit U ms w.are_facts.marks w.are_facts.are arrays (6, omega arith, refl) is.made.are_found.arrays;
+      dimensions = dimensions_suit U ms w.are_facts.marks w.are_facts.are arrays (6, omega arith, refl) is.made.are_found.arrays;
     }
 
 pub upgrade_is_written : (P : Project) (u : Upgraded) → IsUpgraded P u → AreOrderly P.modules → UpgradeOf P u

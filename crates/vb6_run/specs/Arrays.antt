@@ -2,6 +2,8 @@
 use Rattle.std.specs.Prelude.{ℕ, ℤ, Bool, List, Option, Some, None, true, false, suc, pos, negsuc, length, nat_eq, nat_lt, slice_get, int_le, int_lt, unsigned_abs, [], ◌∷◌, ◌+◌, ◌*◌, ◌&&◌, ◌+ℤ◌, ◌-ℤ◌}
 use Rattle.vb_tree.specs.BoundTree.{long}
 use Rattle.vb_tree.specs.declared.value.Value6.TheVariants as v
+use Rattle.vb6_meaning.specs.Kinds.{fits}
+use Rattle.vb6_meaning.specs.declared.number.NumberKind.TheVariants as kinds
 use Rattle.std.specs.Ordering.{int_eq}
 use Rattle.run_base.specs.Outcomes.{gives, raises, outside, some_of}
 use Rattle.run_base.specs.Positions.{Position}
@@ -42,6 +44,14 @@ are_lows low k (d ∷ dims) = int_eq (low k) d.low && are_lows low (suc k) dims
 abbrev pub has_lows : Lows → List Dimension → Bool
 has_lows None dims = false
 has_lows (Some low) dims = are_lows low 0 dims
+
+abbrev pub is_long : ℤ → Bool
+is_long z = fits kinds.Long z
+
+-- a lower bound that is no Long lies outside
+abbrev pub have_long_lows : List Dimension → Bool
+have_long_lows [] = true
+have_long_lows (d ∷ dims) = is_long d.low && have_long_lows dims
 
 -- ---- elements
 
@@ -94,13 +104,16 @@ abbrev pub bound_at : Side → Dimension → ℤ
 bound_at lower d = d.low
 bound_at upper d = d.low +ℤ (pos d.count -ℤ pos 1)
 
--- The bound of an array in a dimension, counted from 0. What lies outside: a dimension above the rank.
+abbrev pub bound_value : ℤ → Does Value
+bound_value z w = provided (is_long z) (λ w. gives [] (scalar long (v.Long z)) w) w
+
+-- The bound of an array in a dimension, counted from 0. What lies outside: a dimension above the rank, and a bound that is no Long.
 abbrev pub bound_of : Side → (dimension : ℕ) → List Dimension → Does Value
 bound_of side k [] w = raises [] 9 w
-bound_of side k (d ∷ dims) w = some_of (slice_get (d ∷ dims) k) (λ d w. gives [] (scalar long (v.Long (bound_at side d))) w) w
+bound_of side k (d ∷ dims) w = some_of (slice_get (d ∷ dims) k) (λ d w. bound_value (bound_at side d) w) w
 
 abbrev pub array_bound : Lows → Side → (dimension : ℕ) → Address → Does Value
-array_bound lows side k a w = with_array a (λ e dims xs w. provided (has_lows lows dims) (bound_of side k dims) w) w
+array_bound lows side k a w = with_array a (λ e dims xs w. provided (has_lows lows dims && have_long_lows dims) (bound_of side k dims) w) w
 
 -- ---- ReDim and Erase
 
@@ -108,9 +121,10 @@ abbrev pub dimension_to : (low : ℤ) → (difference : ℤ) → Does Dimension
 dimension_to low (pos n) w = provided (is_small (suc n)) (λ w. gives [] (record { low = low; count = suc n }) w) w
 dimension_to low (negsuc n) w = raises [] 9 w
 
--- One dimension of a ReDim, which is checked by itself: an upper bound below the lower one raises 9.
+-- One dimension of a ReDim, which is checked by itself: an upper bound below the lower one raises 9. What lies outside: a lower bound that is
+-- no Long.
 abbrev pub new_dimension : (low high : ℤ) → Does Dimension
-new_dimension low high w = dimension_to low (high -ℤ low) w
+new_dimension low high w = provided (is_long low) (dimension_to low (high -ℤ low)) w
 
 -- Preserve keeps the first elements at rank 1. What lies outside: Preserve at another rank.
 abbrev pub resized : (preserve : Bool) → (old new : List Dimension) → (element : Shape) → Values → Option Values

@@ -31,7 +31,7 @@ use Rattle.vb6_run.specs.Shapes.{Shape, shape_by, user_shapes, variable_shape}
 use Rattle.vb6_run.specs.Values.{Value, scalar, fields, elements, is_of_shape}
 use Rattle.vb6_run.specs.Store.{Address, root, constant, Does, SourceGiven, SourceFrame, SourceCalls, set_err, provided, read, field_address}
 use Rattle.vb6_run.specs.Runnables.{Runnable, declarations_of, variable_address}
-use Rattle.vb6_run.specs.Arrays.{with_array, Lows, has_lows, takes_indexes, element_address, Side, lower, upper, array_bound}
+use Rattle.vb6_run.specs.Arrays.{with_array, Lows, has_lows, have_long_lows, takes_indexes, element_address, Side, lower, upper, array_bound}
 
 -- what the expressions of a line see: the program, what its calls do, the procedure, the frame, and where control goes from the line
 pub record Context : Type 0 where
@@ -143,10 +143,11 @@ with_parts C w = some_of (with_round C.aims) (λ h w. kept_parts (C.frame.kept h
 abbrev pub lows_at : Context → Expr → Lows
 lows_at C e = option_map (λ k. C.runnable.low k) (declared_at (declared C) e)
 
--- What lies outside: an element of an array with other lower bounds than its ties give it, or with another number of indexes.
+-- What lies outside: an element of an array with other lower bounds than its ties give it or with one that is no Long, or with another
+-- number of indexes.
 abbrev pub element_parts : Context → Expr → Address → (indexes : List ℤ) → Does Parts
 element_parts C e a zs w =
-    with_array a (λ s dims xs w. provided (has_lows (lows_at C e) dims && takes_indexes dims zs) (λ w. gives [] (at_element a zs) w) w) w
+    with_array a (λ s dims xs w. provided (has_lows (lows_at C e) dims && (have_long_lows dims && takes_indexes dims zs)) (λ w. gives [] (at_element a zs) w) w) w
 
 -- ---- calls
 
@@ -276,7 +277,8 @@ abbrev mutual
   pub parts_of : Context → Expr → Does Parts
   parts_of C (typed ty t) w = then (term_parts C ty t w) (as_new C t)
 
-  -- the same, with no object made for an As New variable itself. What lies outside: an expression without a type.
+  -- The same, with no object made for an As New variable itself. What lies outside: an expression without a type, and an Err number above
+  -- 65535, which no error has.
   pub term_parts : Context → Ty → Term → Does Parts
   term_parts C ty (tree.constant x origin) w = value_parts (scalar ty x) w
   term_parts C ty (variable k qualified) w = variable_parts C k.0 w
@@ -294,7 +296,7 @@ abbrev mutual
   term_parts C ty (new_object c) w = then (created (declared C) C.oracle C.frame.env c.0 w) value_parts
   term_parts C ty me w = me_value ty C.frame.me w
   term_parts C ty (with_object of) w = with_parts C w
-  term_parts C ty err_number w = value_parts (scalar ty (v.Long (pos w.err))) w
+  term_parts C ty err_number w = provided (nat_lt w.err 65536) (λ w. value_parts (scalar ty (v.Long (pos w.err))) w) w
   term_parts C ty (err_raise e) w = then (then (parts_of C e w) (long_in C e)) raise_of
   term_parts C ty err_clear w = gives [] no_value (set_err 0 w)
   term_parts C ty (is_same d e) w =

@@ -1,0 +1,166 @@
+-- The paths in what is written for uses of variables and arrays are known.
+use Rattle.std.proofs.Common.{◌≡◌, ℕ, zero, suc, ℤ, Bool, true, false, ◌&&◌, cond, List, [], ◌∷◌, ◌++◌, map, Option, Some, None, refl, sym, subst, ap, ◌∙◌, true≢false, inr}
+use Rattle.std.specs.List.{flat_map, list_all}
+use Rattle.std.specs.Prelude.{◌⊎◌, codes, is_some}
+use Rattle.up_base.proofs.Lists.{both_true}
+use Rattle.std.specs.Cmp.Lexicographic.{bytes_decides}
+use Rattle.vb_tree.specs.BoundTree as types
+use Rattle.vb_tree.specs.BoundTree.{Ty}
+use Rattle.vb_tree.specs.declared.bound.LibCall.{LibCall}
+use Rattle.vb_tree.specs.declared.bound.LibCall.TheVariants as lib
+use Rattle.vb_tree.specs.declared.declared.VarId.{VarId}
+use Rattle.vb_tree.specs.ProjectLines.{is_reserved}
+use Rattle.bound_tree.specs.declared.body.Mention.{Mention}
+use Rattle.bound_tree.specs.Tree.{Program, Expr, typed, variable, Exprs, no_exprs, next_expr, by_reference}
+use Rattle.bound_facts.specs.Node.{declared_at, type_at}
+use Rattle.net_tree.specs.Spelling.{is_same_text}
+use Rattle.net_tree.specs.Tree.{Exp}
+use Rattle.net_tree.specs.Tree as net
+use Rattle.support_text.specs.Assignments.{the_put_boolean, the_put_byte, the_put_decimal, the_put_integer, the_put_short, the_put_string}
+use Rattle.support_text.specs.Bounds.{the_at, the_hi, the_lo, the_top}
+use Rattle.support_text.specs.Errors.{the_err_number}
+use Rattle.written_trees.specs.Arguments.{argument_exp}
+use Rattle.written_trees.specs.Conversions.{support_call, two}
+use Rattle.written_trees.specs.Exprs.{exp_of, exps_of, index_at, indexes_of, is_zero, library_of}
+use Rattle.written_trees.specs.Library.{low_at, low_exp}
+use Rattle.written_trees.specs.Lines.{empty_extents}
+use Rattle.written_trees.specs.Names.{Path, Scope, owner_path}
+use Rattle.written_trees.specs.Puts.{put_type, store_by}
+use Rattle.written_trees.specs.Supports.{fixed_functions}
+use Rattle.run_matches.specs.Covered.{IsUsed, covers_array, covers_bounded, covers_dimension, covers_type, is_bound, uses_in}
+use Rattle.correspondence.specs.Paths.{paths_of_exp, paths_of_exps, paths_of_line}
+use Rattle.correspondence.proofs.KnownPaths.{AreKnown, HasKnown, IsFunction, IsKnown, in_place, known_append}
+use Rattle.correspondence.proofs.Variables.{IsVariablePath, path_is, used_at, variable_exp}
+
+-- ---- functions
+
+is_at : IsFunction (codes "At")
+is_at = record { function = the_at; among = in_place fixed_functions 8 the_at refl; named = refl }
+
+pub is_top : IsFunction (codes "Top")
+is_top = record { function = the_top; among = in_place fixed_functions 9 the_top refl; named = refl }
+
+is_hi : IsFunction (codes "Hi")
+is_hi = record { function = the_hi; among = in_place fixed_functions 10 the_hi refl; named = refl }
+
+is_lo : IsFunction (codes "Lo")
+is_lo = record { function = the_lo; among = in_place fixed_functions 11 the_lo refl; named = refl }
+
+pub is_err_number : IsFunction (codes "ErrNumber")
+is_err_number = record { function = the_err_number; among = in_place fixed_functions 14 the_err_number refl; named = refl }
+
+is_put_short : IsFunction (codes "PutShort")
+is_put_short = record { function = the_put_short; among = in_place fixed_functions 39 the_put_short refl; named = refl }
+
+is_put_boolean : IsFunction (codes "PutBoolean")
+is_put_boolean = record { function = the_put_boolean; among = in_place fixed_functions 40 the_put_boolean refl; named = refl }
+
+is_put_byte : IsFunction (codes "PutByte")
+is_put_byte = record { function = the_put_byte; among = in_place fixed_functions 41 the_put_byte refl; named = refl }
+
+is_put_integer : IsFunction (codes "PutInteger")
+is_put_integer = record { function = the_put_integer; among = in_place fixed_functions 42 the_put_integer refl; named = refl }
+
+is_put_decimal : IsFunction (codes "PutDecimal")
+is_put_decimal = record { function = the_put_decimal; among = in_place fixed_functions 43 the_put_decimal refl; named = refl }
+
+is_put_string : IsFunction (codes "PutString")
+is_put_string = record { function = the_put_string; among = in_place fixed_functions 44 the_put_string refl; named = refl }
+
+-- ---- lists
+
+pub known_parted : (ps qs : List Path) → AreKnown (ps ++ qs) → AreKnown ps × AreKnown qs
+known_parted [] qs h = (tt, h)
+known_parted (p ∷ ps) qs h = let more = known_parted ps qs h.1 in ((h.0, more.0), more.1)
+
+-- ---- variables
+
+known_path : (path : Path) → IsVariablePath path → IsKnown path
+known_path [] h = tt
+known_path (name ∷ []) h = tt
+known_path (outer ∷ name ∷ more) h = λ e. absurd (true≢false (sym (reserved outer e) ∙ h))
+  where
+    reserved : (outer : List ℕ) → is_same_text outer (codes "UpgradeSupport") ≡ true → is_reserved outer ≡ true
+    reserved outer e =
+        let same : outer ≡ codes "UpgradeSupport" = (bytes_decides outer (codes "UpgradeSupport")).0 e in
+        ap is_reserved same
+
+module _ (P : Program) (S : Scope) (same : S.declarations ≡ P.declarations) (p : ℕ) (mentions : List Mention) where
+  pub use_known : (k : VarId) (q : Bool) (ty : Ty) → IsUsed (uses_in P p mentions) k → HasKnown (exp_of S (typed ty (variable k q)))
+  use_known k q ty h =
+      let found = used_at P p mentions k h in
+      subst (λ (e : Exp). HasKnown e) (sym (variable_exp P S same p k q ty found.0 found.1))
+      (known_path (owner_path S q found.0.name found.0.owner) (path_is P S same p k.0 q found.0 found.1), tt)
+
+  pub array_known : (e : Expr) → covers_array (uses_in P p mentions) e ≡ true → HasKnown (exp_of S e)
+  array_known (typed (types.array element rank) (variable k q)) h = use_known k q (types.array element rank) (inr (element, h))
+  array_known (typed (types.array element rank) _) h = absurd (cc h)
+  array_known (typed _ t) h = absurd (cc h)
+
+  -- an array that is given by reference
+  pub array_given : (by_address : Bool) (e : Expr) → covers_array (uses_in P p mentions) e ≡ true → HasKnown (exp_of S e)
+      → HasKnown (argument_exp S by_address (by_reference e) (exp_of S e))
+  array_given by_address (typed (types.array element rank) t) h k = k
+  array_given by_address (typed _ t) h k = absurd (cc h)
+
+  pub bound_known : (ty : Ty) (g : LibCall) (args : Exprs) → is_bound g ≡ true → covers_bounded (uses_in P p mentions) args ≡ true
+      → HasKnown (library_of S ty g args)
+  bound_known ty lib.UBound no_exprs b h = absurd (cc h)
+  bound_known ty lib.UBound (next_expr a rest) b h =
+      let both = both_true (covers_array (uses_in P p mentions) a) (covers_dimension rest) h in
+      (λ s. (is_hi, refl), known_append (paths_of_exp (exp_of S a)) [] (array_known a both.0) tt)
+  bound_known ty lib.LBound no_exprs b h = absurd (cc h)
+  bound_known ty lib.LBound (next_expr a rest) b h =
+      let both = both_true (covers_array (uses_in P p mentions) a) (covers_dimension rest) h in
+      (λ s. (is_lo, refl), known_append (paths_of_exp (exp_of S a)) [] (array_known a both.0) tt)
+  bound_known ty _ args b h = absurd (cc b)
+
+-- ---- indexes
+
+from_known : (starts : Bool) (low : ℤ) (i : Exp) → HasKnown i → HasKnown (cond starts i (support_call (codes "At") (two i (low_exp low))))
+from_known true low i h = h
+from_known false low i h = (λ s. (is_at, refl), known_append (paths_of_exp i) [] h tt)
+
+index_known : (S : Scope) (a : Expr) (d : ℕ) (i : Exp) → HasKnown i → HasKnown (index_at S a d i)
+index_known S a zero i h = from_known (is_zero (low_at S a 0)) (low_at S a 0) i h
+index_known S a (suc zero) i h = from_known (is_zero (low_at S a 1)) (low_at S a 1) i h
+index_known S a (suc (suc d)) i h = h
+
+pub indexes_known : (S : Scope) (a : Expr) (d : ℕ) (indexes : Exprs) → AreKnown (paths_of_exps (exps_of S indexes))
+    → AreKnown (paths_of_exps (indexes_of S a d indexes))
+indexes_known S a d no_exprs h = tt
+indexes_known S a d (next_expr e rest) h =
+    let parted = known_parted (paths_of_exp (exp_of S e)) (paths_of_exps (exps_of S rest)) h in
+    known_append (paths_of_exp (index_at S a d (exp_of S e))) (paths_of_exps (indexes_of S a (suc d) rest)) (index_known S a d (exp_of S e) parted.0)
+    (indexes_known S a (suc d) rest parted.1)
+
+-- ---- stores
+
+abbrev HasPut : Option (List ℕ) → Type 0
+HasPut None = Unit {0}
+HasPut (Some ty) = IsFunction (codes "Put" ++ ty)
+
+has_put : (ty : Ty) → covers_type ty ≡ true → HasPut (put_type ty)
+has_put types.boolean h = is_put_boolean
+has_put types.byte h = is_put_byte
+has_put types.integer h = is_put_short
+has_put types.long h = is_put_integer
+has_put types.currency h = is_put_decimal
+has_put types.str h = is_put_string
+has_put _ h = absurd (cc h)
+
+stored_by : (shows : Bool) (o : Option (List ℕ)) (t a : Exp) → HasPut o → HasKnown t → HasKnown a → AreKnown (paths_of_line (store_by shows o t a))
+stored_by shows None t a f h k = known_append (paths_of_exp t) (paths_of_exp a) h k
+stored_by true (Some ty) t a f h k =
+    (λ s. (f, refl), known_append (paths_of_exp a) (paths_of_exp t ++ []) k (known_append (paths_of_exp t) [] h tt))
+stored_by false (Some ty) t a f h k = known_append (paths_of_exp t) (paths_of_exp a) h k
+
+pub stored_known : (shows : Bool) (ty : Ty) (t a : Exp) → covers_type ty ≡ true → HasKnown t → HasKnown a
+    → AreKnown (paths_of_line (store_by shows (put_type ty) t a))
+stored_known shows ty t a c h k = stored_by shows (put_type ty) t a (has_put ty c) h k
+
+-- ---- Erase
+
+pub empty_known : (rank : ℕ) → AreKnown (paths_of_exps (empty_extents rank))
+empty_known zero = tt
+empty_known (suc rank) = empty_known rank

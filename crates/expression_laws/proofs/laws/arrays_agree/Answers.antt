@@ -1,0 +1,5 @@
+use Rattle.expression_laws.proofs.Expressions as stated
+use Rattle.expression_laws.proofs.laws.arrays_agree.Goals as goal
+
+pub returns : goal.returns
+returns c = stated.frame_arrays_agree

@@ -1,0 +1,358 @@
+-- Variables that a frame always has, and the calm expressions of them.
+use Rattle.std.proofs.Common.{◌≡◌, ◌∙◌, ◌⊎◌, inl, inr, ⊎_elim, refl, sym, ap, subst, ℕ, ℤ, Bool, true, false, cond, not, ◌&&◌, nat_eq, Option, Some, None, List, [], ◌∷◌, slice_get, true≢false}
+use Rattle.std.specs.Prelude.{is_some}
+use Rattle.std.proofs.lemmas.Bool.{eq-eqb, eqb-true}
+use Rattle.std.specs.Map.{lookup}
+use Rattle.vb_tree.specs.BoundTree as types
+use Rattle.vb_tree.specs.BoundTree.{Ty}
+use Rattle.vb_tree.specs.declared.declared.Owner.{Owner}
+use Rattle.vb_tree.specs.declared.declared.Owner.TheVariants as owner
+use Rattle.vb_tree.specs.declared.declared.VarId.{VarId}
+use Rattle.vb_tree.specs.declared.value.Value6.{Value6}
+use Rattle.vb_tree.specs.declared.value.Value6.TheVariants as v
+use Rattle.bound_tree.specs.Tree.{Expr, typed, constant, variable, convert, Exprs, no_exprs, next_expr, Variable}
+use Rattle.bound_facts.proofs.Chains.{both_true}
+use Rattle.bound_facts.specs.Effects.{is_own_owner, is_own_variable}
+use Rattle.bound_facts.specs.Facts.{is_quiet}
+use Rattle.bound_facts.specs.Locks.{is_same_type}
+use Rattle.bound_facts.specs.Node.{type_at}
+use Rattle.bound_facts.specs.SelfMade.{module_of}
+use Rattle.net_meaning.specs.declared.value.ValueN.{ValueN}
+use Rattle.net_meaning.specs.ValueMatch.{Matches, longs}
+use Rattle.net_meaning.specs.WrittenRows.{write_conversion}
+use Rattle.run_base.specs.Outcomes.{gives, after, then, found, some_of}
+use Rattle.run_base.specs.Positions.{Position, shared, whole, made}
+use Rattle.written_trees.specs.Exprs.{exp_of}
+use Rattle.written_trees.specs.Names.{Scope}
+use Rattle.vb6_run.specs.Expressions as source
+use Rattle.vb6_run.specs.Expressions.{at_address, indexes_of, value_in}
+use Rattle.vb6_run.specs.Forms.{SourceLine}
+use Rattle.vb6_run.specs.Programs.{is_local_of}
+use Rattle.vb6_run.specs.Runnables.{declared_address, object_root, root_address, static_root, variable_address}
+use Rattle.vb6_run.specs.Shapes.{Shape, simple, variable_shape}
+use Rattle.vb6_run.specs.Store.{Address, root, Held, blank, single, Memory, SourceCalls, SourceFrame, read, single_in, value_if}
+use Rattle.vb6_run.specs.Values.{scalar}
+use Rattle.net_run.specs.Expressions as target
+use Rattle.net_run.specs.Lines.{NetFrame, NetLine, scope_of}
+use Rattle.net_run.specs.Making.{Jobs}
+use Rattle.net_run.specs.Members.{Code}
+use Rattle.net_run.specs.Names as net_names
+use Rattle.net_run.specs.Store as net
+use Rattle.run_matches.specs.Addresses.{AllMatched, IsPlain, Same, same_item, same_root}
+use Rattle.run_matches.specs.Covered.{Uses, are_calm, covers_expr, covers_exprs, covers_type, is_calm, is_declared_as, is_local_in, is_passing_in, is_passing_of, is_reference_in, is_reference_owner_of, widens}
+use Rattle.run_matches.specs.Formed.{are_formed, are_longs, is_formed, types_of}
+use Rattle.run_matches.specs.Frames.{FrameMatch, GivenPlace, HasPlace, StandsAs, SameVariable, is_own_of, is_reference_of}
+use Rattle.run_matches.specs.Maps.{World, IsMade, is_auto_root, mark, moved_at}
+use Rattle.run_matches.specs.Agreeing.{Agrees}
+use Rattle.run_matches.specs.Match.{Holds, MemoryMatch, holds_single}
+use Rattle.run_matches.specs.Pledges.{IsHeld, Pledge}
+use Rattle.run_matches.specs.Runs.{CallsAgree}
+use Rattle.run_matches.specs.Upgrades.{Upgrade, is_auto}
+use Rattle.run_statements.specs.Frames.{AllCalled, AllCalledAll, AreReadable, ArePlaced, ExpressionsAgree, IsGiven, IsKnown, IsOpen, IsOwnStatic, IsPlaced, IsReadable, IsShared, ScalarMatch, context_of, demands}
+use Rattle.run_statements.specs.Written.{Passes}
+use Rattle.line_laws.proofs.Bounds.{exactly, some_is}
+use Rattle.line_laws.proofs.Calm.{Gives, IsFit, Widened, as_long, constant_gives, converted_gives, fit_of, formed_constant, fit_typed, same_self, value_read, widened_value}
+use Rattle.line_laws.proofs.Elements.{known_address, known_auto}
+use Rattle.line_laws.proofs.Shared.{SharedPlace, StaticPlace, at_key, shared_address, shared_place, static_owner, static_place}
+use Rattle.line_laws.proofs.Stores.{same_type}
+use Rattle.line_laws.proofs.Uses.{address_is, given_address, given_address_is, no_auto, shape_is}
+
+-- ---- where they stand
+
+-- a scalar variable of a type that the frame has
+pub record Standing (U : Upgrade) (w : World) (f : SourceFrame) (v : ℕ) (ty : Ty) : Type 0 where
+  pub position : Position
+  pub found : variable_address U.program.declarations f v ≡ Some (root (simple ty) position)
+  pub matched : AllMatched U w (simple ty) position
+  pub plain : is_auto_root U w.map position.root ≡ false
+
+same_matched : (U : Upgrade) (K : Pledge) (w : World) (ty : Ty) (q : Position) (a : Address) (b : net.Address) → a ≡ root (simple ty) q → Same U K w a b
+    → AllMatched U w (simple ty) q
+same_matched U K w ty q _ _ e (same_root s d p sh m r) = subst (λ a. of_address a) e m
+  where
+    of_address : Address → Type 0
+    of_address (root s p) = AllMatched U w s p
+    of_address _ = Unit {0}
+same_matched U K w ty q _ _ e (same_item x s d p k j path keeps m has part sh) = cc
+
+turned : (a b : ℕ) → nat_eq b a ≡ true → nat_eq a b ≡ true
+turned a b e = eq-eqb a b (sym (eqb-true b a e))
+
+-- the procedure's own are local variables, parameters and the result
+own_owner_is : (p : ℕ) (o : Owner) → is_own_owner p o ≡ true → (is_local_of p o ≡ true) ⊎ (is_passing_of p o ≡ true)
+own_owner_is p (owner.Local q) own = inl (turned p q.0 own)
+own_owner_is p (owner.Value q) own = inr (turned p q.0 own)
+own_owner_is p (owner.Answer q) own = inr (turned p q.0 own)
+own_owner_is p _ own = absurd (true≢false (sym own))
+
+own_is : (p : ℕ) (o : Option Variable) → is_own_variable p o ≡ true → (is_local_in p o ≡ true) ⊎ (is_passing_in p o ≡ true)
+own_is p None own = absurd (true≢false (sym own))
+own_is p (Some x) own = own_owner_is p x.owner own
+
+given_owner_is : (p : ℕ) (o : Owner) → is_reference_owner_of p o ≡ true → is_passing_of p o ≡ true
+given_owner_is p (owner.Reference q) given = given
+given_owner_is p _ given = absurd (true≢false (sym given))
+
+given_is : (p : ℕ) (o : Option Variable) → is_reference_in p o ≡ true → is_passing_in p o ≡ true
+given_is p None given = absurd (true≢false (sym given))
+given_is p (Some x) given = given_owner_is p x.owner given
+
+module _ (U : Upgrade) (K : Pledge) (w : World) (p : ℕ) (f : SourceFrame) (g : NetFrame) (F : FrameMatch U K w p f g) (v : ℕ) where
+  abbrev InFrame : Type 0
+  InFrame = (a : Address) × (lookup (nat_eq v) f.vars ≡ Some a)
+
+  own_there : is_own_of U p v ≡ true → InFrame
+  own_there own = ⊎_elim (λ x. F.has_locals v x) (λ x. F.has_passing v x) (own_is p (slice_get U.program.declarations.vars v) own)
+
+  given_there : is_reference_of U p v ≡ true → InFrame
+  given_there given = F.has_passing v (given_is p (slice_get U.program.declarations.vars v) given)
+
+-- ---- arrays
+
+static_there : (U : Upgrade) (p : ℕ) (f : SourceFrame) (v : ℕ) → IsOwnStatic U p v
+    → variable_address U.program.declarations f v ≡ Some (root (variable_shape U.program.declarations v) (at_key v))
+static_there U p f v s =
+    let D = U.program.declarations in
+    let o = static_owner p s.variable.owner s.is_static in
+    ap (declared_address D f v) s.is_variable ∙ o.2 D f v
+    ∙ ap (λ q. root_address D v (static_root D f.me v (module_of (slice_get D.procs q)))) o.1
+    ∙ ap (λ i. root_address D v (static_root D f.me v i)) s.is_file
+    ∙ ap (λ b. root_address D v (cond b (object_root f.me v) (Some (shared (v ∷ []))))) s.standard
+
+given_at : (U : Upgrade) (p : ℕ) (f : SourceFrame) (v : ℕ) (k : IsKnown U v) → is_reference_of U p v ≡ true
+    → variable_address U.program.declarations f v ≡ lookup (nat_eq v) f.vars
+given_at U p f v k given =
+    ap (declared_address U.program.declarations f v) k.is_variable
+    ∙ given_address U.program.declarations f v p k.variable.owner (sym (ap (is_reference_in p) k.is_variable) ∙ given)
+
+-- a variable that is placed has an address in each frame that matches
+pub known_there : (U : Upgrade) (K : Pledge) (w : World) (p : ℕ) (f : SourceFrame) (g : NetFrame) (F : FrameMatch U K w p f g) (S : net_names.Scope) (T : Scope)
+    (v : ℕ) (k : IsKnown U v) → IsPlaced U p f S T v → (a : Address) × (variable_address U.program.declarations f v ≡ Some a)
+known_there U K w p f g F S T v k (inl own) =
+    let x = own_there U K w p f g F v own in (x.0, known_address U v k p own f ∙ x.1)
+known_there U K w p f g F S T v k (inr (inl s)) = (_, static_there U p f v s)
+known_there U K w p f g F S T v k (inr (inr (inl s))) =
+    (_, shared_address U.program.declarations f v s.variable s.file s.is_variable s.is_owner s.standard)
+known_there U K w p f g F S T v k (inr (inr (inr x))) =
+    let y = given_there U K w p f g F v x.reference in (y.0, given_at U p f v k x.reference ∙ y.1)
+
+at_number : (U : Upgrade) (w : World) (v : ℕ) (d : Shape) (a : Address) → is_auto U v ≡ false → a ≡ root d (at_key v) → IsPlain U w a
+at_number U w v d a plain e = subst (λ b. IsPlain U w b) (sym e) (λ q i. subst (λ (z : Position). is_auto_root U w.map z.root ≡ false) (some_is (at_key v) q i) plain)
+
+-- and no use of it makes what stands there
+pub known_plain : (U : Upgrade) (K : Pledge) (w : World) (p : ℕ) (f : SourceFrame) (g : NetFrame) (F : FrameMatch U K w p f g) (S : net_names.Scope) (T : Scope)
+    (v : ℕ) (k : IsKnown U v) → IsPlaced U p f S T v → (a : Address) → variable_address U.program.declarations f v ≡ Some a → IsPlain U w a
+known_plain U K w p f g F S T v k (inl own) a e =
+    (F.vars v a (sym (known_address U v k p own f) ∙ e) k.sound).plain (ap is_some (known_auto U v k))
+known_plain U K w p f g F S T v k (inr (inl s)) a e =
+    at_number U w v (variable_shape U.program.declarations v) a (ap is_some (known_auto U v k))
+    (some_is a (root (variable_shape U.program.declarations v) (at_key v)) (sym e ∙ static_there U p f v s))
+known_plain U K w p f g F S T v k (inr (inr (inl s))) a e =
+    at_number U w v (variable_shape U.program.declarations v) a (ap is_some (known_auto U v k))
+    (some_is a (root (variable_shape U.program.declarations v) (at_key v))
+    (sym e ∙ shared_address U.program.declarations f v s.variable s.file s.is_variable s.is_owner s.standard))
+known_plain U K w p f g F S T v k (inr (inr (inr x))) a e =
+    (F.vars v a (sym (given_at U p f v k x.reference) ∙ e) k.sound).plain (ap is_some (known_auto U v k))
+
+-- ---- scalars
+
+module _ (U : Upgrade) (K : Pledge) (w : World) (h : MemoryMatch U w) (p : ℕ) (f : SourceFrame) (g : NetFrame) (S : net_names.Scope) (T : Scope)
+    (declared : T.declarations ≡ U.program.declarations) (F : FrameMatch U K w p f g) (v : ℕ) (r : IsReadable U v) (loud : is_quiet U.program.declarations U.known v ≡ false) where
+  no_object : is_auto U v ≡ false
+  no_object = ap is_some (no_auto U v r)
+
+  abbrev At : Type 0
+  At = Standing U w f v r.variable.ty
+
+  of_frame : (a : Address) → lookup (nat_eq v) f.vars ≡ Some a → (q : Position) → a ≡ root (simple r.variable.ty) q
+      → variable_address U.program.declarations f v ≡ lookup (nat_eq v) f.vars → At
+  of_frame a e q is there =
+      let s : SameVariable U K w v a g = F.vars v a e r.sound in
+      record {
+        position = q;
+        found = there ∙ e ∙ ap (λ a. Some a) is;
+        matched = same_matched U K w r.variable.ty q a s.address is (exactly U K w (not (is_quiet U.program.declarations U.known v)) a s.address (ap not loud) s.bound);
+        plain = subst (λ a. IsPlain U w a) is (s.plain no_object) q refl;
+      }
+
+  of_own : is_own_of U p v ≡ true → At
+  of_own own =
+      let x = own_there U K w p f g F v own in
+      let place : HasPlace U w v x.0 = F.own v x.0 x.1 own in
+      let q : Position = whole (made place.place) in
+      of_frame x.0 x.1 q (place.stands ∙ ap (λ d. root d q) (shape_is U v r)) (address_is U v r p own f)
+
+  of_given : IsGiven U p f v → At
+  of_given x =
+      let y = given_there U K w p f g F v x.reference in
+      let place : GivenPlace U v y.0 = (x.stands y.0 y.1).place loud in
+      of_frame y.0 y.1 place.position (subst (λ d. StandsAs d y.0 place.position) (shape_is U v r) place.stands) (given_address_is U v r p x.reference f)
+
+  of_shared : IsShared U S T v → At
+  of_shared s =
+      let x : SharedPlace U K w f S T v r s = shared_place U K w h f S T v r s in
+      record {
+        position = x.position;
+        found = x.found ∙ ap (λ a. Some a) x.stands;
+        matched = same_matched U K w r.variable.ty x.position x.address x.net_address x.stands x.same;
+        plain = subst (λ (q : Position). is_auto_root U w.map q.root ≡ false) (sym x.is_at) no_object;
+      }
+
+  of_static : IsOwnStatic U p v → At
+  of_static s =
+      let x : StaticPlace U K w p f g T v r = static_place U K w p f g T declared F v r s in
+      record {
+        position = x.position;
+        found = x.found ∙ ap (λ a. Some a) x.stands;
+        matched = same_matched U K w r.variable.ty x.position x.address x.net_address x.stands x.same;
+        plain = subst (λ (q : Position). is_auto_root U w.map q.root ≡ false) (sym x.is_at) no_object;
+      }
+
+  pub standing : IsPlaced U p f S T v → At
+  standing (inl own) = of_own own
+  standing (inr (inl s)) = of_static s
+  standing (inr (inr (inl s))) = of_shared s
+  standing (inr (inr (inr x))) = of_given x
+
+-- ---- the types of indexes
+
+abbrev pub all_longs : List Ty → Bool
+all_longs [] = true
+all_longs (t ∷ ts) = is_same_type types.long t && all_longs ts
+
+pub longs_are : (ts : List Ty) → are_longs ts ≡ true → all_longs ts ≡ true
+longs_are [] h = refl
+longs_are (t ∷ []) h = ap (λ b. b && true) h
+longs_are (s ∷ t ∷ []) h =
+    let both = both_true (is_same_type types.long s) (is_same_type types.long t) h in
+    ap (λ b. b && (is_same_type types.long t && true)) both.0 ∙ ap (λ b. b && true) both.1
+longs_are (s ∷ t ∷ u ∷ ts) h = absurd (true≢false (sym h))
+
+-- ---- calm expressions
+
+module _ (U : Upgrade) (expressions : ExpressionsAgree U) (K : Pledge) (p : ℕ) (f : SourceFrame) (g : NetFrame) (l : SourceLine) (k : NetLine) (c : Code)
+    (T : Scope) (declared : T.declarations ≡ U.program.declarations) (oracle : SourceCalls) (net_oracle : Jobs) (is_open : IsOpen (scope_of U.written c g k))
+    (uses : Uses) (readable : AreReadable U T uses) (placed : ArePlaced U p f (scope_of U.written c g k) T uses) (agree : CallsAgree U (Passes U) oracle net_oracle)
+    (w : World) (h : MemoryMatch U w) (F : FrameMatch U K w p f g) where
+  abbrev C : source.Context
+  C = context_of U oracle p f l
+
+  abbrev S : net_names.Scope
+  S = scope_of U.written c g k
+
+  -- what was there, and is no As New variable, is as it was
+  abbrev pub Stable : Memory → Type 0
+  Stable s = (q : Position) → IsMade (mark w.src) q.root → is_auto_root U w.map q.root ≡ false → IsHeld w q → s.held q ≡ w.src.held q
+
+  pub record Known (e : Expr) : Type 0 where
+    pub value : Value6
+    pub fit : IsFit (type_at e) value
+    pub gives : (s : Memory) → Stable s → Gives C e value s
+
+  abbrev Can : Expr → Type 0
+  Can e = AllCalled (demands U K S T) e
+
+  -- what stands for it
+  fitting : (e : Expr) (z : Value6) → Can e → covers_expr uses e ≡ true → is_formed e ≡ true → Gives C e z w.src → IsFit (type_at e) z
+  fitting e z can covers formed is =
+      fit_of U K w (type_at e) z w.src (target.value_of S net_oracle (exp_of T e) w.net)
+      (subst (λ r. Agrees U K w (ScalarMatch U (type_at e)) r (target.value_of S net_oracle (exp_of T e) w.net)) is
+      (expressions K w p f g oracle net_oracle l k c T uses e h F declared is_open readable placed agree can covers formed))
+
+  known : (e : Expr) (z : Value6) → Can e → covers_expr uses e ≡ true → is_formed e ≡ true → ((s : Memory) → Stable s → Gives C e z s) → Known e
+  known e z can covers formed is = record { value = z; fit = fitting e z can covers formed (is w.src (λ q m a i. refl)); gives = is }
+
+  -- ---- variables
+
+  held_fit : (ty : Ty) (z : Value6) (x : Held) (y : net.Cell) → x ≡ single ty z → Holds U w x y → IsFit ty z
+  held_fit ty z _ _ e (holds_single t x y m) = let a : t ≡ ty = cc e in let b : x ≡ z = cc e in subst (λ t. IsFit t z) a (subst (λ x. IsFit t x) b (_, y, m))
+  held_fit ty z _ _ e _ = cc
+
+  read_single : (ty : Ty) (z : Value6) (q : Position) (s : Memory) → covers_type ty ≡ true → s.held q ≡ single ty z
+      → read (root (simple ty) q) s ≡ gives [] (scalar ty z) s
+  read_single ty z q s covers is =
+      ap (λ x. found (single_in ty x) s) is ∙ ap (λ b. found (value_if b (scalar ty z)) s) (same_self ty covers)
+
+  not_blank : (ty : Ty) (z : Value6) → single ty z ≡ blank → ⊥
+  not_blank ty z e = cc
+
+  parts_found : (ty : Ty) (v : VarId) (qualified : Bool) (r : IsReadable U v.0) (a : Address) (s : Memory)
+      → variable_address U.program.declarations f v.0 ≡ Some a → source.parts_of C (typed ty (variable v qualified)) s ≡ gives [] (at_address a) s
+  parts_found ty v qualified r a s is =
+      ap (λ o. then (some_of o (λ a w. gives [] (at_address a) w) s) (source.as_new C (variable v qualified))) is
+      ∙ ap (λ m. after [] (source.made_for C m (at_address a) s)) (no_auto U v.0 r)
+
+  variable_gives : (ty : Ty) (v : VarId) (qualified : Bool) (r : IsReadable U v.0) → covers_type ty ≡ true → Standing U w f v.0 ty
+      → (z : Value6) × ((s : Memory) → Stable s → Gives C (typed ty (variable v qualified)) z s)
+  variable_gives ty v qualified r covers at =
+      let e : Expr = typed ty (variable v qualified) in
+      let a : Address = root (simple ty) at.position in
+      let kind : (z : Value6) × (w.src.held at.position ≡ single ty z) = at.matched.1 in
+      let fit : IsFit ty kind.0 =
+      held_fit ty kind.0 (w.src.held at.position) (w.net.cell (moved_at U w.map at.position)) kind.1 (h.stores.values at.position at.matched.0) in (
+        kind.0,
+        λ s stable.
+            let is : s.held at.position ≡ single ty kind.0 =
+            stable at.position at.matched.0.is_made at.plain (λ z. not_blank ty kind.0 (sym kind.1 ∙ z)) ∙ kind.1 in
+            ap (λ r. then r (value_in C e)) (parts_found ty v qualified r a s at.found)
+            ∙ ap (after []) (value_read C e a s kind.0 covers (fit_typed ty kind.0 covers fit) (read_single ty kind.0 at.position s covers is)),
+      )
+
+  -- ---- expressions
+
+  convert_known : (ty to : Ty) (e : Expr) → ty ≡ to → covers_type to ≡ true → widens (type_at e) to ≡ true → Known e → Can (typed ty (convert to e))
+      → covers_expr uses (typed ty (convert to e)) ≡ true → is_formed (typed ty (convert to e)) ≡ true → Known (typed ty (convert to e))
+  convert_known ty to e same covers_to wide x can covers formed =
+      let y : Widened x.value to = widened_value x.fit.0 (type_at e) to x.value x.fit.1 wide x.fit.2 in
+      known (typed ty (convert to e)) y.value can covers formed
+      (λ s stable. subst (λ t. Gives C (typed t (convert to e)) y.value s) (sym same) (converted_gives C to e x.value y.value s covers_to (x.gives s stable) y.is y.typed))
+
+  pub calm_known : (e : Expr) → is_calm uses e ≡ true → Can e → covers_expr uses e ≡ true → is_formed e ≡ true → Known e
+  calm_known (typed ty (constant x o)) calm can covers formed =
+      let covers_ty = (both_true (covers_type ty) true covers).0 in
+      known (typed ty (constant x o)) x can covers formed (λ s stable. constant_gives C ty x o s covers_ty (formed_constant ty x o covers_ty formed))
+  calm_known (typed ty (variable v qualified)) calm can covers formed =
+      let all = both_true (uses.scalar v) (uses.exact v && uses.is_of v ty) calm in
+      let exact = both_true (uses.exact v) (uses.is_of v ty) all.1 in
+      let covers_ty = (both_true (covers_type ty) (uses.scalar v) covers).0 in
+      let r : IsReadable U v.0 = readable.scalars v all.0 in
+      let same : r.variable.ty ≡ ty =
+      same_type ty r.variable.ty covers_ty (sym (ap (is_declared_as ty) r.is_variable) ∙ readable.types v ty exact.1) in
+      let at : Standing U w f v.0 r.variable.ty =
+      standing U K w h p f g S T declared F v.0 r (readable.exact v exact.0) (placed.places v (inl all.0)) in
+      let x = variable_gives ty v qualified r covers_ty (subst (λ t. Standing U w f v.0 t) same at) in
+      known (typed ty (variable v qualified)) x.0 can covers formed x.1
+  calm_known (typed ty (convert to e)) calm can covers formed =
+      let all = both_true (is_same_type to ty) (widens (type_at e) to && is_calm uses e) calm in
+      let both = both_true (widens (type_at e) to) (is_calm uses e) all.1 in
+      let one = both_true (covers_type ty) (covers_type to && covers_expr uses e) covers in
+      let two = both_true (covers_type to) (covers_expr uses e) one.1 in
+      let same : ty ≡ to = same_type to ty two.0 all.0 in
+      convert_known ty to e same two.0 both.0
+      (calm_known e both.1 can two.1 (both_true (is_some (write_conversion (type_at e) to)) (is_formed e) formed).1) can covers formed
+  calm_known (typed ty _) calm can covers formed = absurd (true≢false (sym calm))
+
+  long_of : (z : Value6) → IsFit types.long z → (i : ℤ) × (z ≡ v.Long i)
+  long_of z fit = by_match fit.0 z fit.1 fit.2
+    where
+      by_match : (same : ℕ → ℕ → Bool) (z : Value6) (y : ValueN) → Matches same types.long z y → (i : ℤ) × (z ≡ v.Long i)
+      by_match same _ _ (longs i e) = (i, refl)
+
+  -- the indexes of an element
+  pub indexes_known : (es : Exprs) → are_calm uses es ≡ true → AllCalledAll (demands U K S T) es → covers_exprs uses es ≡ true → all_longs (types_of es) ≡ true
+      → are_formed es ≡ true → (zs : List ℤ) × ((s : Memory) → Stable s → indexes_of C es s ≡ gives [] zs s)
+  indexes_known no_exprs calm can covers long formed = ([], λ s stable. refl)
+  indexes_known (next_expr e rest) calm can covers long formed =
+      let is_calm_e = both_true (is_calm uses e) (are_calm uses rest) calm in
+      let covers_e = both_true (covers_expr uses e) (covers_exprs uses rest) covers in
+      let long_e = both_true (is_same_type types.long (type_at e)) (all_longs (types_of rest)) long in
+      let formed_e = both_true (is_formed e) (are_formed rest) formed in
+      let x : Known e = calm_known e is_calm_e.0 can.0 covers_e.0 formed_e.0 in
+      let same : type_at e ≡ types.long = same_type types.long (type_at e) refl long_e.0 in
+      let i = long_of x.value (subst (λ t. IsFit t x.value) same x.fit) in
+      let more = indexes_known rest is_calm_e.1 can.1 covers_e.1 long_e.1 formed_e.1 in (
+        i.0 ∷ more.0,
+        λ s stable.
+            ap (λ r. then r (λ z w. then (indexes_of C rest w) (λ zs w. gives [] (z ∷ zs) w))) (as_long C e i.0 s (subst (λ z. Gives C e z s) i.1 (x.gives s stable)))
+            ∙ ap (λ r. after [] (then r (λ zs w. gives [] (i.0 ∷ zs) w))) (more.1 s stable),
+      )

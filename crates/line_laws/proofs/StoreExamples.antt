@@ -1,0 +1,71 @@
+-- Assignments to elements that are covered, and one that isn't.
+use Rattle.std.proofs.Common.{◌≡◌, refl, ℕ, pos, true, false, not, nat_eq}
+use Rattle.vb_tree.specs.BoundTree as types
+use Rattle.vb_tree.specs.declared.expression.BinOp.TheVariants as b
+use Rattle.vb_tree.specs.declared.value.Value6.TheVariants as v
+use Rattle.bound_tree.specs.declared.expression.Origin.TheVariants.{Literal}
+use Rattle.bound_tree.specs.Tree.{Expr, typed, constant, variable, element, call, binary, no_object, no_passed, no_exprs, next_expr}
+use Rattle.bound_facts.specs.Locks.{is_same_type}
+use Rattle.run_matches.specs.Covered.{Uses, is_ordered}
+
+-- all variables are Longs or arrays of Longs, the variable 8 is a quiet parameter, and the procedure 0 is inward
+abbrev uses : Uses
+uses = record {
+  scalar = λ w. true;
+  array = λ w e. true;
+  is_of = λ w ty. is_same_type ty types.long;
+  inward = λ q. nat_eq q 0;
+  exact = λ w. not (nat_eq w.0 8);
+}
+
+abbrev long_variable : ℕ → Expr
+long_variable k = typed types.long (variable (record { 0 = k }) false)
+
+abbrev one : Expr
+one = typed types.long (constant (v.Long (pos 1)) Literal)
+
+abbrev plus_one : Expr → Expr
+plus_one e = typed types.long (binary b.Add e one)
+
+abbrev call_of : ℕ → Expr
+call_of q = typed types.long (call (record { 0 = q }) false no_object no_passed)
+
+-- an element of a dynamic array
+abbrev at : Expr → Expr
+at i = typed types.long (element (typed (types.array types.long 0) (variable (record { 0 = 9 }) false)) (next_expr i no_exprs))
+
+-- a(i) = x + 1
+calm_index : is_ordered uses (at (long_variable 0)) (plus_one (long_variable 1)) ≡ true
+calm_index = refl
+
+-- a(i) = a(i) + 1
+same_element : is_ordered uses (at (long_variable 0)) (plus_one (at (long_variable 0))) ≡ true
+same_element = refl
+
+-- a(i + 1) = x + 1, by a Put function
+both_can_raise : is_ordered uses (at (plus_one (long_variable 0))) (plus_one (long_variable 1)) ≡ true
+both_can_raise = refl
+
+-- a(i + 1) = x
+calm_value : is_ordered uses (at (plus_one (long_variable 0))) (long_variable 1) ≡ true
+calm_value = refl
+
+-- a(i) = f(), where f is inward
+inward_value : is_ordered uses (at (long_variable 0)) (call_of 0) ≡ true
+inward_value = refl
+
+-- a(g()) = 1, where g isn't
+constant_value : is_ordered uses (at (call_of 1)) one ≡ true
+constant_value = refl
+
+-- a(i) = g(), which could change i
+outward_value : is_ordered uses (at (long_variable 0)) (call_of 1) ≡ false
+outward_value = refl
+
+-- a(q) = x + 1, where q is a quiet parameter: that it stays what it is isn't seen yet
+quiet_index : is_ordered uses (at (long_variable 8)) (plus_one (long_variable 1)) ≡ false
+quiet_index = refl
+
+-- a(q) = x
+quiet_before_value : is_ordered uses (at (long_variable 8)) (long_variable 1) ≡ true
+quiet_before_value = refl

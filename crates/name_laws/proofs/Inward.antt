@@ -1,0 +1,64 @@
+-- A procedure that is seen to be inward is so: no chain of calls leads from it to an outward one.
+use Rattle.std.proofs.Common.{◌≡◌, refl, sym, ℕ, zero, suc, Bool, true, false, cond, not, ◌&&◌, ◌||◌, nat_eq, List, [], ◌∷◌, true≢false}
+use Rattle.std.specs.Prelude.{nat_lt}
+use Rattle.bound_tree.specs.Tree.{Program}
+use Rattle.bound_facts.proofs.Chains.{both_true}
+use Rattle.bound_facts.specs.Calls.{calls, count_procedures}
+use Rattle.bound_facts.specs.Effects.{outward}
+use Rattle.bound_facts.specs.Facts.{AreFacts, Known, ReachesOutward}
+use Rattle.bound_facts.specs.Leading.{is_in, within}
+use Rattle.reach_table.specs.Chains.{Chain, empty, longer}
+use Rattle.run_matches.specs.Inward.{grown, is_closed, is_inward_in, led_in}
+use Rattle.name_laws.proofs.Lists.{all_among, among}
+
+-- ---- what is in a list
+
+either : (a b : Bool) → a ≡ true → (b || a) ≡ true
+either a true h = refl
+either a false h = h
+
+in_more : (b : Bool) (x q : ℕ) (list : List ℕ) → is_in list q ≡ true → is_in (cond b (x ∷ list) list) q ≡ true
+in_more true x q list h = either (is_in list q) (nat_eq q x) h
+in_more false x q list h = h
+
+in_led : (pairs : List (ℕ × ℕ)) (list : List ℕ) (q : ℕ) → is_in list q ≡ true → is_in (led_in pairs list) q ≡ true
+in_led [] list q h = h
+in_led (p ∷ pairs) list q h =
+    in_led pairs (cond (is_in list p.1 && not (is_in list p.0)) (p.0 ∷ list) list) q (in_more (is_in list p.1 && not (is_in list p.0)) p.0 q list h)
+
+in_grown : (n : ℕ) (pairs : List (ℕ × ℕ)) (list : List ℕ) (q : ℕ) → is_in list q ≡ true → is_in (grown n pairs list) q ≡ true
+in_grown zero pairs list q h = h
+in_grown (suc n) pairs list q h = in_grown n pairs (led_in pairs list) q (in_led pairs list q h)
+
+-- ---- what leads into a closed list is in it
+
+implied : (a b : Bool) → (not a || b) ≡ true → a ≡ true → b ≡ true
+implied true b h e = h
+implied false b h e = absurd (true≢false (sym e))
+
+module _ (pairs : List (ℕ × ℕ)) (list : List ℕ) (closed : is_closed pairs list ≡ true) where
+  back : (a b : ℕ) → Chain pairs a b → is_in list b ≡ true → is_in list a ≡ true
+  back _ _ (empty a) h = h
+  back _ _ (longer a b c chain step) h =
+      back a b chain
+      (implied (is_in list c) (is_in list b)
+      (all_among (λ (p : ℕ × ℕ). not (is_in list p.1) || is_in list p.0) pairs (b, c) closed (among pairs (b, c) step)) h)
+
+not_in : (b : Bool) → not b ≡ true → b ≡ true → ⊥
+not_in true e h = true≢false (sym e)
+not_in false e h = true≢false (sym h)
+
+apart : (P : Program) (q : ℕ) → is_inward_in P q ≡ true → ReachesOutward P q → ⊥
+apart P q h (to, is, chain) =
+    let pairs = within (count_procedures P) (calls P) in
+    let list = grown (count_procedures P) pairs (outward P) in
+    let both = both_true (is_closed pairs list) (not (is_in list q)) h in
+    let there = in_grown (count_procedures P) pairs (outward P) to (both_true (nat_lt to (count_procedures P)) (is_in (outward P) to) is).1 in
+    not_in (is_in list q) both.1 (back pairs list both.0 q to chain there)
+
+tell : (b : Bool) → (b ≡ true → ⊥) → not b ≡ true
+tell true f = absurd (f refl)
+tell false f = refl
+
+pub seen_inward : (P : Program) (F : Known) → AreFacts P F → (q : ℕ) → is_inward_in P q ≡ true → not (F.outward q) ≡ true
+seen_inward P F facts q h = tell (F.outward q) (λ e. apart P q h ((facts.outward_are q).0 e))

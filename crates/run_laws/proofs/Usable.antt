@@ -1,0 +1,154 @@
+-- What is known of scalars and of arrays alike: their shapes, and what a Static holds.
+use Rattle.std.proofs.Common.{◌≡◌, refl, sym, ap, subst, ◌∙◌, inl, inr, ⊎_elim, ℕ, Bool, true, false, not, true≢false, Some, List, [], ◌∷◌}
+use Rattle.std.specs.Prelude.{is_some, slice_get}
+use Rattle.vb_tree.specs.BoundTree.{Ty}
+use Rattle.bound_tree.specs.Tree.{Variable}
+use Rattle.bound_facts.specs.Node.{is_array_type}
+use Rattle.written_trees.specs.Facts.{is_array_variable}
+use Rattle.net_meaning.specs.declared.value.ValueN.TheVariants as n
+use Rattle.run_base.specs.Outcomes.{gives}
+use Rattle.run_base.specs.Positions.{Position, shared, whole}
+use Rattle.vb6_run.specs.Programs.{lay_if_blank}
+use Rattle.vb6_run.specs.Shapes.{Shape, array, declared_shape, endless, group, shape_by, simple, user_shapes, variable_shape}
+use Rattle.vb6_run.specs.Store.{Held, blank, laid, parts, provided, single, table, Memory}
+use Rattle.vb6_run.specs.Values.{Dimension, Values, is_makeable}
+use Rattle.net_run.specs.Shapes as shape
+use Rattle.net_run.specs.Store as net
+use Rattle.net_tree.specs.Types.{TypeName}
+use Rattle.run_matches.specs.Addresses.{AllMatched, AllRanked}
+use Rattle.run_matches.specs.Kinds.{IsKind}
+use Rattle.run_matches.specs.Likeness.{Numbers, SameShape, numbers_of, same_array, same_scalar, scalar_word}
+use Rattle.run_matches.specs.Maps.{IsMatched, World, moved_at}
+use Rattle.run_matches.specs.Match.{HasRank, HeldLike, StoreMatch, holds_blank, holds_parts, holds_single, holds_table}
+use Rattle.run_matches.specs.Upgrades.{Upgrade, has_bounds, is_flagged, variable_key}
+use Rattle.run_statements.specs.Arrays.{array_shape}
+use Rattle.run_statements.specs.Frames.{IsArray, IsReadable, IsUsable}
+use Rattle.agreeing_laws.specs.Promises.{Yields}
+use Rattle.name_laws.proofs.Words.{simple_type}
+use Rattle.memory_laws.proofs.Making.{readable_shape}
+use Rattle.memory_laws.proofs.Positions.{updated_here}
+use Rattle.run_base.specs.Positions.{Key}
+use Rattle.run_laws.specs.Entered.{StaticMatch}
+use Rattle.run_laws.specs.Premises.{ArraysHaveRanks}
+
+-- ---- shapes
+
+pub array_shape_is : (U : Upgrade) (v : ℕ) (element : Ty) (r : IsArray U v element)
+    → variable_shape U.program.declarations v ≡ array (simple element) r.known.variable.bounds
+array_shape_is U v element r =
+    let users = user_shapes U.program.declarations in
+    let bounds = r.known.variable.bounds in
+    ap (declared_shape users) r.known.is_variable ∙ ap (λ ty. shape_by users bounds ty) r.is_array
+    ∙ ap (λ s. array s bounds) (simple_type users [] element r.covers)
+
+-- it has a dimension
+pub has_rank_of : (U : Upgrade) (v : ℕ) (element : Ty) → IsArray U v element → ArraysHaveRanks U → U.facts.rank v ≡ 0 → ⊥
+has_rank_of U v element r ranked none = ranked v (ap is_array_variable r.known.is_variable ∙ ap is_array_type r.is_array) none
+
+-- a scalar or an array: what stands there is kept in one position
+abbrev pub IsFlat : Shape → Type 0
+IsFlat (simple ty) = Unit {0}
+IsFlat (group t fs) = ⊥
+IsFlat (array e bounds) = Unit {0}
+IsFlat endless = ⊥
+
+pub usable_flat : (U : Upgrade) (v : ℕ) → IsUsable U v → IsFlat (variable_shape U.program.declarations v)
+usable_flat U v (inl r) = subst (λ s. IsFlat s) (sym (readable_shape U v r)) tt
+usable_flat U v (inr a) = subst (λ s. IsFlat s) (sym (array_shape_is U v a.0 a.1)) tt
+
+-- ---- Statics
+
+abbrev pub at_key : ℕ → Position
+at_key v = whole (shared (v ∷ []))
+
+no_single : (ty : Ty) (x : _) → single ty x ≡ blank → ⊥
+no_single ty x e = cc e
+
+no_table : (e : Shape) (dims : List Dimension) (xs : Values) → table e dims xs ≡ blank → ⊥
+no_table e dims xs h = cc h
+
+no_parts : parts ≡ blank → ⊥
+no_parts e = cc e
+
+-- something stands there once it was laid
+pub laid_there : (s : Shape) → IsFlat s → (v : ℕ) (w : Memory)
+    → Yields (λ (u : Unit {0}) (m : Memory). m.held (at_key v) ≡ blank → ⊥) (lay_if_blank s (shared (v ∷ [])) (w.held (at_key v)) w)
+laid_there s flat v w = by (w.held (at_key v)) refl
+  where
+    Q : Unit {0} → Memory → Type 0
+    Q u m = m.held (at_key v) ≡ blank → ⊥
+
+    here : (z : Shape) → IsFlat z → Q tt (laid z (at_key v) w)
+    here (simple ty) f e = cc (sym (updated_here w.held (at_key v) _) ∙ e)
+    here (group t fs) f e = absurd f
+    here (array e bounds) f h = cc (sym (updated_here w.held (at_key v) _) ∙ h)
+    here endless f e = absurd f
+
+    made : (b : Bool) → Yields Q (provided b (λ m. gives [] tt (laid s (at_key v) m)) w)
+    made true = here s flat
+    made false = tt
+
+    by : (h : Held) → w.held (at_key v) ≡ h → Yields Q (lay_if_blank s (shared (v ∷ [])) h w)
+    by blank e = made (is_makeable s)
+    by (single ty x) e = λ b. no_single ty x (sym e ∙ b)
+    by (table f dims xs) e = λ b. no_table f dims xs (sym e ∙ b)
+    by parts e = λ b. no_parts (sym e ∙ b)
+
+-- the cell of an array has one
+pub table_cell : (U : Upgrade) (N : Numbers) (h : Held) (c : net.Cell) (e : Shape) (dims : List Dimension) (xs : Values) → HeldLike U N h c → h ≡ table e dims xs
+    → (k : ℕ) × (c ≡ net.holds (n.Array k))
+table_cell U N _ _ e dims xs holds_blank is = absurd (no_table e dims xs (sym is))
+table_cell U N _ _ e dims xs (holds_single ty x y l) is = absurd (cc is)
+table_cell U N _ _ e dims xs (holds_table f ds ys k l) is = (k, refl)
+table_cell U N _ _ e dims xs holds_parts is = absurd (cc is)
+
+module _ (U : Upgrade) (w : World) (h : StoreMatch U w) (v : ℕ) (x : Variable) (is : slice_get U.program.declarations.vars v ≡ Some x)
+    (sound : is_flagged U v ≡ false) (there : w.src.held (at_key v) ≡ blank → ⊥) (key : Key) (is_key : variable_key U v ≡ Some key) where
+  key_matched : IsMatched U w (at_key v)
+  key_matched = record { is_made = tt; counterpart = ap is_some is_key; sound = ap not sound }
+
+  kind : IsKind (variable_shape U.program.declarations v) (w.src.held (at_key v))
+  kind = ⊎_elim (λ z. absurd (there z.0)) (λ z. z) (h.kinds v x is sound)
+
+  -- a scalar
+  pub scalar_static : (r : IsReadable U v) (t : TypeName) → scalar_word r.variable.ty ≡ Some t → (b : net.Address)
+      → b ≡ net.root (shape.scalar t) (whole (shared key)) → StaticMatch U w v b
+  scalar_static r t word b stands =
+      let shaped : variable_shape U.program.declarations v ≡ simple r.variable.ty = readable_shape U v r in
+      record {
+        written = shape.scalar t;
+        same = subst (λ s. SameShape U s (shape.scalar t)) (sym shaped) (same_scalar r.variable.ty t word);
+        matched =
+            subst (λ s. AllMatched U w s (at_key v)) (sym shaped) (key_matched, subst (λ s. IsKind s (w.src.held (at_key v))) shaped kind);
+        ranked = subst (λ s. AllRanked U w s (shape.scalar t) (at_key v)) (sym shaped) tt;
+        key = key;
+        is_key = is_key;
+        stands = stands;
+      }
+
+  -- an array
+  pub array_static : (element : Ty) (r : IsArray U v element) (t : TypeName) → scalar_word element ≡ Some t → (b : net.Address)
+      → b ≡ net.root (array_shape U v t) (whole (shared key)) → StaticMatch U w v b
+  array_static element r t word b stands =
+      let bounds = r.known.variable.bounds in
+      let shaped : variable_shape U.program.declarations v ≡ array (simple element) bounds = array_shape_is U v element r in
+      let held : IsKind (array (simple element) bounds) (w.src.held (at_key v)) = subst (λ s. IsKind s (w.src.held (at_key v))) shaped kind in
+      let cell = table_cell U (numbers_of w) (w.src.held (at_key v)) (w.net.cell (moved_at U w.map (at_key v))) (simple element) held.0 held.1
+      (h.values (at_key v) key_matched) held.2 in
+      let rank : HasRank U w (at_key v) (U.facts.rank v) = (cell.0, cell.1, h.ranks (at_key v) v v cell.0 key_matched refl refl cell.1) in
+      record {
+        written = array_shape U v t;
+        same =
+            subst (λ s. SameShape U s (array_shape U v t)) (sym shaped)
+            (same_array (simple element) bounds (shape.scalar t) (U.facts.rank v) (same_scalar element t word));
+        matched =
+            subst (λ s. AllMatched U w s (at_key v)) (sym shaped) (
+              key_matched,
+              held,
+              λ fixed none. true≢false (sym fixed ∙ ap has_bounds r.known.is_variable ∙ ap (λ bs. is_some (slice_get bs 0)) none),
+            );
+        ranked = subst (λ s. AllRanked U w s (array_shape U v t) (at_key v)) (sym shaped) rank;
+        key = key;
+        is_key = is_key;
+        stands = stands;
+      }
