@@ -1,12 +1,12 @@
 -- Arguments, calls and elements: each has a type, or a cause why it has none.
-use Rattle.std.proofs.Common.{◌≡◌, ℕ, zero, suc, Bool, true, false, cond, List, [], ◌∷◌, ◌++◌, map, length, Option, Some, None, refl, sym, ap, ◌∙◌}
+use Rattle.std.proofs.Common.{◌≡◌, ℕ, Bool, true, false, cond, List, [], ◌∷◌, ◌++◌, map, length, Option, Some, None, refl}
 use Rattle.std.specs.Prelude.{◌+◌, ◌&&◌, ◌||◌, not, drop, slice_get}
 use Rattle.std.specs.List.{list_any}
-use Rattle.vb_tree.specs.BoundTree.{Ty, array, nothing}
+use Rattle.vb_tree.specs.BoundTree.{Ty, nothing}
 use Rattle.vb_tree.specs.declared.bound.LibCall.{LibCall}
 use Rattle.vb_tree.specs.declared.declared.VarId.{VarId}
 use Rattle.bound_tree.specs.declared.body.Mention.TheVariants as mention
-use Rattle.bound_tree.specs.Tree.{Variable, Procedure, Declarations, Expr, typed, Object, call, convert, element, err_raise, err_clear, library, Exprs, by_value, by_reference}
+use Rattle.bound_tree.specs.Tree.{Variable, Procedure, Declarations, Expr, typed, Object, call, err_raise}
 use Rattle.bound_facts.specs.Node.{type_at, is_array_type}
 use Rattle.typing_rows.specs.declared.conversions.Conversion.{Conversion}
 use Rattle.typing_rows.specs.declared.conversions.Conversion.TheVariants.{Stands, To, Breaks}
@@ -25,10 +25,10 @@ use Rattle.expression_words.specs.Flaws as flaws
 use Rattle.expression_words.specs.Flaws.{Typed, known, no_flaw, breaks, breaks_if, lacks, together, flaw_of, on_known, on_all}
 use Rattle.expression_words.specs.Converting.{fails, id, preset_at, preset_of, wanted}
 use Rattle.expression_words.specs.Members.{value_part, result_in, params_in}
-use Rattle.expression_words.specs.Passing.{Value, left_out, given, Supplied, is_left_out, value_flaw, is_worded, slack, slack_after, with_slack, Slot, filled, flawed, slot_flaw, is_filled, all_filled, slot_flaws_after, passed_in, slot_by_value, is_place, is_reference, pass_value, place_argument, array_slot, pass_array, place_slot, pass_reference, pass_known, pass_typed, preset_slot_of, preset_slot, value_slot, slot, param_at, given_slots, slots, call_over, call_with, called_as, called_part, called}
-use Rattle.expression_words.specs.LibraryCalls.{is_dimension, in_range, by_dimension, by_wanted, library_argument, library_value, library_arguments, is_without_value, is_slack, first_type, result_or_nothing, call_over_exprs, is_unfit, unfit_call, fit_call, library_call_of, gives_no_value, library_called}
+use Rattle.expression_words.specs.Passing.{Value, left_out, given, Supplied, is_left_out, value_flaw, is_worded, slack, slack_after, with_slack, Slot, filled, flawed, slot_flaw, all_filled, slot_flaws_after, passed_in, slot_by_value, is_place, is_reference, pass_value, array_slot, pass_array, place_slot, pass_reference, pass_typed, preset_slot_of, preset_slot, value_slot, slot, param_at, given_slots, slots, call_over, call_with, called_part, called}
+use Rattle.expression_words.specs.LibraryCalls.{is_dimension, in_range, by_wanted, library_argument, library_value, library_arguments, is_without_value, is_slack, first_type, result_or_nothing, call_over_exprs, is_unfit, unfit_call, fit_call, library_call_of, gives_no_value, library_called}
 use Rattle.expression_words.specs.Elements.{index_value, index_of, element_type, element_at, element_of}
-use Rattle.expression_words.specs.ErrStatements.{raised, raised_value, raise_one, raise_of, clear_of, err_statement}
+use Rattle.expression_words.specs.ErrStatements.{raised, raised_value, raise_of, clear_of, err_statement}
 use Rattle.binding_laws.specs.Causes.{has_cause, is_known_type, is_whole, is_rule, AreWhole, IsFounded}
 use Rattle.binding_laws.proofs.Founded.{each_at, result_whole, either, told, over_known, over_all, AreFounded, wanted_founded}
 use Rattle.binding_laws.proofs.Numbers.{IsNamed, converts_named, argument_named, simple_known}

@@ -19,7 +19,7 @@ use Rattle.binding_laws.proofs.TypedParts.{same_self}
 
 -- ---- a value of a type where one is wanted
 
-abbrev Fits : (wanted_type value : Ty) → Type 0
+abbrev pub Fits : (wanted_type value : Ty) → Type 0
 Fits t s = locks.is_same_type t s || (is_unknown t || is_unknown s) ≡ true
 
 first_fits : (a b : Bool) → a ≡ true → a || b ≡ true
@@ -39,7 +39,7 @@ same_fits : (t s : Ty) → locks.is_same_type t s ≡ true → Fits t s
 same_fits t s h = first_fits (locks.is_same_type t s) (is_unknown t || is_unknown s) h
 
 -- what a conversion makes of a value of a type fits
-abbrev Makes : (wanted_type value : Ty) → Conversion → Type 0
+abbrev pub Makes : (wanted_type value : Ty) → Conversion → Type 0
 Makes t s Stands = Fits t s
 Makes t s (To u) = Fits t (ty_of u)
 Makes t s conversions.ByDefault = Unit {0}
@@ -170,7 +170,7 @@ nothing_makes nothing = refl
 nothing_makes unknown = refl
 nothing_makes _ = tt
 
-converts_makes : (s t : Ty) → Makes t s (converts s t)
+pub converts_makes : (s t : Ty) → Makes t s (converts s t)
 converts_makes s boolean = number_makes simple.Boolean s
 converts_makes s byte = number_makes simple.Byte s
 converts_makes s integer = number_makes simple.Integer s

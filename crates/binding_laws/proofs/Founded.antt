@@ -1,6 +1,6 @@
 -- Expressions that are made of others: each has a type, or a cause why it has none.
-use Rattle.std.proofs.Common.{◌≡◌, ℕ, zero, suc, Bool, true, false, cond, List, [], ◌∷◌, ◌++◌, map, Option, Some, None, refl, sym, ap, ◌∙◌}
-use Rattle.std.specs.Prelude.{◌&&◌, ◌||◌, slice_get, is_some}
+use Rattle.std.proofs.Common.{◌≡◌, ℕ, zero, suc, Bool, true, false, cond, List, [], ◌∷◌, Option, Some, None, refl}
+use Rattle.std.specs.Prelude.{◌&&◌, slice_get, is_some}
 use Rattle.std.specs.List.{list_all}
 use Rattle.vb_tree.specs.BoundTree.{Ty, str, unknown}
 use Rattle.vb_tree.specs.declared.expression.BinOp.{BinOp}
@@ -9,10 +9,9 @@ use Rattle.vb_tree.specs.declared.token.Literal6.{Literal6}
 use Rattle.vb_tree.specs.declared.token.Literal6.TheVariants as literal
 use Rattle.vb_tree.specs.declared.value.Value6.TheVariants as v
 use Rattle.vb_tree.specs.declared.declared.VarId.{VarId}
-use Rattle.bound_tree.specs.declared.body.Mention.{Mention}
 use Rattle.bound_tree.specs.declared.body.Mention.TheVariants as mention
 use Rattle.bound_tree.specs.declared.expression.Origin.TheVariants.{Literal}
-use Rattle.bound_tree.specs.Tree.{Variable, Procedure, Declarations, Expr, typed, Term, constant, unary, binary, call, convert, Object, of_object, Exprs}
+use Rattle.bound_tree.specs.Tree.{Procedure, Declarations, Expr, typed, constant, unary, binary, call, convert, Object, of_object, Exprs}
 use Rattle.bound_facts.specs.Folded.{folded}
 use Rattle.bound_facts.specs.Node.{type_at, is_object_type}
 use Rattle.typing_rows.specs.declared.conversions.Conversion.{Conversion}
@@ -28,10 +27,10 @@ use Rattle.typing_rows.specs.Typing.{binary_row, unary_row}
 use Rattle.expression_words.specs.declared.typed.Flaw.{Flaw}
 use Rattle.expression_words.specs.Flaws as flaws
 use Rattle.expression_words.specs.Flaws.{Typed, known, no_flaw, breaks, lacks, together, flaw_of, on_known, on_both, all_known, flaws_after, flaws_of, exprs_in, on_gathered, on_all, some}
-use Rattle.expression_words.specs.Converting.{gives_none, fails, converted, id, has_preset, presets, bare_result, bare_value, bare_call, default_value, default_at, behind_default, plain_in, plain, finally, by_conversion, wanted}
+use Rattle.expression_words.specs.Converting.{gives_none, fails, converted, id, has_preset, presets, bare_result, bare_value, default_value, default_at, behind_default, plain_in, plain, finally, by_conversion, wanted}
 use Rattle.expression_words.specs.Members.{value_part, result_in, params_in, count_classes}
-use Rattle.expression_words.specs.Operators.{is_too_long, text_literal, literal_of, as_operand, is_constant_expression, folds, with_value, own_term, by_row, by_own_row, is_default, by_any_row, is_untranslated, combined, binary_over, by_unary_row, by_own_unary_row, by_any_unary_row, unary_over}
-use Rattle.binding_laws.specs.Causes.{has_cause, is_known_type, is_whole, is_rule, AreWhole, IsFounded}
+use Rattle.expression_words.specs.Operators.{is_too_long, literal_of, as_operand, is_constant_expression, folds, with_value, own_term, by_row, by_own_row, is_default, by_any_row, is_untranslated, combined, binary_over, by_unary_row, by_own_unary_row, by_any_unary_row, unary_over}
+use Rattle.binding_laws.specs.Causes.{has_cause, is_known_type, is_whole, AreWhole, IsFounded}
 use Rattle.binding_laws.proofs.Numbers.{IsNamed, IsTold, binary_told, unary_told, simple_known}
 use Rattle.binding_laws.proofs.Rules.{rule_caused, left_caused, right_caused}
 

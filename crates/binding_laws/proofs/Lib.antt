@@ -8,4 +8,6 @@ mod TypedArguments
 mod TypedWords
 mod TypedTargets
 mod AssignedTypes
+mod FittingTypes
 mod TypedLines
+mod DeclaredResults

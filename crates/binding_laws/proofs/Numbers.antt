@@ -1,5 +1,5 @@
 -- The rules that conversions and operators break are rules, and an operator is over an unknown part only where an operand has no type.
-use Rattle.std.proofs.Common.{◌≡◌, ℕ, Bool, true, false, cond, List, [], ◌∷◌, Option, Some, None, refl, nat_eq}
+use Rattle.std.proofs.Common.{◌≡◌, ℕ, Bool, true, false, cond, Option, Some, None, refl, nat_eq}
 use Rattle.std.specs.Prelude.{◌&&◌, ◌||◌}
 use Rattle.vb_tree.specs.BoundTree.{Ty, boolean, byte, integer, long, currency, str, fixed, user, class, object, variant, array, nothing, unknown}
 use Rattle.vb_tree.specs.declared.bound.LibCall.{LibCall}
@@ -22,10 +22,10 @@ use Rattle.typing_rows.specs.declared.operators.Row.TheVariants.{Both, Own, Over
 use Rattle.typing_rows.specs.declared.operators.Row.TheVariants as rows
 use Rattle.typing_rows.specs.declared.simple_types.SimpleType.{SimpleType}
 use Rattle.typing_rows.specs.declared.simple_types.SimpleType.TheVariants as simple
-use Rattle.typing_rows.specs.Conversions.{counted, valued, to_number, to_value, is_array, to_variant, to_object, to_class, to_user, to_array, to_nothing, is_same_type, converts}
-use Rattle.typing_rows.specs.Library.{argument, argument_wanted, given, kept, text_alone, only_text, number_alone, only_number, only_variant, only_array, dimension}
-use Rattle.typing_rows.specs.Types.{is_type, ty_of, type_of_kind, operand_of, kind_of, is_boolean, is_text, is_variant, is_object, is_unknown, is_value, is_reference}
-use Rattle.typing_rows.specs.Typing.{on_kinds, on_numbers, alike, sum, quotient, signed, factors, product, order, added, compared, logical, or_variant, joined, over, operand_row, binary_row, negated, turned, minus, complement, unary_row}
+use Rattle.typing_rows.specs.Conversions.{counted, valued, to_number, to_value, is_array, to_object, to_class, to_user, to_array, to_nothing, is_same_type, converts}
+use Rattle.typing_rows.specs.Library.{argument, argument_wanted, given, kept, text_alone, number_alone, only_number, only_variant, only_array, dimension}
+use Rattle.typing_rows.specs.Types.{is_type, ty_of, operand_of, kind_of, is_boolean, is_text, is_variant, is_object, is_unknown, is_value, is_reference}
+use Rattle.typing_rows.specs.Typing.{on_kinds, on_numbers, alike, sum, quotient, signed, factors, product, order, added, compared, logical, or_variant, joined, over, operand_row, binary_row, minus, complement, unary_row}
 use Rattle.binding_laws.specs.Causes.{is_known_type, is_rule}
 
 -- ---- conversions

@@ -1,12 +1,12 @@
 -- Arguments, calls and elements, in which each use of a variable has its type.
-use Rattle.std.proofs.Common.{◌≡◌, ℕ, Bool, true, false, cond, List, [], ◌∷◌, ◌++◌, map, length, Option, Some, None, refl}
+use Rattle.std.proofs.Common.{◌≡◌, ℕ, Bool, true, false, cond, List, [], ◌∷◌, ◌++◌, map, length, Option, Some, None, refl, sym, ap, ◌∙◌, subst, suc, arith, true≢false}
 use Rattle.std.specs.Prelude.{◌+◌, ◌&&◌, not, drop, slice_get}
-use Rattle.up_base.proofs.Tests.{and_true}
+use Rattle.up_base.proofs.Tests.{and_true, both_true}
 use Rattle.vb_tree.specs.BoundTree.{Ty, nothing}
 use Rattle.vb_tree.specs.declared.bound.LibCall.{LibCall}
 use Rattle.vb_tree.specs.declared.declared.VarId.{VarId}
 use Rattle.bound_tree.specs.declared.body.Mention.TheVariants as mention
-use Rattle.bound_tree.specs.Tree.{Variable, Declarations, Expr, typed, Object, call, err_raise, by_value, by_reference}
+use Rattle.bound_tree.specs.Tree.{Variable, Procedure, Declarations, Expr, typed, Object, call, err_raise, by_value, by_reference}
 use Rattle.bound_facts.specs.Locks.{is_same_type}
 use Rattle.bound_facts.specs.Node.{type_at, is_array_type}
 use Rattle.typing_rows.specs.declared.conversions.Conversion.{Conversion}
@@ -23,13 +23,15 @@ use Rattle.expression_words.specs.Flaws as flaws
 use Rattle.expression_words.specs.Flaws.{Typed, known, no_flaw, breaks, lacks, together}
 use Rattle.expression_words.specs.Converting.{fails, id, preset_at, preset_of, wanted}
 use Rattle.expression_words.specs.Members.{value_part, result_in, params_in}
-use Rattle.expression_words.specs.Passing.{Value, left_out, given, Supplied, value_flaw, is_worded, with_slack, Slot, filled, flawed, all_filled, slot_flaws_after, passed_in, slot_by_value, is_place, is_reference, pass_value, place_argument, array_slot, pass_array, place_slot, pass_reference, pass_typed, preset_slot_of, preset_slot, value_slot, slot, param_at, given_slots, slots, call_over, call_with, called_part, called}
+use Rattle.expression_words.specs.Passing.{Value, left_out, given, Supplied, value_flaw, is_worded, with_slack, Slot, filled, flawed, all_filled, slot_flaws_after, passed_in, slot_by_value, is_place, is_reference, pass_value, place_argument, array_slot, pass_array, place_slot, pass_reference, pass_typed, is_filled, called_as, preset_slot_of, preset_slot, value_slot, slot, param_at, given_slots, slots, call_over, call_with, called_part, called}
 use Rattle.expression_words.specs.LibraryCalls.{is_dimension, in_range, by_wanted, library_argument, library_value, library_arguments, call_over_exprs, is_unfit, unfit_call, fit_call, library_call_of, gives_no_value, library_called}
 use Rattle.expression_words.specs.Elements.{index_value, index_of, element_at, element_of}
 use Rattle.expression_words.specs.ErrStatements.{raised, raised_value, raise_of, clear_of, err_statement}
-use Rattle.typing_laws.specs.Typed.{is_typed, are_typed, is_typed_argument, are_typed_passed, is_typed_object}
+use Rattle.typing_laws.specs.Typed.{is_typed, are_typed, fits_parameter, fits_parameters, is_typed_argument, are_typed_passed, is_typed_object}
 use Rattle.binding_laws.specs.Typing.{HasTypes}
-use Rattle.binding_laws.proofs.TypedParts.{same_self, either, over_known, over_all, AllHave, IsPreset, preset_typed, wanted_typed}
+use Rattle.binding_laws.proofs.AssignedTypes.{Fits, Makes, converts_makes}
+use Rattle.binding_laws.proofs.FittingTypes.{IsFit, fits_covered, wanted_fit}
+use Rattle.binding_laws.proofs.TypedParts.{same_self, either, over_known, over_all, AllHave, IsPreset, Takes, all_of, call_typed, preset_typed, wanted_typed}
 
 -- ---- arguments
 
@@ -44,113 +46,145 @@ module _ (D : Declarations) where
 
   -- ---- what parameters are given
 
-  abbrev IsSlot : Slot → Type 0
-  IsSlot (filled a) = is_typed_argument D a ≡ true
-  IsSlot (flawed f) = Unit {0}
+  -- what a parameter is given has its type
+  abbrev IsSlot : Option Variable → Slot → Type 0
+  IsSlot v (filled a) = (is_typed_argument D a ≡ true) × (fits_parameter a v ≡ true)
+  IsSlot v (flawed f) = Unit {0}
 
-  abbrev AreSlots : List Slot → Type 0
-  AreSlots [] = Unit {0}
-  AreSlots (s ∷ rest) = IsSlot s × AreSlots rest
+  -- one for each parameter; those behind the last are flawed
+  abbrev AreSlots : List VarId → List Slot → Type 0
+  AreSlots [] [] = Unit {0}
+  AreSlots (v ∷ vs) (s ∷ ss) = IsSlot (slice_get D.vars v.0) s × AreSlots vs ss
+  AreSlots [] (s ∷ ss) = is_filled s ≡ false
+  AreSlots (v ∷ vs) [] = ⊥
 
-  slots_append : (xs ys : List Slot) → AreSlots xs → AreSlots ys → AreSlots (xs ++ ys)
-  slots_append [] ys h k = k
-  slots_append (x ∷ xs) ys h k = (h.0, slots_append xs ys h.1 k)
+  either_slot : (v : Option Variable) (test : Bool) (s t : Slot) → IsSlot v s → IsSlot v t → IsSlot v (cond test s t)
+  either_slot v true s t h k = h
+  either_slot v false s t h k = k
 
-  either_slot : (test : Bool) (s t : Slot) → IsSlot s → IsSlot t → IsSlot (cond test s t)
-  either_slot true s t h k = h
-  either_slot false s t h k = k
+  by_value_slot : (v : Variable) (t : Typed) → HasTypes D t → IsFit v.ty t → IsSlot (Some v) (slot_by_value t)
+  by_value_slot v (known e) h k = (h, fits_covered v.ty (type_at e) k)
+  by_value_slot v (flaws.unknown f) h k = tt
 
-  by_value_slot : (t : Typed) → HasTypes D t → IsSlot (slot_by_value t)
-  by_value_slot (known e) h = h
-  by_value_slot (flaws.unknown f) h = tt
+  value_passed : (v : Variable) (e : Expr) → is_typed D e ≡ true → IsSlot (Some v) (pass_value D v.ty e)
+  value_passed v e h =
+      by_value_slot v (wanted D (λ s. converts s v.ty) e) (wanted_typed D (λ s. converts s v.ty) e h) (wanted_fit v.ty D e)
 
-  value_passed : (ty : Ty) (e : Expr) → is_typed D e ≡ true → IsSlot (pass_value D ty e)
-  value_passed ty e h = by_value_slot (wanted D (λ s. converts s ty) e) (wanted_typed D (λ s. converts s ty) e h)
-
-  placed_typed : (e : Expr) → is_typed D e ≡ true → IsSlot (filled (place_argument e))
-  placed_typed e h = by (is_place e)
+  placed_typed : (v : Variable) (e : Expr) → is_typed D e ≡ true → Fits v.ty (type_at e) → IsSlot (Some v) (filled (place_argument e))
+  placed_typed v e h k = by (is_place e)
     where
-      by : (b : Bool) → is_typed_argument D (cond b (by_reference e) (by_value e)) ≡ true
-      by true = h
-      by false = h
+      by : (b : Bool) → IsSlot (Some v) (filled (cond b (by_reference e) (by_value e)))
+      by true = (h, fits_covered v.ty (type_at e) k)
+      by false = (h, fits_covered v.ty (type_at e) k)
 
-  array_passed : (e : Expr) (c : Conversion) → is_typed D e ≡ true → IsSlot (array_slot e c)
-  array_passed e Stands h = placed_typed e h
-  array_passed e (To t) h = tt
-  array_passed e conversions.ByDefault h = tt
-  array_passed e (Breaks rule) h = tt
+  array_passed : (v : Variable) (e : Expr) (c : Conversion) → is_typed D e ≡ true → Makes v.ty (type_at e) c → IsSlot (Some v) (array_slot e c)
+  array_passed v e Stands h k = placed_typed v e h k
+  array_passed v e (To t) h k = tt
+  array_passed v e conversions.ByDefault h k = tt
+  array_passed v e (Breaks rule) h k = tt
 
-  place_passed : (ty : Ty) (e : Expr) (c : Conversion) → is_typed D e ≡ true → IsSlot (place_slot D ty e c)
-  place_passed ty e Stands h = h
-  place_passed ty e (To t) h = and_true (is_same_type (ty_of t) (ty_of t)) (is_typed D e) (same_self (ty_of t)) h
-  place_passed ty e conversions.ByDefault h = value_passed ty e h
-  place_passed ty e (Breaks rule) h = tt
+  place_passed : (v : Variable) (e : Expr) (c : Conversion) → is_typed D e ≡ true → Makes v.ty (type_at e) c → IsSlot (Some v) (place_slot D v.ty e c)
+  place_passed v e Stands h k = (h, fits_covered v.ty (type_at e) k)
+  place_passed v e (To t) h k =
+      (and_true (is_same_type (ty_of t) (ty_of t)) (is_typed D e) (same_self (ty_of t)) h, fits_covered v.ty (ty_of t) k)
+  place_passed v e conversions.ByDefault h k = value_passed v e h
+  place_passed v e (Breaks rule) h k = tt
 
-  reference_passed : (parenthesised : Bool) (ty : Ty) (e : Expr) → is_typed D e ≡ true → IsSlot (pass_reference D parenthesised ty e)
-  reference_passed parenthesised ty e h =
+  reference_passed : (parenthesised : Bool) (v : Variable) (e : Expr) → is_typed D e ≡ true → IsSlot (Some v) (pass_reference D parenthesised v.ty e)
+  reference_passed parenthesised v e h =
+      let ty : Ty = v.ty in
       let c = converts (type_at e) ty in
-      either_slot (is_array_type ty) (pass_array parenthesised ty e) (cond (not parenthesised && is_place e) (place_slot D ty e c) (pass_value D ty e))
-      (either_slot parenthesised (flawed (breaks 21)) (array_slot e c) tt (array_passed e c h))
-      (either_slot (not parenthesised && is_place e) (place_slot D ty e c) (pass_value D ty e) (place_passed ty e c h) (value_passed ty e h))
+      let k = converts_makes (type_at e) ty in
+      either_slot (Some v) (is_array_type ty) (pass_array parenthesised ty e) (cond (not parenthesised && is_place e) (place_slot D ty e c) (pass_value D ty e))
+      (either_slot (Some v) parenthesised (flawed (breaks 21)) (array_slot e c) tt (array_passed v e c h k))
+      (either_slot (Some v) (not parenthesised && is_place e) (place_slot D ty e c) (pass_value D ty e) (place_passed v e c h k) (value_passed v e h))
 
-  typed_passed : (v : Variable) (parenthesised : Bool) (t : Typed) → HasTypes D t → IsSlot (pass_typed D v parenthesised t)
+  typed_passed : (v : Variable) (parenthesised : Bool) (t : Typed) → HasTypes D t → IsSlot (Some v) (pass_typed D v parenthesised t)
   typed_passed v parenthesised (known e) h =
-      either_slot (is_reference v.owner) (pass_reference D parenthesised v.ty e) (pass_value D v.ty e) (reference_passed parenthesised v.ty e h)
-      (value_passed v.ty e h)
+      either_slot (Some v) (is_reference v.owner) (pass_reference D parenthesised v.ty e) (pass_value D v.ty e) (reference_passed parenthesised v e h)
+      (value_passed v e h)
   typed_passed v parenthesised (flaws.unknown f) h = tt
 
-  preset_passed : (o : Option Expr) → IsPreset D o → IsSlot (preset_slot_of o)
-  preset_passed None h = tt
-  preset_passed (Some e) h = h
+  preset_passed : (v : Option Variable) (o : Option Expr) → IsPreset D v o → IsSlot v (preset_slot_of o)
+  preset_passed v None h = tt
+  preset_passed v (Some e) h = h
 
-  supplied_passed : (v : Variable) (parenthesised : Bool) (x : Value) → HasTypedValue x → IsSlot (value_slot D v parenthesised x)
-  supplied_passed v parenthesised left_out h = preset_passed (preset_of (Some v)) (preset_typed D (Some v))
+  supplied_passed : (v : Variable) (parenthesised : Bool) (x : Value) → HasTypedValue x → IsSlot (Some v) (value_slot D v parenthesised x)
+  supplied_passed v parenthesised left_out h = preset_passed (Some v) (preset_of (Some v)) (preset_typed D (Some v))
   supplied_passed v parenthesised (given t) h = typed_passed v parenthesised t h
 
-  slot_typed : (o : Option Variable) (a : Supplied) → HasTypedValue a.value → IsSlot (slot D o a)
+  slot_typed : (o : Option Variable) (a : Supplied) → HasTypedValue a.value → IsSlot o (slot D o a)
   slot_typed None a h = tt
   slot_typed (Some v) a h =
-      either_slot (is_worded a) (flawed (together (breaks 18) (value_flaw a.value))) (value_slot D v a.parenthesised a.value) tt
+      either_slot (Some v) (is_worded a) (flawed (together (breaks 18) (value_flaw a.value))) (value_slot D v a.parenthesised a.value) tt
       (supplied_passed v a.parenthesised a.value h)
 
-  given_typed : (params : List VarId) (i : ℕ) (args : List Supplied) → AreSupplied args → AreSlots (given_slots D params i args)
-  given_typed params i [] h = tt
-  given_typed params i (a ∷ rest) h = (slot_typed (param_at D (slice_get params i)) a h.0, given_typed params (i + 1) rest h.1)
-
-  presets_typed : (params : List VarId) → AreSlots (map (preset_slot D) params)
+  presets_typed : (params : List VarId) → AreSlots params (map (preset_slot D) params)
   presets_typed [] = tt
-  presets_typed (v ∷ params) = (preset_passed (preset_at D v) (preset_typed D (slice_get D.vars v.0)), presets_typed params)
+  presets_typed (v ∷ params) = (preset_passed (slice_get D.vars v.0) (preset_at D v) (preset_typed D (slice_get D.vars v.0)), presets_typed params)
 
-  slots_typed : (params : List VarId) (args : List Supplied) → AreSupplied args → AreSlots (slots D params args)
-  slots_typed params args h =
-      slots_append (given_slots D params 0 args) (map (preset_slot D) (drop (length args) params)) (given_typed params 0 args h)
-      (presets_typed (drop (length args) params))
+  first_place : (i : ℕ) → i + 0 ≡ i
+  first_place i = omega arith
 
-  passed_typed : (ss : List Slot) → AreSlots ss → are_typed_passed D (passed_in ss) ≡ true
-  passed_typed [] h = refl
-  passed_typed (filled a ∷ ss) h = and_true (is_typed_argument D a) (are_typed_passed D (passed_in ss)) h.0 (passed_typed ss h.1)
-  passed_typed (flawed f ∷ ss) h = passed_typed ss h.1
+  next_place : (i j : ℕ) → i + suc j ≡ (i + 1) + j
+  next_place i j = omega arith
+
+  -- parameters from a place on, which stand among those of the procedure
+  given_typed : (params rest : List VarId) (i : ℕ) (args : List Supplied) → ((j : ℕ) → slice_get rest j ≡ slice_get params (i + j)) → AreSupplied args
+      → AreSlots rest (given_slots D params i args ++ map (preset_slot D) (drop (length args) rest))
+  given_typed params rest i [] from h = presets_typed rest
+  given_typed params [] i (a ∷ args) from h =
+      let none : slice_get params i ≡ None = ap (λ n. slice_get params n) (sym (first_place i)) ∙ sym (from 0) in
+      ap (λ o. is_filled (slot D (param_at D o) a)) none
+  given_typed params (v ∷ vs) i (a ∷ args) from h =
+      let some : slice_get params i ≡ Some v = ap (λ n. slice_get params n) (sym (first_place i)) ∙ sym (from 0) in (
+        subst (λ o. IsSlot (slice_get D.vars v.0) (slot D (param_at D o) a)) (sym some) (slot_typed (slice_get D.vars v.0) a h.0),
+        given_typed params vs (i + 1) args (λ j. from (suc j) ∙ ap (λ n. slice_get params n) (next_place i j)) h.1,
+      )
+
+  no_place : (j : ℕ) → j ≡ 0 + j
+  no_place j = omega arith
+
+  slots_typed : (params : List VarId) (args : List Supplied) → AreSupplied args → AreSlots params (slots D params args)
+  slots_typed params args h = given_typed params params 0 args (λ j. ap (λ n. slice_get params n) (no_place j)) h
+
+  passed_typed : (vs : List VarId) (ss : List Slot) → AreSlots vs ss → all_filled ss ≡ true
+      → (are_typed_passed D (passed_in ss) ≡ true) × (fits_parameters D vs (passed_in ss) ≡ true)
+  passed_typed [] [] h f = (refl, refl)
+  passed_typed [] (s ∷ ss) h f = absurd (true≢false (sym (both_true (is_filled s) (all_filled ss) f).0 ∙ h))
+  passed_typed (v ∷ vs) [] h f = absurd h
+  passed_typed (v ∷ vs) (flawed f ∷ ss) h g = absurd (true≢false (sym g))
+  passed_typed (v ∷ vs) (filled a ∷ ss) h f =
+      let rest = passed_typed vs ss h.1 f in (
+        and_true (is_typed_argument D a) (are_typed_passed D (passed_in ss)) h.0.0 rest.0,
+        and_true (fits_parameter a (slice_get D.vars v.0)) (fits_parameters D vs (passed_in ss)) h.0.1 rest.1,
+      )
 
   -- ---- calls
 
-  over_slots : (p : ℕ) (qualified : Bool) (of : Object) (ty : Ty) (ss : List Slot) → is_typed_object D of ≡ true → AreSlots ss
-      → HasTypes D (call_over p qualified of ty ss)
-  over_slots p qualified of ty ss h k =
-      either D (all_filled ss) (known (typed ty (call (id p) qualified of (passed_in ss)))) (flaws.unknown (slot_flaws_after no_flaw ss))
-      (and_true (is_typed_object D of) (are_typed_passed D (passed_in ss)) h (passed_typed ss k)) tt
+  over_slots : (p : ℕ) (qualified : Bool) (of : Object) (ty : Ty) (params : List VarId) (ss : List Slot) → Takes D p ty params → is_typed_object D of ≡ true
+      → AreSlots params ss → HasTypes D (call_over p qualified of ty ss)
+  over_slots p qualified of ty params ss takes h k = by (all_filled ss) refl
+    where
+      by : (b : Bool) → all_filled ss ≡ b
+          → HasTypes D (cond b (known (typed ty (call (id p) qualified of (passed_in ss)))) (flaws.unknown (slot_flaws_after no_flaw ss)))
+      by true e = let all = passed_typed params ss k e in call_typed D p qualified of ty params (passed_in ss) takes h all.0 all.1
+      by false e = tt
 
-  pub call_with_typed : (p : ℕ) (qualified : Bool) (of : Object) (ty : Ty) (params : List VarId) (args : List Supplied) → is_typed_object D of ≡ true
-      → AreSupplied args → HasTypes D (call_with D p qualified of ty params args)
-  call_with_typed p qualified of ty params args h k = over_slots p qualified of ty (slots D params args) h (slots_typed params args k)
+  pub call_with_typed : (p : ℕ) (qualified : Bool) (of : Object) (ty : Ty) (params : List VarId) (args : List Supplied) → Takes D p ty params
+      → is_typed_object D of ≡ true → AreSupplied args → HasTypes D (call_with D p qualified of ty params args)
+  call_with_typed p qualified of ty params args takes h k = over_slots p qualified of ty params (slots D params args) takes h (slots_typed params args k)
 
   called_by : (qualified : Bool) (of : Object) (args : List Supplied) → is_typed_object D of ≡ true → AreSupplied args → (o : Option ℕ)
       → HasTypes D (called_part D qualified of args o)
   called_by qualified of args h k None = tt
-  called_by qualified of args h k (Some p) =
-      let result = result_in (slice_get D.procs p) in
-      let params = params_in (slice_get D.procs p) in
-      either D (is_without_type result) (flaws.unknown (with_slack (lacks (mention.Proc (id p))) args)) (call_with D p qualified of result params args) tt
-      (call_with_typed p qualified of result params args h k)
+  called_by qualified of args h k (Some p) = by (slice_get D.procs p) refl
+    where
+      by : (o : Option Procedure) → slice_get D.procs p ≡ o → HasTypes D (called_as D p qualified of (result_in o) (params_in o) args)
+      by None is = tt
+      by (Some x) is =
+          either D (is_without_type x.result) (flaws.unknown (with_slack (lacks (mention.Proc (id p))) args)) (call_with D p qualified of x.result x.params args) tt
+          (call_with_typed p qualified of x.result x.params args (all_of x is refl refl) h k)
 
   pub called_typed : (p : ℕ) (qualified : Bool) (of : Object) (args : List Supplied) → is_typed_object D of ≡ true → AreSupplied args
       → HasTypes D (called D p qualified of args)

@@ -1,18 +1,18 @@
 -- All lines of a bound project are well typed.
-use Rattle.std.proofs.Common.{◌≡◌, ℕ, ℤ, zero, suc, ◌+◌, Bool, true, false, cond, List, [], ◌∷◌, ◌++◌, map, length, Option, Some, None, refl, sym, subst}
+use Rattle.std.proofs.Common.{◌≡◌, ℕ, ℤ, zero, suc, ◌+◌, Bool, true, false, cond, List, [], ◌∷◌, ◌++◌, map, length, Option, Some, None, refl, sym, subst, true≢false, not, ◌&&◌}
 use Rattle.std.specs.Prelude.{◌||◌, slice_get}
-use Rattle.std.specs.List.{list_all}
+use Rattle.std.specs.List.{flat_map, list_all}
 use Rattle.up_base.proofs.Lists.{all_append, all_first, all_rest}
-use Rattle.up_base.proofs.Tests.{and_true}
+use Rattle.up_base.proofs.Tests.{and_true, not_true}
 use Rattle.vb_tree.specs.BoundTree.{Ty}
 use Rattle.vb_tree.specs.BoundTree as types
 use Rattle.vb_tree.specs.Blocks.{is_code}
 use Rattle.vb_tree.specs.declared.declared.ProcId.{ProcId}
 use Rattle.vb_tree.specs.declared.expression.UnOp.TheVariants as u
 use Rattle.vb_tree.specs.declared.token.Literal6.TheVariants as literal
-use Rattle.vb_tree.specs.Tree.{Exp, Form, Node, line, block, Nodes, no_nodes, next_node, Middles, no_middles, next_middle}
+use Rattle.vb_tree.specs.Tree.{CaseItem, Exp, Form, Project, Node, line, block, Nodes, no_nodes, next_node, Middles, no_middles, next_middle}
 use Rattle.vb_tree.specs.Tree as source
-use Rattle.bound_tree.specs.Tree.{Declarations, Expr, Line, Program}
+use Rattle.bound_tree.specs.Tree.{Declarations, Expr, Line, Procedure, Program}
 use Rattle.bound_facts.specs.Locks.{is_same_type}
 use Rattle.bound_facts.specs.Node.{type_at}
 use Rattle.typing_rows.specs.declared.cases.CaseType.{CaseType}
@@ -29,7 +29,7 @@ use Rattle.bound_exprs.specs.Resolved.{meaning, resolved}
 use Rattle.declarations.specs.ConstantExpressions.{currency_number, minus_of, or_resolved, plain_number, resolved_as}
 use Rattle.binder.specs.declared.parts.Task.{Task}
 use Rattle.binder.specs.declared.parts.Task.TheVariants as task
-use Rattle.binder.specs.Parts.{Part, lookup_of, parts}
+use Rattle.binder.specs.Parts.{Part, case_parts, lookup_of, part, parts}
 use Rattle.binder.specs.Lines.{asked, flawed_where, set_value, settled, settled_at, settled_from, target_type, typed_as, typed_part, typed_parts, used, used_as}
 use Rattle.binder.specs.Bodies.{Inside, bindings, bound_body, bound_if, bound_line, bound_middles, bound_node, bound_nodes, common_type, kept_inside, scope_at}
 use Rattle.binder.specs.ImplicitLocals.{Home, Locals, homes, procedure_id, project_locals}
@@ -38,18 +38,55 @@ use Rattle.expression_words.specs.Meanings.{Kept, no_with}
 use Rattle.typing_rows.specs.declared.cases.CaseType.TheVariants.{Open}
 use Rattle.run_base.specs.Machines.{enters}
 use Rattle.vb6_run.specs.Programs.{run6}
-use Rattle.vb6_run.specs.Runnables.{Runnable}
-use Rattle.vb6_run.specs.Store.{Memory}
-use Rattle.typing_laws.specs.Simple.{is_simple_procedure}
+use Rattle.vb6_run.specs.Runnables.{Runnable, declarations_of}
+use Rattle.vb6_run.specs.Store.{Memory, SourceGiven}
+use Rattle.run_matches.specs.Covered.{IsCovered}
+use Rattle.typing_laws.specs.Calls.{AreLoud, HaveResults, IsReady, OverScalars}
+use Rattle.typing_laws.specs.Frames.{AreGiven, IsSound, anywhere, ground}
 use Rattle.typing_laws.specs.Leaving.{started}
 use Rattle.typing_laws.specs.Results.{IsRunResult}
 use Rattle.typing_laws.proofs.Runs.{run_result}
-use Rattle.typing_laws.specs.Typed.{are_typed_lines, assigns_typed, is_typed, is_typed_line, is_typed_procedure, is_unknown, taken, takes}
+use Rattle.typing_laws.specs.Typed.{are_typed_lines, assigns_typed, exprs_typed, fits_type, names_arrays, tests_typed, is_typed, is_typed_line, is_typed_procedure, is_unknown, taken, takes}
+use Rattle.bound_tree.specs.declared.marks.Marks.{Marks}
+use Rattle.declarations.specs.Finals.{IsDeclared}
 use Rattle.binding_laws.specs.Typing.{HasTypes}
+use Rattle.binding_laws.proofs.DeclaredResults.{declared_have_results}
 use Rattle.binding_laws.proofs.AssignedTypes.{IsTaken, assigned_taken}
 use Rattle.binding_laws.proofs.TypedParts.{AllHave, over_known, wanted_typed}
-use Rattle.binding_laws.proofs.TypedTargets.{array_typed, counter_typed, let_typed, set_typed, statement_typed}
+use Rattle.binding_laws.proofs.FittingTypes.{IsFit, fits_covered, over_wanted_fit}
+use Rattle.binding_laws.proofs.TypedTargets.{counter_typed, let_typed, set_typed, statement_typed}
 use Rattle.binding_laws.proofs.TypedWords.{HasMeaning, meaning_typed, resolved_typed, valued_typed}
+
+-- ---- the parts of a line
+
+-- what names an array
+abbrev names_array : Task → Bool
+names_array task.Array = true
+names_array _ = false
+
+abbrev is_plain_part : Part → Bool
+is_plain_part p = not (names_array p.task)
+
+cases_plain : (items : List CaseItem) → list_all is_plain_part (flat_map case_parts items) ≡ true
+cases_plain [] = refl
+cases_plain (source.case_value e ∷ items) = cases_plain items
+cases_plain (source.case_range e f ∷ items) = cases_plain items
+cases_plain (source.case_is op e ∷ items) = cases_plain items
+
+prints_plain : (items : List Exp) → list_all is_plain_part (map (part task.Printed) items) ≡ true
+prints_plain [] = refl
+prints_plain (e ∷ items) = prints_plain items
+
+parts_plain : (f : Form) → names_arrays f ≡ false → list_all is_plain_part (parts f) ≡ true
+parts_plain (source.case_line items) h =
+    all_append is_plain_part (flat_map case_parts items) [] (cases_plain items) refl
+parts_plain (source.debug_print items ended) h = prints_plain items
+parts_plain (source.for_head counter first last None) h = refl
+parts_plain (source.for_head counter first last (Some step)) h = refl
+parts_plain (source.redim preserve items) h = absurd (true≢false h)
+parts_plain (source.erase target) h = absurd (true≢false h)
+parts_plain (source.for_each name suffix e) h = absurd (true≢false h)
+parts_plain _ h = refl
 
 -- ---- the expressions of a line
 
@@ -94,40 +131,45 @@ module _ (S : Scope) where
       by conversions.ByDefault = tt
       by (Breaks rule) = tt
 
-  used_typed : (t : Task) (m : Meaning) → HasMeaning D m → HasTypes D (used_as D t m)
-  used_typed task.LetTarget m h = let_typed D m h
-  used_typed task.SetTarget m h = set_typed D m h
-  used_typed task.Counter m h = counter_typed D m h
-  used_typed task.Array m h = array_typed D m h
-  used_typed task.Callee m h = statement_typed D m h
-  used_typed _ m h = valued_typed D m h
+  used_typed : (t : Task) → names_array t ≡ false → (m : Meaning) → HasMeaning D m → HasTypes D (used_as D t m)
+  used_typed task.LetTarget n m h = let_typed D m h
+  used_typed task.SetTarget n m h = set_typed D m h
+  used_typed task.Counter n m h = counter_typed D m h
+  used_typed task.Callee n m h = statement_typed D m h
+  used_typed task.Array n m h = absurd (true≢false n)
+  used_typed _ n m h = valued_typed D m h
 
-  use_typed : (t : Task) (e : Exp) → HasTypes D (used S t e)
-  use_typed t e = used_typed t (meaning S (lookup_of t) e) (meaning_typed S (lookup_of t) e)
+  use_typed : (t : Task) (e : Exp) → names_array t ≡ false → HasTypes D (used S t e)
+  use_typed t e h = used_typed t h (meaning S (lookup_of t) e) (meaning_typed S (lookup_of t) e)
 
-  task_typed : (cases : CaseType) (target : Ty) (t : Task) (e : Exp) → HasTypes D (typed_as S cases target t e)
-  task_typed cases target task.LetValue e = asked_typed (λ (s : Ty). assigned s target) (resolved_as S e target) (as_typed e target)
-  task_typed cases target task.SetValue e = set_value_typed target (resolved S e) (resolved_typed S e)
-  task_typed cases target task.Limit e = asked_typed (λ (s : Ty). limit s target) (resolved S e) (resolved_typed S e)
-  task_typed cases target task.Condition e = asked_typed condition (resolved S e) (resolved_typed S e)
-  task_typed cases target task.Printed e = asked_typed printed (resolved S e) (resolved_typed S e)
-  task_typed cases target task.Bound e = asked_typed index (resolved S e) (resolved_typed S e)
-  task_typed cases target task.Choice e = asked_typed (case_converts cases) (resolved S e) (resolved_typed S e)
-  task_typed cases target task.LetTarget e = use_typed task.LetTarget e
-  task_typed cases target task.SetTarget e = use_typed task.SetTarget e
-  task_typed cases target task.Counter e = use_typed task.Counter e
-  task_typed cases target task.Array e = use_typed task.Array e
-  task_typed cases target task.Callee e = use_typed task.Callee e
-  task_typed cases target task.Whole e = use_typed task.Whole e
+  task_typed : (cases : CaseType) (target : Ty) (t : Task) (e : Exp) → names_array t ≡ false → HasTypes D (typed_as S cases target t e)
+  task_typed cases target task.LetValue e h = asked_typed (λ (s : Ty). assigned s target) (resolved_as S e target) (as_typed e target)
+  task_typed cases target task.SetValue e h = set_value_typed target (resolved S e) (resolved_typed S e)
+  task_typed cases target task.Limit e h = asked_typed (λ (s : Ty). limit s target) (resolved S e) (resolved_typed S e)
+  task_typed cases target task.Condition e h = asked_typed condition (resolved S e) (resolved_typed S e)
+  task_typed cases target task.Printed e h = asked_typed printed (resolved S e) (resolved_typed S e)
+  task_typed cases target task.Bound e h = asked_typed index (resolved S e) (resolved_typed S e)
+  task_typed cases target task.Choice e h = asked_typed (case_converts cases) (resolved S e) (resolved_typed S e)
+  task_typed cases target task.LetTarget e h = use_typed task.LetTarget e h
+  task_typed cases target task.SetTarget e h = use_typed task.SetTarget e h
+  task_typed cases target task.Counter e h = use_typed task.Counter e h
+  task_typed cases target task.Array e h = absurd (true≢false h)
+  task_typed cases target task.Callee e h = use_typed task.Callee e h
+  task_typed cases target task.Whole e h = use_typed task.Whole e h
 
-  rest_typed : (cases : CaseType) (target : Ty) (ps : List Part) → AllHave D (map (typed_part S cases target) ps)
-  rest_typed cases target [] = tt
-  rest_typed cases target (p ∷ ps) = (task_typed cases target p.task p.exp, rest_typed cases target ps)
+  rest_typed : (cases : CaseType) (target : Ty) (ps : List Part) → list_all is_plain_part ps ≡ true → AllHave D (map (typed_part S cases target) ps)
+  rest_typed cases target [] h = tt
+  rest_typed cases target (p ∷ ps) h = (
+    task_typed cases target p.task p.exp (not_true (names_array p.task) (all_first is_plain_part p ps h)),
+    rest_typed cases target ps (all_rest is_plain_part p ps h),
+  )
 
-  parts_typed : (cases : CaseType) (ps : List Part) → AllHave D (typed_parts S cases ps)
-  parts_typed cases [] = tt
-  parts_typed cases (p ∷ ps) =
-      (task_typed cases types.unknown p.task p.exp, rest_typed cases (target_type (typed_part S cases types.unknown p)) ps)
+  parts_typed : (cases : CaseType) (ps : List Part) → list_all is_plain_part ps ≡ true → AllHave D (typed_parts S cases ps)
+  parts_typed cases [] h = tt
+  parts_typed cases (p ∷ ps) h = (
+    task_typed cases types.unknown p.task p.exp (not_true (names_array p.task) (all_first is_plain_part p ps h)),
+    rest_typed cases (target_type (typed_part S cases types.unknown p)) ps (all_rest is_plain_part p ps h),
+  )
 
   settled_typed : (p : Part) (t : Typed) → HasTypes D t → is_typed D (settled S p t) ≡ true
   settled_typed p (known e) h = h
@@ -166,6 +208,35 @@ module _ (S : Scope) where
       (assigned_taken (target_type (used S task.LetTarget target)) D (resolved_as S e (target_type (used S task.LetTarget target))))
   assigned_typed cases _ = refl
 
+  -- ---- conditions
+
+  test_typed : (p : Part) (t : Typed) → IsFit types.boolean t → fits_type types.boolean (type_at (settled S p t)) ≡ true
+  test_typed p (known e) h = fits_covered types.boolean (type_at e) h
+  test_typed p (flaws.unknown f) h = refl
+
+  one_tested : (cases : CaseType) (e : Exp)
+      → fits_type types.boolean (type_at (settled S (part task.Condition e) (typed_as S cases types.unknown task.Condition e))) ≡ true
+  one_tested cases e =
+      test_typed (part task.Condition e) (typed_as S cases types.unknown task.Condition e) (over_wanted_fit types.boolean D (resolved S e))
+
+  tested_typed : (cases : CaseType) (f : Form) → tests_typed f (settled_from S (parts f) 0 (typed_parts S cases (parts f))) ≡ true
+  tested_typed cases (source.if_head e) = one_tested cases e
+  tested_typed cases (source.line_if e) = one_tested cases e
+  tested_typed cases (source.else_if e) = one_tested cases e
+  tested_typed cases (source.do_while e) = one_tested cases e
+  tested_typed cases (source.do_until e) = one_tested cases e
+  tested_typed cases (source.loop_while e) = one_tested cases e
+  tested_typed cases (source.loop_until e) = one_tested cases e
+  tested_typed cases (source.while_head e) = one_tested cases e
+  tested_typed cases _ = refl
+
+  exprs_have_types : (cases : CaseType) (f : Form) → exprs_typed D f (settled_from S (parts f) 0 (typed_parts S cases (parts f))) ≡ true
+  exprs_have_types cases f = by (names_arrays f) refl
+    where
+      by : (b : Bool) → names_arrays f ≡ b → b || list_all (is_typed D) (settled_from S (parts f) 0 (typed_parts S cases (parts f))) ≡ true
+      by true e = refl
+      by false e = all_settled (parts f) 0 (typed_parts S cases (parts f)) (parts_typed cases (parts f) (parts_plain f e))
+
 -- ---- bodies
 
 module _ (I : Inside) where
@@ -177,9 +248,10 @@ module _ (I : Inside) where
     where
       typed_line : is_typed_line I.declarations (bound_line I k cases n l) ≡ true
       typed_line =
-          and_true (assigns_typed l.form (bindings I cases (scope_at I k n) l.form).exprs) (list_all (is_typed I.declarations) (bindings I cases (scope_at I k n) l.form).exprs)
-          (assigned_typed (scope_at I k n) cases l.form)
-          (all_settled (scope_at I k n) (parts l.form) 0 (typed_parts (scope_at I k n) cases (parts l.form)) (parts_typed (scope_at I k n) cases (parts l.form)))
+          let es = (bindings I cases (scope_at I k n) l.form).exprs in
+          and_true (assigns_typed l.form es) (tests_typed l.form es && exprs_typed I.declarations l.form es) (assigned_typed (scope_at I k n) cases l.form)
+          (and_true (tests_typed l.form es) (exprs_typed I.declarations l.form es) (tested_typed (scope_at I k n) cases l.form)
+          (exprs_have_types (scope_at I k n) cases l.form))
 
       by : (b : Bool) → all_typed (cond b (bound_line I k cases n l ∷ []) [])
       by true = and_true (is_typed_line I.declarations (bound_line I k cases n l)) true typed_line refl
@@ -242,8 +314,21 @@ pub lines_typed : (D : Declarations) (p : ℕ) → is_typed_procedure (bound_pro
 lines_typed D p =
     body_at D (all_declarations D) (all_bodies D) p (bodies_typed D (all_declarations D) (project_locals D) 0 (homes D.project))
 
-pub bound_runs_leave : (D : Declarations) (R : Runnable) (p n : ℕ) (me : Option ℕ) (inputs : List (List ℕ)) (w : Memory) → R.program ≡ bound_program D
-    → is_simple_procedure R.program p ≡ true
-    → IsRunResult R (suc n) (enters p me [] []) (started inputs n w) (run6 R p me [] inputs n w)
-bound_runs_leave D R p n me inputs w is covers =
-    run_result R p n me inputs w covers (subst (λ (P : Program). is_typed_procedure P p ≡ true) (sym is) (lines_typed D p))
+-- what can be run of a bound program
+pub ready_bound : (D : Declarations) (R : Runnable) (p : ℕ) → R.program ≡ bound_program D → IsCovered R.program p → OverScalars R p → HaveResults R p → AreLoud R p
+    → IsReady R p
+ready_bound D R p is covers scalars results loud = record {
+  covered = covers;
+  scalars = scalars;
+  typed = λ q c. subst (λ (P : Program). is_typed_procedure P q ≡ true) (sym is) (lines_typed D q);
+  results = results;
+  loud = loud;
+}
+
+pub bound_runs_leave : (P : Project) (D : Declarations) (M : Marks) (R : Runnable) (p n : ℕ) (x : Procedure) (me : Option ℕ) (args : List SourceGiven)
+    (inputs : List (List ℕ)) (w : Memory) → IsDeclared P D M → R.program ≡ bound_program D → IsCovered R.program p → OverScalars R p → AreLoud R p
+    → slice_get (declarations_of R).procs p ≡ Some x → IsSound (ground (declarations_of R) anywhere) w
+    → AreGiven (ground (declarations_of R) anywhere) w x.params args
+    → IsRunResult R (suc n) x args (enters p me [] args) (started inputs n w) (run6 R p me args inputs n w)
+bound_runs_leave P D M R p n x me args inputs w declared is covers scalars loud procedure sound given =
+    run_result R p n x me args inputs w (ready_bound D R p is covers scalars (declared_have_results P D M R p declared is) loud) procedure sound given

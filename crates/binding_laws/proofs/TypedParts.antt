@@ -1,8 +1,8 @@
 -- What is made of expressions in which each use of a variable has its type: conversions, default members and operators.
-use Rattle.std.proofs.Common.{◌≡◌, ℕ, zero, suc, Bool, true, false, cond, List, [], ◌∷◌, Option, Some, None, refl, eq-eqb}
+use Rattle.std.proofs.Common.{◌≡◌, ℕ, zero, suc, Bool, true, false, cond, List, [], ◌∷◌, Option, Some, None, refl, eq-eqb, ap, subst, ◌∙◌, not, ◌&&◌, ◌||◌}
 use Rattle.std.specs.Prelude.{slice_get, is_some}
 use Rattle.std.specs.List.{list_all}
-use Rattle.up_base.proofs.Tests.{and_true}
+use Rattle.up_base.proofs.Tests.{and_true, both_true}
 use Rattle.vb_tree.specs.BoundTree.{Ty, boolean, byte, integer, long, currency, str, fixed, user, class, object, variant, array, nothing, unknown}
 use Rattle.vb_tree.specs.declared.expression.BinOp.{BinOp}
 use Rattle.vb_tree.specs.declared.expression.UnOp.{UnOp}
@@ -12,7 +12,7 @@ use Rattle.vb_tree.specs.declared.value.Value6.{Value6}
 use Rattle.vb_tree.specs.declared.declared.VarId.{VarId}
 use Rattle.bound_tree.specs.declared.body.Mention.TheVariants as mention
 use Rattle.bound_tree.specs.declared.expression.Origin.TheVariants.{Literal}
-use Rattle.bound_tree.specs.Tree.{Variable, Declarations, Expr, typed, constant, unary, binary, call, convert, is_same, Object, of_object, Exprs, Passed}
+use Rattle.bound_tree.specs.Tree.{Variable, Procedure, Declarations, Expr, typed, constant, unary, binary, call, convert, is_same, Object, of_object, Exprs, Passed, by_value}
 use Rattle.bound_facts.specs.Folded.{folded}
 use Rattle.bound_facts.specs.Locks.{is_same_type}
 use Rattle.bound_facts.specs.Node.{type_at, is_object_type, is_variant}
@@ -28,10 +28,11 @@ use Rattle.typing_rows.specs.Types.{is_type, ty_of}
 use Rattle.typing_rows.specs.Typing.{binary_row, unary_row}
 use Rattle.expression_words.specs.Flaws as flaws
 use Rattle.expression_words.specs.Flaws.{Typed, known, breaks, lacks, together, flaw_of, on_known, on_both, all_known, exprs_in, on_gathered, on_all, some, flaws_of}
-use Rattle.expression_words.specs.Converting.{gives_none, fails, converted, id, has_preset, presets, preset_at, preset_of, preset_value, with_preset, bare_result, bare_value, default_value, default_at, behind_default, plain_in, plain, finally, by_conversion, wanted}
+use Rattle.expression_words.specs.Converting.{gives_none, fails, converted, id, has_preset, presets, preset_of, preset_value, with_preset, bare_result, bare_value, default_value, default_at, behind_default, plain_in, plain, finally, by_conversion, wanted}
 use Rattle.expression_words.specs.Members.{value_part, result_in, params_in, count_classes}
 use Rattle.expression_words.specs.Operators.{is_too_long, literal_of, as_operand, is_constant_expression, folds, with_value, own_term, is_comparison_of_objects, by_row, by_own_row, is_default, by_any_row, is_untranslated, combined, binary_over, by_unary_row, by_own_unary_row, by_any_unary_row, unary_over}
-use Rattle.typing_laws.specs.Typed.{is_typed, are_typed, are_typed_passed, is_typed_object}
+use Rattle.run_matches.specs.Covered.{covers_type, is_plain_kind}
+use Rattle.typing_laws.specs.Typed.{are_typed, are_typed_passed, fits_call, fits_parameter, fits_parameters, fits_type, is_typed, is_typed_object}
 use Rattle.binding_laws.specs.Typing.{HasTypes}
 
 -- ---- equal types
@@ -98,41 +99,91 @@ module _ (D : Declarations) where
 
   -- ---- calls without arguments
 
-  abbrev pub IsPreset : Option Expr → Type 0
-  IsPreset None = Unit {0}
-  IsPreset (Some e) = is_typed D e ≡ true
+  -- a call of a procedure with this type and these parameters, unless it is a part of a property that takes a value
+  pub data Takes (p : ℕ) (ty : Ty) (params : List VarId) : Type 0 where
+    all_of : (x : Procedure) → slice_get D.procs p ≡ Some x → ty ≡ x.result → params ≡ x.params → Takes p ty params
+    a_part : (x : Procedure) → slice_get D.procs p ≡ Some x → is_plain_kind x.kind ≡ false → Takes p ty params
 
-  value_preset : (ty : Ty) (o : Option Value6) → IsPreset (preset_value ty o)
-  value_preset ty None = tt
-  value_preset ty (Some x) = by (is_variant ty)
+  pub fits_taken : (p : ℕ) (ty : Ty) (params : List VarId) (args : Passed) → Takes p ty params → fits_parameters D params args ≡ true
+      → fits_call D ty args (slice_get D.procs p) ≡ true
+  fits_taken p ty params args (all_of x is result same) h =
+      ap (λ o. fits_call D ty args o) is
+      ∙ second_either (not (is_plain_kind x.kind)) (is_same_type ty x.result && fits_parameters D x.params args)
+      (and_true (is_same_type ty x.result) (fits_parameters D x.params args) (subst (λ t. is_same_type ty t ≡ true) result (same_self ty))
+      (subst (λ vs. fits_parameters D vs args ≡ true) same h))
     where
-      by : (b : Bool) → IsPreset (cond b None (Some (typed ty (constant x Literal))))
+      second_either : (a b : Bool) → b ≡ true → a || b ≡ true
+      second_either true b h = refl
+      second_either false b h = h
+  fits_taken p ty params args (a_part x is plain) h =
+      ap (λ o. fits_call D ty args o) is ∙ ap (λ b. not b || (is_same_type ty x.result && fits_parameters D x.params args)) plain
+
+  pub call_typed : (p : ℕ) (qualified : Bool) (of : Object) (ty : Ty) (params : List VarId) (args : Passed) → Takes p ty params → is_typed_object D of ≡ true
+      → are_typed_passed D args ≡ true → fits_parameters D params args ≡ true → HasTypes D (known (typed ty (call (id p) qualified of args)))
+  call_typed p qualified of ty params args takes h k l =
+      and_true (is_typed_object D of && are_typed_passed D args) (fits_call D ty args (slice_get D.procs p))
+      (and_true (is_typed_object D of) (are_typed_passed D args) h k) (fits_taken p ty params args takes l)
+
+  abbrev pub IsPreset : Option Variable → Option Expr → Type 0
+  IsPreset v None = Unit {0}
+  IsPreset v (Some e) = (is_typed D e ≡ true) × (fits_parameter (by_value e) v ≡ true)
+
+  fits_self : (ty : Ty) → fits_type ty ty ≡ true
+  fits_self ty = by (not (covers_type ty && covers_type ty)) (is_same_type ty ty) (same_self ty)
+    where
+      by : (a b : Bool) → b ≡ true → a || b ≡ true
+      by true b h = refl
+      by false b h = h
+
+  value_preset : (v : Variable) (o : Option Value6) → IsPreset (Some v) (preset_value v.ty o)
+  value_preset v None = tt
+  value_preset v (Some x) = by (is_variant v.ty)
+    where
+      by : (b : Bool) → IsPreset (Some v) (cond b None (Some (typed v.ty (constant x Literal))))
       by true = tt
-      by false = refl
+      by false = (refl, fits_self v.ty)
 
-  pub preset_typed : (o : Option Variable) → IsPreset (preset_of o)
+  pub preset_typed : (o : Option Variable) → IsPreset o (preset_of o)
   preset_typed None = tt
-  preset_typed (Some v) = value_preset v.ty v.preset
+  preset_typed (Some v) = value_preset v v.preset
 
-  preset_passed : (o : Option Expr) (rest : Passed) → IsPreset o → are_typed_passed D rest ≡ true → are_typed_passed D (with_preset o rest) ≡ true
-  preset_passed None rest h k = k
-  preset_passed (Some e) rest h k = and_true (is_typed D e) (are_typed_passed D rest) h k
+  -- all parameters have presets
+  presets_typed : (vs : List VarId) → list_all (has_preset D) vs ≡ true
+      → (are_typed_passed D (presets D vs) ≡ true) × (fits_parameters D vs (presets D vs) ≡ true)
+  presets_typed [] h = (refl, refl)
+  presets_typed (v ∷ vs) h =
+      let b = both_true (has_preset D v) (list_all (has_preset D) vs) h in
+      let rest = presets_typed vs b.1 in
+      by (preset_of (slice_get D.vars v.0)) b.0 (preset_typed (slice_get D.vars v.0)) rest
+    where
+      by : (o : Option Expr) → is_some o ≡ true → IsPreset (slice_get D.vars v.0) o
+          → (are_typed_passed D (presets D vs) ≡ true) × (fits_parameters D vs (presets D vs) ≡ true)
+          → (are_typed_passed D (with_preset o (presets D vs)) ≡ true) × (fits_parameters D (v ∷ vs) (with_preset o (presets D vs)) ≡ true)
+      by None has h rest = absurd (cc has)
+      by (Some e) has h rest = (
+        and_true (is_typed D e) (are_typed_passed D (presets D vs)) h.0 rest.0,
+        and_true (fits_parameter (by_value e) (slice_get D.vars v.0)) (fits_parameters D vs (presets D vs)) h.1 rest.1,
+      )
 
-  presets_typed : (vs : List VarId) → are_typed_passed D (presets D vs) ≡ true
-  presets_typed [] = refl
-  presets_typed (v ∷ vs) = preset_passed (preset_at D v) (presets D vs) (preset_typed (slice_get D.vars v.0)) (presets_typed vs)
-
-  bare_typed : (p : ℕ) (qualified : Bool) (of : Object) (result : Ty) (params : List VarId) → is_typed_object D of ≡ true
+  bare_typed : (p : ℕ) (qualified : Bool) (of : Object) (result : Ty) (params : List VarId) → Takes p result params → is_typed_object D of ≡ true
       → HasTypes D (bare_result D p qualified of result params)
-  bare_typed p qualified of result params h =
+  bare_typed p qualified of result params takes h =
       either (is_without_type result) (flaws.unknown (lacks (mention.Proc (id p))))
       (cond (list_all (has_preset D) params) (known (typed result (call (id p) qualified of (presets D params)))) (flaws.unknown (breaks 18))) tt
-      (either (list_all (has_preset D) params) (known (typed result (call (id p) qualified of (presets D params)))) (flaws.unknown (breaks 18))
-      (and_true (is_typed_object D of) (are_typed_passed D (presets D params)) h (presets_typed params)) tt)
+      (by (list_all (has_preset D) params) refl)
+    where
+      by : (b : Bool) → list_all (has_preset D) params ≡ b
+          → HasTypes D (cond b (known (typed result (call (id p) qualified of (presets D params)))) (flaws.unknown (breaks 18)))
+      by true e = let all = presets_typed params e in call_typed p qualified of result params (presets D params) takes h all.0 all.1
+      by false e = tt
 
   bare_value_typed : (qualified : Bool) (of : Object) (o : Option ℕ) → is_typed_object D of ≡ true → HasTypes D (bare_value D qualified of o)
   bare_value_typed qualified of None h = tt
-  bare_value_typed qualified of (Some p) h = bare_typed p qualified of (result_in (slice_get D.procs p)) (params_in (slice_get D.procs p)) h
+  bare_value_typed qualified of (Some p) h = by (slice_get D.procs p) refl
+    where
+      by : (o : Option Procedure) → slice_get D.procs p ≡ o → HasTypes D (bare_result D p qualified of (result_in o) (params_in o))
+      by None is = tt
+      by (Some x) is = bare_typed p qualified of x.result x.params (all_of x is refl refl) h
 
   default_typed : (e : Expr) (o : Option ℕ) → is_typed D e ≡ true → HasTypes D (default_value D e o)
   default_typed e None h = tt

@@ -1,15 +1,13 @@
 -- Names, members and argument lists, and all expressions: each has a type, or a cause why it has none.
-use Rattle.std.proofs.Common.{◌≡◌, ℕ, zero, suc, Bool, true, false, cond, codes, List, [], ◌∷◌, Option, Some, None, refl, sym, ap, ◌∙◌, inl, inr, nat_eq}
-use Rattle.std.specs.Prelude.{◌⊎◌, ◌&&◌, ◌||◌, not, is_some, slice_get}
-use Rattle.std.specs.List.{list_any}
+use Rattle.std.proofs.Common.{◌≡◌, ℕ, zero, suc, Bool, true, false, cond, codes, List, [], Option, Some, None, refl, sym, ap, ◌∙◌, inl, inr, nat_eq}
+use Rattle.std.specs.Prelude.{◌&&◌, not, is_some, slice_get}
 use Rattle.std.specs.Cmp.Lexicographic.{pointwise}
 use Rattle.up_base.specs.Names.{lower_case}
-use Rattle.vb_tree.specs.BoundTree.{Ty, boolean, byte, integer, long, currency, str, fixed, user, class, object, variant, array, nothing, unknown}
+use Rattle.vb_tree.specs.BoundTree.{Ty, user, class, object, variant, array}
 use Rattle.vb_tree.specs.declared.bound.LibCall.{LibCall}
 use Rattle.vb_tree.specs.declared.declared.VarId.{VarId}
 use Rattle.vb_tree.specs.declared.token.Suffix.{Suffix}
 use Rattle.vb_tree.specs.declared.value.Value6.{Value6}
-use Rattle.vb_tree.specs.declared.value.Value6.TheVariants as v
 use Rattle.vb_tree.specs.Tree.{Exp, lit, word, bracketed, me, member, with_member, with_bang, index, unary, binary, paren, new_object, bang, type_of, address_of, Args, no_args, next_arg, Given, omitted}
 use Rattle.vb_tree.specs.Tree as source
 use Rattle.bound_tree.specs.declared.body.Mention.{Mention}
@@ -19,31 +17,27 @@ use Rattle.bound_tree.specs.declared.declared.EnumDecl.{EnumDecl}
 use Rattle.bound_tree.specs.declared.declared.Named.{Named}
 use Rattle.bound_tree.specs.declared.declared.Named.TheVariants as named
 use Rattle.bound_tree.specs.declared.declared.TypeDecl.{TypeDecl}
-use Rattle.bound_tree.specs.declared.expression.Origin.TheVariants.{Literal, Declared}
+use Rattle.bound_tree.specs.declared.expression.Origin.TheVariants.{Declared}
 use Rattle.bound_tree.specs.RuleSets.{none, is_broken}
-use Rattle.bound_tree.specs.Tree.{Variable, Constant, Procedure, Declarations, Expr, typed, Term, constant, variable, field, Object, no_object, of_object}
+use Rattle.bound_tree.specs.Tree.{Variable, Constant, Declarations, Expr, typed, Term, constant, variable, field, Object, of_object}
 use Rattle.bound_facts.specs.Node.{type_at}
 use Rattle.name_tables.specs.declared.uses.Spelling.{Spelling}
 use Rattle.name_tables.specs.declared.uses.Use6.{Use6}
 use Rattle.name_tables.specs.declared.uses.Use6.TheVariants as use6
 use Rattle.name_tables.specs.Scopes.{found_member, found_in_module, found_in_enum, found_field, found_type, is_plain}
-use Rattle.typing_rows.specs.Library.{library_call, library_constant, constant_text, is_library_suffix}
+use Rattle.typing_rows.specs.Library.{library_call, library_constant, is_library_suffix}
 use Rattle.typing_rows.specs.declared.library.TextConstant.{TextConstant}
-use Rattle.expression_words.specs.declared.lookups.ErrMember.{ErrMember}
-use Rattle.expression_words.specs.declared.lookups.ErrMember.TheVariants as err_members
 use Rattle.expression_words.specs.declared.lookups.Lookup.{Lookup}
-use Rattle.expression_words.specs.declared.typed.Flaw.{Flaw}
 use Rattle.expression_words.specs.Flaws as flaws
 use Rattle.expression_words.specs.Flaws.{Typed, known, no_flaw, breaks, lacks, together, flaw_of, flawed_by}
 use Rattle.expression_words.specs.Elements.{element_type, element_of}
 use Rattle.expression_words.specs.LibraryCalls.{library_called}
 use Rattle.expression_words.specs.Members.{type_in, type_of_variable, count_classes, class_of_file, default_of, place_of}
-use Rattle.expression_words.specs.Operators.{binary_over, unary_over}
-use Rattle.expression_words.specs.Passing.{Supplied, Value, left_out, given, with_slack, called}
-use Rattle.expression_words.specs.Meanings.{class_id, Kept, no_with, keeps, keeps_unknown, Scope, Listed, no_list, listed, Meaning, value, procedure, library_word, of_module, of_enum, err, err_member, args_in, without_value, of_variable, variable_value, constant_term, constant_value, named_meaning, keyword_of, library_text, library_word_or_text, library_meaning, use_meaning, use_of, is_type_word, missing_rule, is_floating_suffix, with_suffix, declared_word, keyword_or_declared, word_meaning, spelling_of, valued, field_of_type, field_at, class_field, field_found, user_field, object_named, object_member, member_by_type, member_of, in_module, qualified_meaning, constant_found, enum_member_of, err_member_of, member_key, member_meaning, is_empty, without_list, behind_class, array_list, list_by_type, list_behind, gives_list, procedure_list, value_list, behind_err_member, list_meaning, me_of, me_value, kept_value, new_of, new_value, type_flaw, type_test}
-use Rattle.bound_exprs.specs.Resolved.{as_value, as_qualifier, with_list, is_parenthesised_in, meaning, supplied, value_in, resolved}
+use Rattle.expression_words.specs.Passing.{Supplied, with_slack, called}
+use Rattle.expression_words.specs.Meanings.{class_id, Kept, no_with, keeps, keeps_unknown, Scope, Listed, no_list, listed, Meaning, value, procedure, library_word, of_module, of_enum, err, err_member, args_in, without_value, of_variable, variable_value, constant_term, constant_value, named_meaning, keyword_of, library_text, library_word_or_text, library_meaning, use_meaning, use_of, is_type_word, missing_rule, is_floating_suffix, declared_word, keyword_or_declared, spelling_of, valued, field_of_type, field_at, class_field, field_found, user_field, object_member, member_by_type, member_of, in_module, qualified_meaning, constant_found, enum_member_of, err_member_of, member_key, is_empty, without_list, behind_class, list_by_type, list_behind, gives_list, procedure_list, value_list, list_meaning, me_of, kept_value, new_of, type_flaw, type_test}
+use Rattle.bound_exprs.specs.Resolved.{as_value, as_qualifier, with_list, meaning, supplied, value_in, resolved}
 use Rattle.name_tables.specs.declared.uses.Spelling.TheVariants as spelling
-use Rattle.binding_laws.specs.Causes.{has_cause, is_known_type, is_whole, is_rule, AreWhole, IsFounded, is_kept, IsCaused}
+use Rattle.binding_laws.specs.Causes.{is_known_type, is_whole, is_rule, AreWhole, IsFounded, is_kept, IsCaused}
 use Rattle.binding_laws.proofs.Arguments.{HasFoundedValue, AreSupplied, slack_kept, rule_with_slack, called_founded, library_founded, element_founded, err_founded}
 use Rattle.binding_laws.proofs.Founded.{Each, each_at, either, told, literal_founded, binary_founded, unary_founded}
 use Rattle.binding_laws.proofs.Rules.{or_left, rule_caused, left_caused}

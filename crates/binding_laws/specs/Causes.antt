@@ -1,5 +1,5 @@
 -- Why an expression has no type.
-use Rattle.std.specs.Prelude.{◌≡◌, ◌⊎◌, ℕ, Bool, true, false, ◌||◌, nat_eq, Option, Some, None, is_some}
+use Rattle.std.specs.Prelude.{◌≡◌, ◌⊎◌, ℕ, Bool, true, false, ◌||◌, nat_eq, is_some}
 use Rattle.std.specs.List.{list_all, list_any}
 use Rattle.vb_tree.specs.BoundTree.{Ty, array, unknown}
 use Rattle.vb_tree.specs.Tree.{Exp}

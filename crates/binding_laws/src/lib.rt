@@ -4,5 +4,6 @@
 mod laws;
 
 pub use laws::{
-    bound_lines_are_typed, bound_runs_leave_at_edges, untyped_has_a_cause, uses_have_types,
+    bound_lines_are_typed, bound_runs_leave_at_edges, declared_have_results, untyped_has_a_cause,
+    uses_have_types,
 };

@@ -1,32 +1,108 @@
--- Computations that change nothing, one after another.
-use Rattle.std.proofs.Common.{◌≡◌, sym, subst, List, []}
-use Rattle.row_laws.proofs.Composing.{after_nil}
+-- Computations that keep the types of what stands, one after another.
+use Rattle.std.proofs.Common.{◌≡◌, refl, sym, ◌∙◌, subst, ◌≤◌, ◌<◌, arith, List}
+use Rattle.vb_tree.specs.BoundTree.{Ty}
 use Rattle.run_base.specs.Outcomes.{Output, Outcome, gives, raises, spent, outside, after, then}
 use Rattle.vb6_run.specs.Store.{Memory}
+use Rattle.typing_laws.specs.Frames.{Ground, IsBlankStatic, IsSound, Keeps, Stands, shared_place}
+use Rattle.run_base.specs.Positions.{Root, shared, made, field, Position}
+use Rattle.run_matches.specs.Maps.{IsMade, mark}
 
--- a value of which something holds, or an error; what is outside has a cause
-abbrev pub Ends : {A : Type 0} → (A → Type 0) → Type 0 → Memory → Outcome Memory A → Type 0
-Ends Q E w (gives o a v) = (o ≡ []) × (v ≡ w) × Q a
-Ends Q E w (raises o n v) = (o ≡ []) × (v ≡ w)
-Ends Q E w (spent o v) = ⊥
-Ends Q E w (outside o) = E
+-- what was made stays so
+pub made_later : (K : Ground) (w v : Memory) → Keeps K w v → (r : Root) → IsMade (mark w) r → IsMade (mark v) r
+made_later K w v k (shared key) m = tt
+made_later K w v k (made n) m =
+    let less : n < w.next = m in
+    let next = k.next in
+    omega (arith, less, next)
+made_later K w v k (field o key) m = subst (λ z. o < z) (sym k.objects) m
 
-pub ends_after : {A : Type 0} (Q : A → Type 0) (E : Type 0) (w : Memory) (r : Outcome Memory A) → Ends Q E w r → Ends Q E w (after [] r)
-ends_after Q E w r h = subst (λ z. Ends Q E w z) (sym (after_nil r)) h
+-- what nothing stands at holds what it held
+then_others : (K : Ground) (w v u : Memory) → Keeps K w v → Keeps K v u → (q : Position) → IsMade (mark w) q.root → ((ty : Ty) → Stands K w q ty → ⊥)
+    → (IsBlankStatic K w q → ⊥) → u.held q ≡ w.held q
+then_others K w v u h k q m s b =
+    let same : v.held q ≡ w.held q = h.others q m s b in
+    k.others q (made_later K w v h q.root m)
+    (λ ty z. s ty (record { value = z.value; holds = sym same ∙ z.holds; plain = z.plain; made = m; allowed = z.allowed }))
+    (λ z. b (record {
+      number = z.number;
+      variable = z.variable;
+      is_variable = z.is_variable;
+      static = z.static;
+      covers = z.covers;
+      place = z.place;
+      is_blank = sym same ∙ z.is_blank;
+    }))
+    ∙ same
 
-pub ends_weaker : {A : Type 0} (Q : A → Type 0) (E F : Type 0) (w : Memory) (r : Outcome Memory A) → (E → F) → Ends Q E w r → Ends Q F w r
-ends_weaker Q E F w (gives o a v) leads h = h
-ends_weaker Q E F w (raises o n v) leads h = h
-ends_weaker Q E F w (spent o v) leads h = h
-ends_weaker Q E F w (outside o) leads h = leads h
+pub keeps_self : (K : Ground) (w : Memory) → Keeps K w w
+keeps_self K w = record {
+  places = λ q ty s. s;
+  statics = λ k x is st c s. s;
+  others = λ q m s b. refl;
+  next = omega arith;
+  objects = refl;
+  classes = refl;
+}
 
-pub given_here : {A : Type 0} (o : List Output) (a : A) (v w : Memory) → o ≡ [] → v ≡ w → ◌≡◌ {A = Outcome Memory A} (gives o a v) (gives [] a w)
-given_here o a v w e f = λ i. gives (e i) a (f i)
+pub keeps_then : (K : Ground) (w v u : Memory) → Keeps K w v → Keeps K v u → Keeps K w u
+keeps_then K w v u h k =
+    let first = h.next in
+    let second = k.next in
+    record {
+      places = λ q ty s. k.places q ty (h.places q ty s);
+      statics = λ n x is st c s. k.statics n x is st c (h.statics n x is st c s);
+      others = λ q m s b. then_others K w v u h k q m s b;
+      next = omega (arith, first, second);
+      objects = k.objects ∙ h.objects;
+      classes = k.classes ∙ h.classes;
+    }
 
-pub then_ends : {A B : Type 0} (Q : A → Type 0) (S : B → Type 0) (E : Type 0) (w : Memory) (r : Outcome Memory A) (k : A → Memory → Outcome Memory B)
-    → Ends Q E w r → ((a : A) → Q a → r ≡ gives [] a w → Ends S E w (k a w)) → Ends S E w (then r k)
-then_ends Q S E w (gives o a v) k h go =
-    subst (λ z. Ends S E w (then z k)) (sym (given_here o a v w h.0 h.1)) (ends_after S E w (k a w) (go a h.2 (given_here o a v w h.0 h.1)))
-then_ends Q S E w (raises o n v) k h go = h
-then_ends Q S E w (spent o v) k h go = h
-then_ends Q S E w (outside o) k h go = h
+pub sound_later : (K : Ground) (w v : Memory) → Keeps K w v → IsSound K w → IsSound K v
+sound_later K w v k s = record {
+  modules = λ n x is m c. k.places (shared_place n) x.ty (s.modules n x is m c);
+  statics = λ n x is st c. k.statics n x is st c (s.statics n x is st c);
+  shares = s.shares;
+  fresh = λ n l. (let next = k.next in s.fresh n (let e : w.next ≤ n = omega (arith, l, next) in e));
+}
+
+-- a value of which something holds in the memory behind it, an error, or no step; what is outside has a cause
+abbrev pub Ends : {A : Type 0} → Ground → (Memory → A → Type 0) → Type 0 → Memory → Outcome Memory A → Type 0
+Ends K Q E w (gives o a v) = Keeps K w v × Q v a
+Ends K Q E w (raises o n v) = Keeps K w v
+Ends K Q E w (spent o v) = Keeps K w v
+Ends K Q E w (outside o) = E
+
+module _ {A : Type 0} (K : Ground) (Q : Memory → A → Type 0) where
+  pub ends_after : (E : Type 0) (w : Memory) (o : List Output) (r : Outcome Memory A) → Ends K Q E w r → Ends K Q E w (after o r)
+  ends_after E w o (gives p a v) h = h
+  ends_after E w o (raises p n v) h = h
+  ends_after E w o (spent p v) h = h
+  ends_after E w o (outside p) h = h
+
+  pub ends_from : (E : Type 0) (w v : Memory) (r : Outcome Memory A) → Keeps K w v → Ends K Q E v r → Ends K Q E w r
+  ends_from E w v (gives p a u) k h = (keeps_then K w v u k h.0, h.1)
+  ends_from E w v (raises p n u) k h = keeps_then K w v u k h
+  ends_from E w v (spent p u) k h = keeps_then K w v u k h
+  ends_from E w v (outside p) k h = h
+
+  pub ends_weaker : (E F : Type 0) (w : Memory) (r : Outcome Memory A) → (E → F) → Ends K Q E w r → Ends K Q F w r
+  ends_weaker E F w (gives o a v) leads h = h
+  ends_weaker E F w (raises o n v) leads h = h
+  ends_weaker E F w (spent o v) leads h = h
+  ends_weaker E F w (outside o) leads h = leads h
+
+  pub ends_as : (S : Memory → A → Type 0) (E : Type 0) (w : Memory) (r : Outcome Memory A) → ((v : Memory) (a : A) → Q v a → S v a) → Ends K Q E w r
+      → Ends K S E w r
+  ends_as S E w (gives o a v) leads h = (h.0, leads v a h.1)
+  ends_as S E w (raises o n v) leads h = h
+  ends_as S E w (spent o v) leads h = h
+  ends_as S E w (outside o) leads h = h
+
+pub then_ends : {A B : Type 0} (K : Ground) (Q : Memory → A → Type 0) (S : Memory → B → Type 0) (E : Type 0) (w : Memory)
+    (r : Outcome Memory A) (k : A → Memory → Outcome Memory B) → Ends K Q E w r
+    → ((o : List Output) (a : A) (v : Memory) → r ≡ gives o a v → Keeps K w v → Q v a → Ends K S E v (k a v)) → Ends K S E w (then r k)
+then_ends K Q S E w (gives o a v) k h go =
+    ends_after K S E w o (k a v) (ends_from K S E w v (k a v) h.0 (go o a v refl h.0 h.1))
+then_ends K Q S E w (raises o n v) k h go = h
+then_ends K Q S E w (spent o v) k h go = h
+then_ends K Q S E w (outside o) k h go = h

@@ -1,67 +1,78 @@
--- In a well-typed frame a covered expression gives a value of its type, or raises an error, or leaves the tables.
-use Rattle.std.proofs.Common.{false, ◌≡◌, refl, sym, ap, ◌∙◌, subst, ℕ, Bool, true, ◌&&◌, nat_eq, true≢false, List, [], Option, None}
-use Rattle.std.specs.Prelude.{slice_get, is_some}
-use Rattle.std.specs.Map.{lookup}
+-- A covered expression that is well typed gives a value of its type where the variables stand, or raises an error, or leaves.
+use Rattle.std.proofs.Common.{false, ◌≡◌, refl, sym, ap, ◌∙◌, subst, ℕ, pos, ◌<◌, arith, ltb-true, le-leb, Bool, true, cond, not, ◌&&◌, ◌||◌, true≢false, List, [], ◌∷◌, Option, None}
+use Rattle.std.specs.Prelude.{slice_get, is_some, nat_lt}
+use Rattle.std.specs.List.{list_all}
 use Rattle.up_base.proofs.Tests.{both_true}
 use Rattle.vb_tree.specs.BoundTree.{Ty}
+use Rattle.vb_tree.specs.BoundTree as types
+use Rattle.vb_tree.specs.declared.bound.LibCall.{LibCall}
+use Rattle.vb_tree.specs.declared.bound.LibCall.TheVariants as lib
 use Rattle.vb_tree.specs.declared.bound.Op6.TheVariants as op6
 use Rattle.vb_tree.specs.declared.declared.VarId.{VarId}
 use Rattle.vb_tree.specs.declared.expression.BinOp.{BinOp}
 use Rattle.vb_tree.specs.declared.expression.UnOp.{UnOp}
 use Rattle.vb_tree.specs.declared.value.Value6.{Value6}
+use Rattle.vb_tree.specs.declared.value.Value6.TheVariants as v
 use Rattle.vb6_meaning.specs.Answers.{Answer}
 use Rattle.vb6_meaning.specs.Answers as answer
+use Rattle.vb6_meaning.specs.declared.number.NumberKind.TheVariants as kinds
+use Rattle.vb6_meaning.specs.Kinds.{fits}
+use Rattle.vb6_meaning.specs.Library as values
 use Rattle.vb6_meaning.specs.Values.{coerce, operate}
 use Rattle.bound_tree.specs.declared.body.Mention.{Mention}
-use Rattle.bound_tree.specs.Tree.{Expr, typed, Term, constant, variable, field, element, call, library, unary, binary, convert, new_object, me, with_object, err_number, err_raise, err_clear, is_same, loose}
-use Rattle.bound_tree.specs.Tree as tree
+use Rattle.bound_tree.specs.Tree.{Declarations, Expr, typed, Term, variable, library, unary, binary, convert, err_number, Exprs, no_exprs, next_expr}
 use Rattle.bound_facts.specs.Locks.{is_same_type}
-use Rattle.bound_facts.specs.Node.{type_at, auto_class, declared_in, variable_number}
-use Rattle.net_meaning.specs.WrittenLiterals.{is_within, type_of_constant}
+use Rattle.bound_facts.specs.Node.{type_at, auto_class, declared_in, variable_number, is_array_type}
 use Rattle.net_meaning.specs.WrittenRows.{write_operator, write_unary, write_conversion}
 use Rattle.row_laws.proofs.Composing.{then_assoc}
-use Rattle.row_laws.specs.Constants.{is_literal}
-use Rattle.run_base.specs.Outcomes.{Outcome, gives, raises, spent, outside, after, then, answered, some_of, found}
+use Rattle.run_base.specs.Outcomes.{Output, Outcome, gives, outside, after, then, answered, asked, some_of, found, first_input, rest_inputs}
 use Rattle.run_base.specs.Positions.{Position}
-use Rattle.vb6_run.specs.Expressions.{Context, Parts, at_address, declared, value_in, scalar_of, answer_as, left_operand, then_row, made_for, as_new, parts_of, term_parts, value_of, scalar_value, type_shape}
+use Rattle.vb6_run.specs.Expressions.{Context, Parts, at_address, declared, value_in, scalar_in, scalar_of, answer_as, left_operand, then_row, made_for, as_new, parts_of, term_parts, value_of, scalar_value, type_shape, library_call, library_parts, library_value, values_of, value_parts, has_byte}
 use Rattle.vb6_run.specs.Shapes.{simple}
 use Rattle.vb6_run.specs.Store as store
-use Rattle.vb6_run.specs.Store.{Address, root, Memory, provided, read, single_in, value_if}
+use Rattle.vb6_run.specs.Store.{Address, root, Memory, SourceGiven, Does, provided, read, single_in, value_if}
 use Rattle.vb6_run.specs.Values.{Value, scalar, is_of_shape}
-use Rattle.run_matches.specs.Covered.{covers_operator, covers_type}
-use Rattle.typing_laws.specs.Simple.{is_simple_expr, is_simple_term, is_simple_use}
-use Rattle.run_matches.specs.Formed.{is_formed, is_row_of_one, is_row_of_two}
-use Rattle.typing_laws.specs.Edges.{IsEdge}
-use Rattle.typing_laws.specs.Frames.{IsTypedFrame}
-use Rattle.typing_laws.specs.Leaving.{Leaves, at_operator, in_left, in_right, in_operand, in_converted}
-use Rattle.typing_laws.specs.Results.{IsResult}
-use Rattle.typing_laws.specs.Typed.{has_type, is_typed}
-use Rattle.typing_laws.proofs.Ends.{Ends, ends_after, ends_weaker, then_ends}
-use Rattle.typing_laws.proofs.Places.{Locals, Place, Used, address_is, locals_of, use_is}
-use Rattle.typing_laws.proofs.Plain.{Plain, constant_plain, is_covered, is_of_type, same_as, self}
-use Rattle.typing_laws.proofs.Plain as plains
+use Rattle.run_matches.specs.Covered.{Uses, covers_operator, covers_type}
+use Rattle.run_matches.specs.Formed.{is_call, is_row_of_call, is_row_of_one, is_row_of_two, types_of}
+use Rattle.typing_laws.specs.Scalars.{scalar_uses}
+use Rattle.typing_laws.specs.Calls.{CallsKeep, SourceJob}
+use Rattle.typing_laws.specs.Edges.{IsEdge, IsLibraryEdge}
+use Rattle.typing_laws.specs.Frames.{HasOwn, IsSound, Keeps}
+use Rattle.typing_laws.specs.Leaving.{Leaves, ExprsLeave, at_operator, in_left, in_right, in_operand, in_converted, in_library, at_library, at_input, at_err_number, in_first, in_later}
+use Rattle.typing_laws.specs.Plain.{IsValue}
+use Rattle.typing_laws.specs.Typed.{fits_type, has_type}
+use Rattle.typing_laws.proofs.Ends.{Ends, ends_after, ends_weaker, keeps_self, sound_later, then_ends}
+use Rattle.typing_laws.proofs.Library.{ArePlain, gives_itself, library_answer}
+use Rattle.typing_laws.proofs.Places.{keeps_same}
+use Rattle.typing_laws.proofs.Plain.{Plain, a_text, a_boolean, a_byte, an_integer, a_long, a_currency, is_covered, is_of_type, same_as, self}
 use Rattle.typing_laws.proofs.Rows.{IsAnswer, binary_answer, unary_answer, conversion_answer, typed_binary, typed_unary}
+use Rattle.typing_laws.proofs.Uses.{PlaceOf, Used, place_of, use_is}
+use Rattle.typing_laws.specs.Frames.{Footprint, Ground, ground}
 
 -- ---- values of expressions
 
-abbrev pub IsValue : Ty → Value → Type 0
-IsValue ty x = (z : Value6) × (x ≡ scalar ty z) × Plain ty z
+abbrev pub IsTyped : Ty → Memory → Value → Type 0
+IsTyped ty w x = IsValue ty x
 
-abbrev IsTerm : Ty → Parts → Type 0
-IsTerm ty p = (z : Value6) × (p ≡ at_address (store.constant (scalar ty z))) × Plain ty z
+abbrev pub IsScalarOf : Ty → Memory → Value6 → Type 0
+IsScalarOf ty w x = Plain ty x
+
+-- parts that are a value
+abbrev pub IsTerm : Ty → Memory → Parts → Type 0
+IsTerm ty w p = (z : Value6) × (p ≡ at_address (store.constant (scalar ty z))) × Plain ty z
 
 -- the check of a value of the type
-value_here : (C : Context) (ty : Ty) (t : Term) (z : Value6) (w : Memory) → Plain ty z
+pub value_here : (C : Context) (ty : Ty) (t : Term) (z : Value6) (w : Memory) → Plain ty z
     → value_in C (typed ty t) (at_address (store.constant (scalar ty z))) w ≡ gives [] (scalar ty z) w
 value_here C ty t z w p = ap (λ b. after [] (provided b (λ v. gives [] (scalar ty z) v) w)) (is_of_type (declared C) ty z p)
 
-read_here : (ty : Ty) (z : Value6) (q : Position) (w : Memory) → w.held q ≡ store.single ty z → Plain ty z
+pub read_here : (ty : Ty) (z : Value6) (q : Position) (w : Memory) → w.held q ≡ store.single ty z → Plain ty z
     → read (root (simple ty) q) w ≡ gives [] (scalar ty z) w
 read_here ty z q w holds p =
     ap (λ h. found (single_in ty h) w) holds ∙ ap (λ b. found (value_if b (scalar ty z)) w) (self ty (is_covered ty z p))
 
 -- the value at a position
-value_there : (C : Context) (ty : Ty) (t : Term) (z : Value6) (q : Position) (w : Memory) → w.held q ≡ store.single ty z → Plain ty z
+pub value_there : (C : Context) (ty : Ty) (t : Term) (z : Value6) (q : Position) (w : Memory) → w.held q ≡ store.single ty z → Plain ty z
     → value_in C (typed ty t) (at_address (root (simple ty) q)) w ≡ gives [] (scalar ty z) w
 value_there C ty t z q w holds p =
     ap (λ (r : Outcome Memory Value). then (after [] r) (λ x v. provided (is_of_shape (type_shape (declared C) ty) x) (λ v. gives [] x v) v)) (read_here ty z q w holds p)
@@ -70,194 +81,239 @@ value_there C ty t z q w holds p =
 -- ---- terms
 
 -- the value of a term that is no address
-term_ends : (C : Context) (ty : Ty) (t : Term) (E : Type 0) (w : Memory) → auto_class (variable_number (declared C).vars (declared_in (declared C) t)) ≡ None
-    → Ends (IsTerm ty) E w (term_parts C ty t w) → Ends (IsValue ty) E w (value_of C (typed ty t) w)
-term_ends C ty t E w none h =
-    subst (λ r. Ends (IsValue ty) E w r) (sym (then_assoc (term_parts C ty t w) (as_new C t) (value_in C (typed ty t))))
-    (then_ends (IsTerm ty) (IsValue ty) E w (term_parts C ty t w) (λ p v. then (as_new C t p v) (value_in C (typed ty t))) h
-    (λ p m e. subst (λ r. Ends (IsValue ty) E w r) (sym (is p m)) (refl, refl, (m.0, refl, m.2))))
+pub term_ends : (C : Context) (F : Footprint) (ty : Ty) (t : Term) (E : Type 0) (w : Memory) → auto_class (variable_number (declared C).vars (declared_in (declared C) t)) ≡ None
+    → Ends (ground (declared C) F) (IsTerm ty) E w (term_parts C ty t w) → Ends (ground (declared C) F) (IsTyped ty) E w (value_of C (typed ty t) w)
+term_ends C F ty t E w none h =
+    subst (λ r. Ends (ground (declared C) F) (IsTyped ty) E w r) (sym (then_assoc (term_parts C ty t w) (as_new C t) (value_in C (typed ty t))))
+    (then_ends (ground (declared C) F) (IsTerm ty) (IsTyped ty) E w (term_parts C ty t w) (λ p v. then (as_new C t p v) (value_in C (typed ty t))) h
+    (λ o p v same k m. subst (λ r. Ends (ground (declared C) F) (IsTyped ty) E v r) (sym (is p v m)) (keeps_self (ground (declared C) F) v, (m.0, refl, m.2))))
   where
-    is : (p : Parts) (m : IsTerm ty p) → then (as_new C t p w) (value_in C (typed ty t)) ≡ gives [] (scalar ty m.0) w
-    is p m =
-        ap (λ c. then (made_for C c p w) (value_in C (typed ty t))) none
-        ∙ ap (λ a. after [] (value_in C (typed ty t) a w)) m.1 ∙ ap (λ r. after [] r) (value_here C ty t m.0 w m.2)
+    is : (p : Parts) (v : Memory) (m : IsTerm ty v p) → then (as_new C t p v) (value_in C (typed ty t)) ≡ gives [] (scalar ty m.0) v
+    is p v m =
+        ap (λ c. then (made_for C c p v) (value_in C (typed ty t))) none
+        ∙ ap (λ a. after [] (value_in C (typed ty t) a v)) m.1 ∙ ap (λ r. after [] r) (value_here C ty t m.0 v m.2)
 
 -- a value as a scalar
-pub scalar_ends : (C : Context) (e : Expr) (ty : Ty) (E : Type 0) (w : Memory) → Ends (IsValue ty) E w (value_of C e w)
-    → Ends (Plain ty) E w (scalar_value C e w)
-scalar_ends C e ty E w h =
-    subst (λ r. Ends (Plain ty) E w r) (then_assoc (parts_of C e w) (value_in C e) scalar_of)
-    (then_ends (IsValue ty) (Plain ty) E w (value_of C e w) scalar_of h
-    (λ x m e. subst (λ y. Ends (Plain ty) E w (scalar_of y w)) (sym m.1) (refl, refl, m.2)))
+pub scalar_ends : (C : Context) (F : Footprint) (e : Expr) (ty : Ty) (E : Type 0) (w : Memory) → Ends (ground (declared C) F) (IsTyped ty) E w (value_of C e w)
+    → Ends (ground (declared C) F) (IsScalarOf ty) E w (scalar_value C e w)
+scalar_ends C F e ty E w h =
+    subst (λ r. Ends (ground (declared C) F) (IsScalarOf ty) E w r) (then_assoc (parts_of C e w) (value_in C e) scalar_of)
+    (then_ends (ground (declared C) F) (IsTyped ty) (IsScalarOf ty) E w (value_of C e w) scalar_of h
+    (λ o x v same k m. subst (λ y. Ends (ground (declared C) F) (IsScalarOf ty) E v (scalar_of y v)) (sym m.1) (keeps_self (ground (declared C) F) v, m.2)))
 
-answer_ends : (ty : Ty) (E : Type 0) (a : Answer Value6) (w : Memory) → IsAnswer ty E a → Ends (IsTerm ty) E w (answer_as ty a w)
-answer_ends ty E (answer.gives z) w h = (refl, refl, (z, refl, h))
-answer_ends ty E (answer.raises n) w h = (refl, refl)
-answer_ends ty E answer.outside w h = h
+answer_ends : (K : Ground) (ty : Ty) (E : Type 0) (a : Answer Value6) (w : Memory) → IsAnswer ty E a → Ends K (IsTerm ty) E w (answer_as ty a w)
+answer_ends K ty E (answer.gives z) w h = (keeps_self K w, (z, refl, h))
+answer_ends K ty E (answer.raises n) w h = keeps_self K w
+answer_ends K ty E answer.outside w h = h
 
 answer_weaker : (ty : Ty) (E F : Type 0) (a : Answer Value6) → (E → F) → IsAnswer ty E a → IsAnswer ty F a
 answer_weaker ty E F (answer.gives z) leads h = h
 answer_weaker ty E F (answer.raises n) leads h = h
 answer_weaker ty E F answer.outside leads h = leads h
 
--- ---- variables
+pub or_true : (b : Bool) → b || true ≡ true
+or_true true = refl
+or_true false = refl
+
+-- ---- where the variables of a frame stand
+
+pub record Fits (C : Context) (F : Footprint) (w : Memory) : Type 0 where
+  pub sound : IsSound (ground (declared C) F) w
+  pub own : HasOwn (ground (declared C) F) C.procedure w C.frame
+
+pub fits_later : (C : Context) (F : Footprint) (w v : Memory) → Keeps (ground (declared C) F) w v → Fits C F w → Fits C F v
+fits_later C F w v k f = record {
+  sound = sound_later (ground (declared C) F) w v k f.sound;
+  own = λ n x is b c. let h = f.own n x is b c in (h.0, h.1, k.places h.0 x.ty h.2);
+}
+
+pub variable_place : (C : Context) (F : Footprint) (w : Memory) → Fits C F w → (x : VarId) (u : Used (declared C) C.procedure x)
+    → PlaceOf (ground (declared C) F) C.frame w x.0 u.variable.ty
+variable_place C F w f x u = place_of (ground (declared C) F) C.procedure C.frame w f.sound f.own x u
 
 -- the parts of a variable that is used
-pub variable_is : (C : Context) (ty : Ty) (v : VarId) (qualified : Bool) (w : Memory) (u : Used (declared C) C.procedure v)
-    (p : Place w.held u.variable.ty (lookup (nat_eq v.0) C.frame.vars))
-    → parts_of C (typed ty (variable v qualified)) w ≡ gives [] (at_address (root (simple u.variable.ty) p.position)) w
-variable_is C ty v qualified w u p =
-    let a : Address = root (simple u.variable.ty) p.position in
-    ap (λ (o : Option Address). then (some_of o (λ a w. gives [] (at_address a) w) w) (λ p w. made_for C (auto_class (slice_get (declared C).vars v.0)) p w))
-    (address_is (declared C) C.frame v.0 C.procedure u.variable u.is_variable u.local ∙ p.is)
+pub variable_is : (C : Context) (F : Footprint) (ty : Ty) (x : VarId) (qualified : Bool) (w v : Memory) (u : Used (declared C) C.procedure x)
+    (p : PlaceOf (ground (declared C) F) C.frame v x.0 u.variable.ty)
+    → parts_of C (typed ty (variable x qualified)) w ≡ gives [] (at_address (root (simple u.variable.ty) p.0)) w
+variable_is C F ty x qualified w v u p =
+    let a : Address = root (simple u.variable.ty) p.0 in
+    ap (λ (o : Option Address). then (some_of o (λ a w. gives [] (at_address a) w) w) (λ p w. made_for C (auto_class (slice_get (declared C).vars x.0)) p w)) p.1
     ∙ ap (λ (m : Option ℕ). after [] (made_for C m (at_address a) w)) u.plain
 
-module _ (C : Context) (mentions : List Mention) (w : Memory) (locals : Locals (declared C) C.procedure w.held C.frame.vars) where
-  abbrev uses : VarId → Bool
-  uses v = is_simple_use C.runnable.program C.procedure mentions v
+-- the use of a variable has its type
+pub same_type : (D : Declarations) (p : ℕ) (ty : Ty) (x : VarId) (u : Used D p x) → has_type ty (slice_get D.vars x.0) ≡ true → ty ≡ u.variable.ty
+same_type D p ty x u typing = same_as ty u.variable.ty u.covers (sym (ap (λ o. has_type ty o) u.is_variable) ∙ typing)
 
-  pub place_of : (v : VarId) (u : Used (declared C) C.procedure v) → Place w.held u.variable.ty (lookup (nat_eq v.0) C.frame.vars)
-  place_of v u = locals v.0 u.variable u.is_variable u.local u.covers
+-- types of a parameter and its argument
+pub fitting : (s t : Ty) → covers_type s ≡ true → covers_type t ≡ true → fits_type s t ≡ true → t ≡ s
+fitting s t c d h =
+    sym (same_as s t d (sym (ap (λ b. not (b && covers_type t) || is_same_type s t) c ∙ ap (λ b. not b || is_same_type s t) d) ∙ h))
 
-  -- the use of a variable has its type
-  pub same_type : (ty : Ty) (v : VarId) (u : Used (declared C) C.procedure v) → has_type ty (slice_get (declared C).vars v.0) ≡ true → ty ≡ u.variable.ty
-  same_type ty v u typing = same_as ty u.variable.ty u.covers (sym (ap (λ o. has_type ty o) u.is_variable) ∙ typing)
+pub no_array : (ty : Ty) → covers_type ty ≡ true → is_array_type ty ≡ false
+no_array (types.array e rank) c = absurd (true≢false (sym c))
+no_array _ c = refl
 
-  variable_ends : (ty : Ty) (v : VarId) (qualified : Bool) → uses v ≡ true → has_type ty (slice_get (declared C).vars v.0) ≡ true
-      → Ends (IsValue ty) (Leaves C (typed ty (variable v qualified)) w) w (value_of C (typed ty (variable v qualified)) w)
-  variable_ends ty v qualified used typing =
-      let u : Used (declared C) C.procedure v = use_is C.runnable.program C.procedure mentions v used in
-      let p : Place w.held u.variable.ty (lookup (nat_eq v.0) C.frame.vars) = place_of v u in
-      let e : Expr = typed ty (variable v qualified) in
-      let s : ty ≡ u.variable.ty = same_type ty v u typing in
-      subst (λ r. Ends (IsValue ty) (Leaves C e w) w r)
-      (sym (ap (λ r. then r (value_in C e)) (variable_is C ty v qualified w u p)
-      ∙ ap (λ r. after [] r) (ap (λ (t : Ty). value_in C e (at_address (root (simple t) p.position)) w) (sym s)
-      ∙ value_there C ty (variable v qualified) p.value p.position w (p.holds ∙ ap (λ t. store.single t p.value) (sym s))
-      (subst (λ t. Plain t p.value) (sym s) p.plain))))
-      (refl, refl, (p.value, refl, subst (λ t. Plain t p.value) (sym s) p.plain))
+-- ---- Err.Number
+
+small_fits : (m : ℕ) → nat_lt m 65536 ≡ true → fits kinds.Long (pos m) ≡ true
+small_fits m small = let below : m < 65536 = ltb-true m 65536 small in le-leb m 2147483647 (omega arith)
+
+number_by : (C : Context) (F : Footprint) (X : SourceJob → Memory → Type 0) (w : Memory) (b : Bool) → nat_lt w.err 65536 ≡ b
+    → Ends (ground (declared C) F) (IsTerm types.long) (Leaves C X (typed types.long err_number) w) w
+    (store.provided b (λ s. value_parts (scalar types.long (v.Long (pos s.err))) s) w)
+number_by C F X w true e = (keeps_self (ground (declared C) F) w, (v.Long (pos w.err), refl, a_long (pos w.err) (small_fits w.err e)))
+number_by C F X w false e = at_err_number types.long w e
+
+-- a Long, where it is the number of an error
+pub number_ends : (C : Context) (F : Footprint) (X : SourceJob → Memory → Type 0) (w : Memory) (ty : Ty) → types.long ≡ ty
+    → Ends (ground (declared C) F) (IsTyped ty) (Leaves C X (typed ty err_number) w) w (value_of C (typed ty err_number) w)
+number_ends C F X w ty same =
+    subst (λ t. Ends (ground (declared C) F) (IsTyped t) (Leaves C X (typed t err_number) w) w (value_of C (typed t err_number) w)) same
+    (term_ends C F types.long err_number (Leaves C X (typed types.long err_number) w) w refl (number_by C F X w (nat_lt w.err 65536) refl))
+
+module _ (C : Context) (F : Footprint) (X : SourceJob → Memory → Type 0) (calls : CallsKeep C F X) (mentions : List Mention) where
+  abbrev D : Declarations
+  D = declared C
+
+  abbrev K : Ground
+  K = ground (declared C) F
+
+  abbrev uses : Uses
+  uses = scalar_uses C.runnable.program C.procedure mentions
+
+  pub variable_ends : (w : Memory) → Fits C F w → (ty : Ty) (x : VarId) (qualified : Bool) → uses.scalar x ≡ true → has_type ty (slice_get D.vars x.0) ≡ true
+      → Ends K (IsTyped ty) (Leaves C X (typed ty (variable x qualified)) w) w (value_of C (typed ty (variable x qualified)) w)
+  variable_ends w fits ty x qualified used typing =
+      let u : Used D C.procedure x = use_is C.runnable.program C.procedure mentions x used in
+      let p : PlaceOf K C.frame w x.0 u.variable.ty = variable_place C F w fits x u in
+      let e : Expr = typed ty (variable x qualified) in
+      let s : ty ≡ u.variable.ty = same_type D C.procedure ty x u typing in
+      let plain : Plain ty p.2.value = subst (λ t. Plain t p.2.value) (sym s) p.2.plain in
+      subst (λ r. Ends K (IsTyped ty) (Leaves C X e w) w r)
+      (sym (ap (λ r. then r (value_in C e)) (variable_is C F ty x qualified w w u p)
+      ∙ ap (λ r. after [] r) (ap (λ (t : Ty). value_in C e (at_address (root (simple t) p.0)) w) (sym s)
+      ∙ value_there C ty (variable x qualified) p.2.value p.0 w (p.2.holds ∙ ap (λ t. store.single t p.2.value) (sym s)) plain)))
+      (keeps_self K w, (p.2.value, refl, plain))
 
   -- ---- operators and conversions over operands of covered types
 
-  unary_ends : (ty : Ty) (op : UnOp) (e : Expr) → covers_type ty ≡ true → covers_type (type_at e) ≡ true
-      → is_row_of_one ty (write_unary op (type_at e)) ≡ true → Ends (IsValue (type_at e)) (Leaves C e w) w (value_of C e w)
-      → Ends (IsValue ty) (Leaves C (typed ty (unary op e)) w) w (value_of C (typed ty (unary op e)) w)
-  unary_ends ty op e c first formed h =
-      term_ends C ty (unary op e) (Leaves C (typed ty (unary op e)) w) w refl
-      (subst (λ q. Ends (IsTerm ty) (Leaves C (typed ty (unary op e)) w) w (then (scalar_value C e w) (λ x v. answer_as ty (operate q x x) v)))
+  pub unary_ends : (w : Memory) (ty : Ty) (op : UnOp) (e : Expr) → covers_type ty ≡ true → covers_type (type_at e) ≡ true
+      → is_row_of_one ty (write_unary op (type_at e)) ≡ true → Ends K (IsTyped (type_at e)) (Leaves C X e w) w (value_of C e w)
+      → Ends K (IsTyped ty) (Leaves C X (typed ty (unary op e)) w) w (value_of C (typed ty (unary op e)) w)
+  unary_ends w ty op e c first formed h =
+      term_ends C F ty (unary op e) (Leaves C X (typed ty (unary op e)) w) w refl
+      (subst (λ q. Ends K (IsTerm ty) (Leaves C X (typed ty (unary op e)) w) w (then (scalar_value C e w) (λ x v. answer_as ty (operate q x x) v)))
       (sym (typed_unary (type_at e) op first))
-      (then_ends (Plain (type_at e)) (IsTerm ty) (Leaves C (typed ty (unary op e)) w) w (scalar_value C e w)
+      (then_ends K (IsScalarOf (type_at e)) (IsTerm ty) (Leaves C X (typed ty (unary op e)) w) w (scalar_value C e w)
       (λ x v. answer_as ty (operate (op6.TypedUn op) x x) v)
-      (ends_weaker (Plain (type_at e)) (Leaves C e w) (Leaves C (typed ty (unary op e)) w) w (scalar_value C e w) (in_operand ty op e w)
-      (scalar_ends C e (type_at e) (Leaves C e w) w h))
-      (λ x p same.
-      answer_ends ty (Leaves C (typed ty (unary op e)) w) (operate (op6.TypedUn op) x x) w
-      (answer_weaker ty ⊥ (Leaves C (typed ty (unary op e)) w) (operate (op6.TypedUn op) x x) (λ n. absurd n)
+      (ends_weaker K (IsScalarOf (type_at e)) (Leaves C X e w) (Leaves C X (typed ty (unary op e)) w) w (scalar_value C e w) (in_operand ty op e w)
+      (scalar_ends C F e (type_at e) (Leaves C X e w) w h))
+      (λ o x v same k p.
+      answer_ends K ty (Leaves C X (typed ty (unary op e)) w) (operate (op6.TypedUn op) x x) v
+      (answer_weaker ty ⊥ (Leaves C X (typed ty (unary op e)) w) (operate (op6.TypedUn op) x x) (λ n. absurd n)
       (unary_answer op ty (type_at e) x c first formed p)))))
 
-  binary_ends : (ty : Ty) (op : BinOp) (d e : Expr) → covers_type ty ≡ true → covers_type (type_at d) ≡ true → covers_type (type_at e) ≡ true
-      → covers_operator op ≡ true → is_row_of_two op ty (write_operator op (type_at d) (type_at e)) ≡ true
-      → Ends (IsValue (type_at d)) (Leaves C d w) w (value_of C d w) → Ends (IsValue (type_at e)) (Leaves C e w) w (value_of C e w)
-      → Ends (IsValue ty) (Leaves C (typed ty (binary op d e)) w) w (value_of C (typed ty (binary op d e)) w)
-  binary_ends ty op d e c first second covers formed h i =
-      term_ends C ty (binary op d e) (Leaves C (typed ty (binary op d e)) w) w refl
-      (subst (λ q. Ends (IsTerm ty) (Leaves C (typed ty (binary op d e)) w) w
+  pub binary_ends : (w : Memory) → Fits C F w → (ty : Ty) (op : BinOp) (d e : Expr) → covers_type ty ≡ true → covers_type (type_at d) ≡ true
+      → covers_type (type_at e) ≡ true → covers_operator op ≡ true → is_row_of_two op ty (write_operator op (type_at d) (type_at e)) ≡ true
+      → ((v : Memory) → Fits C F v → Ends K (IsTyped (type_at d)) (Leaves C X d v) v (value_of C d v))
+      → ((v : Memory) → Fits C F v → Ends K (IsTyped (type_at e)) (Leaves C X e v) v (value_of C e v))
+      → Ends K (IsTyped ty) (Leaves C X (typed ty (binary op d e)) w) w (value_of C (typed ty (binary op d e)) w)
+  binary_ends w fits ty op d e c first second covers formed h i =
+      term_ends C F ty (binary op d e) (Leaves C X (typed ty (binary op d e)) w) w refl
+      (subst (λ q. Ends K (IsTerm ty) (Leaves C X (typed ty (binary op d e)) w) w
       (then (scalar_value C d w) (λ x v. then (answered (left_operand q x) v) (λ x v.
       then (scalar_value C e v) (λ y u. answer_as ty (operate (then_row q) x y) u)))))
       (sym (typed_binary (type_at d) (type_at e) op first second))
-      (then_ends (Plain (type_at d)) (IsTerm ty) (Leaves C (typed ty (binary op d e)) w) w (scalar_value C d w)
+      (then_ends K (IsScalarOf (type_at d)) (IsTerm ty) (Leaves C X (typed ty (binary op d e)) w) w (scalar_value C d w)
       (λ x v. after [] (then (scalar_value C e v) (λ y u. answer_as ty (operate (op6.Typed op) x y) u)))
-      (ends_weaker (Plain (type_at d)) (Leaves C d w) (Leaves C (typed ty (binary op d e)) w) w (scalar_value C d w) (in_left ty op d e w)
-      (scalar_ends C d (type_at d) (Leaves C d w) w h))
-      (λ x p left.
-      ends_after (IsTerm ty) (Leaves C (typed ty (binary op d e)) w) w
-      (then (scalar_value C e w) (λ y u. answer_as ty (operate (op6.Typed op) x y) u))
-      (then_ends (Plain (type_at e)) (IsTerm ty) (Leaves C (typed ty (binary op d e)) w) w (scalar_value C e w)
+      (ends_weaker K (IsScalarOf (type_at d)) (Leaves C X d w) (Leaves C X (typed ty (binary op d e)) w) w (scalar_value C d w) (in_left ty op d e w)
+      (scalar_ends C F d (type_at d) (Leaves C X d w) w (h w fits)))
+      (λ o x v left k p.
+      ends_after K (IsTerm ty) (Leaves C X (typed ty (binary op d e)) w) v []
+      (then (scalar_value C e v) (λ y u. answer_as ty (operate (op6.Typed op) x y) u))
+      (then_ends K (IsScalarOf (type_at e)) (IsTerm ty) (Leaves C X (typed ty (binary op d e)) w) v (scalar_value C e v)
       (λ y u. answer_as ty (operate (op6.Typed op) x y) u)
-      (ends_weaker (Plain (type_at e)) (Leaves C e w) (Leaves C (typed ty (binary op d e)) w) w (scalar_value C e w) (in_right ty op d e w w [] x left)
-      (scalar_ends C e (type_at e) (Leaves C e w) w i))
-      (λ y q right.
-      answer_ends ty (Leaves C (typed ty (binary op d e)) w) (operate (op6.Typed op) x y) w
-      (answer_weaker ty (IsEdge op x y) (Leaves C (typed ty (binary op d e)) w) (operate (op6.Typed op) x y)
-      (λ edge. at_operator ty op d e w w w [] [] x y left right edge)
+      (ends_weaker K (IsScalarOf (type_at e)) (Leaves C X e v) (Leaves C X (typed ty (binary op d e)) w) v (scalar_value C e v)
+      (in_right ty op d e w v o x left) (scalar_ends C F e (type_at e) (Leaves C X e v) v (i v (fits_later C F w v k fits))))
+      (λ o2 y u right l q.
+      answer_ends K ty (Leaves C X (typed ty (binary op d e)) w) (operate (op6.Typed op) x y) u
+      (answer_weaker ty (IsEdge op x y) (Leaves C X (typed ty (binary op d e)) w) (operate (op6.Typed op) x y)
+      (λ edge. at_operator ty op d e w v u o o2 x y left right edge)
       (binary_answer op ty (type_at d) (type_at e) x y c first second covers formed p q)))))))
 
-  convert_ends : (ty to : Ty) (e : Expr) → covers_type ty ≡ true → covers_type to ≡ true → covers_type (type_at e) ≡ true
-      → is_some (write_conversion (type_at e) to) ≡ true → ty ≡ to → Ends (IsValue (type_at e)) (Leaves C e w) w (value_of C e w)
-      → Ends (IsValue ty) (Leaves C (typed ty (convert to e)) w) w (value_of C (typed ty (convert to e)) w)
-  convert_ends ty to e c goes first some same h =
-      term_ends C ty (convert to e) (Leaves C (typed ty (convert to e)) w) w refl
-      (subst (λ t. Ends (IsTerm t) (Leaves C (typed ty (convert to e)) w) w (then (scalar_value C e w) (λ x v. answer_as to (coerce x to) v))) (sym same)
-      (then_ends (Plain (type_at e)) (IsTerm to) (Leaves C (typed ty (convert to e)) w) w (scalar_value C e w) (λ x v. answer_as to (coerce x to) v)
-      (ends_weaker (Plain (type_at e)) (Leaves C e w) (Leaves C (typed ty (convert to e)) w) w (scalar_value C e w) (in_converted ty to e w)
-      (scalar_ends C e (type_at e) (Leaves C e w) w h))
-      (λ x p one.
-      answer_ends to (Leaves C (typed ty (convert to e)) w) (coerce x to) w
-      (answer_weaker to ⊥ (Leaves C (typed ty (convert to e)) w) (coerce x to) (λ n. absurd n)
+  pub convert_ends : (w : Memory) (ty to : Ty) (e : Expr) → covers_type ty ≡ true → covers_type to ≡ true → covers_type (type_at e) ≡ true
+      → is_some (write_conversion (type_at e) to) ≡ true → ty ≡ to → Ends K (IsTyped (type_at e)) (Leaves C X e w) w (value_of C e w)
+      → Ends K (IsTyped ty) (Leaves C X (typed ty (convert to e)) w) w (value_of C (typed ty (convert to e)) w)
+  convert_ends w ty to e c goes first some same h =
+      term_ends C F ty (convert to e) (Leaves C X (typed ty (convert to e)) w) w refl
+      (subst (λ t. Ends K (IsTerm t) (Leaves C X (typed ty (convert to e)) w) w (then (scalar_value C e w) (λ x v. answer_as to (coerce x to) v))) (sym same)
+      (then_ends K (IsScalarOf (type_at e)) (IsTerm to) (Leaves C X (typed ty (convert to e)) w) w (scalar_value C e w) (λ x v. answer_as to (coerce x to) v)
+      (ends_weaker K (IsScalarOf (type_at e)) (Leaves C X e w) (Leaves C X (typed ty (convert to e)) w) w (scalar_value C e w) (in_converted ty to e w)
+      (scalar_ends C F e (type_at e) (Leaves C X e w) w h))
+      (λ o x v one k p.
+      answer_ends K to (Leaves C X (typed ty (convert to e)) w) (coerce x to) v
+      (answer_weaker to ⊥ (Leaves C X (typed ty (convert to e)) w) (coerce x to) (λ n. absurd n)
       (conversion_answer (type_at e) to x first goes some p)))))
 
-  -- ---- all expressions
+  -- ---- the library
 
-  pub covered_type : (e : Expr) → is_simple_expr uses e ≡ true → covers_type (type_at e) ≡ true
-  covered_type (typed ty t) h = (both_true (covers_type ty) (is_simple_term uses t) h).0
+  abbrev rest_of : Exprs → Memory → Outcome Memory (List Value6)
+  rest_of rest w = values_of C rest w
 
-  pub value_ends : (e : Expr) → is_simple_expr uses e ≡ true → is_formed e ≡ true → is_typed (declared C) e ≡ true
-      → Ends (IsValue (type_at e)) (Leaves C e w) w (value_of C e w)
-  value_ends (typed ty (tree.constant x origin)) covers formed typing =
-      let c : covers_type ty ≡ true = (both_true (covers_type ty) true covers).0 in
-      let all = both_true (is_same_type (type_of_constant x) ty) (is_within x && is_literal x) formed in
-      let within = both_true (is_within x) (is_literal x) all.1 in
-      let s : type_of_constant x ≡ ty = same_as (type_of_constant x) ty c all.0 in
-      term_ends C ty (tree.constant x origin) (Leaves C (typed ty (tree.constant x origin)) w) w refl
-      (refl, refl, (x, refl, subst (λ t. Plain t x) s (constant_plain x within.0 (subst (λ t. covers_type t ≡ true) (sym s) c))))
-  value_ends (typed ty (variable v qualified)) covers formed typing =
-      variable_ends ty v qualified (both_true (covers_type ty) (uses v) covers).1 typing
-  value_ends (typed ty (unary op e)) covers formed typing =
-      let both = both_true (covers_type ty) (is_simple_expr uses e) covers in
-      let forms = both_true (is_row_of_one ty (write_unary op (type_at e))) (is_formed e) formed in
-      let c : covers_type (type_at e) ≡ true = covered_type e both.1 in
-      unary_ends ty op e both.0 c forms.0 (value_ends e both.1 forms.1 typing)
-  value_ends (typed ty (binary op d e)) covers formed typing =
-      let both = both_true (covers_type ty) (covers_operator op && (is_simple_expr uses d && is_simple_expr uses e)) covers in
-      let operator = both_true (covers_operator op) (is_simple_expr uses d && is_simple_expr uses e) both.1 in
-      let operands = both_true (is_simple_expr uses d) (is_simple_expr uses e) operator.1 in
-      let forms = both_true (is_row_of_two op ty (write_operator op (type_at d) (type_at e))) (is_formed d && is_formed e) formed in
-      let inner = both_true (is_formed d) (is_formed e) forms.1 in
-      let types = both_true (is_typed (declared C) d) (is_typed (declared C) e) typing in
-      binary_ends ty op d e both.0 (covered_type d operands.0) (covered_type e operands.1) operator.0 forms.0
-      (value_ends d operands.0 inner.0 types.0) (value_ends e operands.1 inner.1 types.1)
-  value_ends (typed ty (convert to e)) covers formed typing =
-      let both = both_true (covers_type ty) (covers_type to && is_simple_expr uses e) covers in
-      let operand = both_true (covers_type to) (is_simple_expr uses e) both.1 in
-      let forms = both_true (is_some (write_conversion (type_at e) to)) (is_formed e) formed in
-      let types = both_true (is_same_type ty to) (is_typed (declared C) e) typing in
-      convert_ends ty to e both.0 operand.0 (covered_type e operand.1) forms.0 (same_as ty to operand.0 types.0)
-      (value_ends e operand.1 forms.1 types.1)
-  value_ends (typed ty (field e i)) covers formed typing = absurd (true≢false (sym formed))
-  value_ends (typed ty (element e indexes)) covers formed typing = absurd (true≢false (sym formed))
-  value_ends (typed ty (call q qualified of args)) covers formed typing = absurd (true≢false (sym (both_true (covers_type ty) false covers).1))
-  value_ends (typed ty (library function args)) covers formed typing = absurd (true≢false (sym (both_true (covers_type ty) false covers).1))
-  value_ends (typed ty (new_object class)) covers formed typing = absurd (true≢false (sym formed))
-  value_ends (typed ty me) covers formed typing = absurd (true≢false (sym formed))
-  value_ends (typed ty (with_object r)) covers formed typing = absurd (true≢false (sym formed))
-  value_ends (typed ty err_number) covers formed typing = absurd (true≢false (sym formed))
-  value_ends (typed ty (err_raise e)) covers formed typing = absurd (true≢false (sym (both_true (covers_type ty) false covers).1))
-  value_ends (typed ty err_clear) covers formed typing = absurd (true≢false (sym (both_true (covers_type ty) false covers).1))
-  value_ends (typed ty (is_same d e)) covers formed typing = absurd (true≢false (sym formed))
-  value_ends (typed ty (loose e rules)) covers formed typing = absurd (true≢false (sym formed))
+  -- a call of the library that gives a value of itself
+  pub value_call_ends : (w : Memory) → Fits C F w → (ty : Ty) (f : LibCall) (e : Expr) (rest : Exprs) → covers_type ty ≡ true → gives_itself f ≡ true
+      → ((p : Parts) (v : Memory) → library_parts C ty f e rest (rest_of rest) p v ≡ library_value C ty f e (rest_of rest) p v)
+      → is_row_of_call f (types_of (next_expr e rest)) ty ≡ true
+      → ((v : Memory) → Fits C F v → Ends K (IsTyped (type_at e)) (Leaves C X e v) v (value_of C e v))
+      → ((v : Memory) → Fits C F v → Ends K (λ u xs. ArePlain (types_of rest) xs) (ExprsLeave C X rest v) v (values_of C rest v))
+      → Ends K (IsTerm ty) (Leaves C X (typed ty (library f (next_expr e rest))) w) w (library_call C ty f (next_expr e rest) w)
+  value_call_ends w fits ty f e rest c itself is row h i =
+      let L : Type 0 = Leaves C X (typed ty (library f (next_expr e rest))) w in
+      let J = λ (x : Value6) (v : Memory). then (values_of C rest v) (λ xs u. answer_as ty (values.call f (x ∷ xs)) u) in
+      let same : library_call C ty f (next_expr e rest) w ≡ then (scalar_value C e w) J =
+      ap (λ (k : Parts → Memory → Outcome Memory Parts). then (parts_of C e w) k) (λ j p v. is p v j)
+      ∙ sym (then_assoc (parts_of C e w) (scalar_in C e) J) in
+      subst (λ r. Ends K (IsTerm ty) L w r) (sym same)
+      (then_ends K (IsScalarOf (type_at e)) (IsTerm ty) L w (scalar_value C e w) J
+      (ends_weaker K (IsScalarOf (type_at e)) (Leaves C X e w) L w (scalar_value C e w) (λ l. in_library ty f (next_expr e rest) w (in_first e rest w l))
+      (scalar_ends C F e (type_at e) (Leaves C X e w) w (h w fits)))
+      (λ o x v one k p.
+      then_ends K (λ u xs. ArePlain (types_of rest) xs) (IsTerm ty) L v (values_of C rest v) (λ xs u. answer_as ty (values.call f (x ∷ xs)) u)
+      (ends_weaker K (λ u xs. ArePlain (types_of rest) xs) (ExprsLeave C X rest v) L v (values_of C rest v)
+      (λ l. in_library ty f (next_expr e rest) w (in_later e rest w v o x one l)) (i v (fits_later C F w v k fits)))
+      (λ o2 xs u two k2 q.
+      answer_ends K ty L (values.call f (x ∷ xs)) u
+      (answer_weaker ty (IsLibraryEdge f (x ∷ xs)) L (values.call f (x ∷ xs)) (λ edge. at_library ty f e rest w v u o o2 x xs one two edge)
+      (library_answer f ty c (types_of (next_expr e rest)) (x ∷ xs) (p, q) itself row)))))
 
--- ---- the law
+  no : false ≡ true → ⊥
+  no h = true≢false (sym h)
 
-result_of : (C : Context) (e : Expr) (w : Memory) (r : Outcome Memory Value6) → Ends (Plain (type_at e)) (Leaves C e w) w r → IsResult C e w r
-result_of C e w (gives o x v) h = (h.0, h.1, plains.scalar_of w (type_at e) x h.2)
-result_of C e w (raises o n v) h = h
-result_of C e w (spent o v) h = h
-result_of C e w (outside o) h = h
+  and_no : (b : Bool) → b && false ≡ true → ⊥
+  and_no true h = no h
+  and_no false h = no h
 
-pub expression_has_type : (C : Context) (mentions : List Mention) (e : Expr) (w : Memory)
-    → is_simple_expr (is_simple_use C.runnable.program C.procedure mentions) e ≡ true → is_formed e ≡ true → is_typed (declared C) e ≡ true
-    → IsTypedFrame (declared C) C.procedure w C.frame → IsResult C e w (scalar_value C e w)
-expression_has_type C mentions e w covers formed typing frame =
-    result_of C e w (scalar_value C e w)
-    (scalar_ends C e (type_at e) (Leaves C e w) w
-    (value_ends C mentions w (locals_of (declared C) C.procedure w C.frame frame) e covers formed typing))
+  -- a text, of what has the type String
+  pub text_of : (t : Ty) (x : Value6) → Plain t x → is_same_type t types.str ≡ true → (s : List ℕ) × (x ≡ v.Str s)
+  text_of _ _ (a_text s) h = (s, refl)
+  text_of _ _ (a_boolean b) h = absurd (no h)
+  text_of _ _ (a_byte m i) h = absurd (no h)
+  text_of _ _ (an_integer z i) h = absurd (no h)
+  text_of _ _ (a_long z i) h = absurd (no h)
+  text_of _ _ (a_currency z i) h = absurd (no h)
+
+  -- of the arguments of MsgBox and InputBox the first is a text
+  pub first_text : (e : Expr) (rest : Exprs) (u ty : Ty) → is_call (types.str ∷ []) u (types_of (next_expr e rest)) ty ≡ true
+      → is_same_type (type_at e) types.str ≡ true
+  first_text e no_exprs u ty h =
+      (both_true (is_same_type (type_at e) types.str) true (both_true (is_same_type u ty) (is_same_type (type_at e) types.str && true) h).1).0
+  first_text e (next_expr d rest) u ty h = absurd (and_no (is_same_type (type_at e) types.str) (both_true (is_same_type u ty) _ h).1)
+
+  pub asked_ends : (w u : Memory) (e : Expr) (rest : Exprs) (o : List Output) (s : List ℕ) (t : Bool) → list_all has_byte (first_input u.inputs) ≡ t
+      → scalar_value C e w ≡ gives o (v.Str s) u
+      → Ends K (IsTerm types.str) (Leaves C X (typed types.str (library lib.InputBox (next_expr e rest))) w) u
+      (cond t (gives (asked s ∷ []) (at_address (store.constant (scalar types.str (v.Str (first_input u.inputs))))) (record u { inputs = rest_inputs u.inputs }))
+      (outside (asked s ∷ [])))
+  asked_ends w u e rest o s true h one =
+      (keeps_same K u (record u { inputs = rest_inputs u.inputs }) refl refl refl refl, (v.Str (first_input u.inputs), refl, a_text (first_input u.inputs)))
+  asked_ends w u e rest o s false h one = at_input types.str e rest w u o s one h

@@ -1,83 +1,126 @@
--- Covered lines keep a well-typed frame well typed, or leave the tables.
-use Rattle.std.proofs.Common.{◌≡◌, refl, sym, ap, ◌∙◌, subst, ℕ, ◌^◌, Bool, true, false, cond, ◌&&◌, nat_eq, true≢false, List, [], ◌∷◌, ◌++◌, Option, Some}
-use Rattle.std.specs.Prelude.{nat_lt, length, slice_get, ◌||◌}
-use Rattle.std.specs.List.{list_all}
-use Rattle.std.specs.Map.{lookup}
-use Rattle.up_base.proofs.Lists.{all_first, all_rest}
+-- Assignments, prints, calls and conditions keep a well-typed frame well typed, or leave.
+use Rattle.std.proofs.Common.{◌≡◌, refl, sym, ap, ◌∙◌, subst, ℕ, ◌^◌, ℤ, pos, negsuc, Bool, true, false, cond, ◌&&◌, true≢false, List, [], ◌∷◌, ◌++◌, Option, Some, None}
+use Rattle.std.specs.Prelude.{nat_lt, length, slice_get, ◌||◌, is_some, option_map, suc}
 use Rattle.up_base.proofs.Tests.{both_true}
 use Rattle.vb_tree.specs.BoundTree.{Ty, fixed, unknown}
+use Rattle.vb_tree.specs.BoundTree as types
+use Rattle.vb_tree.specs.declared.bound.LibCall.{LibCall}
+use Rattle.vb_tree.specs.declared.bound.LibCall.TheVariants as lib
 use Rattle.vb_tree.specs.declared.declared.VarId.{VarId}
+use Rattle.vb_tree.specs.declared.token.Suffix.{Suffix}
 use Rattle.vb_tree.specs.declared.value.Value6.{Value6}
+use Rattle.vb_tree.specs.declared.value.Value6.TheVariants as v
 use Rattle.vb_tree.specs.Tree.{Exp, Form}
 use Rattle.vb_tree.specs.Tree as source
 use Rattle.vb6_meaning.specs.NumberTexts.{print_text}
 use Rattle.bound_tree.specs.declared.body.Mention.{Mention}
-use Rattle.bound_tree.specs.Tree.{Declarations, Expr, typed, Term, variable, field, element, call, library, unary, binary, convert, new_object, me, with_object, err_number, err_raise, err_clear, is_same, loose}
-use Rattle.bound_tree.specs.Tree as tree
+use Rattle.bound_tree.specs.Targets.{Aims, Step, heads_round, innermost, onward, otherwise_of, step_of}
+use Rattle.bound_tree.specs.Tree.{Declarations, Expr, typed, Term, variable, call, library, err_raise, err_clear, no_object, of_object, Exprs, no_exprs, next_expr}
 use Rattle.bound_facts.specs.Locks.{is_same_type}
 use Rattle.bound_facts.specs.Node.{type_at}
-use Rattle.row_laws.proofs.Composing.{after_nil, then_assoc}
-use Rattle.run_base.specs.Frames.{to_line}
-use Rattle.run_base.specs.Outcomes.{Outcome, gives, raises, spent, outside, after, then, answered, some_of, printed}
-use Rattle.vb6_run.specs.Expressions.{Context, declared, finished, value_of, scalar_value}
-use Rattle.vb6_run.specs.Forms.{form_does}
-use Rattle.vb6_run.specs.Lines.{behind_print, goes_on, item_text, items_text, print, let_to, store_at}
-use Rattle.vb6_run.specs.Store.{Held, root, single, Memory, SourceFrame, provided, put_single, store, with_held}
+use Rattle.bound_facts.specs.Nodes.{nodes, nodes_of_all}
+use Rattle.row_laws.proofs.Composing.{then_assoc}
+use Rattle.run_base.specs.Frames.{Kept, keeping, to_line}
+use Rattle.run_base.specs.Outcomes.{Output, Outcome, gives, raises, outside, after, then, answered, some_of, printed}
+use Rattle.vb6_run.specs.Expressions.{Context, Parts, no_value, declared, finished, scalar_in, whole_number, raise_of, as_new, parts_of, term_parts, value_of, scalar_value, library_call}
+use Rattle.vb6_run.specs.Lines.{behind_print, branch, condition, goes_if, goes_on, item_text, items_text, print, let_to, store_at}
+use Rattle.vb6_run.specs.Store.{Address, Held, root, single, Memory, SourceFrame, provided, put_single, set_err, store, with_held, write}
+use Rattle.run_base.specs.Positions.{Position}
+use Rattle.vb6_run.specs.Shapes.{simple}
 use Rattle.vb6_run.specs.Values.{Value, scalar}
-use Rattle.run_matches.specs.Covered.{covers_type, is_variable}
-use Rattle.typing_laws.specs.Simple.{is_simple_expr, is_simple_form, is_simple_line, is_simple_use, has_simple_variables}
-use Rattle.run_matches.specs.Formed.{is_formed}
-use Rattle.typing_laws.specs.Frames.{IsTypedFrame}
-use Rattle.typing_laws.specs.Leaving.{Leaves, ItemsLeave, in_first, in_later, LineLeaves, in_value, in_items, at_print}
-use Rattle.typing_laws.specs.Results.{IsLineResult, IsOwnChange}
-use Rattle.typing_laws.specs.Typed.{has_type, is_typed, is_typed_line, assigns_typed, takes, taken, is_unknown}
-use Rattle.typing_laws.proofs.Ends.{Ends, ends_weaker, given_here, then_ends}
-use Rattle.typing_laws.proofs.Expressions.{IsValue, value_ends, scalar_ends, variable_is, place_of, same_type, covered_type}
-use Rattle.typing_laws.proofs.Places.{Locals, Only, Place, Used, address_is, locals_changed, locals_of, only_changed, only_self, typed_frame, use_is, variable_shape_is}
-use Rattle.typing_laws.proofs.Plain.{Plain, IsPrinted, is_kept, is_printed, same_as, self}
+use Rattle.run_matches.specs.Covered.{Uses, covers_called, covers_expr, covers_library, covers_exprs, covers_term, covers_type, is_box, is_variable, uses_in}
+use Rattle.run_matches.specs.Formed.{are_formed, is_formed, is_row_of_call, types_of}
+use Rattle.typing_laws.specs.Scalars.{scalar_uses}
+use Rattle.typing_laws.specs.Calls.{CallsAreSuited, CallsKeep, Each, IsAimed, IsSuited, SourceJob}
+use Rattle.typing_laws.specs.Frames.{IsKeptBy, IsSound, IsTypedFrame, Keeps, Stands}
+use Rattle.typing_laws.specs.Leaving.{Leaves, ItemsLeave, in_item, behind_item, in_raised, at_raised, is_error_number}
+use Rattle.typing_laws.specs.Typed.{are_typed, are_typed_passed, fits_call, fits_type, is_typed, takes, taken, is_unknown}
+use Rattle.typing_laws.proofs.Callees.{both_each}
+use Rattle.typing_laws.proofs.Ends.{Ends, ends_after, ends_as, ends_weaker, keeps_self, sound_later, then_ends}
+use Rattle.typing_laws.proofs.Expressions.{Fits, IsScalarOf, IsTyped, fitting, same_type, scalar_ends, variable_is, variable_place}
+use Rattle.typing_laws.proofs.Frames.{frame_at, frame_later}
+use Rattle.typing_laws.proofs.Places.{keeps_changed, keeps_same, not_none}
+use Rattle.typing_laws.proofs.Plain.{Plain, IsPrinted, a_boolean, a_byte, an_integer, a_long, a_currency, a_text, is_covered, is_kept, is_printed, same_as, self}
+use Rattle.typing_laws.proofs.Scalars.{library_covered}
+use Rattle.typing_laws.proofs.Trees.{call_args_end, value_ends}
+use Rattle.typing_laws.proofs.Uses.{PlaceOf, Used, use_is}
+use Rattle.typing_laws.proofs.Values.{Callee, IsCalled, box_ends, call_ends, callee_of, covered_type, no_arguments}
+use Rattle.typing_laws.specs.Frames.{Footprint, Ground, ground}
 
-module _ (C : Context) where
-  -- what a line ends with, over the local variables
-  abbrev pub LineEnds : Type 0 → Memory → Outcome Memory SourceFrame → Type 0
-  LineEnds E w (gives o g v) =
-      (g.vars ≡ C.frame.vars) × Locals (declared C) C.procedure v.held C.frame.vars × Only (declared C) C.procedure C.frame.vars w v
-  LineEnds E w (raises o n v) = Locals (declared C) C.procedure v.held C.frame.vars × Only (declared C) C.procedure C.frame.vars w v
-  LineEnds E w (spent o v) = ⊥
-  LineEnds E w (outside o) = E
+-- ---- where the frame of a line stands
 
-  line_after : (E : Type 0) (w : Memory) (r : Outcome Memory SourceFrame) → LineEnds E w r → LineEnds E w (after [] r)
-  line_after E w r h = subst (λ z. LineEnds E w z) (sym (after_nil r)) h
+pub record IsIn (C : Context) (F : Footprint) (w : Memory) : Type 0 where
+  pub sound : IsSound (ground (declared C) F) w
+  pub frame : IsTypedFrame F C.runnable C.procedure w C.frame
 
-  -- a line goes on behind a computation that changes nothing
-  then_line : {A : Type 0} (Q : A → Type 0) (E : Type 0) (w : Memory) (r : Outcome Memory A) (k : A → Memory → Outcome Memory SourceFrame)
-      → Locals (declared C) C.procedure w.held C.frame.vars → Ends Q E w r → ((a : A) → Q a → r ≡ gives [] a w → LineEnds E w (k a w))
-      → LineEnds E w (then r k)
-  then_line Q E w (gives o a v) k l h go =
-      subst (λ z. LineEnds E w (then z k)) (sym (given_here o a v w h.0 h.1)) (line_after E w (k a w) (go a h.2 (given_here o a v w h.0 h.1)))
-  then_line Q E w (raises o n v) k l h go =
-      subst (λ (u : Memory). Locals (declared C) C.procedure u.held C.frame.vars × Only (declared C) C.procedure C.frame.vars w u) (sym h.1)
-      (l, only_self (declared C) C.procedure C.frame.vars w)
-  then_line Q E w (spent o v) k l h go = h
-  then_line Q E w (outside o) k l h go = h
+pub in_later : (C : Context) (F : Footprint) (w v : Memory) → Keeps (ground (declared C) F) w v → IsIn C F w → IsIn C F v
+in_later C F w v k h = record { sound = sound_later (ground (declared C) F) w v k h.sound; frame = frame_later F C.runnable C.procedure w v C.frame k h.frame }
 
--- ---- assignments
+pub fits_in : (C : Context) (F : Footprint) (w : Memory) → IsIn C F w → Fits C F w
+fits_in C F w h = record { sound = h.sound; own = h.frame.own }
 
--- an assignment to a variable whose value has its type
-module _ (C : Context) (ty : Ty) (v : VarId) (qualified : Bool) (w : Memory) (u : Used (declared C) C.procedure v)
-    (p : Place w.held u.variable.ty (lookup (nat_eq v.0) C.frame.vars)) (z : Value6) (plain : Plain u.variable.ty z) where
-  abbrev goes : Unit {0} → Memory → Outcome Memory SourceFrame
-  goes x s = goes_on C s
+-- a frame that goes on
+abbrev pub Good : Context → Footprint → Memory → SourceFrame → Type 0
+Good C F v g = IsTypedFrame F C.runnable C.procedure v g
 
-  abbrev s : Ty
-  s = u.variable.ty
+-- a head keeps something at its line
+abbrev pub KeepsAt : Context → Footprint → Form → List Expr → Type 0
+KeepsAt C F f es =
+    (w : Memory) (k : Kept Value Address) (n : ℕ) → IsTypedFrame F C.runnable C.procedure w C.frame → IsKeptBy (ground (declared C) F) w f es k
+    → IsTypedFrame F C.runnable C.procedure w (keeping k n C.frame)
 
-  stored : then (let_to C (typed ty (variable v qualified)) (scalar s z) w) goes
-      ≡ gives [] (to_line C.aims.after C.frame) (with_held p.position (single s z) w)
-  stored =
-      ap (λ r. then (then (then r finished) (store_at C (typed ty (variable v qualified)) (scalar s z))) goes) (variable_is C ty v qualified w u p)
-      ∙ ap (λ (o : Option Value). then (after [] (some_of o (λ x w. store C.frame.env x p.position w) w)) goes) (is_kept s z plain)
-      ∙ ap (λ (h : Held). then (after [] (put_single h p.position s z w)) goes) p.holds
-      ∙ ap (λ b. then (after [] (provided b (λ w. gives [] tt (with_held p.position (single s z) w)) w)) goes) (self s u.covers)
+pub leads : (C : Context) (F : Footprint) (E : Type 0) (w : Memory) (n : ℕ) → IsIn C F w → Ends (ground (declared C) F) (Good C F) E w (gives [] (to_line n C.frame) w)
+leads C F E w n h = (keeps_self (ground (declared C) F) w, frame_at F C.runnable C.procedure w C.frame h.frame n)
+
+-- a line that leads to one of two others
+pub goes_by : (C : Context) (F : Footprint) (E : Type 0) (w : Memory) → IsIn C F w → (o : Option ℕ) → (o ≡ None → E) → Ends (ground (declared C) F) (Good C F) E w (goes_if C o w)
+goes_by C F E w h None out = out refl
+goes_by C F E w h (Some n) out = leads C F E w n h
+
+pub branches : (C : Context) (F : Footprint) (E : Type 0) (m n : Option ℕ) (x : Value6) (w : Memory) → IsIn C F w → Plain types.boolean x → (m ≡ None → E) → (n ≡ None → E)
+    → Ends (ground (declared C) F) (Good C F) E w (branch C m n x w)
+branches C F E m n _ w h (a_boolean true) first second = goes_by C F E w h m first
+branches C F E m n _ w h (a_boolean false) first second = goes_by C F E w h n second
+
+-- ---- where heads and ends of blocks lead
+
+-- a head or a part of a block, that may pass the lines behind it by
+abbrev pub passes_by : Form → Bool
+passes_by (source.if_head e) = true
+passes_by (source.line_if e) = true
+passes_by (source.else_if e) = true
+passes_by (source.case_line items) = true
+passes_by (source.for_head counter start limit step) = true
+passes_by (source.do_while e) = true
+passes_by (source.do_until e) = true
+passes_by (source.while_head e) = true
+passes_by _ = false
+
+passes_somewhere : (all : List Step) (n : ℕ) (f : Form) → passes_by f ≡ true → is_some (otherwise_of all n (step_of f)) ≡ true
+passes_somewhere all n (source.if_head e) h = refl
+passes_somewhere all n (source.line_if e) h = refl
+passes_somewhere all n (source.else_if e) h = refl
+passes_somewhere all n (source.case_line items) h = refl
+passes_somewhere all n (source.for_head counter start limit step) h = refl
+passes_somewhere all n (source.do_while e) h = refl
+passes_somewhere all n (source.do_until e) h = refl
+passes_somewhere all n (source.while_head e) h = refl
+passes_somewhere all n _ h = absurd (true≢false (sym h))
+
+pub never_nowhere : (C : Context) (f : Form) (E : Type 0) → IsAimed C f → passes_by f ≡ true → C.aims.otherwise ≡ None → E
+never_nowhere C f E a h none =
+    absurd (true≢false (sym (ap is_some (ap (λ (x : Aims). x.otherwise) a.aims) ∙ passes_somewhere a.all a.number f h) ∙ ap is_some none))
+
+-- a Next that closes a block goes back to it
+pub never_unopened : (C : Context) (name : Option (List ℕ × Suffix)) (n : ℕ) (E : Type 0) → IsAimed C (source.next name) → C.aims.own ≡ Some n → C.aims.back ≡ None → E
+never_unopened C name n E a own none =
+    by (innermost (heads_round a.all a.number)) (sym (ap (λ (x : Aims). x.own) a.aims) ∙ own) (sym (ap (λ (x : Aims). x.back) a.aims) ∙ none)
+  where
+    by : (o : Option ℕ) → o ≡ Some n → option_map (λ head. onward a.all (suc head)) o ≡ None → E
+    by None e h = absurd (not_none e)
+    by (Some m) e h = absurd (not_none (sym h))
+
+-- ---- what a variable takes
 
 known : (s : Ty) → covers_type s ≡ true → is_unknown s ≡ false
 known unknown c = absurd (true≢false (sym c))
@@ -88,7 +131,7 @@ taken_itself (fixed units) c = absurd (true≢false (sym c))
 taken_itself _ c = refl
 
 -- a target of a covered type takes values of its type alone
-taken_same : (t s : Ty) → covers_type t ≡ true → covers_type s ≡ true → takes t s ≡ true → s ≡ t
+pub taken_same : (t s : Ty) → covers_type t ≡ true → covers_type s ≡ true → takes t s ≡ true → s ≡ t
 taken_same t s c d h =
     sym (same_as t s d (by (is_same_type t s)
     (sym (ap (λ u. is_same_type u s || (is_unknown t || is_unknown s)) (taken_itself t c)
@@ -99,136 +142,214 @@ taken_same t s c d h =
     by true e = refl
     by false e = e
 
-module _ (C : Context) (mentions : List Mention) (w : Memory) (locals : Locals (declared C) C.procedure w.held C.frame.vars) where
-  abbrev uses : VarId → Bool
-  uses v = is_simple_use C.runnable.program C.procedure mentions v
+-- a value of its type is written where a variable stands
+pub written : (C : Context) (F : Footprint) (ty : Ty) (x : VarId) (qualified : Bool) (w : Memory) (u : Used (declared C) C.procedure x)
+    (p : PlaceOf (ground (declared C) F) C.frame w x.0 u.variable.ty) (z : Value6) → Plain u.variable.ty z
+    → let_to C (typed ty (variable x qualified)) (scalar u.variable.ty z) w ≡ gives [] tt (with_held p.0 (single u.variable.ty z) w)
+written C F ty x qualified w u p z plain =
+    ap (λ r. then (then r finished) (store_at C (typed ty (variable x qualified)) (scalar u.variable.ty z))) (variable_is C F ty x qualified w w u p)
+    ∙ ap (λ (o : Option Value). after [] (some_of o (λ x w. store C.frame.env x p.0 w) w)) (is_kept u.variable.ty z plain)
+    ∙ ap (λ (h : Held). after [] (put_single h p.0 u.variable.ty z w)) p.2.holds
+    ∙ ap (λ b. after [] (provided b (λ w. gives [] tt (with_held p.0 (single u.variable.ty z) w)) w)) (self u.variable.ty u.covers)
 
-  store_ends : (target value : Exp) (ty : Ty) (v : VarId) (qualified : Bool) (e : Expr) → covers_type ty ≡ true → uses v ≡ true
-      → has_type ty (slice_get (declared C).vars v.0) ≡ true → is_simple_expr uses e ≡ true → is_formed e ≡ true
-      → is_typed (declared C) e ≡ true → type_at e ≡ ty
-      → LineEnds C (LineLeaves C (source.assign target value) (typed ty (variable v qualified) ∷ e ∷ []) w) w
-      (form_does C (source.assign target value) (typed ty (variable v qualified) ∷ e ∷ []) w)
-  store_ends target value ty v qualified e covers used typing covers_e formed typing_e same =
-      let u : Used (declared C) C.procedure v = use_is C.runnable.program C.procedure mentions v used in
-      let p : Place w.held u.variable.ty (lookup (nat_eq v.0) C.frame.vars) = place_of C mentions w locals v u in
-      let type_is : type_at e ≡ u.variable.ty = same ∙ same_type C mentions w locals ty v u typing in
-      subst (λ r. LineEnds C (LineLeaves C (source.assign target value) (typed ty (variable v qualified) ∷ e ∷ []) w) w r)
-      (sym (then_assoc (value_of C e w) (let_to C (typed ty (variable v qualified))) (λ x s. goes_on C s)))
-      (then_line C (IsValue (type_at e)) (LineLeaves C (source.assign target value) (typed ty (variable v qualified) ∷ e ∷ []) w) w (value_of C e w)
-      (λ x s. then (let_to C (typed ty (variable v qualified)) x s) (λ y t. goes_on C t)) locals
-      (ends_weaker (IsValue (type_at e)) (Leaves C e w) (LineLeaves C (source.assign target value) (typed ty (variable v qualified) ∷ e ∷ []) w) w
-      (value_of C e w) (in_value target value (typed ty (variable v qualified)) e w) (value_ends C mentions w locals e covers_e formed typing_e))
-      (λ x m is.
-      let q : Plain u.variable.ty m.0 = subst (λ t. Plain t m.0) type_is m.2 in
-      subst (λ r. LineEnds C (LineLeaves C (source.assign target value) (typed ty (variable v qualified) ∷ e ∷ []) w) w r)
-      (sym (ap (λ y. then (let_to C (typed ty (variable v qualified)) y w) (λ y t. goes_on C t)) (m.1 ∙ ap (λ t. scalar t m.0) type_is)
-      ∙ stored C ty v qualified w u p m.0 q)) (
-        refl,
-        locals_changed w.held p.position u.variable.ty p.value m.0 p.holds q (declared C) C.procedure C.frame.vars locals,
-        only_changed (declared C) C.procedure C.frame.vars w v.0 u.variable p.position (single u.variable.ty m.0) u.is_variable u.local u.covers p.is,
-      )))
+-- the same at a position
+pub put_there : (C : Context) (F : Footprint) (ty : Ty) (q : Position) (w : Memory) (z : Value6) → Stands (ground (declared C) F) w q ty → Plain ty z
+    → write C.frame.env (scalar ty z) (root (simple ty) q) w ≡ gives [] tt (with_held q (single ty z) w)
+put_there C F ty q w z there plain =
+    ap (λ (o : Option Value). some_of o (λ x w. store C.frame.env x q w) w) (is_kept ty z plain)
+    ∙ ap (λ (h : Held). put_single h q ty z w) there.holds
+    ∙ ap (λ b. provided b (λ w. gives [] tt (with_held q (single ty z) w)) w) (self ty (is_covered ty z plain))
+
+error_by : (n : ℕ) (K : Ground) (E : Type 0) (w : Memory) (b : Bool) → (b ≡ false → E)
+    → Ends K (λ v (p : Parts). Unit {0}) E w (cond b (raises [] n w) (outside []))
+error_by n K E w true out = keeps_self K w
+error_by n K E w false out = out refl
+
+module _ (C : Context) (F : Footprint) (X : SourceJob → Memory → Type 0) (calls : CallsKeep C F X) (mentions : List Mention) where
+  abbrev D : Declarations
+  D = declared C
+
+  abbrev K : Ground
+  K = ground (declared C) F
+
+  abbrev uses : Uses
+  uses = scalar_uses C.runnable.program C.procedure mentions
+
+  -- what is known of an expression of a line
+  pub record IsFine (e : Expr) : Type 0 where
+    pub covers : covers_expr uses e ≡ true
+    pub formed : is_formed e ≡ true
+    pub typed : is_typed D e ≡ true
+    pub suited : CallsAreSuited C.runnable e
+
+  pub fine_type : (e : Expr) → IsFine e → covers_type (type_at e) ≡ true
+  fine_type e f = covered_type C F X calls mentions e f.covers
+
+  pub fine_ends : (e : Expr) → IsFine e → (w : Memory) → IsIn C F w → Ends K (IsTyped (type_at e)) (Leaves C X e w) w (value_of C e w)
+  fine_ends e f w h = value_ends C F X calls mentions e f.covers f.formed f.typed f.suited w (fits_in C F w h)
+
+  pub fine_scalar : (e : Expr) → IsFine e → (w : Memory) → IsIn C F w → Ends K (IsScalarOf (type_at e)) (Leaves C X e w) w (scalar_value C e w)
+  fine_scalar e f w h = scalar_ends C F e (type_at e) (Leaves C X e w) w (fine_ends e f w h)
+
+  -- ---- assignments
+
+  pub assign_ends : (w : Memory) → IsIn C F w → (L : Type 0) (to e : Expr) → is_variable to ≡ true → IsFine to → IsFine e → type_at e ≡ type_at to
+      → (Leaves C X e w → L)
+      → Ends K (Good C F) L w (then (then (value_of C e w) (let_to C to)) (λ x s. goes_on C s))
+  assign_ends w h L (typed ty (variable x qualified)) e is target f same leads_ =
+      let u : Used D C.procedure x = use_is C.runnable.program C.procedure mentions x (both_true (covers_type ty) (uses.scalar x) target.covers).1 in
+      let type_is : type_at e ≡ u.variable.ty = same ∙ same_type D C.procedure ty x u target.typed in
+      subst (λ r. Ends K (Good C F) L w r) (sym (then_assoc (value_of C e w) (let_to C (typed ty (variable x qualified))) (λ x s. goes_on C s)))
+      (then_ends K (IsTyped (type_at e)) (Good C F) L w (value_of C e w) (λ y s. then (let_to C (typed ty (variable x qualified)) y s) (λ z t. goes_on C t))
+      (ends_weaker K (IsTyped (type_at e)) (Leaves C X e w) L w (value_of C e w) leads_ (fine_ends e f w h))
+      (λ o y v one k m.
+      let i : IsIn C F v = in_later C F w v k h in
+      let p : PlaceOf K C.frame v x.0 u.variable.ty = variable_place C F v (fits_in C F v i) x u in
+      let plain : Plain u.variable.ty m.0 = subst (λ t. Plain t m.0) type_is m.2 in
+      let w2 : Memory = with_held p.0 (single u.variable.ty m.0) v in
+      let change : Keeps K v w2 = keeps_changed K v p.0 u.variable.ty m.0 p.2 plain in
+      subst (λ r. Ends K (Good C F) L v r)
+      (sym (ap (λ z. then (let_to C (typed ty (variable x qualified)) z v) (λ z t. goes_on C t)) (m.1 ∙ ap (λ t. scalar t m.0) type_is)
+      ∙ ap (λ r. then r (λ (z : Unit {0}) t. goes_on C t)) (written C F ty x qualified v u p m.0 plain)))
+      (change, frame_at F C.runnable C.procedure w2 C.frame (frame_later F C.runnable C.procedure v w2 C.frame change i.frame) C.aims.after)))
+  assign_ends w h L (typed ty _) e is target f same leads_ = absurd (true≢false (sym is))
 
   -- ---- Debug.Print
 
-  item_ends : (e : Expr) → is_simple_expr uses e ≡ true → is_formed e ≡ true → is_typed (declared C) e ≡ true
-      → Ends (λ (s : List ℕ). Unit {0}) (Leaves C e w) w (item_text C e w)
-  item_ends e covers formed typing =
-      then_ends (Plain (type_at e)) (λ (s : List ℕ). Unit {0}) (Leaves C e w) w (scalar_value C e w) (λ x v. answered (print_text x) v)
-      (scalar_ends C e (type_at e) (Leaves C e w) w (value_ends C mentions w locals e covers formed typing))
-      (λ x p same.
+  abbrev IsText : Memory → List ℕ → Type 0
+  IsText v s = Unit {0}
+
+  item_ends : (w : Memory) → IsIn C F w → (e : Expr) → IsFine e → Ends K IsText (Leaves C X e w) w (item_text C e w)
+  item_ends w h e f =
+      then_ends K (IsScalarOf (type_at e)) IsText (Leaves C X e w) w (scalar_value C e w) (λ x v. answered (print_text x) v) (fine_scalar e f w h)
+      (λ o x v one k p.
       let t : IsPrinted x = is_printed (type_at e) x p in
-      subst (λ a. Ends (λ (s : List ℕ). Unit {0}) (Leaves C e w) w (answered a w)) (sym t.1) (refl, refl, tt))
+      subst (λ a. Ends K IsText (Leaves C X e w) v (answered a v)) (sym t.1) (keeps_self K v, tt))
 
-  items_end : (es : List Expr) → list_all (is_simple_expr uses) es ≡ true → list_all is_formed es ≡ true → list_all (is_typed (declared C)) es ≡ true
-      → Ends (λ (s : List ℕ). Unit {0}) (ItemsLeave C es w) w (items_text C es w)
-  items_end [] covers formed typing = (refl, refl, tt)
-  items_end (e ∷ es) covers formed typing =
-      then_ends (λ (s : List ℕ). Unit {0}) (λ (s : List ℕ). Unit {0}) (ItemsLeave C (e ∷ es) w) w (item_text C e w)
-      (λ s v. then (items_text C es v) (λ rest u. gives [] (s ++ rest) u))
-      (ends_weaker (λ (s : List ℕ). Unit {0}) (Leaves C e w) (ItemsLeave C (e ∷ es) w) w (item_text C e w) (in_first e es w)
-      (item_ends e (all_first (is_simple_expr uses) e es covers) (all_first is_formed e es formed) (all_first (is_typed (declared C)) e es typing)))
-      (λ s t is.
-      then_ends (λ (s : List ℕ). Unit {0}) (λ (s : List ℕ). Unit {0}) (ItemsLeave C (e ∷ es) w) w (items_text C es w) (λ rest u. gives [] (s ++ rest) u)
-      (ends_weaker (λ (s : List ℕ). Unit {0}) (ItemsLeave C es w) (ItemsLeave C (e ∷ es) w) w (items_text C es w) (in_later e es w w [] s is)
-      (items_end es (all_rest (is_simple_expr uses) e es covers) (all_rest is_formed e es formed) (all_rest (is_typed (declared C)) e es typing)))
-      (λ rest t is. (refl, refl, tt)))
+  pub items_end : (es : List Expr) → Each IsFine es → (w : Memory) → IsIn C F w → Ends K IsText (ItemsLeave C X es w) w (items_text C es w)
+  items_end [] f w h = (keeps_self K w, tt)
+  items_end (e ∷ es) f w h =
+      then_ends K IsText IsText (ItemsLeave C X (e ∷ es) w) w (item_text C e w) (λ s v. then (items_text C es v) (λ rest u. gives [] (s ++ rest) u))
+      (ends_weaker K IsText (Leaves C X e w) (ItemsLeave C X (e ∷ es) w) w (item_text C e w) (in_item e es w) (item_ends w h e f.0))
+      (λ o s v one k t.
+      then_ends K IsText IsText (ItemsLeave C X (e ∷ es) w) v (items_text C es v) (λ rest u. gives [] (s ++ rest) u)
+      (ends_weaker K IsText (ItemsLeave C X es v) (ItemsLeave C X (e ∷ es) w) v (items_text C es v) (behind_item e es w v o s one)
+      (items_end es f.1 v (in_later C F w v k h)))
+      (λ o2 rest u two l t. (keeps_self K u, tt)))
 
-  abbrev print_by : (test ended : Bool) → List ℕ → Outcome Memory Unit
-  print_by test ended s = cond test (gives (printed (s ++ behind_print ended) ∷ []) tt w) (outside [])
+  abbrev print_by : (test ended : Bool) → List ℕ → Memory → Outcome Memory Unit
+  print_by test ended s w = cond test (gives (printed (s ++ behind_print ended) ∷ []) tt w) (outside [])
 
-  printed_by : (test ended : Bool) (s : List ℕ) (E : Type 0) → (test ≡ false → E) → LineEnds C E w (then (print_by test ended s) (λ x t. goes_on C t))
-  printed_by true ended s E h = (refl, locals, only_self (declared C) C.procedure C.frame.vars w)
-  printed_by false ended s E h = h refl
+  printed_by : (test ended : Bool) (s : List ℕ) (E : Type 0) (w : Memory) → IsIn C F w → (test ≡ false → E)
+      → Ends K (Good C F) E w (then (print_by test ended s w) (λ x t. goes_on C t))
+  printed_by true ended s E w h out = leads C F E w C.aims.after h
+  printed_by false ended s E w h out = out refl
 
-  print_ends : (items : List Exp) (ended : Bool) (es : List Expr) → list_all (is_simple_expr uses) es ≡ true → list_all is_formed es ≡ true
-      → list_all (is_typed (declared C)) es ≡ true
-      → LineEnds C (LineLeaves C (source.debug_print items ended) es w) w (form_does C (source.debug_print items ended) es w)
-  print_ends items ended es covers formed typing =
-      subst (λ r. LineEnds C (LineLeaves C (source.debug_print items ended) es w) w r)
-      (sym (then_assoc (items_text C es w) (print ended) (λ x s. goes_on C s)))
-      (then_line C (λ (s : List ℕ). Unit {0}) (LineLeaves C (source.debug_print items ended) es w) w (items_text C es w)
-      (λ s v. then (print ended s v) (λ x t. goes_on C t)) locals
-      (ends_weaker (λ (s : List ℕ). Unit {0}) (ItemsLeave C es w) (LineLeaves C (source.debug_print items ended) es w) w (items_text C es w)
-      (in_items items ended es w) (items_end es covers formed typing))
-      (λ s t is.
-      printed_by (nat_lt (length s) (2 ^ 31)) ended s (LineLeaves C (source.debug_print items ended) es w) (λ h. at_print items ended es w w [] s is h)))
+  pub print_ends : (w : Memory) → IsIn C F w → (L : Type 0) (ended : Bool) (es : List Expr) → Each IsFine es → (ItemsLeave C X es w → L)
+      → ((o : List Output) (s : List ℕ) (v : Memory) → items_text C es w ≡ gives o s v → nat_lt (length s) (2 ^ 31) ≡ false → L)
+      → Ends K (Good C F) L w (then (then (items_text C es w) (print ended)) (λ x s. goes_on C s))
+  print_ends w h L ended es f items long =
+      subst (λ r. Ends K (Good C F) L w r) (sym (then_assoc (items_text C es w) (print ended) (λ x s. goes_on C s)))
+      (then_ends K IsText (Good C F) L w (items_text C es w) (λ s v. then (print ended s v) (λ x t. goes_on C t))
+      (ends_weaker K IsText (ItemsLeave C X es w) L w (items_text C es w) items (items_end es f w h))
+      (λ o s v one k t. printed_by (nat_lt (length s) (2 ^ 31)) ended s L v (in_later C F w v k h) (long o s v one)))
 
-  -- ---- all forms
+  -- ---- conditions
 
-  variable_in : (target value : Exp) (to e : Expr) → is_variable to ≡ true → is_simple_expr uses to ≡ true → is_simple_expr uses e ≡ true → is_formed e ≡ true
-      → is_typed (declared C) to ≡ true → is_typed (declared C) e ≡ true → takes (type_at to) (type_at e) ≡ true
-      → LineEnds C (LineLeaves C (source.assign target value) (to ∷ e ∷ []) w) w (form_does C (source.assign target value) (to ∷ e ∷ []) w)
-  variable_in target value (typed ty (variable v qualified)) e is covers_to covers formed typing_to typing takes_it =
-      let both = both_true (covers_type ty) (uses v) covers_to in
-      store_ends target value ty v qualified e both.0 both.1 typing_to covers formed typing
-      (taken_same ty (type_at e) both.0 (covered_type C mentions w locals e covers) takes_it)
-  variable_in target value (typed ty _) e is covers_to covers formed typing_to typing takes_it = absurd (true≢false (sym is))
+  pub condition_ends : (w : Memory) → IsIn C F w → (L : Type 0) (m n : Option ℕ) (e : Expr) → IsFine e → fits_type types.boolean (type_at e) ≡ true
+      → (Leaves C X e w → L) → (m ≡ None → L) → (n ≡ None → L) → Ends K (Good C F) L w (condition C m n (e ∷ []) w)
+  condition_ends w h L m n e f is leads_ first second =
+      then_ends K (IsScalarOf (type_at e)) (Good C F) L w (scalar_value C e w) (branch C m n)
+      (ends_weaker K (IsScalarOf (type_at e)) (Leaves C X e w) L w (scalar_value C e w) leads_ (fine_scalar e f w h))
+      (λ o x v one k p.
+      branches C F L m n x v (in_later C F w v k h)
+      (subst (λ t. Plain t x) (fitting types.boolean (type_at e) refl (fine_type e f) is) p) first second)
 
-  form_ends : (f : Form) (es : List Expr) → is_simple_form uses f es ≡ true → list_all is_formed es ≡ true → assigns_typed f es ≡ true
-      → list_all (is_typed (declared C)) es ≡ true → LineEnds C (LineLeaves C f es w) w (form_does C f es w)
-  form_ends (source.assign target value) (to ∷ e ∷ []) covers formed assigned typing =
-      let a = both_true (is_variable to) (is_simple_expr uses to && is_simple_expr uses e) covers in
-      let b = both_true (is_simple_expr uses to) (is_simple_expr uses e) a.1 in
-      variable_in target value to e a.0 b.0 b.1 (all_first is_formed e [] (all_rest is_formed to (e ∷ []) formed))
-      (all_first (is_typed (declared C)) to (e ∷ []) typing) (all_first (is_typed (declared C)) e [] (all_rest (is_typed (declared C)) to (e ∷ []) typing)) assigned
-  form_ends (source.debug_print items ended) es covers formed assigned typing = print_ends items ended es covers formed typing
-  form_ends _ es covers formed assigned typing = absurd (true≢false (sym covers))
+  -- ---- calls as statements
 
--- ---- the law
+  abbrev Any : Memory → Parts → Type 0
+  Any v p = Unit {0}
 
--- what is free of local variables is no position of a variable
-own_change : (D : Declarations) (p : ℕ) (f : SourceFrame) (w v : Memory) → Only D p f.vars w v → IsOwnChange D f w v
-own_change D p f w v h = record {
-  held = λ q free. h.held q (λ x y is local covers stands.
-      free x (address_is D f x p y is local ∙ stands ∙ ap (λ d. Some (root d q)) (sym (variable_shape_is D x y is covers))));
-  places = h.places;
-  objects = h.objects;
-  classes = h.classes;
-}
+  -- Err.Raise raises the number
+  raised : (L : Type 0) (w : Memory) (z : ℤ) → (is_error_number z ≡ false → L) → Ends K Any L w (raise_of z w)
+  raised L w (pos n) out = error_by n K L w (nat_lt 0 n && nat_lt n 65536) out
+  raised L w (negsuc n) out = out refl
 
-result_of : (C : Context) (f : Form) (es : List Expr) (w : Memory) (r : Outcome Memory SourceFrame) → has_simple_variables C.runnable.program C.procedure ≡ true
-    → LineEnds C (LineLeaves C f es w) w r → IsLineResult C f es w r
-result_of C f es w (gives o g v) covers h = (
-  typed_frame C.runnable.program C.procedure v g covers (subst (λ vars. Locals (declared C) C.procedure v.held vars) (sym h.0) h.1),
-  own_change (declared C) C.procedure C.frame w v h.2,
-)
-result_of C f es w (raises o n v) covers h =
-    (typed_frame C.runnable.program C.procedure v C.frame covers h.0, own_change (declared C) C.procedure C.frame w v h.1)
-result_of C f es w (spent o v) covers h = h
-result_of C f es w (outside o) covers h = h
+  long_of : (t : Ty) (x : Value6) → Plain t x → t ≡ types.long → (z : ℤ) × (x ≡ v.Long z)
+  long_of t x p e = by types.long x refl (subst (λ s. Plain s x) e p)
+    where
+      by : (s : Ty) (y : Value6) → s ≡ types.long → Plain s y → (z : ℤ) × (y ≡ v.Long z)
+      by _ _ i (a_long z h) = (z, refl)
+      by _ _ i (a_boolean b) = absurd (cc i)
+      by _ _ i (a_byte m h) = absurd (cc i)
+      by _ _ i (an_integer z h) = absurd (cc i)
+      by _ _ i (a_currency z h) = absurd (cc i)
+      by _ _ i (a_text s) = absurd (cc i)
 
-pub line_ends : (C : Context) (l : tree.Line) (w : Memory) → is_simple_line C.runnable.program C.procedure l ≡ true → is_typed_line (declared C) l ≡ true
-    → Locals (declared C) C.procedure w.held C.frame.vars
-    → LineEnds C (LineLeaves C l.source.form l.bindings.exprs w) w (form_does C l.source.form l.bindings.exprs w)
-line_ends C l w covers typing locals =
-    let a = both_true (is_simple_form (is_simple_use C.runnable.program C.procedure l.bindings.mentions) l.source.form l.bindings.exprs)
-    (list_all is_formed l.bindings.exprs) covers in
-    let b = both_true (assigns_typed l.source.form l.bindings.exprs) (list_all (is_typed (declared C)) l.bindings.exprs) typing in
-    form_ends C l.bindings.mentions w locals l.source.form l.bindings.exprs a.0 a.1 b.0 b.1
+  raise_ends : (w : Memory) → IsIn C F w → (ty : Ty) (e : Expr) → IsFine e → is_same_type (type_at e) types.long ≡ true
+      → Ends K Any (Leaves C X (typed ty (err_raise e)) w) w (term_parts C ty (err_raise e) w)
+  raise_ends w h ty e f long =
+      let L : Type 0 = Leaves C X (typed ty (err_raise e)) w in
+      subst (λ r. Ends K Any L w r)
+      (sym (ap (λ r. then r raise_of) (sym (then_assoc (parts_of C e w) (scalar_in C e) whole_number)) ∙ then_assoc (scalar_value C e w) whole_number raise_of))
+      (then_ends K (IsScalarOf (type_at e)) Any L w (scalar_value C e w) (λ x v. then (whole_number x v) raise_of)
+      (ends_weaker K (IsScalarOf (type_at e)) (Leaves C X e w) L w (scalar_value C e w) (in_raised ty e w) (fine_scalar e f w h))
+      (λ o x v one k p.
+      let z = long_of (type_at e) x p (same_as (type_at e) types.long refl long) in
+      subst (λ y. Ends K Any L v (then (whole_number y v) raise_of)) (sym z.1)
+      (ends_after K Any L v [] (raise_of z.0 v) (raised L v z.0 (λ out. at_raised ty e w v o z.0 (one ∙ ap (λ y. gives o y v) z.1) out)))))
 
-pub line_keeps_types : (C : Context) (l : tree.Line) (w : Memory) → has_simple_variables C.runnable.program C.procedure ≡ true
-    → is_simple_line C.runnable.program C.procedure l ≡ true → is_typed_line (declared C) l ≡ true → IsTypedFrame (declared C) C.procedure w C.frame
-    → IsLineResult C l.source.form l.bindings.exprs w (form_does C l.source.form l.bindings.exprs w)
-line_keeps_types C l w variables covers typing frame =
-    result_of C l.source.form l.bindings.exprs w (form_does C l.source.form l.bindings.exprs w) variables
-    (line_ends C l w covers typing (locals_of (declared C) C.procedure w C.frame frame))
+  no_box : (b : Bool) → b ≡ false → b ≡ true → ⊥
+  no_box b e i = true≢false (sym i ∙ e)
+
+  box_is : (f : LibCall) → is_box f ≡ true → f ≡ lib.MsgBox
+  box_is lib.MsgBox h = refl
+  box_is _ h = absurd (true≢false (sym h))
+
+  box_statement : (w : Memory) → IsIn C F w → (ty : Ty) (args : Exprs) → covers_exprs uses args ≡ true → is_row_of_call lib.MsgBox (types_of args) ty ≡ true
+      → are_formed args ≡ true → are_typed D args ≡ true → Each (IsSuited C.runnable) (nodes_of_all args)
+      → Ends K Any (Leaves C X (typed ty (library lib.MsgBox args)) w) w (library_call C ty lib.MsgBox args w)
+  box_statement w h ty no_exprs covers row formed typing suited = absurd (no_arguments lib.MsgBox ty refl row)
+  box_statement w h ty (next_expr e rest) covers row formed typing suited =
+      let f : IsFine e = record {
+        covers = (both_true (covers_expr uses e) (covers_exprs uses rest) covers).0;
+        formed = (both_true (is_formed e) (are_formed rest) formed).0;
+        typed = (both_true (is_typed D e) (are_typed D rest) typing).0;
+        suited = (both_each (IsSuited C.runnable) (nodes e) (nodes_of_all rest) suited).0;
+      } in
+      ends_as K (λ v p. p ≡ no_value) Any (Leaves C X (typed ty (library lib.MsgBox (next_expr e rest))) w) w (library_call C ty lib.MsgBox (next_expr e rest) w)
+      (λ v p i. tt) (box_ends C F X calls mentions w ty e rest row (fine_ends e f w h))
+
+  -- what a term does, where no object is made of it
+  as_statement : (w : Memory) (ty : Ty) (t : Term) (L : Type 0) → ((p : Parts) (v : Memory) → as_new C t p v ≡ gives [] p v)
+      → Ends K Any L w (term_parts C ty t w) → Ends K Any L w (parts_of C (typed ty t) w)
+  as_statement w ty t L plain h =
+      then_ends K Any Any L w (term_parts C ty t w) (as_new C t) h
+      (λ o p v one k i. subst (λ r. Ends K Any L v r) (sym (plain p v)) (keeps_self K v, tt))
+
+  pub call_statement : (w : Memory) → IsIn C F w → (e : Expr) → covers_called uses e ≡ true → is_formed e ≡ true → is_typed D e ≡ true
+      → CallsAreSuited C.runnable e → Ends K Any (Leaves C X e w) w (parts_of C e w)
+  call_statement w h (typed ty (call q qualified no_object args)) covers formed typing suited =
+      let types = both_true (are_typed_passed D args) (fits_call D ty args (slice_get D.procs q.0)) typing in
+      let callee : Callee C q.0 ty args = callee_of C q.0 ty args (suited.0.ready q.0 refl) types.1 in
+      let t : Term = call q qualified no_object args in
+      as_statement w ty t (Leaves C X (typed ty t) w) (λ p v. refl)
+      (ends_as K (IsCalled C F X calls mentions callee.parts.head.procedure) Any (Leaves C X (typed ty t) w) w (term_parts C ty t w) (λ v p i. tt)
+      (call_ends C F X calls mentions w (fits_in C F w h) ty q qualified args callee
+      (call_args_end C F X calls mentions ty q args callee covers formed types.0 suited.0.suits suited.1 w (fits_in C F w h))))
+  call_statement w h (typed ty (call q qualified (of_object e) args)) covers formed typing suited = absurd (true≢false (sym covers))
+  call_statement w h (typed ty (library f args)) covers formed typing suited =
+      let a = both_true (is_box f) (covers_term uses (library f args)) covers in
+      let b = both_true (is_row_of_call f (types_of args) ty) (are_formed args) formed in
+      let c = both_true (covers_library f) (covers_exprs uses args) (library_covered (uses_in C.runnable.program C.procedure mentions) f args a.1) in
+      let is : f ≡ lib.MsgBox = box_is f a.0 in
+      as_statement w ty (library f args) (Leaves C X (typed ty (library f args)) w) (λ p v. refl)
+      (subst (λ g. Ends K Any (Leaves C X (typed ty (library g args)) w) w (library_call C ty g args w)) (sym is)
+      (box_statement w h ty args c.1 (subst (λ g. is_row_of_call g (types_of args) ty ≡ true) is b.0) b.1 typing suited.1))
+  call_statement w h (typed ty (err_raise e)) covers formed typing suited =
+      let b = both_true (is_same_type (type_at e) types.long) (is_formed e) formed in
+      as_statement w ty (err_raise e) (Leaves C X (typed ty (err_raise e)) w) (λ p v. refl)
+      (raise_ends w h ty e (record { covers = covers; formed = b.1; typed = typing; suited = suited.1 }) b.0)
+  call_statement w h (typed ty err_clear) covers formed typing suited =
+      as_statement w ty err_clear (Leaves C X (typed ty err_clear) w) (λ p v. refl) (keeps_same K w (set_err 0 w) refl refl refl refl, tt)
+  call_statement w h (typed ty _) covers formed typing suited = absurd (true≢false (sym covers))

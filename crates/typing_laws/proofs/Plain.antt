@@ -1,13 +1,11 @@
 -- Scalars of covered types, by the six types.
-use Rattle.std.proofs.Common.{◌≡◌, refl, sym, ap, ℕ, suc, ℤ, pos, negsuc, neg_ℤ, Bool, true, false, List, [], arith, true≢false, nat_eq, Some}
+use Rattle.std.proofs.Common.{◌≡◌, refl, sym, ap, ℕ, suc, ℤ, pos, negsuc, neg_ℤ, true, false, List, [], arith, true≢false, nat_eq, Some}
 use Rattle.std.specs.Prelude.{◌*ℤ◌, ◌*◌}
 use Rattle.vb_tree.specs.BoundTree as types
 use Rattle.vb_tree.specs.BoundTree.{Ty}
 use Rattle.vb_tree.specs.declared.value.Value6.{Value6}
 use Rattle.vb_tree.specs.declared.value.Value6.TheVariants as v
-use Rattle.vb6_meaning.specs.declared.number.NumberKind.TheVariants as kinds
 use Rattle.vb6_meaning.specs.Answers.{gives}
-use Rattle.vb6_meaning.specs.Kinds.{fits}
 use Rattle.vb6_meaning.specs.NumberTexts.{text_of, print_text}
 use Rattle.bound_tree.specs.Tree.{Declarations}
 use Rattle.bound_facts.specs.Locks.{is_same_type}
@@ -22,15 +20,7 @@ use Rattle.vb6_run.specs.Store.{Memory}
 use Rattle.vb6_run.specs.Values.{scalar, is_of_shape, kept_as, first_scalar}
 use Rattle.run_matches.specs.Covered.{covers_type}
 use Rattle.run_matches.specs.Typed.{IsScalar}
-
--- a value of a covered type, within the limits of the type
-pub data Plain : Ty → Value6 → Type 0 where
-  a_boolean : (b : Bool) → Plain types.boolean (v.Boolean b)
-  a_byte : (m : ℕ) → fits kinds.Byte (pos m) ≡ true → Plain types.byte (v.Byte m)
-  an_integer : (z : ℤ) → fits kinds.Integer z ≡ true → Plain types.integer (v.Int z)
-  a_long : (z : ℤ) → fits kinds.Long z ≡ true → Plain types.long (v.Long z)
-  a_currency : (z : ℤ) → fits kinds.Currency z ≡ true → Plain types.currency (v.Cur z)
-  a_text : (units : List ℕ) → Plain types.str (v.Str units)
+pub use Rattle.typing_laws.specs.Plain.{Plain, a_boolean, a_byte, an_integer, a_long, a_currency, a_text}
 
 -- ---- from and to scalars
 

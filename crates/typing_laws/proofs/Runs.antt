@@ -1,153 +1,189 @@
--- A run of a simple procedure whose lines are well typed is outside only where one of its lines leaves the tables.
-use Rattle.std.proofs.Common.{◌≡◌, refl, sym, ap, ◌∙◌, subst, ℕ, zero, suc, Bool, true, false, cond, ◌&&◌, true≢false, nat_eq, arith, List, [], ◌∷◌, map, Option, Some, None}
-use Rattle.std.specs.Prelude.{slice_get}
-use Rattle.std.specs.List.{list_all}
-use Rattle.std.specs.Map.{lookup}
-use Rattle.up_base.proofs.Tests.{both_true}
+-- A run of a procedure that can be run keeps the types of what stands, and is outside only where a turn of it leaves.
+use Rattle.std.proofs.Common.{◌≡◌, refl, sym, ap, ◌∙◌, subst, ℕ, zero, suc, Bool, true, false, cond, List, [], ◌∷◌, map, Option, Some, None}
+use Rattle.std.specs.Prelude.{slice_get, is_some}
+use Rattle.vb_tree.specs.BoundTree.{Ty}
+use Rattle.vb_tree.specs.BoundTree as types
 use Rattle.vb_tree.specs.declared.declared.VarId.{VarId}
-use Rattle.vb_tree.specs.Tree.{Form}
-use Rattle.vb_tree.specs.Tree as source
-use Rattle.bound_tree.specs.Targets.{Aims, aims_of, steps}
-use Rattle.bound_tree.specs.Tree.{Declarations, Expr, Procedure, Program}
+use Rattle.bound_tree.specs.Targets.{Aims, Step, aims_at, aims_from, aims_of, step_of, steps}
+use Rattle.bound_tree.specs.Tree.{Declarations, Procedure, Program}
 use Rattle.bound_tree.specs.Tree as tree
+use Rattle.bound_facts.specs.Locks.{is_same_type}
 use Rattle.run_base.specs.Frames.{Handler, none, next_line, at_line, to_line, at_handler}
 use Rattle.run_base.specs.Machines.{Line, nth_line, line_in, caught, handled, stepped, line_turn, body_turn, enters, runs, go}
 use Rattle.run_base.specs.Machines as machines
 use Rattle.run_base.specs.Outcomes.{Output, Outcome, gives, raises, spent, outside, after, then, some_of}
 use Rattle.vb6_run.specs.Expressions.{Context}
-use Rattle.vb6_run.specs.Forms.{SourceLine, SourceMachine, body_of, form_does, tests_in, with_aims}
+use Rattle.vb6_run.specs.Forms.{SourceLine, SourceMachine, body_of, form_does, with_aims}
 use Rattle.vb6_run.specs.Lines.{source_lines}
 use Rattle.vb6_run.specs.Programs.{answer_of, entered_as, line_does, machine_of, result_of, run6}
-use Rattle.vb6_run.specs.Runnables.{Runnable}
-use Rattle.run_base.specs.Positions.{Position}
-use Rattle.vb6_run.specs.Shapes.{Shape, simple}
-use Rattle.vb6_run.specs.Store.{Address, Held, root, Locked, Memory, SourceFrame, set_err}
-use Rattle.vb6_run.specs.Values.{Value}
-use Rattle.run_matches.specs.Covered.{Uses, covers_names, covers_site}
-use Rattle.typing_laws.specs.Simple.{is_simple_body, is_simple_form, is_simple_head, is_simple_line, is_simple_procedure, is_simple_use, has_simple_variables}
-use Rattle.run_matches.specs.Formed.{is_formed}
-use Rattle.run_matches.specs.Maps.{IsMade, mark}
-use Rattle.run_matches.specs.Sites.{site_of}
-use Rattle.typing_laws.specs.Leaving.{LineLeaves, RunLeaves, SourceJob, behind_entry, behind_line, context_at, started, stepped_to}
+use Rattle.vb6_run.specs.Runnables.{Runnable, declarations_of}
+use Rattle.vb6_run.specs.Store.{Locked, Memory, SourceFrame, SourceGiven, read, set_err}
+use Rattle.vb6_run.specs.Values.{Value, scalar}
+use Rattle.run_matches.specs.Covered.{covers_calls, covers_in_block, covers_part, covers_type, head_line}
+use Rattle.typing_laws.specs.Calls.{CallsKeep, EndsAsCall, IsReady, SourceJob}
+use Rattle.typing_laws.specs.Frames.{AreGiven, IsReturned, IsSound, IsTypedFrame, Keeps, Stands, code_line, numbered}
+use Rattle.typing_laws.specs.Leaving.{LineLeaves, RunLeaves, TurnLeaves, at_head, behind_entry, behind_line, context_at, started, stepped_to}
 use Rattle.typing_laws.specs.Leaving as leaving
-use Rattle.typing_laws.specs.Results.{IsRunResult, IsUntouched}
-use Rattle.typing_laws.specs.Typed.{are_typed_lines, is_typed_line, is_typed_procedure}
-use Rattle.typing_laws.proofs.Entries.{Entered, Head, IsNew, entered, head_of}
-use Rattle.typing_laws.proofs.Lines.{LineEnds, line_ends}
-use Rattle.typing_laws.proofs.Places.{IsFree, Locals, Only, all_at, not_none, some_is, typed_frame}
+use Rattle.typing_laws.specs.Results.{IsRunResult}
+use Rattle.typing_laws.specs.Scalars.{is_scalar_line}
+use Rattle.typing_laws.specs.Typed.{is_typed_line}
+use Rattle.typing_laws.proofs.Callees.{line_suited}
+use Rattle.typing_laws.proofs.Ends.{Ends, ends_after, ends_from, ends_weaker, keeps_self, keeps_then, sound_later, then_ends}
+use Rattle.typing_laws.proofs.Bindings.{all_given}
+use Rattle.typing_laws.proofs.Entries.{answer_belongs, entered_ends}
+use Rattle.typing_laws.proofs.Expressions.{read_here}
+use Rattle.typing_laws.proofs.Forms.{line_ends}
+use Rattle.typing_laws.proofs.Frames.{frame_at, frame_caught, frame_later}
+use Rattle.typing_laws.proofs.Lines.{Good, IsIn}
+use Rattle.typing_laws.proofs.Places.{all_at, keeps_same, not_none, some_is}
+use Rattle.typing_laws.proofs.Plain.{Plain}
+use Rattle.typing_laws.proofs.Procedures.{Answered, Body, Parts, answer_of_function, parts_of}
+use Rattle.typing_laws.proofs.Uses.{own_covered}
+use Rattle.typing_laws.specs.Frames.{Footprint, Ground, IsGiven, MayStand, anywhere, footprint_of, ground, is_given_at, is_open, shared_place}
+use Rattle.typing_laws.proofs.Frames.{frame_anywhere}
+use Rattle.run_base.specs.Positions.{Position, made, whole}
+use Rattle.std.proofs.Common.{inl, inr, le-leb, ◌||◌}
+use Rattle.std.specs.List.{list_any}
+use Rattle.bound_tree.specs.Tree.{Variable}
+use Rattle.run_base.specs.Frames.{by_value, by_address}
+use Rattle.vb6_run.specs.Store.{root, item, constant}
+use Rattle.typing_laws.proofs.Places.{self_same}
 
 -- ---- lines
 
-form_at : (ls : List tree.Line) (aims : List Aims) (k : ℕ) (l : SourceLine) → slice_get (with_aims ls aims) k ≡ Some l
-    → (slice_get ls k ≡ Some l.form) × (l.tests ≡ tests_in l.form.source.form)
+form_at : (ls : List tree.Line) (aims : List Aims) (k : ℕ) (l : SourceLine) → slice_get (with_aims ls aims) k ≡ Some l → slice_get ls k ≡ Some l.form
 form_at [] aims k l e = absurd (not_none e)
 form_at (x ∷ ls) [] k l e = absurd (not_none e)
-form_at (x ∷ ls) (a ∷ aims) zero l e =
-    let one : record { form = x; aims = a; tests = tests_in x.source.form } ≡ l = some_is e in
-    (ap (λ (m : SourceLine). Some m.form) one, sym (ap (λ (m : SourceLine). m.tests) one) ∙ ap (λ (m : SourceLine). tests_in m.form.source.form) one)
+form_at (x ∷ ls) (a ∷ aims) zero l e = ap (λ (m : SourceLine). Some m.form) (some_is e)
 form_at (x ∷ ls) (a ∷ aims) (suc k) l e = form_at ls aims k l e
 
--- a simple line tests nothing
-no_test : (uses : Uses) (f : Form) (es : List Expr) → is_simple_form uses f es ≡ true → tests_in f ≡ false
-no_test uses (source.assign target value) es h = refl
-no_test uses (source.debug_print items ended) es h = refl
-no_test uses _ es h = absurd (true≢false (sym h))
-
--- ---- simple procedures
-
-pub record Body (P : Program) (p : ℕ) : Type 0 where
-  lines : List tree.Line
-  are_lines : slice_get P.bodies p ≡ Some lines
-  covers : list_all (is_simple_line P p) lines ≡ true
-  typed : list_all (is_typed_line P.declarations) lines ≡ true
-
-body_in : (P : Program) (p : ℕ) (o : Option (List tree.Line)) → slice_get P.bodies p ≡ o → is_simple_body P p o ≡ true → are_typed_lines P.declarations o ≡ true → Body P p
-body_in P p None is h t = absurd (true≢false (sym h))
-body_in P p (Some lines) is h t = record { lines = lines; are_lines = is; covers = h; typed = t }
-
-pub record Parts (P : Program) (p : ℕ) : Type 0 where
-  pub head : Head (slice_get P.declarations.procs p)
-  pub variables : has_simple_variables P p ≡ true
-  pub body : Body P p
-
-pub parts_of : (P : Program) (p : ℕ) → is_simple_procedure P p ≡ true → is_typed_procedure P p ≡ true → Parts P p
-parts_of P p h typing =
-    let D : Declarations = P.declarations in
-    let head = is_simple_head P (slice_get D.procs p) in
-    let at = covers_site D p (site_of D p) in
-    let body = is_simple_body P p (slice_get P.bodies p) in
-    let a = both_true (covers_names D) (head && (at && (has_simple_variables P p && body))) h in
-    let b = both_true head (at && (has_simple_variables P p && body)) a.1 in
-    let c = both_true at (has_simple_variables P p && body) b.1 in
-    let d = both_true (has_simple_variables P p) body c.1 in
-    record { head = head_of P (slice_get D.procs p) b.0; variables = d.0; body = body_in P p (slice_get P.bodies p) refl d.1 typing }
+-- where control goes from a line is told by what it is
+aims_found : (all : List Step) (n : ℕ) (ls : List tree.Line) (k : ℕ) (l : SourceLine) → slice_get (with_aims ls (aims_from all n (steps (source_lines ls)))) k ≡ Some l
+    → (m : ℕ) × (l.aims ≡ aims_at all m (step_of l.form.source.form))
+aims_found all n [] k l e = absurd (not_none e)
+aims_found all n (x ∷ ls) zero l e =
+    (n, subst (λ (m : SourceLine). m.aims ≡ aims_at all n (step_of m.form.source.form)) (some_is e) refl)
+aims_found all n (x ∷ ls) (suc k) l e = aims_found all (suc n) ls k l e
 
 body_at : (bodies : List (List tree.Line)) (p : ℕ) (lines : List tree.Line) → slice_get bodies p ≡ Some lines → slice_get (map body_of bodies) p ≡ Some (body_of lines)
 body_at [] p lines e = absurd (not_none e)
 body_at (x ∷ bodies) zero lines e = ap Some (ap body_of (some_is e))
 body_at (x ∷ bodies) (suc p) lines e = body_at bodies p lines e
 
--- ---- turns
+-- what is known of a line of a covered procedure
+record Known (P : Program) (p n : ℕ) (lines : List tree.Line) (l : SourceLine) : Type 0 where
+  place : ℕ
+  stands : slice_get lines place ≡ Some l.form
+  number : n ≡ suc place
+  covers : is_scalar_line P p l.form ≡ true
+  typed : is_typed_line P.declarations l.form ≡ true
+  calls : covers_calls P p l.form ≡ true
+  part : covers_part P p l.form.source.form l.form.bindings.exprs (head_line lines l.aims.own) ≡ true
+  all : List Step
+  at : ℕ
+  aims : l.aims ≡ aims_at all at (step_of l.form.source.form)
 
--- what a run ends with that began in a memory
-abbrev Ends : Memory → Type 0 → Outcome Memory (Option Value) → Type 0
-Ends s0 E (gives o x v) = IsUntouched s0 v
-Ends s0 E (raises o n v) = IsUntouched s0 v
-Ends s0 E (spent o v) = IsUntouched s0 v
-Ends s0 E (outside o) = E
+known_line : (P : Program) (p : ℕ) (body : Body P p) (n : ℕ) (l : SourceLine) → nth_line (body_of body.lines) n ≡ Some l → Known P p n body.lines l
+known_line P p body zero l e = absurd (not_none e)
+known_line P p body (suc k) l e =
+    let ls : List tree.Line = body.lines in
+    let m : slice_get ls k ≡ Some l.form = form_at ls (aims_of (steps (source_lines ls))) k l e in
+    let a = aims_found (steps (source_lines ls)) 1 ls k l e in
+    record {
+      place = k;
+      stands = m;
+      number = refl;
+      covers = all_at (is_scalar_line P p) ls k l.form body.covers m;
+      typed = all_at (is_typed_line P.declarations) ls k l.form body.typed m;
+      calls = all_at (covers_calls P p) ls k l.form body.calls m;
+      part = all_at (covers_in_block P p ls) (body_of ls) k l body.blocks e;
+      all = steps (source_lines ls);
+      at = a.0;
+      aims = a.1;
+    }
 
-ends_after : (s0 : Memory) (E : Type 0) (o : List Output) (r : Outcome Memory (Option Value)) → Ends s0 E r → Ends s0 E (after o r)
-ends_after s0 E o (gives p a w) h = h
-ends_after s0 E o (raises p n w) h = h
-ends_after s0 E o (spent p w) h = h
-ends_after s0 E o (outside p) h = h
+-- ---- what runs end with
 
-ends_weaker : (s0 : Memory) (E F : Type 0) (r : Outcome Memory (Option Value)) → (E → F) → Ends s0 E r → Ends s0 F r
-ends_weaker s0 E F (gives p a w) leads h = h
-ends_weaker s0 E F (raises p n w) leads h = h
-ends_weaker s0 E F (spent p w) leads h = h
-ends_weaker s0 E F (outside p) leads h = leads h
+abbrev Returned : Procedure → Memory → Option Value → Type 0
+Returned x w o = IsReturned x o
 
-result_of_run : (R : Runnable) (n : ℕ) (job : SourceJob) (w : Memory) (r : Outcome Memory (Option Value)) → Ends w (RunLeaves R n job w) r
-    → IsRunResult R n job w r
-result_of_run R n job w (gives o x v) h = h
-result_of_run R n job w (raises o e v) h = h
-result_of_run R n job w (spent o v) h = h
-result_of_run R n job w (outside o) h = h
+as_call : (K : Ground) (X : SourceJob → Memory → Type 0) (x : Procedure) (job : SourceJob) (w : Memory) (r : Outcome Memory (Option Value))
+    → Ends K (Returned x) (X job w) w r → EndsAsCall K X x job w r
+as_call K X x job w (gives o y v) h = h
+as_call K X x job w (raises o n v) h = h
+as_call K X x job w (spent o v) h = h
+as_call K X x job w (outside o) h = h
 
--- the steps, the inputs and the Err number are no part of what is there
-untouched_by : (s0 v u : Memory) → IsUntouched s0 v → u.held ≡ v.held → u.next_object ≡ v.next_object → u.class_of ≡ v.class_of → IsUntouched s0 u
-untouched_by s0 v u h held objects classes = record {
-  held = λ q m. ap (λ (f : Position → Held). f q) held ∙ h.held q m;
-  objects = objects ∙ h.objects;
-  classes = classes ∙ h.classes;
-}
+-- a procedure that has come to its end
+ended : (F : Footprint) (R : Runnable) (p : ℕ) (parts : Parts R.program p) (f : SourceFrame) (w : Memory) (E : Type 0) → IsTypedFrame F R p w f
+    → Ends (ground (declarations_of R) F) (Returned parts.head.procedure) E w (result_of R p f w)
+ended F R p parts f w E t =
+    let D : Declarations = declarations_of R in
+    let K : Ground = ground D F in
+    let x : Procedure = parts.head.procedure in
+    subst (λ o. Ends K (Returned x) E w (some_of o (λ x w. answer_of R f x.answer w) w)) (sym parts.head.is_procedure) (by x.answer refl)
+  where
+    by : (o : Option VarId) → parts.head.procedure.answer ≡ o → Ends (ground (declarations_of R) F) (Returned parts.head.procedure) E w (answer_of R f o w)
+    by None is = (keeps_self (ground (declarations_of R) F) w, ap is_some is)
+    by (Some a) is =
+        let D : Declarations = declarations_of R in
+        let K : Ground = ground D F in
+        let x : Procedure = parts.head.procedure in
+        let y : Answered D p x a = answer_of_function D p x a parts.head.result is in
+        let own = answer_belongs p y.variable.owner y.is_answer in
+        let c : covers_type y.variable.ty ≡ true = own_covered R.program p a.0 y.variable parts.variables y.is_variable own in
+        let s = t.own a.0 y.variable y.is_variable own c in
+        let there : Stands K w s.0 y.variable.ty = s.2 in
+        let same : y.variable.ty ≡ x.result = as_result y.variable.ty x.result c y.same in
+        subst (λ o. Ends K (Returned x) E w (some_of o (λ a w. then (read a w) (λ x w. gives [] (Some x) w)) w)) (sym s.1)
+        (subst (λ r. Ends K (Returned x) E w (then r (λ x w. gives [] (Some x) w))) (sym (read_here y.variable.ty there.value s.0 w there.holds there.plain))
+        (keeps_self K w, (there.value, ap (λ u. scalar u there.value) same, subst (λ u. Plain u there.value) same there.plain)))
+      where
+        as_result : (s u : Ty) → covers_type s ≡ true → is_same_type s u ≡ true → s ≡ u
+        as_result types.boolean types.boolean d e = refl
+        as_result types.byte types.byte d e = refl
+        as_result types.integer types.integer d e = refl
+        as_result types.long types.long d e = refl
+        as_result types.currency types.currency d e = refl
+        as_result types.str types.str d e = refl
+        as_result _ _ d e = cc
 
-module _ (R : Runnable) (p : ℕ) (parts : Parts R.program p) (s0 : Memory) where
-  abbrev P : Program
-  P = R.program
+module _ (F : Footprint) (R : Runnable) where
+  abbrev D : Declarations
+  D = declarations_of R
+
+  abbrev K : Ground
+  K = ground (declarations_of R) F
 
   abbrev M : SourceMachine
   M = machine_of R
 
-  -- the variables of a frame were made behind the beginning
-  abbrev AreNew : List (ℕ × Address) → Type 0
-  AreNew vars = (v : ℕ) (d : Shape) (q : Position) → lookup (nat_eq v) vars ≡ Some (root d q) → IsMade (mark s0) q.root → ⊥
+  -- with at most so many turns
+  abbrev CallsEnd : ℕ → Type 0
+  CallsEnd n =
+      (q : ℕ) (x : Procedure) (me : Option ℕ) (locked : Locked) (gs : List SourceGiven) (w : Memory) → IsReady R q → slice_get D.procs q ≡ Some x → IsSound K w
+      → AreGiven K w x.params gs
+      → Ends K (Returned x) (RunLeaves R n (enters q me locked gs) w) w (go M n (enters q me locked gs) w)
 
-  abbrev Goes : ℕ → Type 0
-  Goes n =
-      (f : SourceFrame) (w : Memory) → Locals P.declarations p w.held f.vars → AreNew f.vars → IsUntouched s0 w
-      → Ends s0 (RunLeaves R n (runs p f) w) (go M n (runs p f) w)
+  abbrev BodiesEnd : ℕ → Type 0
+  BodiesEnd n =
+      (p : ℕ) (ready : IsReady R p) (f : SourceFrame) (w : Memory) → IsSound K w → IsTypedFrame F R p w f
+      → Ends K (Returned (parts_of R p ready).head.procedure) (RunLeaves R n (runs p f) w) w (go M n (runs p f) w)
 
-  -- a Sub that has come to its end
-  ended : (f : SourceFrame) (w : Memory) (E : Type 0) → IsUntouched s0 w → Ends s0 E (result_of R p f w)
-  ended f w E h =
-      subst (λ r. Ends s0 E r)
-      (sym (ap (λ (o : Option Procedure). some_of o (λ x w. answer_of R f x.answer w) w) parts.head.is_procedure
-      ∙ ap (λ (o : Option VarId). answer_of R f o w) parts.head.answer)) h
+  calls_keep : (n p : ℕ) (f : SourceFrame) (l : SourceLine) → CallsEnd n → CallsKeep (context_at R n p f l) F (RunLeaves R n)
+  calls_keep n p f l h q x gs w ready is sound given =
+      as_call K (RunLeaves R n) x (enters q f.me f.env gs) w (go M n (enters q f.me f.env gs) w) (h q x f.me f.env gs w ready is sound given)
 
-  module _ (n k : ℕ) (rest : Goes n) (f : SourceFrame) (w : Memory) (l : SourceLine) (is_line : machines.line_at M p f.line ≡ Some l) (left : w.left ≡ suc k)
-      (locals : Locals P.declarations p w.held f.vars) (new : AreNew f.vars) (start : IsUntouched s0 w) (tests : l.tests ≡ false) where
+  same_stepped : (k : ℕ) (w : Memory) → Keeps K w (stepped_to k w)
+  same_stepped k w = keeps_same K w (stepped_to k w) refl refl refl refl
+
+  -- ---- one line
+
+  module _ (n : ℕ) (bodies : BodiesEnd n) (p : ℕ) (ready : IsReady R p) (f : SourceFrame) (w : Memory) (sound : IsSound K w) (t : IsTypedFrame F R p w f) (k : ℕ)
+      (l : SourceLine) (is_line : machines.line_at M p f.line ≡ Some l) (left : w.left ≡ suc k) where
+    abbrev x : Procedure
+    x = (parts_of R p ready).head.procedure
+
     abbrev w1 : Memory
     w1 = stepped_to k w
 
@@ -160,119 +196,176 @@ module _ (R : Runnable) (p : ℕ) (parts : Parts R.program p) (s0 : Memory) wher
     abbrev E : Type 0
     E = RunLeaves R (suc n) (runs p f) w
 
-    -- no local variable was there before
-    is_free : (q : Position) → IsMade (mark s0) q.root → IsFree P.declarations p f.vars q
-    is_free q m v x is local covers stands = new v (simple x.ty) q stands m
+    abbrev End : Outcome Memory (Option Value) → Type 0
+    End r = Ends K (Returned x) E w1 r
 
-    untouched : (v : Memory) → Only P.declarations p f.vars w1 v → IsUntouched s0 v
-    untouched v h = record {
-      held = λ q m. h.held q (is_free q m) ∙ start.held q m;
-      objects = h.objects ∙ start.objects;
-      classes = h.classes ∙ start.classes;
-    }
-
-    goes_on : (o : List Output) (g : SourceFrame) (v : Memory) → handled M f l does ≡ gives o g v → g.vars ≡ f.vars
-        → Locals P.declarations p v.held f.vars → IsUntouched s0 v → Ends s0 E (after o (go M n (runs p g) v))
-    goes_on o g v is vars h u =
-        ends_after s0 E o (go M n (runs p g) v)
-        (ends_weaker s0 (RunLeaves R n (runs p g) v) E (go M n (runs p g) v) (λ x. behind_line n p k f g l w v o is_line left is x)
-        (rest g v (subst (λ z. Locals P.declarations p v.held z) (sym vars) h) (subst (λ z. AreNew z) (sym vars) new) u))
+    goes_on : (o : List Output) (g : SourceFrame) (v : Memory) → handled M f l does ≡ gives o g v → Keeps K w1 v → IsTypedFrame F R p v g
+        → End (after o (go M n (runs p g) v))
+    goes_on o g v is keeps typed =
+        ends_after K (Returned x) E w1 o (go M n (runs p g) v)
+        (ends_from K (Returned x) E w1 v (go M n (runs p g) v) keeps
+        (ends_weaker K (Returned x) (RunLeaves R n (runs p g) v) E v (go M n (runs p g) v) (λ h. behind_line p k f g l w v o is_line left is h)
+        (bodies p ready g v (sound_later K w v (keeps_then K w w1 v (same_stepped k w) keeps) sound) typed)))
 
     -- after an error
-    caught_goes : (active : Bool) (h : Handler) (o : List Output) (e : ℕ) (v : Memory) → handled M f l does ≡ caught f l active h o e (set_err e v)
-        → Locals P.declarations p v.held f.vars → IsUntouched s0 (set_err e v)
-        → Ends s0 E (then (caught f l active h o e (set_err e v)) (λ g w. go M n (runs p g) w))
-    caught_goes true h o e v is x u = u
-    caught_goes false none o e v is x u = u
-    caught_goes false next_line o e v is x u =
-        let no : cond l.tests (outside o) (gives o (to_line l.aims.after f) (set_err e v)) ≡ gives o (to_line l.aims.after f) (set_err e v) =
-        ap (λ b. cond b (outside o) (gives o (to_line l.aims.after f) (set_err e v))) tests in
-        subst (λ r. Ends s0 E (then r (λ g w. go M n (runs p g) w))) (sym no) (goes_on o (to_line l.aims.after f) (set_err e v) (is ∙ no) refl x u)
-    caught_goes false (at_line m) o e v is x u = goes_on o (at_handler m f) (set_err e v) is refl x u
+    caught_goes : (active : Bool) (h : Handler) (tests : Bool) (o : List Output) (e : ℕ) (v : Memory) → does ≡ raises o e v → f.active ≡ active → f.handler ≡ h
+        → l.tests ≡ tests → Keeps K w1 v → End (then (caught f l active h o e (set_err e v)) (λ g w. go M n (runs p g) w))
+    caught_goes true h tests o e v is a b c keeps = keeps_then K w1 v (set_err e v) keeps (keeps_same K v (set_err e v) refl refl refl refl)
+    caught_goes false none tests o e v is a b c keeps = keeps_then K w1 v (set_err e v) keeps (keeps_same K v (set_err e v) refl refl refl refl)
+    caught_goes false next_line true o e v is a b c keeps =
+        subst (λ z. End (then (cond z (outside o) (gives o (to_line l.aims.after f) (set_err e v))) (λ g w. go M n (runs p g) w))) (sym c)
+        (at_head p k e f l w v o is_line left is a b c)
+    caught_goes false next_line false o e v is a b c keeps =
+        let u : Memory = set_err e v in
+        let later : Keeps K w1 u = keeps_then K w1 v u keeps (keeps_same K v u refl refl refl refl) in
+        subst (λ z. End (then (cond z (outside o) (gives o (to_line l.aims.after f) u)) (λ g w. go M n (runs p g) w))) (sym c)
+        (goes_on o (to_line l.aims.after f) u (ap (λ r. handled M f l r) is ∙ ap (λ z. caught f l z f.handler o e u) a ∙ ap (λ z. caught f l false z o e u) b
+        ∙ ap (λ z. cond z (outside o) (gives o (to_line l.aims.after f) u)) c) later
+        (frame_at F R p u f (frame_later F R p w u f (keeps_then K w w1 u (same_stepped k w) later) t) l.aims.after))
+    caught_goes false (at_line m) tests o e v is a b c keeps =
+        let u : Memory = set_err e v in
+        let later : Keeps K w1 u = keeps_then K w1 v u keeps (keeps_same K v u refl refl refl refl) in
+        goes_on o (at_handler m f) u (ap (λ r. handled M f l r) is ∙ ap (λ z. caught f l z f.handler o e u) a ∙ ap (λ z. caught f l false z o e u) b) later
+        (frame_caught F R p u f (frame_later F R p w u f (keeps_then K w w1 u (same_stepped k w) later) t) m l is_line)
 
-    line_goes : (r : Outcome Memory SourceFrame) → does ≡ r → LineEnds C (LineLeaves C l.form.source.form l.form.bindings.exprs w1) w1 r
-        → Ends s0 E (then (handled M f l r) (λ g w. go M n (runs p g) w))
-    line_goes (gives o g v) is h = goes_on o g v (ap (λ r. handled M f l r) is) h.0 h.1 (untouched v h.2)
+    pub line_goes : (r : Outcome Memory SourceFrame) → does ≡ r → Ends K (Good C F) (LineLeaves C (RunLeaves R n) l.form.source.form l.form.bindings.exprs w1) w1 r
+        → End (then (handled M f l r) (λ g w. go M n (runs p g) w))
+    line_goes (gives o g v) is h = goes_on o g v (ap (λ r. handled M f l r) is) h.0 h.1
     line_goes (raises o e v) is h =
-        caught_goes f.active f.handler o e v (ap (λ r. handled M f l r) is) h.0 (untouched_by s0 v (set_err e v) (untouched v h.1) refl refl refl)
-    line_goes (spent o v) is h = absurd h
-    line_goes (outside o) is h = leaving.at_line n p k f l w is_line left (typed_frame P p w f parts.variables locals) h
+        caught_goes f.active f.handler l.tests o e v is refl refl refl h
+    line_goes (spent o v) is h = h
+    line_goes (outside o) is h = leaving.at_line p k f l w is_line left (frame_anywhere F R p w f t) h
 
   -- ---- one turn
 
-  covered_line : (f : SourceFrame) (l : SourceLine) → nth_line (body_of parts.body.lines) f.line ≡ Some l
-      → (is_simple_line P p l.form ≡ true) × (is_typed_line P.declarations l.form ≡ true) × (l.tests ≡ false)
-  covered_line f l e = at f.line e
-    where
-      at : (k : ℕ) → nth_line (body_of parts.body.lines) k ≡ Some l
-          → (is_simple_line P p l.form ≡ true) × (is_typed_line P.declarations l.form ≡ true) × (l.tests ≡ false)
-      at zero e = absurd (not_none e)
-      at (suc k) e =
-          let ls : List tree.Line = parts.body.lines in
-          let m = form_at ls (aims_of (steps (source_lines ls))) k l e in
-          let c = all_at (is_simple_line P p) ls k l.form parts.body.covers m.0 in (
-            c,
-            all_at (is_typed_line P.declarations) ls k l.form parts.body.typed m.0,
-            m.1
-                ∙ no_test (is_simple_use P p l.form.bindings.mentions) l.form.source.form l.form.bindings.exprs
-                (both_true (is_simple_form (is_simple_use P p l.form.bindings.mentions) l.form.source.form l.form.bindings.exprs) (list_all is_formed l.form.bindings.exprs) c).0,
-          )
-
-  line_turns : (n : ℕ) → Goes n → (f : SourceFrame) (w : Memory) → Locals P.declarations p w.held f.vars → AreNew f.vars → IsUntouched s0 w
-      → (o : Option SourceLine) → nth_line (body_of parts.body.lines) f.line ≡ o → Ends s0 (RunLeaves R (suc n) (runs p f) w) (line_turn M (go M n) p f o w)
-  line_turns n rest f w locals new start None e = ended f w (RunLeaves R (suc n) (runs p f) w) start
-  line_turns n rest f w locals new start (Some l) e = by w.left refl
+  line_turns : (n : ℕ) → CallsEnd n → BodiesEnd n → (p : ℕ) (ready : IsReady R p) (f : SourceFrame) (w : Memory) → IsSound K w → IsTypedFrame F R p w f
+      → (o : Option SourceLine) → nth_line (body_of (parts_of R p ready).body.lines) f.line ≡ o
+      → Ends K (Returned (parts_of R p ready).head.procedure) (RunLeaves R (suc n) (runs p f) w) w (line_turn M (go M n) p f o w)
+  line_turns n calls bodies p ready f w sound t None e = ended F R p (parts_of R p ready) f w (RunLeaves R (suc n) (runs p f) w) t
+  line_turns n calls bodies p ready f w sound t (Some l) e = by w.left refl
     where
       at_body : machines.line_at M p f.line ≡ Some l
-      at_body = ap (λ o. line_in o f.line) (body_at P.bodies p parts.body.lines parts.body.are_lines) ∙ e
+      at_body = ap (λ o. line_in o f.line) (body_at R.program.bodies p (parts_of R p ready).body.lines (parts_of R p ready).body.are_lines) ∙ e
 
       by : (left : ℕ) → w.left ≡ left
-          → Ends s0 (RunLeaves R (suc n) (runs p f) w)
+          → Ends K (Returned (parts_of R p ready).head.procedure) (RunLeaves R (suc n) (runs p f) w) w
           (stepped M left (λ w. then (handled M f l (line_does R (go M n) p f l w)) (λ g w. go M n (runs p g) w)) w)
-      by zero is = start
+      by zero is = keeps_self K w
       by (suc k) is =
-          let c = covered_line f l e in
-          line_goes n k rest f w l at_body is locals new start c.2
-          (form_does (context_at R n p f l) l.form.source.form l.form.bindings.exprs (stepped_to k w)) refl
-          (line_ends (context_at R n p f l) l.form (stepped_to k w) c.0 c.1 locals)
+          let parts : Parts R.program p = parts_of R p ready in
+          let E : Type 0 = RunLeaves R (suc n) (runs p f) w in
+          let w1 : Memory = stepped_to k w in
+          let C : Context = context_at R n p f l in
+          let c : Known R.program p f.line parts.body.lines l = known_line R.program p parts.body f.line l e in
+          let stands : code_line R.program p f.line ≡ Some l.form =
+          ap (λ (o : Option (List tree.Line)). numbered o f.line) parts.body.are_lines ∙ ap (λ j. nth_line parts.body.lines j) c.number ∙ c.stands in
+          let does : Outcome Memory SourceFrame = form_does C l.form.source.form l.form.bindings.exprs w1 in
+          let inside : IsIn C F w1 = record {
+            sound = sound_later K w w1 (same_stepped k w) sound;
+            frame = frame_later F R p w w1 f (same_stepped k w) t;
+          } in
+          ends_from K (Returned parts.head.procedure) E w w1 (then (handled M f l does) (λ g w. go M n (runs p g) w)) (same_stepped k w)
+          (line_goes n bodies p ready f w sound t k l at_body is does refl
+          (line_ends C F (RunLeaves R n) (calls_keep n p f l calls) l.form parts.body.lines parts.body.are_lines stands w1 inside c.covers c.typed
+          (line_suited R p c.place parts.head.procedure parts.body.lines l.form parts.head.is_procedure parts.body.are_lines c.stands c.calls ready) c.part (record { all = c.all; number = c.at; aims = c.aims })))
 
-  turns : (n : ℕ) → Goes n
-  turns zero f w locals new start = start
-  turns (suc n) f w locals new start =
-      subst (λ o. Ends s0 (RunLeaves R (suc n) (runs p f) w) (body_turn M (go M n) p f o w)) (sym (body_at P.bodies p parts.body.lines parts.body.are_lines))
-      (line_turns n (turns n) f w locals new start (nth_line (body_of parts.body.lines) f.line) refl)
+  bodies_more : (n : ℕ) → CallsEnd n → BodiesEnd n → BodiesEnd (suc n)
+  bodies_more n calls bodies p ready f w sound t =
+      let parts : Parts R.program p = parts_of R p ready in
+      subst (λ o. Ends K (Returned parts.head.procedure) (RunLeaves R (suc n) (runs p f) w) w (body_turn M (go M n) p f o w))
+      (sym (body_at R.program.bodies p parts.body.lines parts.body.are_lines))
+      (line_turns n calls bodies p ready f w sound t (nth_line (body_of parts.body.lines) f.line) refl)
 
--- ---- from the entry on
-
-unmade : (s : Memory) (q : Position) → IsMade (mark s) q.root → IsNew s.next q → ⊥
-unmade s q m new =
-    let lt = subst (λ (z : Position). IsMade (mark s) z.root) new.1 m in
-    let le = new.2 in
-    omega (arith, lt, le)
-
-module _ (R : Runnable) (p : ℕ) (parts : Parts R.program p) where
-  entry_turns : (n : ℕ) (me : Option ℕ) (locked : Locked) (w : Memory)
-      → Ends w (RunLeaves R (suc n) (enters p me locked []) w) (go (machine_of R) (suc n) (enters p me locked []) w)
-  entry_turns n me locked w = by w.left refl
+  calls_more : (n : ℕ) → BodiesEnd n → CallsEnd (suc n)
+  calls_more n bodies q x me locked gs w ready is sound given = by w.left refl
     where
-      same : (u : Memory) → u.held ≡ w.held → u.next_object ≡ w.next_object → u.class_of ≡ w.class_of → IsUntouched w u
-      same u held objects classes = untouched_by w w u (record { held = λ q m. refl; objects = refl; classes = refl }) held objects classes
+      same_procedure : (parts_of R q ready).head.procedure ≡ x
+      same_procedure = some_is (sym (parts_of R q ready).head.is_procedure ∙ is)
 
       by : (left : ℕ) → w.left ≡ left
-          → Ends w (RunLeaves R (suc n) (enters p me locked []) w)
-          (stepped (machine_of R) left (λ w. then (entered_as R p me locked [] w) (λ f w. go (machine_of R) n (runs p f) w)) w)
-      by zero is = same w refl refl refl
-      by (suc k) is =
-          let x : Entered R p me locked (stepped_to k w) = entered R p me locked (stepped_to k w) parts.head parts.variables in
-          subst (λ r. Ends w (RunLeaves R (suc n) (enters p me locked []) w) (then r (λ f w. go (machine_of R) n (runs p f) w))) (sym x.is)
-          (ends_after w (RunLeaves R (suc n) (enters p me locked []) w) [] (go (machine_of R) n (runs p x.frame) x.memory)
-          (ends_weaker w (RunLeaves R n (runs p x.frame) x.memory) (RunLeaves R (suc n) (enters p me locked []) w) (go (machine_of R) n (runs p x.frame) x.memory)
-          (λ h. behind_entry n p k me locked [] x.frame w x.memory [] is x.is h)
-          (turns R p parts w n x.frame x.memory x.locals (λ v d q stands m. unmade w q m (x.fresh v d q stands))
-          (record { held = λ q m. x.kept q (unmade w q m); objects = x.objects; classes = x.classes }))))
+          → Ends K (Returned x) (RunLeaves R (suc n) (enters q me locked gs) w) w (stepped M left (λ w. then (entered_as R q me locked gs w) (λ f w. go M n (runs q f) w)) w)
+      by zero left = keeps_self K w
+      by (suc k) left =
+          let E : Type 0 = RunLeaves R (suc n) (enters q me locked gs) w in
+          let w1 : Memory = stepped_to k w in
+          let sound1 : IsSound K w1 = sound_later K w w1 (same_stepped k w) sound in
+          ends_from K (Returned x) E w w1 (then (entered_as R q me locked gs w1) (λ f w. go M n (runs q f) w)) (same_stepped k w)
+          (then_ends K (λ u f. IsTypedFrame F R q u f) (Returned x) E w1 (entered_as R q me locked gs w1) (λ f w. go M n (runs q f) w)
+          (entered_ends R q me locked gs w1 F E ready x is sound1 (all_given K w w1 x.params gs (same_stepped k w) given))
+          (λ o f v one keeps t.
+          ends_weaker K (Returned x) (RunLeaves R n (runs q f) v) E v (go M n (runs q f) v) (λ h. behind_entry q k me locked gs f w v o left one h)
+          (subst (λ (z : Procedure). Ends K (Returned z) (RunLeaves R n (runs q f) v) v (go M n (runs q f) v)) same_procedure
+          (bodies q ready f v (sound_later K w1 v keeps sound1) t))))
 
-pub run_result : (R : Runnable) (p n : ℕ) (me : Option ℕ) (inputs : List (List ℕ)) (w : Memory) → is_simple_procedure R.program p ≡ true
-    → is_typed_procedure R.program p ≡ true → IsRunResult R (suc n) (enters p me [] []) (started inputs n w) (run6 R p me [] inputs n w)
-run_result R p n me inputs w covers typing =
-    result_of_run R (suc n) (enters p me [] []) (started inputs n w) (run6 R p me [] inputs n w)
-    (entry_turns R p (parts_of R.program p covers typing) n me [] (started inputs n w))
+  -- ---- all turns
+
+  abbrev Both : ℕ → Type 0
+  Both n = CallsEnd n × BodiesEnd n
+
+  pub both_end : (n : ℕ) → Both n
+  both_end zero = (λ q x me locked gs w ready is sound given. keeps_self K w, λ p ready f w sound t. keeps_self K w)
+  both_end (suc n) =
+      let b : Both n = both_end n in
+      (calls_more n b.1, bodies_more n b.0 b.1)
+
+-- what is given at the start stands in the footprint
+given_within : (D : Declarations) (w : Memory) (all gs : List SourceGiven) → ((q : Position) → list_any (is_given_at q) gs ≡ true → list_any (is_given_at q) all ≡ true)
+    → (vs : List VarId) → AreGiven (ground D anywhere) w vs gs → AreGiven (ground D (footprint_of w all)) w vs gs
+given_within D w all [] among [] h = tt
+given_within D w all [] among (v ∷ vs) h = h
+given_within D w all (g ∷ gs) among [] h = h
+given_within D w all (g ∷ gs) among (v ∷ vs) h = (
+  by (slice_get D.vars v.0) g (λ q e. among q (ap (λ b. b || list_any (is_given_at q) gs) e)) h.0,
+  given_within D w all gs (λ q e. among q (last_or (is_given_at q g) (list_any (is_given_at q) gs) e)) vs h.1,
+)
+  where
+    last_or : (a b : Bool) → b ≡ true → a || b ≡ true
+    last_or true b e = refl
+    last_or false b e = e
+
+    by : (o : Option Variable) (g : SourceGiven) → ((q : Position) → is_given_at q g ≡ true → list_any (is_given_at q) all ≡ true)
+        → IsGiven (ground D anywhere) w o g → IsGiven (ground D (footprint_of w all)) w o g
+    by None g m h = h
+    by (Some y) (by_value x) m h = h
+    by (Some y) (by_address (root d q)) m h = (
+      h.0,
+      h.1,
+      record {
+        value = h.2.value;
+        holds = h.2.holds;
+        plain = h.2.plain;
+        made = h.2.made;
+        allowed = last_or (is_open w.next q.root) (list_any (is_given_at q) all) (m q (self_same q));
+      },
+    )
+    by (Some y) (by_address (item e q j path)) m h = h
+    by (Some y) (by_address (constant x)) m h = h
+
+-- so does what is shared, and what isn't made yet
+sound_within : (D : Declarations) (w : Memory) (gs : List SourceGiven) → IsSound (ground D anywhere) w → IsSound (ground D (footprint_of w gs)) w
+sound_within D w gs s = record {
+  modules = λ v x is m c. within v x.ty (s.modules v x is m c);
+  statics = λ v x is st c. may v x.ty (s.statics v x is st c);
+  shares = λ v. refl;
+  fresh = λ n l. ap (λ b. b || list_any (is_given_at (whole (made n))) gs) (le-leb w.next n l);
+}
+  where
+    within : (v : ℕ) (ty : Ty) → Stands (ground D anywhere) w (shared_place v) ty → Stands (ground D (footprint_of w gs)) w (shared_place v) ty
+    within v ty s = record { value = s.value; holds = s.holds; plain = s.plain; made = s.made; allowed = refl }
+
+    may : (v : ℕ) (ty : Ty) → MayStand (ground D anywhere) w (shared_place v) ty → MayStand (ground D (footprint_of w gs)) w (shared_place v) ty
+    may v ty (inl e) = inl e
+    may v ty (inr s) = inr (within v ty s)
+
+pub run_result : (R : Runnable) (p n : ℕ) (x : Procedure) (me : Option ℕ) (gs : List SourceGiven) (inputs : List (List ℕ)) (w : Memory) → IsReady R p
+    → slice_get (declarations_of R).procs p ≡ Some x → IsSound (ground (declarations_of R) anywhere) w
+    → AreGiven (ground (declarations_of R) anywhere) w x.params gs
+    → IsRunResult R (suc n) x gs (enters p me [] gs) (started inputs n w) (run6 R p me gs inputs n w)
+run_result R p n x me gs inputs w ready is sound given =
+    let D : Declarations = declarations_of R in
+    let u : Memory = started inputs n w in
+    let F : Footprint = footprint_of u gs in
+    let k : Keeps (ground D anywhere) w u = keeps_same (ground D anywhere) w u refl refl refl refl in
+    as_call (ground D F) (RunLeaves R (suc n)) x (enters p me [] gs) u (run6 R p me gs inputs n w)
+    ((both_end F R (suc n)).0 p x me [] gs u ready is (sound_within D u gs (sound_later (ground D anywhere) w u k sound))
+    (given_within D u gs gs (λ q e. e) x.params (all_given (ground D anywhere) w u x.params gs k given)))

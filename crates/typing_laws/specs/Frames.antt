@@ -1,14 +1,190 @@
--- Well-typed frames: each local variable of a procedure stands at a position that holds a value of its type.
-use Rattle.std.specs.Prelude.{◌≡◌, ℕ, true, Some, slice_get}
-use Rattle.bound_tree.specs.Tree.{Variable, Declarations}
-use Rattle.run_base.specs.Positions.{Position}
-use Rattle.vb6_run.specs.Programs.{is_local_of}
-use Rattle.vb6_run.specs.Runnables.{variable_address}
-use Rattle.vb6_run.specs.Shapes.{variable_shape}
-use Rattle.vb6_run.specs.Store.{Memory, SourceFrame, root}
-use Rattle.run_matches.specs.Typed.{AllHeld}
+-- Memories and frames in which each variable of a covered type holds a value of its type.
+use Rattle.std.specs.Prelude.{◌≡◌, ◌⊎◌, ℕ, ◌≤◌, Bool, true, false, List, [], ◌∷◌, Option, Some, None, slice_get, is_some, nat_le, ◌||◌}
+use Rattle.vb_tree.specs.BoundTree.{Ty}
+use Rattle.vb_tree.specs.declared.declared.Owner.{Owner}
+use Rattle.vb_tree.specs.declared.declared.Owner.TheVariants as owner
+use Rattle.vb_tree.specs.declared.declared.VarId.{VarId}
+use Rattle.vb_tree.specs.declared.value.Value6.{Value6}
+use Rattle.vb_tree.specs.Tree.{Form}
+use Rattle.vb_tree.specs.Tree as source
+use Rattle.bound_tree.specs.Tree.{Variable, Procedure, Declarations, Program, Expr}
+use Rattle.bound_tree.specs.Tree as tree
+use Rattle.bound_facts.specs.Node.{type_at}
+use Rattle.written_trees.specs.Arguments.{is_reference_owner}
+use Rattle.run_base.specs.Frames.{by_value, by_address, Kept, keeps_nothing, keeps_limit, keeps_value, keeps_address}
+use Rattle.run_base.specs.Machines.{line_at, nth_line}
+use Rattle.std.specs.List.{list_any}
+use Rattle.run_base.specs.Positions.{Root, shared, made, field, Position, is_same_position, whole}
+use Rattle.vb6_run.specs.Forms.{SourceLine}
+use Rattle.vb6_run.specs.Programs.{is_module_variable, machine_of}
+use Rattle.vb6_run.specs.Runnables.{Runnable, declarations_of, variable_address}
+use Rattle.vb6_run.specs.Shapes.{simple}
+use Rattle.vb6_run.specs.Store.{Address, blank, single, root, item, constant, Memory, SourceFrame, SourceGiven}
+use Rattle.vb6_run.specs.Values.{Value}
+use Rattle.run_matches.specs.Covered.{belongs_to, covers_type}
+use Rattle.run_matches.specs.Maps.{IsMade, mark}
+use Rattle.typing_laws.specs.Plain.{Plain, IsValue}
 
-pub record IsTypedFrame (D : Declarations) (procedure : ℕ) (w : Memory) (f : SourceFrame) : Type 0 where
-  pub locals :
-      (v : ℕ) (x : Variable) → slice_get D.vars v ≡ Some x → is_local_of procedure x.owner ≡ true
-      → (q : Position) × (variable_address D f v ≡ Some (root (variable_shape D v) q)) × AllHeld w (variable_shape D v) q
+-- ---- places
+
+-- which positions may be written to
+abbrev pub Footprint : Type 0
+Footprint = Position → Bool
+
+abbrev pub anywhere : Footprint
+anywhere q = true
+
+-- declarations with a footprint
+pub record Ground : Type 0 where
+  pub declarations : Declarations
+  pub footprint : Footprint
+
+abbrev pub ground : Declarations → Footprint → Ground
+ground D F = record { declarations = D; footprint = F }
+
+-- a position of the footprint that was made and holds a value of a covered type
+pub record Stands (K : Ground) (w : Memory) (q : Position) (ty : Ty) : Type 0 where
+  pub value : Value6
+  pub holds : w.held q ≡ single ty value
+  pub plain : Plain ty value
+  pub made : IsMade (mark w) q.root
+  pub allowed : K.footprint q ≡ true
+
+-- where a variable of a standard module or a Static of a procedure in one stands
+abbrev pub shared_place : (variable : ℕ) → Position
+shared_place v = whole (shared (v ∷ []))
+
+abbrev pub is_static : Owner → Bool
+is_static (owner.Static p) = true
+is_static _ = false
+
+-- a Static holds nothing until its procedure is entered
+abbrev pub MayStand : Ground → Memory → Position → Ty → Type 0
+MayStand K w q ty = (w.held q ≡ blank) ⊎ Stands K w q ty
+
+pub record IsBlankStatic (K : Ground) (w : Memory) (q : Position) : Type 0 where
+  pub number : ℕ
+  pub variable : Variable
+  pub is_variable : slice_get K.declarations.vars number ≡ Some variable
+  pub static : is_static variable.owner ≡ true
+  pub covers : covers_type variable.ty ≡ true
+  pub place : q ≡ shared_place number
+  pub is_blank : w.held q ≡ blank
+
+-- ---- memories
+
+-- Each variable of a standard module that has a covered type holds a value of it, and each Static that or nothing. The footprint has their
+-- positions, and all that isn't made yet.
+pub record IsSound (K : Ground) (w : Memory) : Type 0 where
+  pub modules :
+      (v : ℕ) (x : Variable) → slice_get K.declarations.vars v ≡ Some x → is_module_variable K.declarations x.owner ≡ true → covers_type x.ty ≡ true
+      → Stands K w (shared_place v) x.ty
+  pub statics :
+      (v : ℕ) (x : Variable) → slice_get K.declarations.vars v ≡ Some x → is_static x.owner ≡ true → covers_type x.ty ≡ true
+      → MayStand K w (shared_place v) x.ty
+  pub shares : (v : ℕ) → K.footprint (shared_place v) ≡ true
+  pub fresh : (n : ℕ) → w.next ≤ n → K.footprint (whole (made n)) ≡ true
+
+-- Between two memories each position of the footprint that holds a value of a covered type goes on to hold one of the same type, and what
+-- else was made holds what it held, but for Statics that are made now.
+pub record Keeps (K : Ground) (w v : Memory) : Type 0 where
+  pub places : (q : Position) (ty : Ty) → Stands K w q ty → Stands K v q ty
+  pub statics :
+      (k : ℕ) (x : Variable) → slice_get K.declarations.vars k ≡ Some x → is_static x.owner ≡ true → covers_type x.ty ≡ true
+      → MayStand K w (shared_place k) x.ty → MayStand K v (shared_place k) x.ty
+  pub others :
+      (q : Position) → IsMade (mark w) q.root → ((ty : Ty) → Stands K w q ty → ⊥) → (IsBlankStatic K w q → ⊥) → v.held q ≡ w.held q
+  pub next : w.next ≤ v.next
+  pub objects : v.next_object ≡ w.next_object
+  pub classes : v.class_of ≡ w.class_of
+
+-- ---- frames
+
+-- each variable of a procedure that has a covered type stands at an address of the frame
+abbrev pub HasOwn : Ground → (procedure : ℕ) → Memory → SourceFrame → Type 0
+HasOwn K p w f =
+    (v : ℕ) (x : Variable) → slice_get K.declarations.vars v ≡ Some x → belongs_to p x.owner ≡ true → covers_type x.ty ≡ true
+    → (q : Position) × (variable_address K.declarations f v ≡ Some (root (simple x.ty) q)) × Stands K w q x.ty
+
+-- what a For keeps of its counter: the address, the limit and the step; a Select Case keeps its value
+abbrev pub IsLimit : Ground → Memory → Ty → Kept Value Address → Type 0
+IsLimit K w ty keeps_nothing = Unit {0}
+IsLimit K w ty (keeps_limit (root d q) y s) = (d ≡ simple ty) × Stands K w q ty × IsValue ty y × IsValue ty s
+IsLimit K w ty (keeps_limit (item e q j path) y s) = ⊥
+IsLimit K w ty (keeps_limit (constant x) y s) = ⊥
+IsLimit K w ty (keeps_value x) = ⊥
+IsLimit K w ty (keeps_address a) = ⊥
+
+abbrev pub IsChoice : Ty → Kept Value Address → Type 0
+IsChoice ty keeps_nothing = Unit {0}
+IsChoice ty (keeps_limit a y s) = ⊥
+IsChoice ty (keeps_value x) = IsValue ty x
+IsChoice ty (keeps_address a) = ⊥
+
+-- the counter of a For, and what a Select Case compares
+abbrev pub counter_of : Form → List Expr → Option Expr
+counter_of (source.for_head counter start limit step) (e ∷ es) = Some e
+counter_of f es = None
+
+abbrev pub choice_of : Form → List Expr → Option Expr
+choice_of (source.select choice) (e ∷ es) = Some e
+choice_of f es = None
+
+-- what the head of a block keeps, if it has kept anything
+pub record IsKeptBy (K : Ground) (w : Memory) (f : Form) (es : List Expr) (k : Kept Value Address) : Type 0 where
+  pub limit : (e : Expr) → counter_of f es ≡ Some e → IsLimit K w (type_at e) k
+  pub choice : (e : Expr) → choice_of f es ≡ Some e → IsChoice (type_at e) k
+
+abbrev pub numbered : Option (List tree.Line) → (line : ℕ) → Option tree.Line
+numbered None n = None
+numbered (Some lines) n = nth_line lines n
+
+-- the code line of a procedure by its number
+abbrev pub code_line : Program → (procedure line : ℕ) → Option tree.Line
+code_line P p n = numbered (slice_get P.bodies p) n
+
+-- a frame whose variables stand, whose heads keep what they do, and whose error, if one is handled, was at a line
+pub record IsTypedFrame (F : Footprint) (R : Runnable) (p : ℕ) (w : Memory) (f : SourceFrame) : Type 0 where
+  pub own : HasOwn (ground (declarations_of R) F) p w f
+  pub kept : (h : ℕ) (m : tree.Line) → code_line R.program p h ≡ Some m → IsKeptBy (ground (declarations_of R) F) w m.source.form m.bindings.exprs (f.kept h)
+  pub error : f.active ≡ true → (l : SourceLine) × (line_at (machine_of R) p f.resume ≡ Some l)
+
+-- ---- calls
+
+-- a value of the parameter's type; or, by reference, the address of a variable that holds one
+abbrev pub IsGiven : Ground → Memory → Option Variable → SourceGiven → Type 0
+IsGiven K w None g = ⊥
+IsGiven K w (Some y) (by_value x) = IsValue y.ty x
+IsGiven K w (Some y) (by_address (root d q)) = (is_reference_owner y.owner ≡ true) × (d ≡ simple y.ty) × Stands K w q y.ty
+IsGiven K w (Some y) (by_address (item e q j path)) = ⊥
+IsGiven K w (Some y) (by_address (constant x)) = ⊥
+
+-- one argument for each parameter
+abbrev pub AreGiven : Ground → Memory → List VarId → List SourceGiven → Type 0
+AreGiven K w [] [] = Unit {0}
+AreGiven K w (v ∷ vs) (g ∷ gs) = IsGiven K w (slice_get K.declarations.vars v.0) g × AreGiven K w vs gs
+AreGiven K w [] (g ∷ gs) = ⊥
+AreGiven K w (v ∷ vs) [] = ⊥
+
+-- a Function gives a value of its type
+abbrev pub IsReturned : Procedure → Option Value → Type 0
+IsReturned x None = is_some x.answer ≡ false
+IsReturned x (Some y) = IsValue x.result y
+
+-- ---- footprints of runs
+
+-- shared, or not made yet
+abbrev pub is_open : (next : ℕ) → Root → Bool
+is_open next (shared k) = true
+is_open next (made n) = nat_le next n
+is_open next (field o k) = false
+
+abbrev pub is_given_at : Position → SourceGiven → Bool
+is_given_at q (by_value x) = false
+is_given_at q (by_address (root d r)) = is_same_position r q
+is_given_at q (by_address (item e r j path)) = false
+is_given_at q (by_address (constant x)) = false
+
+-- A run may write to variables of modules and Statics, to what it makes, and to what it is given by reference.
+abbrev pub footprint_of : Memory → List SourceGiven → Footprint
+footprint_of w gs q = is_open w.next q.root || list_any (is_given_at q) gs

@@ -1,6 +1,9 @@
-pub mod Simple
-pub mod Typed
 pub mod Edges
-pub mod Leaving
+pub mod Plain
 pub mod Frames
+pub mod Typed
+pub mod Scalars
+pub mod Calls
+pub mod Leaving
 pub mod Results
+pub mod Inert

@@ -1,29 +1,36 @@
 //! Laws on the source's meaning alone.
-ghost use Rattle.std.specs.Prelude.{◌≡◌, ℕ, suc, true, List, [], Option};
+ghost use Rattle.std.specs.Prelude.{◌≡◌, ℕ, suc, true, List, [], Option, Some, slice_get};
 ghost use Rattle.vb_tree.specs.BoundTree.{Ty};
+ghost use Rattle.vb_tree.specs.declared.bound.LibCall.{LibCall};
 ghost use Rattle.vb_tree.specs.declared.bound.Op6.TheVariants.{Typed};
 ghost use Rattle.vb_tree.specs.declared.expression.BinOp.{BinOp};
 ghost use Rattle.vb_tree.specs.declared.value.Value6.{Value6};
 ghost use Rattle.vb6_meaning.specs.Answers.{outside};
+ghost use Rattle.vb6_meaning.specs.Library.{call};
 ghost use Rattle.vb6_meaning.specs.Values.{operate};
-ghost use Rattle.bound_tree.specs.Tree.{Expr, Line};
+ghost use Rattle.bound_tree.specs.Tree.{Declarations, Procedure, Expr, Line};
 ghost use Rattle.bound_tree.specs.declared.body.Mention.{Mention};
 ghost use Rattle.run_base.specs.Machines.{enters};
 ghost use Rattle.vb6_run.specs.Expressions.{Context, declared, scalar_value};
 ghost use Rattle.vb6_run.specs.Forms.{form_does};
-ghost use Rattle.vb6_run.specs.Programs.{run6};
-ghost use Rattle.vb6_run.specs.Runnables.{Runnable};
-ghost use Rattle.vb6_run.specs.Store.{Memory};
-ghost use Rattle.run_matches.specs.Covered.{covers_type};
-ghost use Rattle.typing_laws.specs.Simple.{is_simple_expr, is_simple_line, is_simple_procedure, is_simple_use, has_simple_variables};
+ghost use Rattle.run_base.specs.Outcomes.{Output, gives};
+ghost use Rattle.vb6_run.specs.Programs.{empty_memory, is_module_variable, lay_module_variables, owned_from, run6};
+ghost use Rattle.vb6_run.specs.Runnables.{Runnable, declarations_of};
+ghost use Rattle.vb6_run.specs.Store.{Memory, SourceGiven};
+ghost use Rattle.bound_facts.specs.Facts.{AreFacts};
+ghost use Rattle.run_matches.specs.Covered.{covers_expr, covers_type, uses_in};
+ghost use Rattle.run_matches.specs.Maps.{Map, mark};
 ghost use Rattle.run_matches.specs.Formed.{is_formed};
-ghost use Rattle.typing_laws.specs.Edges.{IsEdge};
-ghost use Rattle.typing_laws.specs.Frames.{IsTypedFrame};
-ghost use Rattle.run_matches.specs.Typed.{IsScalar, KeepsSourceTyped};
-ghost use Rattle.run_matches.specs.Upgrades.{Upgrade};
-ghost use Rattle.typing_laws.specs.Leaving.{started};
+ghost use Rattle.run_matches.specs.Typed.{EndsIn, IsScalar, SourceTyped};
+ghost use Rattle.run_matches.specs.Upgrades.{Upgrade, runnable_of};
+ghost use Rattle.typing_laws.specs.Calls.{AreLoud, CallsAreSuited, CallsKeep, IsAt, IsReady, OverScalars};
+ghost use Rattle.typing_laws.specs.Edges.{IsEdge, IsLibraryEdge};
+ghost use Rattle.typing_laws.specs.Frames.{AreGiven, Footprint, HasOwn, IsSound, IsTypedFrame, anywhere, ground};
+ghost use Rattle.typing_laws.specs.Inert.{ChangesNothing, is_inert};
+ghost use Rattle.typing_laws.specs.Leaving.{RunLeaves, started};
+ghost use Rattle.typing_laws.specs.Scalars.{scalar_uses};
 ghost use Rattle.typing_laws.specs.Results.{IsLineResult, IsResult, IsRunResult};
-ghost use Rattle.typing_laws.specs.Typed.{is_typed, is_typed_line, is_typed_procedure};
+ghost use Rattle.typing_laws.specs.Typed.{is_typed};
 
 /// A law: at an edge of its row an operator is outside, where the second operand is a scalar of a covered type.
 pub fn edges_are_outside()
@@ -31,36 +38,68 @@ pub fn edges_are_outside()
         → operate (Typed op) x y ≡ outside }
 {}
 
-/// A law: in a well-typed frame a simple expression that is well typed gives a value of its type or raises an error, and changes
-/// nothing; it is outside only where an operator is at an edge of its row.
-#[tactic(auto, using(crate::proofs::Expressions::expression_has_type))]
+/// A law: so is a call of the library at an edge of its row.
+#[tactic(auto, using(crate::proofs::Library::library_edge_is_outside))]
+pub fn library_edges_are_outside()
+    ensures { (f : LibCall) (xs : List Value6) → IsLibraryEdge f xs → call f xs ≡ outside }
+{}
+
+/// A law: in a frame whose variables stand a covered expression over scalars alone that is well typed gives a value of its type, raises an error
+/// or runs out of steps, and keeps the types of what stands, where its calls do. It is outside only where it leaves the tables, or where a run that
+/// it calls does.
+#[tactic(auto, using(crate::proofs::Joined::expression_has_type))]
 pub fn expressions_have_types()
+    ensures { (C : Context) (F : Footprint) (n : ℕ) (mentions : List Mention) (e : Expr) (w : Memory) → CallsKeep C F (RunLeaves C.runnable n)
+        → covers_expr (scalar_uses C.runnable.program C.procedure mentions) e ≡ true → is_formed e ≡ true → is_typed (declared C) e ≡ true
+        → CallsAreSuited C.runnable e → IsSound (ground (declared C) F) w → HasOwn (ground (declared C) F) C.procedure w C.frame
+        → IsResult C F (RunLeaves C.runnable n) e w (scalar_value C e w) }
+{}
+
+/// A law: a covered expression of constants, scalar variables, operators, conversions and calls of the library but for MsgBox and InputBox puts
+/// nothing out and changes nothing, in any frame.
+#[tactic(auto, using(crate::proofs::Inert::inert_changes_nothing))]
+pub fn inert_expressions_change_nothing()
     ensures { (C : Context) (mentions : List Mention) (e : Expr) (w : Memory)
-        → is_simple_expr (is_simple_use C.runnable.program C.procedure mentions) e ≡ true → is_formed e ≡ true → is_typed (declared C) e ≡ true
-        → IsTypedFrame (declared C) C.procedure w C.frame → IsResult C e w (scalar_value C e w) }
+        → covers_expr (uses_in C.runnable.program C.procedure mentions) e ≡ true → is_inert e ≡ true → ChangesNothing w (scalar_value C e w) }
 {}
 
-/// A law: a simple line that is well typed leaves a well-typed frame well typed and changes variables of the frame alone, and is outside
-/// only where it leaves the tables.
-#[tactic(auto, using(crate::proofs::Lines::line_keeps_types))]
+/// A law: a covered line over scalars alone that is well typed leaves a well-typed frame well typed and keeps the types of what stands, where its
+/// calls do. It is outside only where it leaves.
+#[tactic(auto, using(crate::proofs::Joined::line_keeps_types))]
 pub fn lines_keep_types()
-    ensures { (C : Context) (l : Line) (w : Memory) → has_simple_variables C.runnable.program C.procedure ≡ true
-        → is_simple_line C.runnable.program C.procedure l ≡ true → is_typed_line (declared C) l ≡ true
-        → IsTypedFrame (declared C) C.procedure w C.frame
-        → IsLineResult C l.source.form l.bindings.exprs w (form_does C l.source.form l.bindings.exprs w) }
+    ensures { (C : Context) (F : Footprint) (n : ℕ) (l : Line) (w : Memory) → CallsKeep C F (RunLeaves C.runnable n) → IsAt C l → IsSound (ground (declared C) F) w
+        → IsTypedFrame F C.runnable C.procedure w C.frame
+        → IsLineResult C F (RunLeaves C.runnable n) l.source.form l.bindings.exprs w (form_does C l.source.form l.bindings.exprs w) }
 {}
 
-/// A law: a run of a simple procedure whose lines are well typed, from any memory and with any number of steps, changes nothing that was
-/// there before it, and is outside only where one of the lines that it goes over leaves the tables.
+/// A law: by what is known of an upgraded program no parameter of a procedure over scalars alone, or of what it reaches, is quiet.
+pub fn scalars_are_loud()
+    ensures { (U : Upgrade) (p : ℕ) → AreFacts U.program U.known → OverScalars (runnable_of U) p → AreLoud (runnable_of U) p }
+{}
+
+/// A law: a program starts in a memory in which the variables of its standard modules have values of their types.
+pub fn starts_are_sound()
+    ensures { (D : Declarations) (o : List Output) (w : Memory)
+        → lay_module_variables D (owned_from (is_module_variable D) 0 D.vars) empty_memory ≡ gives o tt w → IsSound (ground D anywhere) w }
+{}
+
+/// A law: a run of a covered procedure that is over scalars alone and well typed with all that it reaches, from any memory in which the variables
+/// of modules have values of their types, with arguments of the types of its parameters and any number of steps, writes to variables of modules,
+/// Statics, what it is given by reference and what it makes alone, keeps the types of what stands there, gives a value of its own type, and is
+/// outside only where one of the lines that it goes over leaves.
 #[tactic(auto, using(crate::proofs::Runs::run_result))]
 pub fn runs_leave_at_edges()
-    ensures { (R : Runnable) (p n : ℕ) (me : Option ℕ) (inputs : List (List ℕ)) (w : Memory) → is_simple_procedure R.program p ≡ true
-        → is_typed_procedure R.program p ≡ true
-        → IsRunResult R (suc n) (enters p me [] []) (started inputs n w) (run6 R p me [] inputs n w) }
+    ensures { (R : Runnable) (p n : ℕ) (x : Procedure) (me : Option ℕ) (args : List SourceGiven) (inputs : List (List ℕ)) (w : Memory) → IsReady R p
+        → slice_get (declarations_of R).procs p ≡ Some x → IsSound (ground (declarations_of R) anywhere) w
+        → AreGiven (ground (declarations_of R) anywhere) w x.params args
+        → IsRunResult R (suc n) x args (enters p me [] args) (started inputs n w) (run6 R p me args inputs n w) }
 {}
 
 /// A law: so it keeps a well-typed store well typed.
 #[tactic(auto, using(crate::proofs::Stores::run_keeps_types))]
 pub fn runs_keep_types()
-    ensures { (U : Upgrade) (p : ℕ) → is_simple_procedure U.program p ≡ true → is_typed_procedure U.program p ≡ true → KeepsSourceTyped U p }
+    ensures { (U : Upgrade) (p n : ℕ) (x : Procedure) (m : Map) (me : Option ℕ) (args : List SourceGiven) (inputs : List (List ℕ)) (s : Memory)
+        → IsReady (runnable_of U) p → slice_get U.program.declarations.procs p ≡ Some x → IsSound (ground U.program.declarations anywhere) s
+        → AreGiven (ground U.program.declarations anywhere) s x.params args → SourceTyped U m (mark s) s
+        → EndsIn (SourceTyped U m (mark s)) (run6 (runnable_of U) p me args inputs n s) }
 {}

@@ -1,0 +1,170 @@
+-- Procedures that can be run, and what they reach.
+use Rattle.std.proofs.Common.{◌≡◌, ◌⊎◌, inl, inr, refl, sym, ap, subst, ◌∙◌, ℕ, zero, suc, ◌+◌, ◌<◌, Bool, true, false, cond, true≢false, List, [], ◌∷◌, ◌++◌, length, Option, Some, None, arith, lt-ltb}
+use Rattle.std.specs.Prelude.{filter, nat_lt, slice_get}
+use Rattle.std.specs.List.{Contains, flat_map, list_all}
+use Rattle.up_base.proofs.Tests.{both_true, and_true}
+use Rattle.bound_tree.specs.Tree.{Declarations, Expr, Line, Procedure, Program}
+use Rattle.reach_table.specs.Chains.{Chain, empty, longer}
+use Rattle.bound_facts.specs.Calls.{Reaches, calls, count_procedures, initialized, line_calls, node_calls, pair_to}
+use Rattle.bound_facts.specs.Items.{items_from}
+use Rattle.bound_facts.specs.Leading.{is_within, within}
+use Rattle.bound_facts.specs.Node.{called}
+use Rattle.bound_facts.specs.Nodes.{nodes}
+use Rattle.bound_facts.specs.Parts.{line_uses}
+use Rattle.vb6_run.specs.Runnables.{Runnable}
+use Rattle.run_matches.specs.Covered.{covers_callee, covers_calls, suits}
+use Rattle.run_matches.specs.Sites.{Site, site_of}
+use Rattle.typing_laws.specs.Calls.{CallsAreSuited, Each, IsReady, IsSuited}
+use Rattle.typing_laws.proofs.Places.{not_none, some_is}
+
+-- ---- items
+
+abbrev pub Among : {X : Type 0} → List X → X → Type 0
+Among [] x = ⊥
+Among (y ∷ ys) x = (y ≡ x) ⊎ Among ys x
+
+contains : {X : Type 0} (xs : List X) (x : X) → Among xs x → Contains xs x
+contains [] x h = absurd h
+contains (y ∷ ys) x (inl e) = (0, omega arith, e)
+contains (y ∷ ys) x (inr h) = let c = contains ys x h in (suc c.0, (let l = c.1 in omega arith), c.2)
+
+among_at : {X : Type 0} (xs : List X) (i : ℕ) (x : X) → slice_get xs i ≡ Some x → Among xs x
+among_at [] i x e = absurd (not_none e)
+among_at (y ∷ ys) zero x e = inl (some_is e)
+among_at (y ∷ ys) (suc i) x e = inr (among_at ys i x e)
+
+among_left : {X : Type 0} (xs ys : List X) (x : X) → Among xs x → Among (xs ++ ys) x
+among_left [] ys x h = absurd h
+among_left (z ∷ zs) ys x (inl e) = inl e
+among_left (z ∷ zs) ys x (inr h) = inr (among_left zs ys x h)
+
+among_right : {X : Type 0} (xs ys : List X) (x : X) → Among ys x → Among (xs ++ ys) x
+among_right [] ys x h = h
+among_right (z ∷ zs) ys x h = inr (among_right zs ys x h)
+
+flat_among : {X Y : Type 0} (f : X → List Y) (xs : List X) (x : X) (y : Y) → Among xs x → Among (f x) y → Among (flat_map f xs) y
+flat_among f [] x y m h = absurd m
+flat_among f (z ∷ zs) x y (inl e) h = among_left (f z) (flat_map f zs) y (subst (λ u. Among (f u) y) (sym e) h)
+flat_among f (z ∷ zs) x y (inr m) h = among_right (f z) (flat_map f zs) y (flat_among f zs x y m h)
+
+filter_among : {X : Type 0} (f : X → Bool) (xs : List X) (x : X) → f x ≡ true → Among xs x → Among (filter f xs) x
+filter_among f [] x h m = absurd m
+filter_among f (y ∷ ys) x h m = by (f y) refl m (λ n. filter_among f ys x h n)
+  where
+    by : (b : Bool) → f y ≡ b → Among (y ∷ ys) x → (Among ys x → Among (filter f ys) x) → Among (cond b (y ∷ filter f ys) (filter f ys)) x
+    by true e (inl s) rest = inl s
+    by true e (inr n) rest = inr (rest n)
+    by false e (inl s) rest = absurd (true≢false (sym h ∙ sym (ap f s) ∙ e))
+    by false e (inr n) rest = rest n
+
+no_more : (i : ℕ) → i ≡ i + 0
+no_more i = omega arith
+
+one_more : (i p : ℕ) → i + suc p ≡ (i + 1) + p
+one_more i p = omega arith
+
+items_among : {X : Type 0} (items : ℕ → Line → List X) (i p k : ℕ) (bodies : List (List Line)) (lines : List Line) (l : Line) (y : X)
+    → slice_get bodies p ≡ Some lines → slice_get lines k ≡ Some l → Among (items (i + p) l) y → Among (items_from items i bodies) y
+items_among items i p k [] lines l y e at h = absurd (not_none e)
+items_among items i zero k (b ∷ bodies) lines l y e at h =
+    let same : b ≡ lines = some_is e in
+    among_left (flat_map (items i) b) (items_from items (i + 1) bodies) y
+    (flat_among (items i) b l y (subst (λ ls. Among ls l) (sym same) (among_at lines k l at)) (subst (λ j. Among (items j l) y) (sym (no_more i)) h))
+items_among items i (suc p) k (b ∷ bodies) lines l y e at h =
+    among_right (flat_map (items i) b) (items_from items (i + 1) bodies) y
+    (items_among items (i + 1) p k bodies lines l y e at (subst (λ j. Among (items j l) y) (one_more i p) h))
+
+none_more : (p : ℕ) → p ≡ 0 + p
+none_more p = omega arith
+
+-- ---- chains
+
+chain_then : (pairs : List (ℕ × ℕ)) (a b c : ℕ) → Chain pairs a b → Chain pairs b c → Chain pairs a c
+chain_then pairs a _ _ x (empty b) = x
+chain_then pairs a b _ x (longer _ d c y h) = longer a d c (chain_then pairs a b d x y) h
+
+index_less : {A : Type 0} (xs : List A) (p : ℕ) (x : A) → slice_get xs p ≡ Some x → p < length xs
+index_less [] p x e = absurd (not_none e)
+index_less (y ∷ ys) zero x e = omega arith
+index_less (y ∷ ys) (suc p) x e = let l = index_less ys p x e in omega (arith, l)
+
+index_within : {A : Type 0} (xs : List A) (p : ℕ) (x : A) → slice_get xs p ≡ Some x → nat_lt p (length xs) ≡ true
+index_within xs p x e = lt-ltb p (length xs) (index_less xs p x e)
+
+-- what a call that is a node of a line reaches
+module _ (R : Runnable) (p q k : ℕ) (x : Procedure) (is : slice_get R.program.declarations.procs p ≡ Some x)
+    (known : nat_lt q (count_procedures R.program) ≡ true) (lines : List Line) (l : Line) (are_lines : slice_get R.program.bodies p ≡ Some lines)
+    (stands : slice_get lines k ≡ Some l) (call : Among (line_calls R.program.declarations p l) (p, q)) where
+  call_within : Among (within (count_procedures R.program) (calls R.program)) (p, q)
+  call_within =
+      filter_among (is_within (count_procedures R.program)) (calls R.program) (p, q)
+      (and_true (nat_lt p (count_procedures R.program)) (nat_lt q (count_procedures R.program)) (index_within R.program.declarations.procs p x is) known)
+      (items_among (line_calls R.program.declarations) 0 p k R.program.bodies lines l (p, q) are_lines stands
+      (subst (λ j. Among (line_calls R.program.declarations j l) (p, q)) (none_more p) call))
+
+  reaches_called : Reaches R.program p q
+  reaches_called = longer p p q (empty p) (contains (within (count_procedures R.program) (calls R.program)) (p, q) call_within)
+
+  pub ready_called : IsReady R p → IsReady R q
+  ready_called h = record {
+    covered = λ r c. h.covered r (chain_then _ p q r reaches_called c);
+    scalars = λ r c. h.scalars r (chain_then _ p q r reaches_called c);
+    typed = λ r c. h.typed r (chain_then _ p q r reaches_called c);
+    results = λ r c. h.results r (chain_then _ p q r reaches_called c);
+    loud = λ r c. h.loud r (chain_then _ p q r reaches_called c);
+  }
+
+-- ---- each node
+
+each_left : {A : Type 0} (Q : A → Type 0) (xs ys : List A) → Each Q (xs ++ ys) → Each Q xs
+each_left Q [] ys h = tt
+each_left Q (x ∷ xs) ys h = (h.0, each_left Q xs ys h.1)
+
+each_right : {A : Type 0} (Q : A → Type 0) (xs ys : List A) → Each Q (xs ++ ys) → Each Q ys
+each_right Q [] ys h = h
+each_right Q (x ∷ xs) ys h = each_right Q xs ys h.1
+
+pub both_each : {A : Type 0} (Q : A → Type 0) (xs ys : List A) → Each Q (xs ++ ys) → Each Q xs × Each Q ys
+both_each Q xs ys h = (each_left Q xs ys h, each_right Q xs ys h)
+
+each_of : {A : Type 0} (Q : A → Type 0) (xs : List A) → ((x : A) → Among xs x → Q x) → Each Q xs
+each_of Q [] h = tt
+each_of Q (x ∷ xs) h = (h x (inl refl), each_of Q xs (λ y m. h y (inr m)))
+
+all_among : {A : Type 0} (f : A → Bool) (xs : List A) (x : A) → list_all f xs ≡ true → Among xs x → f x ≡ true
+all_among f [] x h m = absurd m
+all_among f (y ∷ ys) x h (inl e) = ap f (sym e) ∙ (both_true (f y) (list_all f ys) h).0
+all_among f (y ∷ ys) x h (inr m) = all_among f ys x (both_true (f y) (list_all f ys) h).1 m
+
+-- ---- the calls of a line
+
+first_pair : (p q : ℕ) (o : Option ℕ) (more : List (ℕ × ℕ)) → o ≡ Some q → Among (pair_to p o more) (p, q)
+first_pair p q None more e = absurd (not_none e)
+first_pair p q (Some r) more e = inl (ap {B = ℕ × ℕ} (λ (n : ℕ). (p, n)) (some_is e))
+
+callee_known : (P : Program) (p : ℕ) (s : Option Site) (q : ℕ) → covers_callee P p s q ≡ true → nat_lt q (count_procedures P) ≡ true
+callee_known P p None q h = absurd (true≢false (sym h))
+callee_known P p (Some s) q h = (both_true (nat_lt q (count_procedures P)) _ h).0
+
+pub line_suited : (R : Runnable) (p k : ℕ) (x : Procedure) (lines : List Line) (l : Line) → slice_get R.program.declarations.procs p ≡ Some x
+    → slice_get R.program.bodies p ≡ Some lines → slice_get lines k ≡ Some l → covers_calls R.program p l ≡ true → IsReady R p
+    → Each (IsSuited R) (line_uses l)
+line_suited R p k x lines l is are_lines stands covers ready =
+    let D : Declarations = R.program.declarations in
+    let P : Program = R.program in
+    let b = both_true (list_all (λ (c : ℕ × ℕ). covers_callee P p (site_of D p) c.1) (line_calls D p l)) (list_all (suits D) (line_uses l)) covers in
+    each_of (IsSuited R) (line_uses l) (λ e m. record {
+      suits = all_among (suits D) (line_uses l) e b.1 m;
+      ready = λ q c.
+          let call : Among (line_calls D p l) (p, q) =
+          flat_among (node_calls D p) (line_uses l) e (p, q) m (first_pair p q (called e) (pair_to p (initialized D e) []) c) in
+          ready_called R p q k x is (callee_known P p (site_of D p) q (all_among (λ (c : ℕ × ℕ). covers_callee P p (site_of D p) c.1) (line_calls D p l) (p, q) b.0 call))
+          lines l are_lines stands call ready;
+    })
+
+-- of a line that is no Set, each expression is suited
+pub exprs_suited : (R : Runnable) (es : List Expr) → Each (IsSuited R) (flat_map nodes es) → Each (CallsAreSuited R) es
+exprs_suited R [] h = tt
+exprs_suited R (e ∷ es) h =
+    let b = both_each (IsSuited R) (nodes e) (flat_map nodes es) h in
+    (b.0, exprs_suited R es b.1)

@@ -1,0 +1,169 @@
+-- A program starts in a memory in which the variables of its standard modules have values of their types.
+use Rattle.std.proofs.Common.{◌≡◌, inl, refl, sym, ap, ◌∙◌, subst, ℕ, suc, Bool, true, false, cond, ◌||◌, nat_eq, true≢false, List, [], ◌∷◌, Some, eqb-true, eq-eqb}
+use Rattle.std.specs.Prelude.{slice_get}
+use Rattle.std.specs.List.{list_any}
+use Rattle.up_base.proofs.Tests.{neither}
+use Rattle.vb_tree.specs.declared.declared.Owner.{Owner}
+use Rattle.vb_tree.specs.declared.declared.Owner.TheVariants as owner
+use Rattle.bound_tree.specs.Tree.{Declarations, Variable}
+use Rattle.run_base.specs.Outcomes.{Output, Outcome, gives, raises, spent, outside, after, then}
+use Rattle.run_base.specs.Positions.{Root, shared, made, field, Position, inner, is_same_position, updated}
+use Rattle.vb6_run.specs.Programs.{empty_memory, is_module_variable, lay_module_variables, owned_from}
+use Rattle.vb6_run.specs.Shapes.{Shape, simple, group, array, endless, Shapes, no_shapes, next_shape, variable_shape}
+use Rattle.vb6_run.specs.Store.{Held, Memory, all_laid, blank, laid, parts, provided, single, with_held}
+use Rattle.vb6_run.specs.Values.{first_scalar, is_makeable}
+use Rattle.run_matches.specs.Covered.{covers_type}
+use Rattle.run_matches.specs.Typed.{EndsIn}
+use Rattle.typing_laws.specs.Frames.{Ground, IsSound, Stands, anywhere, ground, is_static, shared_place}
+use Rattle.typing_laws.proofs.Owned.{OwnedAt, owned_at, owned_of}
+use Rattle.typing_laws.proofs.Places.{same_position, self_same, some_is, variable_shape_is}
+use Rattle.typing_laws.proofs.Plain.{first_plain}
+
+-- ---- what is laid elsewhere
+
+put_elsewhere : (q r : Position) (h : Held) (w : Memory) → (q.root ≡ r.root → ⊥) → (with_held q h w).held r ≡ w.held r
+put_elsewhere q r h w apart = by (is_same_position q r) refl
+  where
+    by : (b : Bool) → is_same_position q r ≡ b → updated w.held q h r ≡ w.held r
+    by true e = absurd (apart (ap (λ (z : Position). z.root) (same_position q r e)))
+    by false e = ap (λ b. cond b h (w.held r)) e
+
+mutual
+  laid_elsewhere : (s : Shape) (q r : Position) (w : Memory) → (q.root ≡ r.root → ⊥) → (laid s q w).held r ≡ w.held r
+  laid_elsewhere (simple ty) q r w apart = put_elsewhere q r (single ty (first_scalar ty)) w apart
+  laid_elsewhere (group t fs) q r w apart = all_elsewhere fs q 0 r (with_held q parts w) apart ∙ put_elsewhere q r parts w apart
+  laid_elsewhere (array e bounds) q r w apart = put_elsewhere q r _ w apart
+  laid_elsewhere endless q r w apart = refl
+
+  all_elsewhere : (fs : Shapes) (q : Position) (k : ℕ) (r : Position) (w : Memory) → (q.root ≡ r.root → ⊥) → (all_laid fs q k w).held r ≡ w.held r
+  all_elsewhere no_shapes q k r w apart = refl
+  all_elsewhere (next_shape s rest) q k r w apart =
+      all_elsewhere rest q (suc k) r (laid s (inner q k) w) apart ∙ laid_elsewhere s (inner q k) r w apart
+
+-- ---- one variable after another
+
+abbrev number_at : Root → ℕ
+number_at (shared []) = 0
+number_at (shared (n ∷ more)) = suc n
+number_at (made n) = 0
+number_at (field o key) = 0
+
+apart_by : (j k : ℕ) → nat_eq k j ≡ false → (shared_place j).root ≡ (shared_place k).root → ⊥
+apart_by j k e same =
+    let n : suc j ≡ suc k = ap number_at same in
+    let i : j ≡ k = cc n in
+    true≢false (sym (eq-eqb k j (sym i)) ∙ e)
+
+ends_after : (P : Memory → Type 0) (o : List Output) (r : Outcome Memory Unit) → EndsIn P r → EndsIn P (after o r)
+ends_after P o (gives p x w) h = h
+ends_after P o (raises p n w) h = h
+ends_after P o (spent p w) h = h
+ends_after P o (outside p) h = h
+
+module _ (D : Declarations) where
+  abbrev K : Ground
+  K = ground D anywhere
+
+  -- the rest follows where a variable is laid
+  behind_one : (P : Memory → Type 0) (j : ℕ) (ks : List ℕ) (w : Memory)
+      → EndsIn P (lay_module_variables D ks (laid (variable_shape D j) (shared_place j) w)) → EndsIn P (lay_module_variables D (j ∷ ks) w)
+  behind_one P j ks w h = by (is_makeable (variable_shape D j))
+    where
+      by : (b : Bool)
+          → EndsIn P (then (provided b (λ w. gives [] (tt {0}) (laid (variable_shape D j) (shared_place j) w)) w) (λ (u : Unit {0}) w. lay_module_variables D ks w))
+      by true = ends_after P [] (lay_module_variables D ks (laid (variable_shape D j) (shared_place j) w)) h
+      by false = tt
+
+  module _ (k : ℕ) (x : Variable) (is : slice_get D.vars k ≡ Some x) (c : covers_type x.ty ≡ true) where
+    abbrev Here : Memory → Type 0
+    Here w = Stands K w (shared_place k) x.ty
+
+    laid_here : (w : Memory) → Here (laid (variable_shape D k) (shared_place k) w)
+    laid_here w = subst (λ s. Here (laid s (shared_place k) w)) (sym (variable_shape_is D k x is c)) (record {
+      value = first_scalar x.ty;
+      holds = ap (λ b. cond b (single x.ty (first_scalar x.ty)) (w.held (shared_place k))) (self_same (shared_place k));
+      plain = first_plain x.ty c;
+      made = tt;
+      allowed = refl;
+    })
+
+    still_here : (j : ℕ) (w : Memory) → nat_eq k j ≡ false → Here w → Here (laid (variable_shape D j) (shared_place j) w)
+    still_here j w e s = record {
+      value = s.value;
+      holds = laid_elsewhere (variable_shape D j) (shared_place j) (shared_place k) w (apart_by j k e) ∙ s.holds;
+      plain = s.plain;
+      made = tt;
+      allowed = refl;
+    }
+
+    stays_here : (ks : List ℕ) (w : Memory) → Here w → EndsIn Here (lay_module_variables D ks w)
+    stays_here [] w s = s
+    stays_here (j ∷ ks) w s = behind_one Here j ks w (stays_here ks (laid (variable_shape D j) (shared_place j) w) (by (nat_eq k j) refl))
+      where
+        by : (b : Bool) → nat_eq k j ≡ b → Here (laid (variable_shape D j) (shared_place j) w)
+        by true e = subst (λ n. Here (laid (variable_shape D n) (shared_place n) w)) (eqb-true k j e) (laid_here w)
+        by false e = still_here j w e s
+
+    made_here : (ks : List ℕ) (w : Memory) → list_any (nat_eq k) ks ≡ true → EndsIn Here (lay_module_variables D ks w)
+    made_here [] w h = absurd (true≢false (sym h))
+    made_here (j ∷ ks) w h =
+        behind_one Here j ks w (by (nat_eq k j) refl h (λ i. made_here ks (laid (variable_shape D j) (shared_place j) w) i))
+      where
+        by : (b : Bool) → nat_eq k j ≡ b → b || list_any (nat_eq k) ks ≡ true
+            → (list_any (nat_eq k) ks ≡ true → EndsIn Here (lay_module_variables D ks (laid (variable_shape D j) (shared_place j) w)))
+            → EndsIn Here (lay_module_variables D ks (laid (variable_shape D j) (shared_place j) w))
+        by true e h more =
+            stays_here ks (laid (variable_shape D j) (shared_place j) w)
+            (subst (λ n. Here (laid (variable_shape D n) (shared_place n) w)) (eqb-true k j e) (laid_here w))
+        by false e h more = more h
+
+  -- what isn't laid is blank
+  abbrev IsBlank : ℕ → Memory → Type 0
+  IsBlank k w = w.held (shared_place k) ≡ blank
+
+  stays_blank : (k : ℕ) (ks : List ℕ) (w : Memory) → list_any (nat_eq k) ks ≡ false → IsBlank k w → EndsIn (IsBlank k) (lay_module_variables D ks w)
+  stays_blank k [] w h b = b
+  stays_blank k (j ∷ ks) w h b =
+      let both = neither (nat_eq k j) (list_any (nat_eq k) ks) h in
+      behind_one (IsBlank k) j ks w
+      (stays_blank k ks (laid (variable_shape D j) (shared_place j) w) both.1
+      (laid_elsewhere (variable_shape D j) (shared_place j) (shared_place k) w (apart_by j k both.0) ∙ b))
+
+  -- ---- the start
+
+  abbrev module_variables : List ℕ
+  module_variables = owned_from (is_module_variable D) 0 D.vars
+
+  not_module : (o : Owner) → is_static o ≡ true → is_module_variable D o ≡ true → ⊥
+  not_module (owner.Static p) h i = true≢false (sym i)
+  not_module (owner.Module p) h i = true≢false (sym h)
+  not_module (owner.Local p) h i = true≢false (sym h)
+  not_module (owner.Value p) h i = true≢false (sym h)
+  not_module (owner.Reference p) h i = true≢false (sym h)
+  not_module (owner.Answer p) h i = true≢false (sym h)
+  not_module (owner.Field p) h i = true≢false (sym h)
+
+  static_unlaid : (k : ℕ) (x : Variable) → slice_get D.vars k ≡ Some x → is_static x.owner ≡ true → list_any (nat_eq k) module_variables ≡ false
+  static_unlaid k x is st = by (list_any (nat_eq k) module_variables) refl
+    where
+      by : (b : Bool) → list_any (nat_eq k) module_variables ≡ b → b ≡ false
+      by false e = refl
+      by true e =
+          let o : OwnedAt (is_module_variable D) D k = owned_of (is_module_variable D) D k e in
+          let same : o.variable ≡ x = some_is (sym o.is_variable ∙ is) in
+          absurd (not_module x.owner st (sym (ap (λ (z : Variable). is_module_variable D z.owner) same) ∙ o.passes))
+
+  ended : (P : Memory → Type 0) (o : List Output) (r : Outcome Memory Unit) (w : Memory) → r ≡ gives o tt w → EndsIn P r → P w
+  ended P o r w e h = subst (λ z. EndsIn P z) e h
+
+  pub start_is_sound : (o : List Output) (w : Memory) → lay_module_variables D module_variables empty_memory ≡ gives o tt w → IsSound K w
+  start_is_sound o w e = record {
+    modules = λ v x is m c.
+        ended (λ u. Stands K u (shared_place v) x.ty) o (lay_module_variables D module_variables empty_memory) w e
+        (made_here v x is c module_variables empty_memory (owned_at (is_module_variable D) D v x is m));
+    statics = λ v x is st c.
+        inl (ended (IsBlank v) o (lay_module_variables D module_variables empty_memory) w e
+        (stays_blank v module_variables empty_memory (static_unlaid v x is st) refl));
+    shares = λ v. refl;
+    fresh = λ n l. refl;
+  }
