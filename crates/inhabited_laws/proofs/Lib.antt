@@ -1,0 +1,4 @@
+pub mod Unmarked
+pub mod Written
+pub mod Stores
+pub mod Stated
