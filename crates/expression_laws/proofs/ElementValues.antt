@@ -75,6 +75,7 @@ module _ (U : Upgrade) (K : Pledge) (C : Context) (a : Expr) (ty : Ty) where
         written = m.written;
         array = m.array;
         is_matched = m.is_matched;
+        plain = m.plain;
         has = m.has;
         same = m.same;
         indexes = zs;
@@ -116,7 +117,7 @@ pub sizes_of : (U : Upgrade) (w : World) (e : Shape) (dims : List Dimension) (xs
     → SameCounts dims a.counts
 sizes_of U w _ _ _ _ (same_elements e dims xs a shaped counts items sized flat) = counts
 
-items_of : (U : Upgrade) (w : World) (e : Shape) (dims : List Dimension) (xs : Values) (a : net.Array) → ArrayLike U (numbers_of w) e dims xs a
+pub items_of : (U : Upgrade) (w : World) (e : Shape) (dims : List Dimension) (xs : Values) (a : net.Array) → ArrayLike U (numbers_of w) e dims xs a
     → ItemsLike U (numbers_of w) xs a.elements
 items_of U w _ _ _ _ (same_elements e dims xs a shaped counts items sized flat) = items
 
@@ -136,7 +137,7 @@ module _ (U : Upgrade) (K : Pledge) (C : Context) (ty : Ty) (covers : covers_typ
   net_item d k j w = gives [] (net.item d k j []) w
 
   -- what stands at a place
-  item_agrees : (w : World) → MemoryMatch U w → (o : Option Value) (o' : Option net_value.Value) → Follows (LikeV U w) o o'
+  pub item_agrees : (w : World) → MemoryMatch U w → (o : Option Value) (o' : Option net_value.Value) → Follows (LikeV U w) o o'
       → Agrees U K w (ScalarMatch U ty) (then (found o w.src) Checked) (gives [] (net_value.or_unknown (net.part_of_some [] o')) w.net)
   item_agrees w start _ _ (from_none o') = agrees_outside U K w (ScalarMatch U ty) (gives [] (net_value.or_unknown (net.part_of_some [] o')) w.net)
   item_agrees w start _ _ (from_some x y m) =

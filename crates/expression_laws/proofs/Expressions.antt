@@ -1,5 +1,9 @@
 -- Covered expressions do the same as what is written for them.
-use Rattle.std.proofs.Common.{◌≡◌, inr, ◌∙◌, refl, sym, ap, subst, ℕ, suc, ◌+◌, ◌≤◌, ◌<◌, length, arith, Bool, true, false, cond, ◌&&◌, ◌||◌, List, [], ◌∷◌, Option, Some, None, IfSome}
+use Rattle.vb_tree.specs.declared.declared.ProcId.{ProcId}
+use Rattle.run_matches.specs.Keeping.{given_types, given_by}
+use Rattle.expression_laws.proofs.GivenElements as given_elements
+use Rattle.expression_laws.proofs.Giving.{called_giving_for, can_giving, giving, giving_more, images_giving, stands_giving}
+use Rattle.std.proofs.Common.{◌≡◌, inr, ◌∙◌, refl, sym, ap, subst, ℕ, suc, ◌+◌, ◌≤◌, ◌<◌, length, arith, Bool, true, false, cond, ◌&&◌, ◌||◌, List, [], ◌∷◌, Option, Some, None, IfSome, inl, ◌++◌}
 use Rattle.std.specs.Prelude.{is_some}
 use Rattle.vb_tree.specs.BoundTree as types
 use Rattle.vb_tree.specs.BoundTree.{Ty, long}
@@ -15,7 +19,7 @@ use Rattle.vb6_meaning.specs.Values.{operate}
 use Rattle.bound_tree.specs.Tree.{Expr, typed, constant, variable, field, element, call, library, unary, binary, convert, new_object, me, with_object, err_number, err_raise, err_clear, is_same, loose, Exprs, no_exprs, next_expr, no_object, of_object, by_value, by_reference, Passed, no_passed, next_passed}
 use Rattle.bound_facts.specs.Folded.{binary_row, unary_row}
 use Rattle.bound_facts.specs.Locks.{is_same_type}
-use Rattle.bound_facts.specs.Node.{type_at, is_variant}
+use Rattle.bound_facts.specs.Node.{type_at, is_variant, is_array_type}
 use Rattle.up_base.proofs.Tests.{by_test}
 use Rattle.net_tree.specs.declared.declaration.NetPassing.{NetPassing}
 use Rattle.net_tree.specs.declared.declaration.NetPassing.TheVariants as passing
@@ -31,8 +35,8 @@ use Rattle.run_base.specs.Outcomes.{Outcome, after, gives, then, answered}
 use Rattle.vb6_run.specs.Expressions as source
 use Rattle.vb6_run.specs.Expressions.{Context, lows_at}
 use Rattle.vb6_run.specs.Forms.{SourceLine}
-use Rattle.vb6_run.specs.Store.{Memory, SourceCalls, SourceFrame}
-use Rattle.net_run.specs.Calls.{passings_at}
+use Rattle.vb6_run.specs.Store.{Memory, SourceCalls, SourceFrame, SourceGiven}
+use Rattle.net_run.specs.Calls.{passings_at, Arguments}
 use Rattle.net_run.specs.Expressions as target
 use Rattle.net_run.specs.Lines.{NetFrame, NetLine, scope_of}
 use Rattle.net_run.specs.Making.{Jobs}
@@ -40,13 +44,13 @@ use Rattle.net_run.specs.Members.{Code}
 use Rattle.net_run.specs.Names as net_names
 use Rattle.net_run.specs.Store as net
 use Rattle.net_run.specs.Values as net_value
-use Rattle.written_trees.specs.Arguments.{argument_exp, has_address, is_conversion, is_property, kept, takes_reference}
+use Rattle.written_trees.specs.Arguments.{argument_exp, has_address, is_conversion, is_property, kept, takes_reference, temporary_exp}
 use Rattle.written_trees.specs.Exprs.{exp_of, index_at, indexes_of, passed_of}
 use Rattle.written_trees.specs.Library.{low_at}
 use Rattle.written_trees.specs.Names.{Scope, procedure_path}
 use Rattle.written_trees.specs.Operators.{binary_exp, unary_exp}
 use Rattle.run_matches.specs.Agreeing.{Agrees}
-use Rattle.run_matches.specs.Covered.{Uses, covers_array, covers_bounded, covers_dimension, covers_exprs, covers_library, is_bound, covers_type, covers_term, covers_operator, covers_expr, covers_passed, is_passable, is_referred, is_variable, suits_array, suits_passed}
+use Rattle.run_matches.specs.Covered.{Uses, covers_array, covers_bounded, covers_dimension, covers_exprs, covers_library, is_bound, covers_type, covers_term, covers_operator, covers_expr, covers_passed, is_passable, is_referred, is_variable, suits_array, suits_passed, hands_argument, hands_passed, is_item}
 use Rattle.run_matches.specs.Frames.{frame_pledge}
 use Rattle.run_matches.specs.Likeness.{are_same}
 use Rattle.run_matches.specs.Maps.{World}
@@ -56,14 +60,14 @@ use Rattle.run_matches.specs.Upgrades.{Upgrade, runnable_of}
 use Rattle.run_matches.specs.Runs.{CallsAgree}
 use Rattle.run_statements.specs.Elements.{IndexedMatch, IndexesAgree}
 use Rattle.run_statements.specs.Fitting.{FitsPassed, FitsRank}
-use Rattle.run_statements.specs.Frames.{ArraysAgree, ElementsAgree, AllCalled, AllCalledAll, AllCalledFor, IsArray, LeadsBefore, AnyParts, CallsAreMade, CanCall, Demands, demands, ScalarMatch, PlainMatch, IsOpen, context_of, AreReadable, ExpressionsAgree, passing_at, passing_by}
+use Rattle.run_statements.specs.Frames.{ArraysAgree, ElementsAgree, AllCalled, AllCalledAll, AllCalledFor, IsArray, LeadsBefore, AnyParts, CallsAreMade, CanCall, Demands, demands, ScalarMatch, PlainMatch, IsOpen, context_of, AreReadable, ExpressionsAgree, passing_at, passing_by, ElementMatch, IsOne}
 use Rattle.run_statements.specs.Written.{Passes}
 use Rattle.row_laws.specs.Constants.{IsHeld}
 use Rattle.row_laws.specs.Follows.{Any, RowOfOne, RowOfTwo}
 use Rattle.row_laws.specs.Rows.{IsOf, Fits, operand_of, is_direct, is_ready}
 use Rattle.row_laws.proofs.Stated as rows
 use Rattle.run_matches.specs.Formed.{are_formed, are_longs, has_elements, is_row_of_call, types_of, is_row_of_one, is_row_of_two, passed_are_formed, is_formed}
-use Rattle.agreeing_laws.proofs.Agreeing.{agrees_gives, agrees_weaker}
+use Rattle.agreeing_laws.proofs.Agreeing.{agrees_gives, agrees_weaker, agrees_promised}
 use Rattle.expression_laws.specs.Calls.{ArgumentsMatch, GivenMatch, Stands, no_arguments}
 use Rattle.expression_laws.specs.Images.{HaveImages}
 use Rattle.expression_laws.specs.Statements.{ArraysAgreeBy, ElementsAgreeBy, IndexesAgreeBy, VariablesAreReadBy, FormedExpressionsAgreeBy, FormedScalarsAgreeBy, VariablesAreRead, FormedScalarsAgree}
@@ -81,7 +85,7 @@ use Rattle.expression_laws.proofs.Elements.{IndexesLike, array_agrees, index_agr
 use Rattle.expression_laws.proofs.ElementValues.{element_agrees, element_value}
 use Rattle.expression_laws.proofs.Bounds.{bounds_agree, long_bound}
 use Rattle.expression_laws.proofs.ErrNumbers.{err_number_agrees}
-use Rattle.expression_laws.proofs.References.{IsPassed, first, further, here, reference_agrees, scalar_passed}
+use Rattle.expression_laws.proofs.References.{IsPassed, first, further, here, reference_agrees, scalar_passed, or_true}
 use Rattle.expression_laws.proofs.Temporaries.{conversion_given, conversion_goes, value_goes}
 use Rattle.expression_laws.proofs.Variables.{variable_agrees}
 use Rattle.expression_laws.proofs.WrittenValues.{exp_handles}
@@ -230,9 +234,25 @@ in_two d t ts h = omega arith
 in_two_more : (d : ℕ) (t : Ty) (ts : List Ty) → d + length (t ∷ ts) ≤ 2 → suc d + length ts ≤ 2
 in_two_more d t ts h = omega arith
 
+-- ---- elements that are given
+
+one_left : (xs ys : List Ty) (t : Ty) → IsOne xs t → IsOne (xs ++ ys) t
+one_left [] ys t o = absurd o
+one_left (x ∷ xs) ys t (inl e) = inl e
+one_left (x ∷ xs) ys t (inr o) = inr (one_left xs ys t o)
+
+one_right : (xs ys : List Ty) (t : Ty) → IsOne ys t → IsOne (xs ++ ys) t
+one_right [] ys t o = o
+one_right (x ∷ xs) ys t o = inr (one_right xs ys t o)
+
+-- an element is written as it stands
+item_written : (T : Scope) (referred : Bool) (ty : Ty) (a : Expr) (indexes : Exprs) (x : Exp)
+    → argument_exp T referred (by_reference (typed ty (element a indexes))) x ≡ x
+item_written T referred ty a indexes x = ap (λ b. cond b x (temporary_exp T (typed ty (element a indexes)) x)) (or_true (is_array_type ty))
+
 -- ---- expressions
 
-module _ (U : Upgrade) (K : Pledge) (reads : VariablesAreReadBy U K) (p : ℕ) (f : SourceFrame) (g : NetFrame) (oracle : SourceCalls) (net_oracle : Jobs)
+module _ (U : Upgrade) (p : ℕ) (f : SourceFrame) (g : NetFrame) (oracle : SourceCalls) (net_oracle : Jobs)
     (l : SourceLine) (k : NetLine) (c : Code) (T : Scope) (uses : Uses) (same_declarations : T.declarations ≡ U.program.declarations)
     (opened : IsOpen (scope_of U.written c g k)) (readable : AreReadable U T uses) (leads : AllLead (scope_of U.written c g k) T uses)
     (agree : CallsAgree U (Passes U) oracle net_oracle) where
@@ -245,25 +265,25 @@ module _ (U : Upgrade) (K : Pledge) (reads : VariablesAreReadBy U K) (p : ℕ) (
   abbrev written : Expr → World → Outcome net.Memory net_value.Value
   written e w = target.value_of S net_oracle (exp_of T e) w.net
 
-  abbrev Can : ℕ → Passed → Type 0
-  Can q called_with = CanCall U K (scope_of U.written c g k) T q called_with
+  abbrev Can : Pledge → ℕ → Passed → Type 0
+  Can K q called_with = CanCall U K (scope_of U.written c g k) T q called_with
 
-  abbrev Asked : Demands
-  Asked = demands U K (scope_of U.written c g k) T
+  abbrev Asked : Pledge → Demands
+  Asked K = demands U K (scope_of U.written c g k) T
 
-  from_first : {q : ℕ} {called_with : Passed} (can : Can q called_with) (n : ℕ)
+  from_first : (K : Pledge) {q : ℕ} {called_with : Passed} (can : Can K q called_with) (n : ℕ)
       → passing_at (passings_at U.written (Some can.number)) n ≡ passing_by (takes_reference U.program.declarations q (0 + n))
-  from_first {q} can n = can.passings n ∙ ap (λ m. passing_by (takes_reference U.program.declarations q m)) (first n)
+  from_first K {q} can n = can.passings n ∙ ap (λ m. passing_by (takes_reference U.program.declarations q m)) (first n)
 
   -- an element, where its indexes agree
-  pub indexed_by : (ty : Ty) (e : Expr) (indexes : Exprs) (w : World) → MemoryMatch U w → HaveImages U K w f S T uses → covers_array uses e ≡ true
+  pub indexed_by : (K : Pledge) (ty : Ty) (e : Expr) (indexes : Exprs) (w : World) → MemoryMatch U w → HaveImages U K w f S T uses → covers_array uses e ≡ true
       → has_elements (type_at e) ty ≡ true → FitsRank U e indexes
       → Agrees U K w (λ u zs ys. IndexesLike (λ d. low_at T e d) 0 (length (types_of indexes)) zs ys) (source.indexes_of C indexes w.src)
       (target.values_of S net_oracle (indexes_of T e 0 indexes) w.net)
       → Agrees U K w (IndexedMatch U (lows_at C e) ty)
       (then (source.address_of C e w.src) (λ b s. then (source.indexes_of C indexes s) (λ zs s. gives [] (b, zs) s)))
       (target.reach S net_oracle false (exp_of T (typed ty (element e indexes))) w.net)
-  indexed_by ty e indexes w start have covers typed_as fits given =
+  indexed_by K ty e indexes w start have covers typed_as fits given =
       let x : IsArrayUse uses e = array_use uses e covers in
       by x e x.is typed_as fits given
     where
@@ -292,11 +312,11 @@ module _ (U : Upgrade) (K : Pledge) (reads : VariablesAreReadBy U K) (p : ℕ) (
           (fits (sound_array U x.id x.element (types.array x.element x.rank) x.qualified r refl)) given))
 
   -- the bounds of an array
-  bounded_by : (ty : Ty) (function : LibCall) (args : Exprs) (w : World) → MemoryMatch U w → HaveImages U K w f S T uses
+  bounded_by : (K : Pledge) (ty : Ty) (function : LibCall) (args : Exprs) (w : World) → MemoryMatch U w → HaveImages U K w f S T uses
       → (is_bound function && covers_bounded uses args) ≡ true → is_formed (typed ty (library function args)) ≡ true
       → Agrees U K w (ScalarMatch U ty) (source.value_of C (typed ty (library function args)) w.src) (written (typed ty (library function args)) w)
-  bounded_by ty function no_exprs w start have covers formed = absurd (cc (both_true (is_bound function) false covers).1)
-  bounded_by ty function (next_expr e rest) w start have covers formed =
+  bounded_by K ty function no_exprs w start have covers formed = absurd (cc (both_true (is_bound function) false covers).1)
+  bounded_by K ty function (next_expr e rest) w start have covers formed =
       let both = both_true (is_bound function) (covers_array uses e && covers_dimension rest) covers in
       let inner = both_true (covers_array uses e) (covers_dimension rest) both.1 in
       let forms = both_true (is_row_of_call function (types_of (next_expr e rest)) ty) (are_formed (next_expr e rest)) formed in
@@ -308,22 +328,65 @@ module _ (U : Upgrade) (K : Pledge) (reads : VariablesAreReadBy U K) (p : ℕ) (
       (long_bound function (types_of (next_expr e rest)) ty both.0 forms.0))
 
   -- what is written for a value without an address
-  handles : (e : Expr) → AllCalled Asked e → covers_expr uses e ≡ true → is_formed e ≡ true → has_address T.declarations (kept e) ≡ false
+  handles : (K : Pledge) (e : Expr) → AllCalled (Asked K) e → covers_expr uses e ≡ true → is_formed e ≡ true → has_address T.declarations (kept e) ≡ false
       → Handles S (exp_of T e)
-  handles e can covers formed none =
+  handles K e can covers formed none =
       exp_handles U K (scope_of U.written c g k) opened T uses same_declarations e can covers formed (ap (λ E. has_address E (kept e)) (sym same_declarations) ∙ none)
 
+  -- a call, which keeps the arrays of the elements that it is given
+  abbrev kept_with : Pledge → Passed → Pledge
+  kept_with K args = giving K (given_types args)
+
+  pub call_made : (K : Pledge) (ty : Ty) (q : ProcId) (qualified : Bool) (args : Passed) (w : World) → MemoryMatch U w → Stands U K w f g
+      → (can : Can K q.0 args)
+      → Agrees U (kept_with K args) w (ArgumentsMatch U (kept_with K args) q.0 0) (source.args_of C q.0 0 args w.src)
+      (target.args_of S net_oracle (passings_at U.written (Some can.number)) (passed_of T q.0 0 args) w.net)
+      → Agrees U K w (GivenMatch U) (source.term_parts C ty (call q qualified no_object args) w.src)
+      (target.address_of S net_oracle (call_of (path (procedure_path T qualified q.0)) (passed_of T q.0 0 args)) w.net)
+  call_made K ty q qualified args w start stands can given =
+      let ts = given_types args in
+      agrees_promised U K (giving K ts) w (GivenMatch U) (source.term_parts C ty (call q qualified no_object args) w.src)
+      (target.address_of S net_oracle (call_of (path (procedure_path T qualified q.0)) (passed_of T q.0 0 args)) w.net) start (giving_more K ts w)
+      (call_agrees U (giving K ts) p f g oracle net_oracle l k c T agree ty q qualified args (can_giving U K S T ts q.0 args can.given can) w
+      (stands_giving U K ts w start f g stands) start given)
+
+  -- ---- elements that are given by reference
+
+  abbrev ItemAgrees : Pledge → World → Expr → Type 0
+  ItemAgrees K w (typed ty (element a indexes)) =
+      Agrees U K w (ElementMatch U ty) (source.term_parts C ty (element a indexes) w.src)
+      (target.reach S net_oracle false (exp_of T (typed ty (element a indexes))) w.net)
+  ItemAgrees K w (typed ty t) = Unit {0}
+
+  item_passed : (K : Pledge) (q i : ℕ) (w : World) (quiet : Bool) (mode : NetPassing) (referred : Bool) (e : Expr) (rest : Memory → Outcome Memory (List SourceGiven))
+      (rest' : net.Memory → Outcome net.Memory Arguments) → mode ≡ passing.Reference → is_item e ≡ true
+      → ((t : Ty) → IsOne (given_by (by_reference e)) t → K.keeps t) → hands_argument U.program q i (by_reference e) ≡ true → MemoryMatch U w → ItemAgrees K w e
+      → ((v : World) → Later U K w v → Agrees U K v (ArgumentsMatch U K q (suc i)) (rest v.src) (rest' v.net))
+      → Agrees U K w (ArgumentsMatch U K q i)
+      (then (source.argument_of C quiet (by_reference e) w.src) (λ g w. then (rest w) (λ gs w. gives [] (g ∷ gs) w)))
+      (then (target.given S net_oracle mode (target.reach S net_oracle false (argument_exp T referred (by_reference e) (exp_of T e)) w.net))
+      (λ g w. then (rest' w) (λ gs w. gives [] (g ∷ gs) w)))
+  item_passed K q i w quiet mode referred (typed ty (element a indexes)) rest rest' m is kept hands start first more =
+      let e : Expr = typed ty (element a indexes) in
+      given_elements.element_agrees U K ty (kept ty (inl refl)) q i quiet (λ b r. absurd (cc (hands, r))) C a indexes S net_oracle w
+      (target.reach S net_oracle false (exp_of T e) w.net)
+      (target.given S net_oracle mode (target.reach S net_oracle false (argument_exp T referred (by_reference e) (exp_of T e)) w.net))
+      (ap (λ z. target.given S net_oracle z (target.reach S net_oracle false (argument_exp T referred (by_reference e) (exp_of T e)) w.net)) m
+      ∙ ap (λ z. target.given S net_oracle passing.Reference (target.reach S net_oracle false z w.net)) (item_written T referred ty a indexes (exp_of T e)))
+      start first rest rest' more
+  item_passed K q i w quiet mode referred (typed ty _) rest rest' m is kept hands start first more = absurd (cc is)
+
   mutual
-    pub expression_agrees : (e : Expr) (w : World) → MemoryMatch U w → HaveImages U K w f S T uses → Stands U K w f g → AllCalled Asked e
+    pub expression_agrees : (K : Pledge) (e : Expr) (w : World) → MemoryMatch U w → HaveImages U K w f S T uses → Stands U K w f g → AllCalled (Asked K) e
         → covers_expr uses e ≡ true → is_formed e ≡ true → Agrees U K w (ScalarMatch U (type_at e)) (source.value_of C e w.src) (written e w)
-    expression_agrees (typed ty (constant x origin)) w start have stands can covers formed =
+    expression_agrees K (typed ty (constant x origin)) w start have stands can covers formed =
         let both = both_true (covers_type ty) true covers in
         term_agrees U K C ty ty (constant x origin) w (written (typed ty (constant x origin)) w) refl both.0 start
         (constant_agrees U K S net_oracle opened w ty x origin (formed_constant ty x origin both.0 formed) start)
-    expression_agrees (typed ty (variable v qualified)) w start have stands can covers formed =
+    expression_agrees K (typed ty (variable v qualified)) w start have stands can covers formed =
         let both = both_true (covers_type ty) (uses.scalar v) covers in
-        variable_agrees U K reads p f g oracle net_oracle l k c T uses ty v qualified w same_declarations readable have both.1 both.0 start
-    expression_agrees (typed ty (unary o e)) w start have stands can covers formed =
+        variable_agrees U K p f g oracle net_oracle l k c T uses ty v qualified w same_declarations readable have both.1 both.0 start
+    expression_agrees K (typed ty (unary o e)) w start have stands can covers formed =
         let both = both_true (covers_type ty) (covers_expr uses e) covers in
         let forms = both_true (is_row_of_one ty (write_unary o (type_at e))) (is_formed e) formed in
         let type_is : covers_type (type_at e) ≡ true = covered_type uses e both.1 in
@@ -333,8 +396,8 @@ module _ (U : Upgrade) (K : Pledge) (reads : VariablesAreReadBy U K) (p : ℕ) (
         (unary_agrees U K S net_oracle o ty e (exp_of T e) (write_unary o (type_at e)) (source.scalar_value C e w.src) w both.0 forms.0
         (rows.unary_is_row o S net_oracle opened.support e (exp_of T e) net_scalar.Nothing (covered_typed (type_at e) type_is))
         (λ v z y m. same_unary (are_same v) o (type_at e) z z y net_scalar.Nothing (covered_typed (type_at e) type_is) m) start
-        (plain_agrees U K C e (type_at e) w (written e w) start (expression_agrees e w start have stands can both.1 forms.1))))
-    expression_agrees (typed ty (binary o d e)) w start have stands can covers formed =
+        (plain_agrees U K C e (type_at e) w (written e w) start (expression_agrees K e w start have stands can both.1 forms.1))))
+    expression_agrees K (typed ty (binary o d e)) w start have stands can covers formed =
         let both = both_true (covers_type ty) (covers_operator o && (covers_expr uses d && covers_expr uses e)) covers in
         let operator = both_true (covers_operator o) (covers_expr uses d && covers_expr uses e) both.1 in
         let operands = both_true (covers_expr uses d) (covers_expr uses e) operator.1 in
@@ -354,19 +417,19 @@ module _ (U : Upgrade) (K : Pledge) (reads : VariablesAreReadBy U K) (p : ℕ) (
         (rows.literal_fits d S net_oracle T (formed_held d first_is inner.0)) (rows.literal_fits e S net_oracle T (formed_held e second_is inner.1))
         (λ v z z' y y' m m'.
         same_operator (are_same v) o operator.0 (type_at d) (type_at e) z z' y y' (covered_typed (type_at d) first_is) (covered_typed (type_at e) second_is) m m')
-        start (plain_agrees U K C d (type_at d) w (written d w) start (expression_agrees d w start have stands can.0 operands.0 inner.0))
+        start (plain_agrees U K C d (type_at d) w (written d w) start (expression_agrees K d w start have stands can.0 operands.0 inner.0))
         (λ v later.
         plain_agrees U K C e (type_at e) v (written e v) later.match
-        (expression_agrees e v later.match (images_later U K w v f S T uses start later have) (stands_later U K w v f g later stands) can.1 operands.1 inner.1))))
-    expression_agrees (typed ty (convert to (typed from t))) w start have stands can covers formed =
+        (expression_agrees K e v later.match (images_later U K w v f S T uses start later have) (stands_later U K w v f g later stands) can.1 operands.1 inner.1))))
+    expression_agrees K (typed ty (convert to (typed from t))) w start have stands can covers formed =
         let both = both_true (covers_type ty) (covers_type to && covers_expr uses (typed from t)) covers in
         let operand = both_true (covers_type to) (covers_expr uses (typed from t)) both.1 in
         let forms = both_true (is_some (write_conversion from to)) (is_formed (typed from t)) formed in
         term_agrees U K C ty to (convert to (typed from t)) w (written (typed ty (convert to (typed from t))) w) refl both.0 start
         (conversion_agrees U K S net_oracle opened C from to t (exp_of T (typed from t)) w (covered_type uses (typed from t) operand.1) forms.1 forms.0 start
-        (plain_agrees U K C (typed from t) from w (written (typed from t) w) start (expression_agrees (typed from t) w start have stands can operand.1 forms.1)))
-    expression_agrees (typed ty (field e i)) w start have stands can covers formed = absurd (cc formed)
-    expression_agrees (typed ty (element e indexes)) w start have stands can covers formed =
+        (plain_agrees U K C (typed from t) from w (written (typed from t) w) start (expression_agrees K (typed from t) w start have stands can operand.1 forms.1)))
+    expression_agrees K (typed ty (field e i)) w start have stands can covers formed = absurd (cc formed)
+    expression_agrees K (typed ty (element e indexes)) w start have stands can covers formed =
         let both = both_true (covers_type ty) (covers_array uses e && covers_exprs uses indexes) covers in
         let inner = both_true (covers_array uses e) (covers_exprs uses indexes) both.1 in
         let forms = both_true (has_elements (type_at e) ty) (are_longs (types_of indexes) && are_formed indexes) formed in
@@ -374,169 +437,201 @@ module _ (U : Upgrade) (K : Pledge) (reads : VariablesAreReadBy U K) (p : ℕ) (
         let longs = all_long (types_of indexes) rest.0 in
         element_value U K C ty both.0 e indexes S net_oracle w (target.reach S net_oracle false (exp_of T (typed ty (element e indexes))) w.net) start
         (element_agrees U K C e ty indexes w (target.reach S net_oracle false (exp_of T (typed ty (element e indexes))) w.net) start
-        (indexed_by ty e indexes w start have inner.0 forms.0 can.0
-        (indexes_agree e 0 indexes w (from_none (types_of indexes) longs.1) longs.0 start have stands can.1 inner.1 rest.1)))
-    expression_agrees (typed ty (call q qualified (of_object e) args)) w start have stands can covers formed =
+        (indexed_by K ty e indexes w start have inner.0 forms.0 can.0
+        (indexes_agree K e 0 indexes w (from_none (types_of indexes) longs.1) longs.0 start have stands can.1 inner.1 rest.1)))
+    expression_agrees K (typed ty (call q qualified (of_object e) args)) w start have stands can covers formed =
         absurd (cc (both_true (covers_type ty) false covers).1)
-    expression_agrees (typed ty (call q qualified no_object args)) w start have stands can covers formed =
+    expression_agrees K (typed ty (call q qualified no_object args)) w start have stands can covers formed =
         let both = both_true (covers_type ty) (covers_passed uses args) covers in
         let parted = call_of (path (procedure_path T qualified q.0)) (passed_of T q.0 0 args) in
-        let called = call_agrees U K p f g oracle net_oracle l k c T agree ty q qualified args can.0 w stands start
-        (passed_agree q.0 0 args (passings_at U.written (Some can.0.number)) w (from_first can.0) can.0.suits start have stands can.1 both.1 formed can.0.ranks) in
+        let ts = given_types args in
+        let called = call_made K ty q qualified args w start stands can.0
+        (passed_agree (giving K ts) q.0 0 args (passings_at U.written (Some can.0.number)) w (from_first K can.0) can.0.suits can.0.hands start
+        (images_giving U K ts w start f S T uses have) (stands_giving U K ts w start f g stands) (called_giving_for U K S T ts args can.0.inside can.1) both.1 formed
+        can.0.ranks (λ t o. inr o)) in
         subst (λ x. Agrees U K w (ScalarMatch U ty) (source.value_of C (typed ty (call q qualified no_object args)) w.src) (target.value_of S net_oracle x w.net))
         (sym (callee_is T ty q qualified args (ap (λ D. is_property D q.0) same_declarations ∙ can.0.plain)))
         (call_value_agrees U K p f g oracle net_oracle l k c T agree ty q qualified args both.0 w (target.address_of S net_oracle parted w.net) start called)
-    expression_agrees (typed ty (library function no_exprs)) w start have stands can covers formed =
+    expression_agrees K (typed ty (library function no_exprs)) w start have stands can covers formed =
         let args : Exprs = no_exprs in
         let both = both_true (covers_type ty) ((covers_library function && covers_exprs uses args) || (is_bound function && covers_bounded uses args)) covers in
         by_either (covers_library function && covers_exprs uses args) (is_bound function && covers_bounded uses args) both.1
         (λ values. library_agrees U K S net_oracle opened C T uses ty function args w start both.0 values formed tt)
-        (λ bounds. bounded_by ty function args w start have bounds formed)
-    expression_agrees (typed ty (library function (next_expr d no_exprs))) w start have stands can covers formed =
+        (λ bounds. bounded_by K ty function args w start have bounds formed)
+    expression_agrees K (typed ty (library function (next_expr d no_exprs))) w start have stands can covers formed =
         let args : Exprs = (next_expr d no_exprs) in
         let both = both_true (covers_type ty) ((covers_library function && covers_exprs uses args) || (is_bound function && covers_bounded uses args)) covers in
         by_either (covers_library function && covers_exprs uses args) (is_bound function && covers_bounded uses args) both.1
-        (λ values. library_agrees U K S net_oracle opened C T uses ty function args w start both.0 values formed ((λ v later h i. expression_agrees d v later.match (images_later U K w v f S T uses start later have) (stands_later U K w v f g later stands) can.1.0 h i), tt))
-        (λ bounds. bounded_by ty function args w start have bounds formed)
-    expression_agrees (typed ty (library function (next_expr d (next_expr e no_exprs)))) w start have stands can covers formed =
+        (λ values. library_agrees U K S net_oracle opened C T uses ty function args w start both.0 values formed ((λ v later h i. expression_agrees K d v later.match (images_later U K w v f S T uses start later have) (stands_later U K w v f g later stands) can.1.0 h i), tt))
+        (λ bounds. bounded_by K ty function args w start have bounds formed)
+    expression_agrees K (typed ty (library function (next_expr d (next_expr e no_exprs)))) w start have stands can covers formed =
         let args : Exprs = (next_expr d (next_expr e no_exprs)) in
         let both = both_true (covers_type ty) ((covers_library function && covers_exprs uses args) || (is_bound function && covers_bounded uses args)) covers in
         by_either (covers_library function && covers_exprs uses args) (is_bound function && covers_bounded uses args) both.1
         (λ values. library_agrees U K S net_oracle opened C T uses ty function args w start both.0 values formed (
-          (λ v later h i. expression_agrees d v later.match (images_later U K w v f S T uses start later have) (stands_later U K w v f g later stands) can.1.0 h i),
-          ((λ v later h i. expression_agrees e v later.match (images_later U K w v f S T uses start later have) (stands_later U K w v f g later stands) can.1.1.0 h i), tt),
+          (λ v later h i. expression_agrees K d v later.match (images_later U K w v f S T uses start later have) (stands_later U K w v f g later stands) can.1.0 h i),
+          ((λ v later h i. expression_agrees K e v later.match (images_later U K w v f S T uses start later have) (stands_later U K w v f g later stands) can.1.1.0 h i), tt),
         ))
-        (λ bounds. bounded_by ty function args w start have bounds formed)
-    expression_agrees (typed ty (library function (next_expr d (next_expr e (next_expr x rest))))) w start have stands can covers formed =
+        (λ bounds. bounded_by K ty function args w start have bounds formed)
+    expression_agrees K (typed ty (library function (next_expr d (next_expr e (next_expr x rest))))) w start have stands can covers formed =
         let args : Exprs = (next_expr d (next_expr e (next_expr x rest))) in
         let both = both_true (covers_type ty) ((covers_library function && covers_exprs uses args) || (is_bound function && covers_bounded uses args)) covers in
         by_either (covers_library function && covers_exprs uses args) (is_bound function && covers_bounded uses args) both.1
         (λ values. library_agrees U K S net_oracle opened C T uses ty function args w start both.0 values formed (
-          (λ v later h i. expression_agrees d v later.match (images_later U K w v f S T uses start later have) (stands_later U K w v f g later stands) can.1.0 h i),
+          (λ v later h i. expression_agrees K d v later.match (images_later U K w v f S T uses start later have) (stands_later U K w v f g later stands) can.1.0 h i),
           (
-            (λ v later h i. expression_agrees e v later.match (images_later U K w v f S T uses start later have) (stands_later U K w v f g later stands) can.1.1.0 h i),
-            ((λ v later h i. expression_agrees x v later.match (images_later U K w v f S T uses start later have) (stands_later U K w v f g later stands) can.1.1.1.0 h i), tt),
+            (λ v later h i. expression_agrees K e v later.match (images_later U K w v f S T uses start later have) (stands_later U K w v f g later stands) can.1.1.0 h i),
+            ((λ v later h i. expression_agrees K x v later.match (images_later U K w v f S T uses start later have) (stands_later U K w v f g later stands) can.1.1.1.0 h i), tt),
           ),
         ))
-        (λ bounds. bounded_by ty function args w start have bounds formed)
-    expression_agrees (typed ty (new_object class)) w start have stands can covers formed = absurd (cc formed)
-    expression_agrees (typed ty me) w start have stands can covers formed = absurd (cc formed)
-    expression_agrees (typed ty (with_object root)) w start have stands can covers formed = absurd (cc formed)
-    expression_agrees (typed ty err_number) w start have stands can covers formed = err_number_agrees U K C S net_oracle opened.support T w start ty formed
-    expression_agrees (typed ty (err_raise e)) w start have stands can covers formed = absurd (cc (both_true (covers_type ty) false covers).1)
-    expression_agrees (typed ty err_clear) w start have stands can covers formed = absurd (cc (both_true (covers_type ty) false covers).1)
-    expression_agrees (typed ty (is_same d e)) w start have stands can covers formed = absurd (cc formed)
-    expression_agrees (typed ty (loose e rules)) w start have stands can covers formed = absurd (cc formed)
+        (λ bounds. bounded_by K ty function args w start have bounds formed)
+    expression_agrees K (typed ty (new_object class)) w start have stands can covers formed = absurd (cc formed)
+    expression_agrees K (typed ty me) w start have stands can covers formed = absurd (cc formed)
+    expression_agrees K (typed ty (with_object root)) w start have stands can covers formed = absurd (cc formed)
+    expression_agrees K (typed ty err_number) w start have stands can covers formed = err_number_agrees U K C S net_oracle opened.support T w start ty formed
+    expression_agrees K (typed ty (err_raise e)) w start have stands can covers formed = absurd (cc (both_true (covers_type ty) false covers).1)
+    expression_agrees K (typed ty err_clear) w start have stands can covers formed = absurd (cc (both_true (covers_type ty) false covers).1)
+    expression_agrees K (typed ty (is_same d e)) w start have stands can covers formed = absurd (cc formed)
+    expression_agrees K (typed ty (loose e rules)) w start have stands can covers formed = absurd (cc formed)
+
+    -- an element, as a place
+    item_agrees : (K : Pledge) (e : Expr) (w : World) → MemoryMatch U w → HaveImages U K w f S T uses → Stands U K w f g → AllCalled (Asked K) e
+        → covers_expr uses e ≡ true → is_formed e ≡ true → ItemAgrees K w e
+    item_agrees K (typed ty (element e indexes)) w start have stands can covers formed =
+        let both = both_true (covers_type ty) (covers_array uses e && covers_exprs uses indexes) covers in
+        let inner = both_true (covers_array uses e) (covers_exprs uses indexes) both.1 in
+        let forms = both_true (has_elements (type_at e) ty) (are_longs (types_of indexes) && are_formed indexes) formed in
+        let rest = both_true (are_longs (types_of indexes)) (are_formed indexes) forms.1 in
+        let longs = all_long (types_of indexes) rest.0 in
+        element_agrees U K C e ty indexes w (target.reach S net_oracle false (exp_of T (typed ty (element e indexes))) w.net) start
+        (indexed_by K ty e indexes w start have inner.0 forms.0 can.0
+        (indexes_agree K e 0 indexes w (from_none (types_of indexes) longs.1) longs.0 start have stands can.1 inner.1 rest.1))
+    item_agrees K (typed ty _) w start have stands can covers formed = tt
 
     -- indexes from a dimension on
-    pub indexes_agree : (a : Expr) (d : ℕ) (indexes : Exprs) (w : World) → d + length (types_of indexes) ≤ 2 → AllLong (types_of indexes) → MemoryMatch U w
-        → HaveImages U K w f S T uses → Stands U K w f g → AllCalledAll Asked indexes → covers_exprs uses indexes ≡ true → are_formed indexes ≡ true
+    pub indexes_agree : (K : Pledge) (a : Expr) (d : ℕ) (indexes : Exprs) (w : World) → d + length (types_of indexes) ≤ 2 → AllLong (types_of indexes) → MemoryMatch U w
+        → HaveImages U K w f S T uses → Stands U K w f g → AllCalledAll (Asked K) indexes → covers_exprs uses indexes ≡ true → are_formed indexes ≡ true
         → Agrees U K w (λ u zs ys. IndexesLike (λ j. low_at T a j) d (length (types_of indexes)) zs ys) (source.indexes_of C indexes w.src)
         (target.values_of S net_oracle (indexes_of T a d indexes) w.net)
-    indexes_agree a d no_exprs w few longs start have stands can covers formed =
+    indexes_agree K a d no_exprs w few longs start have stands can covers formed =
         agrees_gives U K w (λ u zs ys. IndexesLike (λ j. low_at T a j) d 0 zs ys) [] [] start (tt, refl)
-    indexes_agree a d (next_expr e rest) w few longs start have stands can covers formed =
+    indexes_agree K a d (next_expr e rest) w few longs start have stands can covers formed =
         let both = both_true (covers_expr uses e) (covers_exprs uses rest) covers in
         let forms = both_true (is_formed e) (are_formed rest) formed in
         next_agrees U K C S net_oracle (λ j. low_at T a j) d (length (types_of rest)) e rest (index_at T a d (exp_of T e)) (indexes_of T a (suc d) rest) w start
         (index_agrees U K C S net_oracle e (low_at T a d) (index_at T a d (exp_of T e)) (exp_of T e) w
         (index_is_row S net_oracle opened.support T a d (exp_of T e) (in_two d (type_at e) (types_of rest) few)) start
         (subst (λ t. Agrees U K w (PlainMatch U t) (source.scalar_value C e w.src) (written e w)) longs.0
-        (plain_agrees U K C e (type_at e) w (written e w) start (expression_agrees e w start have stands can.0 both.0 forms.0))))
+        (plain_agrees U K C e (type_at e) w (written e w) start (expression_agrees K e w start have stands can.0 both.0 forms.0))))
         (λ v later.
-        indexes_agree a (suc d) rest v (in_two_more d (type_at e) (types_of rest) few) longs.1 later.match (images_later U K w v f S T uses start later have)
+        indexes_agree K a (suc d) rest v (in_two_more d (type_at e) (types_of rest) few) longs.1 later.match (images_later U K w v f S T uses start later have)
         (stands_later U K w v f g later stands) can.1 both.1 forms.1)
 
     -- arguments from a place on, as they are taken
-    pub passed_agree : (q i : ℕ) (args : Passed) (modes : List NetPassing) (w : World)
+    pub passed_agree : (K : Pledge) (q i : ℕ) (args : Passed) (modes : List NetPassing) (w : World)
         → ((n : ℕ) → passing_at modes n ≡ passing_by (takes_reference U.program.declarations q (i + n))) → suits_passed U.program.declarations q i args ≡ true
-        → MemoryMatch U w → HaveImages U K w f S T uses → Stands U K w f g → AllCalledFor Asked args → covers_passed uses args ≡ true
-        → passed_are_formed args ≡ true → FitsPassed U q i args
+        → hands_passed U.program q i args ≡ true → MemoryMatch U w → HaveImages U K w f S T uses → Stands U K w f g → AllCalledFor (Asked K) args → covers_passed uses args ≡ true
+        → passed_are_formed args ≡ true → FitsPassed U q i args → ((t : Ty) → IsOne (given_types args) t → K.keeps t)
         → Agrees U K w (ArgumentsMatch U K q i) (source.args_of C q i args w.src) (target.args_of S net_oracle modes (passed_of T q i args) w.net)
-    passed_agree q i no_passed modes w takes suits start have stands can covers formed fits = agrees_gives U K w (ArgumentsMatch U K q i) [] [] start (no_arguments i w)
-    passed_agree q i (next_passed (by_reference e) rest) modes w takes suits start have stands can covers formed fits =
+    passed_agree K q i no_passed modes w takes suits hands start have stands can covers formed fits kept = agrees_gives U K w (ArgumentsMatch U K q i) [] [] start (no_arguments i w)
+    passed_agree K q i (next_passed (by_reference e) rest) modes w takes suits hands start have stands can covers formed fits kept =
         let D = U.program.declarations in
         let both = both_true ((is_passable uses e && covers_expr uses e) || covers_array uses e) (covers_passed uses rest) covers in
         let passed : IsPassed uses e = either_true (is_passable uses e && covers_expr uses e) (covers_array uses e) both.0 in
         let fit = both_true (takes_reference D q i && (is_referred e && suits_array D q i e)) (suits_passed D q (suc i) rest) suits in
+        let hand = both_true (hands_argument U.program q i (by_reference e)) (hands_passed U.program q (suc i) rest) hands in
         let one = both_true (takes_reference D q i) (is_referred e && suits_array D q i e) fit.0 in
         let referred = both_true (is_referred e) (suits_array D q i e) one.1 in
         let forms = both_true (is_formed e) (passed_are_formed rest) formed in
         let next = λ (n : ℕ). takes (suc n) ∙ ap (λ m. passing_by (takes_reference D q m)) (further i n) in
+        let keep = λ (t : Ty) (o : IsOne (given_types rest) t). kept t (one_right (given_by (by_reference e)) (given_types rest) t o) in
         let mode : target.first_passing modes ≡ passing.Reference =
         takes 0 ∙ ap (λ n. passing_by (takes_reference D q n)) (here i) ∙ ap passing_by one.0 in
-        by_test (is_variable e) (λ b. is_variable e ≡ b → (b || is_conversion e) ≡ true
+        by_test (is_variable e) (λ b. is_variable e ≡ b → (b || (is_conversion e || is_item e)) ≡ true
         → Agrees U K w (ArgumentsMatch U K q i) (source.args_of C q i (next_passed (by_reference e) rest) w.src)
         (target.args_of S net_oracle modes (passed_of T q i (next_passed (by_reference e) rest)) w.net))
         (λ yes is h.
         reference_agrees U K p f g oracle net_oracle l k c T uses same_declarations readable q i w ((runnable_of U).quiet q i) (target.first_passing modes)
         (takes_reference T.declarations q i) e (source.args_of C q (suc i) rest) (target.args_of S net_oracle (target.rest_passings modes) (passed_of T q (suc i) rest))
-        mode is passed fits.0 referred.1 start have
-        (passed_agree q (suc i) rest (target.rest_passings modes) w next fit.1 start have stands can.1 both.1 forms.1 fits.1))
+        mode is passed fits.0 referred.1 hand.0 start have
+        (passed_agree K q (suc i) rest (target.rest_passings modes) w next fit.1 hand.1 start have stands can.1 both.1 forms.1 fits.1 keep))
         (λ no is h.
         let scalar : covers_expr uses e ≡ true = scalar_passed uses e passed is in
         let covered : covers_type (type_at e) ≡ true = covered_type uses e scalar in
+        by_test (is_conversion e) (λ b. is_conversion e ≡ b → (b || is_item e) ≡ true
+        → Agrees U K w (ArgumentsMatch U K q i) (source.args_of C q i (next_passed (by_reference e) rest) w.src)
+        (target.args_of S net_oracle modes (passed_of T q i (next_passed (by_reference e) rest)) w.net))
+        (λ converts is_one any.
         taken_agrees U K q i w (type_at e) (source.value_of C e w.src) (target.value_of S net_oracle (exp_of T e) w.net)
         (source.argument_of C ((runnable_of U).quiet q i) (by_reference e) w.src)
         (target.given S net_oracle (target.first_passing modes)
         (target.reach S net_oracle false (argument_exp T (takes_reference T.declarations q i) (by_reference e) (exp_of T e)) w.net))
         (source.args_of C q (suc i) rest) (target.args_of S net_oracle (target.rest_passings modes) (passed_of T q (suc i) rest))
-        (conversion_given C ((runnable_of U).quiet q i) e w.src covered h)
-        (conversion_goes S net_oracle T e covered w.net (handles e can.0 scalar forms.0) (target.first_passing modes) (takes_reference T.declarations q i) mode h)
+        (conversion_given C ((runnable_of U).quiet q i) e w.src covered is_one)
+        (conversion_goes S net_oracle T e covered w.net (handles K e can.0 scalar forms.0) (target.first_passing modes) (takes_reference T.declarations q i) mode is_one)
         start
-        (expression_agrees e w start have stands can.0 scalar forms.0)
+        (expression_agrees K e w start have stands can.0 scalar forms.0)
         (λ v later.
-        passed_agree q (suc i) rest (target.rest_passings modes) v next fit.1 later.match (images_later U K w v f S T uses start later have)
-        (stands_later U K w v f g later stands) can.1 both.1 forms.1 fits.1)) refl referred.0
-    passed_agree q i (next_passed (by_value e) rest) modes w takes suits start have stands can covers formed fits =
+        passed_agree K q (suc i) rest (target.rest_passings modes) v next fit.1 hand.1 later.match (images_later U K w v f S T uses start later have)
+        (stands_later U K w v f g later stands) can.1 both.1 forms.1 fits.1 keep))
+        (λ other is_none item.
+        item_passed K q i w ((runnable_of U).quiet q i) (target.first_passing modes) (takes_reference T.declarations q i) e
+        (source.args_of C q (suc i) rest) (target.args_of S net_oracle (target.rest_passings modes) (passed_of T q (suc i) rest)) mode item
+        (λ t o. kept t (one_left (given_by (by_reference e)) (given_types rest) t o)) hand.0 start (item_agrees K e w start have stands can.0 scalar forms.0)
+        (λ v later.
+        passed_agree K q (suc i) rest (target.rest_passings modes) v next fit.1 hand.1 later.match (images_later U K w v f S T uses start later have)
+        (stands_later U K w v f g later stands) can.1 both.1 forms.1 fits.1 keep)) refl h) refl referred.0
+    passed_agree K q i (next_passed (by_value e) rest) modes w takes suits hands start have stands can covers formed fits kept =
         let D = U.program.declarations in
         let both = both_true (covers_expr uses e) (covers_passed uses rest) covers in
         let forms = both_true (is_formed e) (passed_are_formed rest) formed in
         let fit = both_true true (suits_passed D q (suc i) rest) suits in
+        let hand = both_true true (hands_passed U.program q (suc i) rest) hands in
+        let keep = λ (t : Ty) (o : IsOne (given_types rest) t). kept t (one_right (given_by (by_value e)) (given_types rest) t o) in
         let next = λ (n : ℕ). takes (suc n) ∙ ap (λ m. passing_by (takes_reference D q m)) (further i n) in
         taken_agrees U K q i w (type_at e) (source.value_of C e w.src) (target.value_of S net_oracle (exp_of T e) w.net)
         (source.argument_of C ((runnable_of U).quiet q i) (by_value e) w.src)
         (target.given S net_oracle (target.first_passing modes)
         (target.reach S net_oracle false (argument_exp T (takes_reference T.declarations q i) (by_value e) (exp_of T e)) w.net))
         (source.args_of C q (suc i) rest) (target.args_of S net_oracle (target.rest_passings modes) (passed_of T q (suc i) rest)) refl
-        (value_goes S net_oracle T e (covered_type uses e both.0) w.net (handles e can.0 both.0 forms.0) (takes_reference D q i) (target.first_passing modes)
+        (value_goes S net_oracle T e (covered_type uses e both.0) w.net (handles K e can.0 both.0 forms.0) (takes_reference D q i) (target.first_passing modes)
         (takes_reference T.declarations q i) (takes 0 ∙ ap (λ n. passing_by (takes_reference D q n)) (here i)) (ap (λ E. takes_reference E q i) same_declarations))
         start
-        (expression_agrees e w start have stands can.0 both.0 forms.0)
+        (expression_agrees K e w start have stands can.0 both.0 forms.0)
         (λ v later.
-        passed_agree q (suc i) rest (target.rest_passings modes) v next fit.1 later.match (images_later U K w v f S T uses start later have)
-        (stands_later U K w v f g later stands) can.1 both.1 forms.1 fits.1)
+        passed_agree K q (suc i) rest (target.rest_passings modes) v next fit.1 hand.1 later.match (images_later U K w v f S T uses start later have)
+        (stands_later U K w v f g later stands) can.1 both.1 forms.1 fits.1 keep)
 
 -- ---- the laws
 
-pub expressions_agree_by : (U : Upgrade) (K : Pledge) → VariablesAreReadBy U K → FormedExpressionsAgreeBy U K
-expressions_agree_by U K reads w p f g oracle net_oracle l k c T uses e start frames declarations opened readable placed agree can covers formed =
-    expression_agrees U K reads p f g oracle net_oracle l k c T uses declarations opened readable placed.leads agree e w start
+pub expressions_agree_by : (U : Upgrade) (K : Pledge) → FormedExpressionsAgreeBy U K
+expressions_agree_by U K w p f g oracle net_oracle l k c T uses e start frames declarations opened readable placed agree can covers formed =
+    expression_agrees U p f g oracle net_oracle l k c T uses declarations opened readable placed.leads agree K e w start
     (images_now U K w p f g (scope_of U.written c g k) refl T declarations frames uses start readable placed) (stands_now U K w p f g frames) can covers formed
 
-pub scalars_agree_by : (U : Upgrade) (K : Pledge) → VariablesAreReadBy U K → FormedScalarsAgreeBy U K
-scalars_agree_by U K reads w p f g oracle net_oracle l k c T uses e start frames declarations opened readable placed agree can covers formed =
+pub scalars_agree_by : (U : Upgrade) (K : Pledge) → FormedScalarsAgreeBy U K
+scalars_agree_by U K w p f g oracle net_oracle l k c T uses e start frames declarations opened readable placed agree can covers formed =
     plain_agrees U K (context_of U oracle p f l) e (type_at e) w (target.value_of (scope_of U.written c g k) net_oracle (exp_of T e) w.net) start
-    (expressions_agree_by U K reads w p f g oracle net_oracle l k c T uses e start frames declarations opened readable placed agree can covers formed)
+    (expressions_agree_by U K w p f g oracle net_oracle l k c T uses e start frames declarations opened readable placed agree can covers formed)
 
-pub indexes_agree_by : (U : Upgrade) (K : Pledge) → VariablesAreReadBy U K → IndexesAgreeBy U K
-indexes_agree_by U K reads w p f g oracle net_oracle l k c T uses ty a indexes start frames declarations opened readable placed agree can covers_array
+pub indexes_agree_by : (U : Upgrade) (K : Pledge) → IndexesAgreeBy U K
+indexes_agree_by U K w p f g oracle net_oracle l k c T uses ty a indexes start frames declarations opened readable placed agree can covers_array
     covers_indexes formed =
     let forms = both_true (has_elements (type_at a) ty) (are_longs (types_of indexes) && are_formed indexes) formed in
     let rest = both_true (are_longs (types_of indexes)) (are_formed indexes) forms.1 in
     let longs = all_long (types_of indexes) rest.0 in
     let have : HaveImages U K w f (scope_of U.written c g k) T uses =
     images_now U K w p f g (scope_of U.written c g k) refl T declarations frames uses start readable placed in
-    indexed_by U K reads p f g oracle net_oracle l k c T uses declarations opened readable placed.leads agree ty a indexes w start have covers_array forms.0 can.0
-    (indexes_agree U K reads p f g oracle net_oracle l k c T uses declarations opened readable placed.leads agree a 0 indexes w
+    indexed_by U p f g oracle net_oracle l k c T uses declarations opened readable placed.leads agree K ty a indexes w start have covers_array forms.0 can.0
+    (indexes_agree U p f g oracle net_oracle l k c T uses declarations opened readable placed.leads agree K a 0 indexes w
     (from_none (types_of indexes) longs.1) longs.0 start have (stands_now U K w p f g frames) can.1 covers_indexes rest.1)
 
-pub elements_agree_by : (U : Upgrade) (K : Pledge) → VariablesAreReadBy U K → ElementsAgreeBy U K
-elements_agree_by U K reads w p f g oracle net_oracle l k c T uses ty a indexes start frames declarations opened readable placed agree can covers_array
+pub elements_agree_by : (U : Upgrade) (K : Pledge) → ElementsAgreeBy U K
+elements_agree_by U K w p f g oracle net_oracle l k c T uses ty a indexes start frames declarations opened readable placed agree can covers_array
     covers_indexes formed =
     element_agrees U K (context_of U oracle p f l) a ty indexes w
     (target.reach (scope_of U.written c g k) net_oracle false (exp_of T (typed ty (element a indexes))) w.net) start
-    (indexes_agree_by U K reads w p f g oracle net_oracle l k c T uses ty a indexes start frames declarations opened readable placed agree can covers_array
+    (indexes_agree_by U K w p f g oracle net_oracle l k c T uses ty a indexes start frames declarations opened readable placed agree can covers_array
     covers_indexes formed)
 
 pub arrays_agree_by : (U : Upgrade) (K : Pledge) → ArraysAgreeBy U K
@@ -546,19 +641,19 @@ arrays_agree_by U K w p f g oracle net_oracle l k c T uses d rank (variable v qu
 arrays_agree_by U K w p f g oracle net_oracle l k c T uses d rank _ start frames declarations readable placed covers = absurd (cc covers)
 
 pub indexes_agree_all : (U : Upgrade) → VariablesAreRead U → IndexesAgree U
-indexes_agree_all U reads K = indexes_agree_by U K (reads K)
+indexes_agree_all U reads K = indexes_agree_by U K
 
 pub elements_agree : (U : Upgrade) → VariablesAreRead U → ElementsAgree U
-elements_agree U reads K = elements_agree_by U K (reads K)
+elements_agree U reads K = elements_agree_by U K
 
 pub arrays_agree : (U : Upgrade) → ArraysAgree U
 arrays_agree U K = arrays_agree_by U K
 
 pub expressions_agree : (U : Upgrade) → VariablesAreRead U → ExpressionsAgree U
-expressions_agree U reads K = expressions_agree_by U K (reads K)
+expressions_agree U reads K = expressions_agree_by U K
 
 pub scalars_agree : (U : Upgrade) → VariablesAreRead U → FormedScalarsAgree U
-scalars_agree U reads K = scalars_agree_by U K (reads K)
+scalars_agree U reads K = scalars_agree_by U K
 
 -- a covered call is made on both sides
 pub calls_are_made : (U : Upgrade) → VariablesAreRead U → CallsAreMade U
@@ -568,29 +663,32 @@ calls_are_made U reads K w p f g oracle net_oracle l k c T uses ty q qualified a
     let stands : Stands U K w f g = stands_now U K w p f g frames in
     let r' = target.address_of S net_oracle (call_of (path (procedure_path T qualified q.0)) (passed_of T q.0 0 args)) w.net in
     agrees_weaker U K w (GivenMatch U) AnyParts (source.term_parts C ty (call q qualified no_object args) w.src) r' (λ v x a l m. tt)
-    (call_agrees U K p f g oracle net_oracle l k c T agree ty q qualified args can.0 w stands start
-    (passed_agree U K (reads K) p f g oracle net_oracle l k c T uses declarations opened readable placed.leads agree q.0 0 args
+    (call_made U p f g oracle net_oracle l k c T uses declarations opened readable placed.leads agree K ty q qualified args w start stands can.0
+    (passed_agree U p f g oracle net_oracle l k c T uses declarations opened readable placed.leads agree (giving K (given_types args)) q.0 0 args
     (passings_at U.written (Some can.0.number)) w
-    (from_first U K (reads K) p f g oracle net_oracle l k c T uses declarations opened readable placed.leads agree can.0) can.0.suits start
-    (images_now U K w p f g (scope_of U.written c g k) refl T declarations frames uses start readable placed) stands can.1 covers formed can.0.ranks))
+    (from_first U p f g oracle net_oracle l k c T uses declarations opened readable placed.leads agree K can.0) can.0.suits can.0.hands start
+    (images_giving U K (given_types args) w start f S T uses
+    (images_now U K w p f g (scope_of U.written c g k) refl T declarations frames uses start readable placed))
+    (stands_giving U K (given_types args) w start f g stands) (called_giving_for U K S T (given_types args) args can.0.inside can.1) covers formed can.0.ranks
+    (λ t o. inr o)))
 
 -- under the pledge of a frame
 
 pub frame_expressions_agree : (U : Upgrade) (p : ℕ) (w : World) (f : SourceFrame) → VariablesAreReadBy U (frame_pledge U p w f)
     → FormedExpressionsAgreeBy U (frame_pledge U p w f)
-frame_expressions_agree U p w f reads = expressions_agree_by U (frame_pledge U p w f) reads
+frame_expressions_agree U p w f reads = expressions_agree_by U (frame_pledge U p w f)
 
 pub frame_scalars_agree : (U : Upgrade) (p : ℕ) (w : World) (f : SourceFrame) → VariablesAreReadBy U (frame_pledge U p w f)
     → FormedScalarsAgreeBy U (frame_pledge U p w f)
-frame_scalars_agree U p w f reads = scalars_agree_by U (frame_pledge U p w f) reads
+frame_scalars_agree U p w f reads = scalars_agree_by U (frame_pledge U p w f)
 
 pub frame_indexes_agree : (U : Upgrade) (p : ℕ) (w : World) (f : SourceFrame) → VariablesAreReadBy U (frame_pledge U p w f)
     → IndexesAgreeBy U (frame_pledge U p w f)
-frame_indexes_agree U p w f reads = indexes_agree_by U (frame_pledge U p w f) reads
+frame_indexes_agree U p w f reads = indexes_agree_by U (frame_pledge U p w f)
 
 pub frame_elements_agree : (U : Upgrade) (p : ℕ) (w : World) (f : SourceFrame) → VariablesAreReadBy U (frame_pledge U p w f)
     → ElementsAgreeBy U (frame_pledge U p w f)
-frame_elements_agree U p w f reads = elements_agree_by U (frame_pledge U p w f) reads
+frame_elements_agree U p w f reads = elements_agree_by U (frame_pledge U p w f)
 
 pub frame_arrays_agree : (U : Upgrade) (p : ℕ) (w : World) (f : SourceFrame) → ArraysAgreeBy U (frame_pledge U p w f)
 frame_arrays_agree U p w f = arrays_agree_by U (frame_pledge U p w f)

@@ -25,9 +25,9 @@ use Rattle.net_run.specs.Names as net_names
 use Rattle.net_run.specs.Names.{path_start, starts, at_place, frame_start, var_in}
 use Rattle.net_run.specs.Shapes as net_shapes
 use Rattle.net_run.specs.Store as net
-use Rattle.run_matches.specs.Addresses.{AllMatched, AllRanked, Same, same_root, Bound, images, mirrored, IsPlain, position_of, same_item}
+use Rattle.run_matches.specs.Addresses.{AllMatched, AllRanked, Same, same_root, Bound, images, mirrored, IsPlain, position_of, same_item, IsScalarAt, is_element}
 use Rattle.run_matches.specs.Covered.{Uses, IsUsed, covers_owner, covers_type, covers_variable, is_reference_in, is_reference_owner_of}
-use Rattle.run_matches.specs.Frames.{StandsAs, FrameMatch, SameVariable, SameStatic, HasPlace, is_own_of, is_static_in, static_of, GivenAddress, is_element, is_reference_of}
+use Rattle.run_matches.specs.Frames.{StandsAs, FrameMatch, SameVariable, SameStatic, HasPlace, is_own_of, is_static_in, static_of, GivenAddress, is_reference_of}
 use Rattle.run_matches.specs.Kinds.{IsKind}
 use Rattle.run_matches.specs.Likeness.{SameShape, same_scalar, same_class}
 use Rattle.run_matches.specs.Maps.{World, IsMade, IsMatched, is_auto_root, is_auto_variable, key_or_none, mark, moved_at}
@@ -154,13 +154,13 @@ pub data UsedShape (U : Upgrade) (v : ℕ) : Shape → Type 0 where
 
 -- a variable that stands with the shape of its declaration
 stands_as : (s : Shape) (a : Address) (q : Position) → a ≡ root s q → StandsAs s a q
-stands_as (simple ty) a q e = e
+stands_as (simple ty) a q e = inl e
 stands_as (group t fs) a q e = e
 stands_as (array f bounds) a q e = (bounds, e)
 stands_as endless a q e = e
 
 pub scalar_stands : (U : Upgrade) (v : ℕ) (r : IsReadable U v) (a : Address) (q : Position) → StandsAs (variable_shape U.program.declarations v) a q
-    → a ≡ root (simple r.variable.ty) q
+    → IsScalarAt r.variable.ty a q
 scalar_stands U v r a q h =
     let users : ℕ → Shape = user_shapes U.program.declarations in
     subst (λ s. StandsAs s a q)
@@ -252,18 +252,19 @@ module _ (U : Upgrade) (K : Pledge) (w : World) (start : StoreMatch U w) (f : So
         address = there;
         found = λ q. s.leads q ∙ ap (λ b. starts (at_place b) []) (sym stands_there);
         bound = exactly U K w v a there same;
-        whole = ap is_element stands;
+        of_scalars = inl (ap is_element stands);
+        whole = λ relied. ap is_element stands;
         image = λ exact. record {
           same = same;
           target =
-              inr (record {
+              inl (inr (record {
                 variable = v;
                 key = s.key;
                 of_shape = variable_shape D v;
                 stands = stands;
                 is_key = s.is_key;
                 differs = s.differs;
-              });
+              }));
           plain = λ q e.
               subst (λ (z : Position). is_auto_root U w.map z.root ≡ false) (some_is (at_key v) q (sym (ap position_of stands) ∙ e)) (not_auto U v r);
           position = at_key v;
@@ -320,10 +321,11 @@ module _ (U : Upgrade) (K : Pledge) (w : World) (p : ℕ) (f : SourceFrame) (g :
         address = same.address;
         found = λ q. ap (path_start S false) (path q) ∙ named_start S r.variable.name same.address name;
         bound = same.bound;
-        whole = ap is_element place.stands;
+        of_scalars = inl (ap is_element place.stands);
+        whole = λ relied. ap is_element place.stands;
         image = λ exact. record {
           same = changeable_same U K w v a same.address same.bound exact;
-          target = inl (record { place = place.place; shape = variable_shape U.program.declarations v; path = []; stands = place.stands });
+          target = inl (inl (record { place = place.place; shape = variable_shape U.program.declarations v; path = []; stands = place.stands }));
           plain = same.plain (not_auto U v r);
           position = whole (made place.place);
           stands = stands_as (variable_shape U.program.declarations v) a (whole (made place.place)) place.stands;
@@ -361,11 +363,12 @@ module _ (U : Upgrade) (K : Pledge) (w : World) (p : ℕ) (f : SourceFrame) (g :
         address = address;
         found = λ q. ap (path_start S false) (path q) ∙ named_start S s.variable.name address name;
         bound = exactly U K w v a address same;
-        whole = ap is_element stands;
+        of_scalars = inl (ap is_element stands);
+        whole = λ relied. ap is_element stands;
         image = λ exact. record {
           same = same;
           target =
-              inr (record {
+              inl (inr (record {
                 variable = v;
                 key = key_or_none (variable_key U v);
                 of_shape = variable_shape U.program.declarations v;
@@ -374,7 +377,7 @@ module _ (U : Upgrade) (K : Pledge) (w : World) (p : ℕ) (f : SourceFrame) (g :
                 differs =
                     λ u e. s.differs (key_or_none (variable_key U v)) u
                     (key_present (variable_key U v) (matched_whole U w (variable_shape U.program.declarations v) (at_key v) x.is_matched).counterpart) e;
-              });
+              }));
           plain = λ q e.
               subst (λ (z : Position). is_auto_root U w.map z.root ≡ false) (some_is (at_key v) q (sym (ap position_of stands) ∙ e)) (not_auto U v r);
           position = at_key v;
@@ -401,6 +404,7 @@ module _ (U : Upgrade) (K : Pledge) (w : World) (p : ℕ) (f : SourceFrame) (g :
         address = same.address;
         found = λ q. ap (path_start S false) (path q) ∙ named_start S r.variable.name same.address name;
         bound = same.bound;
+        of_scalars = there.of_scalars;
         whole = there.whole;
         image = λ exact. record {
           same = changeable_same U K w v a same.address same.bound exact;
@@ -454,6 +458,7 @@ images_later U K w0 w1 f S T uses start l h v a used is =
       address = x.address;
       found = x.found;
       bound = bound_later U K w0 w1 start l (not (is_quiet U.program.declarations U.known v.0)) a x.address x.bound;
+      of_scalars = x.of_scalars;
       whole = x.whole;
       image = λ exact. image_later U K w0 w1 v.0 a x.address l (x.image exact);
     }

@@ -10,6 +10,8 @@ pub mod Library
 pub mod Arguments
 pub mod Calls
 pub mod References
+pub mod Giving
+pub mod GivenElements
 pub mod Temporaries
 pub mod NoPlaces
 pub mod IndexRows

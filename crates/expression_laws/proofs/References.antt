@@ -4,7 +4,7 @@ use Rattle.std.specs.Prelude.{slice_get}
 use Rattle.vb_tree.specs.BoundTree as types
 use Rattle.vb_tree.specs.BoundTree.{Ty}
 use Rattle.vb_tree.specs.declared.declared.VarId.{VarId}
-use Rattle.bound_tree.specs.Tree.{Declarations, Expr, typed, variable, by_reference}
+use Rattle.bound_tree.specs.Tree.{Declarations, Expr, typed, variable, by_reference, Program}
 use Rattle.bound_facts.specs.Facts.{is_quiet}
 use Rattle.bound_facts.specs.Node.{auto_class, is_array_type}
 use Rattle.net_tree.specs.declared.declaration.NetPassing.{NetPassing}
@@ -17,8 +17,8 @@ use Rattle.vb6_run.specs.Expressions as source
 use Rattle.vb6_run.specs.Expressions.{Context, at_address}
 use Rattle.vb6_run.specs.Forms.{SourceLine}
 use Rattle.vb6_run.specs.Runnables.{variable_address}
-use Rattle.vb6_run.specs.Shapes.{Shape, simple, array, variable_shape}
-use Rattle.vb6_run.specs.Store.{Address, Memory, SourceCalls, SourceFrame, SourceGiven, held_at, root}
+use Rattle.vb6_run.specs.Shapes.{Shape, simple, array, variable_shape, endless, part_shape}
+use Rattle.vb6_run.specs.Store.{Address, Memory, SourceCalls, SourceFrame, SourceGiven, held_at, root, item, constant}
 use Rattle.vb6_run.specs.Values.{Value}
 use Rattle.net_run.specs.Calls.{Arguments}
 use Rattle.net_run.specs.Expressions as target
@@ -33,10 +33,9 @@ use Rattle.net_run.specs.Values as net_value
 use Rattle.written_trees.specs.Arguments.{argument_exp, temporary_exp}
 use Rattle.written_trees.specs.Exprs.{exp_of}
 use Rattle.written_trees.specs.Names.{Scope, variable_path}
-use Rattle.run_matches.specs.Addresses.{HasParameterRank, IsPlain, IsTarget, Same, same_item, same_root}
+use Rattle.run_matches.specs.Addresses.{HasParameterRank, IsPlain, IsTarget, Same, same_item, same_root, GivesWhole, IsScalarAt}
 use Rattle.run_matches.specs.Agreeing.{Agrees}
-use Rattle.run_matches.specs.Covered.{Uses, IsUsed, covers_array, covers_expr, covers_type, is_passable, is_variable, suits_array}
-use Rattle.run_matches.specs.Frames.{StandsAs}
+use Rattle.run_matches.specs.Covered.{Uses, IsUsed, covers_array, covers_expr, covers_type, is_passable, is_variable, suits_array, hands_argument, is_relied_at, is_relied_on}
 use Rattle.run_matches.specs.Likeness.{SameShape, same_array, same_class, same_group, same_scalar}
 use Rattle.run_matches.specs.Maps.{World}
 use Rattle.run_matches.specs.Match.{MemoryMatch}
@@ -65,7 +64,7 @@ here i = omega arith
 pub further : (i n : ℕ) → i + suc n ≡ suc i + n
 further i n = omega arith
 
-or_true : (a : Bool) → (a || true) ≡ true
+pub or_true : (a : Bool) → (a || true) ≡ true
 or_true true = refl
 or_true false = refl
 
@@ -128,7 +127,7 @@ scalar_passed uses e (inr h) other = absurd (no_array uses e h other)
 
 -- ---- ranks
 
-plain_shape : (U : Upgrade) (q i : ℕ) (s : Shape) (d : shape.Shape) (ty : Ty) → s ≡ simple ty → SameShape U s d → HasParameterRank U q i d
+pub plain_shape : (U : Upgrade) (q i : ℕ) (s : Shape) (d : shape.Shape) (ty : Ty) → s ≡ simple ty → SameShape U s d → HasParameterRank U q i d
 plain_shape U q i _ _ ty e (same_scalar t word is) = tt
 plain_shape U q i _ _ ty e (same_class c home is) = tt
 plain_shape U q i _ _ ty e (same_group t home member fs gs is fields) = absurd (cc e)
@@ -137,10 +136,30 @@ plain_shape U q i _ _ ty e (same_array x bounds d rank same) = absurd (cc e)
 shape_of_root : (s t : Shape) (p q : Position) → root s p ≡ root t q → s ≡ t
 shape_of_root s t p q e = cc e
 
-plain_ranked : (U : Upgrade) (K : Pledge) (w : World) (q i : ℕ) (a : Address) (b : net.Address) (ty : Ty) (p : Position) → a ≡ root (simple ty) p → Same U K w a b
+no_root_item : (e s : Shape) (q p : Position) (j : ℕ) (inside : List ℕ) → item e q j inside ≡ root s p → ⊥
+no_root_item e s q p j inside f = cc f
+
+abbrev element_in : Address → Shape
+element_in (root s q) = s
+element_in (item e q j inside) = e
+element_in (constant x) = endless
+
+abbrev inside_of : Address → List ℕ
+inside_of (root s q) = []
+inside_of (item e q j inside) = inside
+inside_of (constant x) = []
+
+some_shape : (s t : Shape) → Some s ≡ Some t → s ≡ t
+some_shape s t f = cc f
+
+plain_ranked : (U : Upgrade) (K : Pledge) (w : World) (q i : ℕ) (a : Address) (b : net.Address) (ty : Ty) (p : Position) → IsScalarAt ty a p → Same U K w a b
     → HasParameterRank U q i (net.shape_at b)
-plain_ranked U K w q i _ _ ty p e (same_root s d p' sh m r) = plain_shape U q i s d ty (shape_of_root s (simple ty) p' p e) sh
-plain_ranked U K w q i _ _ ty p e (same_item x t d p' k j inside keeps m has part sh) = absurd (cc e)
+plain_ranked U K w q i _ _ ty p (inl e) (same_root s d p' sh m r) = plain_shape U q i s d ty (shape_of_root s (simple ty) p' p e) sh
+plain_ranked U K w q i _ _ ty p (inl e) (same_item x t d p' k j inside keeps m has part sh) = absurd (no_root_item x (simple ty) p' p j inside e)
+plain_ranked U K w q i _ _ ty p (inr e) (same_root s d p' sh m r) = absurd (no_root_item (simple ty) s p p' e.0 [] (sym e.1))
+plain_ranked U K w q i _ _ ty p (inr e) (same_item x t d p' k j inside keeps m has part sh) =
+    plain_shape U q i t d ty
+    (some_shape t (simple ty) (sym part ∙ (ap (λ z. part_shape z x) (ap inside_of e.1) ∙ ap (λ z. Some z) (ap element_in e.1)))) sh
 
 suited : (b t : Bool) → b ≡ true → (not b || t) ≡ true → t ≡ true
 suited true t e h = h
@@ -163,14 +182,6 @@ parameter_ranked U K w T uses readable q i ty v qualified (inr h) fits suits a b
     ∙ fits (sound_array U v used.0 ty qualified (readable.arrays v used.0 used.1) (array_typed uses ty v qualified h))
     (suited (is_array_type ty) (takes_array U.program.declarations q i) (array_typed uses ty v qualified h) suits))
 
--- where it stands
-stands_at : (U : Upgrade) (T : Scope) (uses : Uses) → AreReadable U T uses → (v : VarId) → IsUsed uses v → (a : Address) (p : Position)
-    → StandsAs (variable_shape U.program.declarations v.0) a p → (s : Shape) × (a ≡ root s p)
-stands_at U T uses readable v (inl h) a p stands =
-    let r : IsReadable U v.0 = readable.scalars v h in (simple r.variable.ty, scalar_stands U v.0 r a p stands)
-stands_at U T uses readable v (inr h) a p stands =
-    let r = array_stands U v.0 h.0 (readable.arrays v h.0 h.1) a p stands in (array (simple h.0) r.0, r.1)
-
 -- ---- the target
 
 -- it is written as it stands
@@ -179,11 +190,16 @@ reference_is : (T : Scope) (referred : Bool) (ty : Ty) (v : VarId) (qualified : 
 reference_is T referred ty v qualified a =
     ap (λ b. cond b a (temporary_exp T (typed ty (variable v qualified)) a)) (or_true (is_array_type ty))
 
--- what stands at a position goes by its address
-image_given : (U : Upgrade) (K : Pledge) (w : World) (a : Address) (b : net.Address) (s : Shape) (q : Position) → Same U K w a b → a ≡ root s q
+-- what has an image goes by its address
+image_given : (U : Upgrade) (K : Pledge) (w : World) (a : Address) (b : net.Address) → Same U K w a b
     → ◌≡◌ {A = Given net_value.Value net.Address} (target.given_by b) (by_address b)
-image_given U K w _ _ s q (same_root t d p sh m r) e = refl
-image_given U K w _ _ s q (same_item x t d p k j inside keeps m has part sh) e = absurd (cc e)
+image_given U K w _ _ (same_root t d p sh m r) = refl
+image_given U K w _ _ (same_item x t d p k j inside keeps m has part sh) = refl
+
+-- what is handed on to a parameter that is relied on is so too
+handed_whole : (P : Program) (q i : ℕ) (ty : Ty) (v : VarId) (qualified : Bool) → hands_argument P q i (by_reference (typed ty (variable v qualified))) ≡ true
+    → is_relied_at P q i ≡ true → is_relied_on P v.0 ≡ true
+handed_whole P q i ty v qualified h e = suited (is_relied_at P q i) (is_relied_on P v.0) e h
 
 target_given : (S : net_names.Scope) (oracle : Jobs) (mode : NetPassing) (names : List (List ℕ)) (b : net.Address) (w : net.Memory) → mode ≡ passing.Reference
     → path_start S false names ≡ starts (at_place b) [] → ◌≡◌ {A = Given net_value.Value net.Address} (target.given_by b) (by_address b)
@@ -215,12 +231,12 @@ module _ (U : Upgrade) (K : Pledge) (p : ℕ) (f : SourceFrame) (g : NetFrame) (
 
   -- the source reads what a quiet parameter is given, and then goes on in the same way
   given_agrees : (w : World) (quiet : Bool) (a : Address) (b : net.Address) (rest : Memory → Outcome Memory (List SourceGiven))
-      (rest' : net.Memory → Outcome net.Memory Arguments) → MemoryMatch U w → Same U K w a b → IsTarget U a → IsPlain U w a
-      → HasParameterRank U q i (net.shape_at b) → Agrees U K w (ArgumentsMatch U K q (suc i)) (rest w.src) (rest' w.net)
+      (rest' : net.Memory → Outcome net.Memory Arguments) → MemoryMatch U w → Same U K w a b → IsTarget U a
+      → GivesWhole U q i a → IsPlain U w a → HasParameterRank U q i (net.shape_at b) → Agrees U K w (ArgumentsMatch U K q (suc i)) (rest w.src) (rest' w.net)
       → Agrees U K w (ArgumentsMatch U K q i) (then (source.given_address quiet a w.src) (λ g w. then (rest w) (λ gs w. gives [] (g ∷ gs) w)))
       (then (gives [] (by_address b) w.net) (λ g w. then (rest' w) (λ gs w. gives [] (g ∷ gs) w)))
-  given_agrees w false a b rest rest' start same target plain ranked more = address_agrees U K q i w a b rest rest' start same target plain ranked more
-  given_agrees w true a b rest rest' start same target plain ranked more = by (held_at a w.src.held)
+  given_agrees w false a b rest rest' start same target whole plain ranked more = address_agrees U K q i w a b rest rest' start same target whole plain ranked more
+  given_agrees w true a b rest rest' start same target whole plain ranked more = by (held_at a w.src.held)
     where
       by : (o : Option Value)
           → Agrees U K w (ArgumentsMatch U K q i)
@@ -228,13 +244,14 @@ module _ (U : Upgrade) (K : Pledge) (p : ℕ) (f : SourceFrame) (g : NetFrame) (
           (then (gives [] (by_address b) w.net) (λ g w. then (rest' w) (λ gs w. gives [] (g ∷ gs) w)))
       by None =
           agrees_outside U K w (ArgumentsMatch U K q i) (then (gives [] (by_address b) w.net) (λ g w. then (rest' w) (λ gs w. gives [] (g ∷ gs) w)))
-      by (Some x) = address_agrees U K q i w a b rest rest' start same target plain ranked more
+      by (Some x) = address_agrees U K q i w a b rest rest' start same target whole plain ranked more
 
   pub reference_agrees : (w : World) (quiet : Bool) (mode : NetPassing) (referred : Bool) (e : Expr) (rest : Memory → Outcome Memory (List SourceGiven))
       (rest' : net.Memory → Outcome net.Memory Arguments) → mode ≡ passing.Reference → is_variable e ≡ true → IsPassed uses e
-      → FitsArgument U q i (by_reference e) → suits_array U.program.declarations q i e ≡ true → MemoryMatch U w → HaveImages U K w f (scope_of U.written c g k) T uses
+      → FitsArgument U q i (by_reference e) → suits_array U.program.declarations q i e ≡ true → hands_argument U.program q i (by_reference e) ≡ true → MemoryMatch U w
+      → HaveImages U K w f (scope_of U.written c g k) T uses
       → Agrees U K w (ArgumentsMatch U K q (suc i)) (rest w.src) (rest' w.net) → FirstAgrees w quiet mode referred e rest rest'
-  reference_agrees w quiet mode referred (typed ty (variable v qualified)) rest rest' takes is passed fits suits start have more =
+  reference_agrees w quiet mode referred (typed ty (variable v qualified)) rest rest' takes is passed fits suits hands start have more =
       let e : Expr = typed ty (variable v qualified) in
       let used : IsUsed uses v = used_by uses ty v qualified passed in
       let r : IsKnown U v.0 = known_used U T uses readable v used in
@@ -267,12 +284,11 @@ module _ (U : Upgrade) (K : Pledge) (p : ℕ) (f : SourceFrame) (g : NetFrame) (
       by (Some a) at used loud =
           let x : HasImage U K w (scope_of U.written c g k) T v.0 a = have v a used at in
           let y : IsImage U K w v.0 a x.address = x.image loud in
-          let stands = stands_at U T uses readable v used a y.position y.stands in
           subst (λ z. Agrees U K w (ArgumentsMatch U K q i)
           (then (source.given_address quiet a w.src) (λ g w. then (rest w) (λ gs w. gives [] (g ∷ gs) w)))
           (then z (λ g w. then (rest' w) (λ gs w. gives [] (g ∷ gs) w))))
           (sym (target_given (scope_of U.written c g k) net_oracle mode (variable_path T qualified v.0) x.address w.net takes (x.found qualified)
-          (image_given U K w a x.address stands.0 y.position y.same stands.1)))
-          (given_agrees w quiet a x.address rest rest' start y.same y.target y.plain
+          (image_given U K w a x.address y.same)))
+          (given_agrees w quiet a x.address rest rest' start y.same y.target (λ e. x.whole (handed_whole U.program q i ty v qualified hands e)) y.plain
           (parameter_ranked U K w T uses readable q i ty v qualified passed fits suits a x.address y) more)
-  reference_agrees w quiet mode referred (typed ty _) rest rest' takes is passed fits suits start have more = absurd (true≢false (sym is))
+  reference_agrees w quiet mode referred (typed ty _) rest rest' takes is passed fits suits hands start have more = absurd (true≢false (sym is))

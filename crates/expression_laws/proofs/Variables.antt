@@ -1,6 +1,12 @@
 -- The values of variables.
-use Rattle.std.proofs.Common.{◌≡◌, ◌∙◌, inl, refl, sym, ap, subst, ℕ, Bool, true, false, cond, not, ◌&&◌, List, [], Option, Some, None}
-use Rattle.std.specs.Prelude.{slice_get}
+use Rattle.agreeing_laws.proofs.Moves.{matched_whole}
+use Rattle.expression_laws.proofs.ElementValues.{elements_of, item_agrees, items_of}
+use Rattle.agreeing_laws.proofs.Indexes.{items_follow}
+use Rattle.run_matches.specs.Likeness.{numbers_of, SameShape, like_scalar, same_class, same_scalar}
+use Rattle.row_laws.proofs.Composing.{after_nil}
+use Rattle.std.proofs.Common.{◌≡◌, ◌∙◌, inl, refl, sym, ap, subst, ℕ, Bool, true, false, cond, not, ◌&&◌, List, [], Option, Some, None, ◌⊎◌, inr}
+use Rattle.std.specs.Prelude.{slice_get, option_and_then}
+use Rattle.vb_tree.specs.BoundTree as types
 use Rattle.vb_tree.specs.BoundTree.{Ty}
 use Rattle.vb_tree.specs.declared.declared.VarId.{VarId}
 use Rattle.vb_tree.specs.declared.value.Value6.{Value6}
@@ -17,33 +23,33 @@ use Rattle.vb6_run.specs.Forms.{SourceLine}
 use Rattle.vb6_run.specs.Runnables.{variable_address}
 use Rattle.vb6_run.specs.Shapes.{Shape, simple, group, array, endless}
 use Rattle.vb6_run.specs.Store as store
-use Rattle.vb6_run.specs.Store.{Held, blank, table, parts, Address, root, Does, SourceCalls, SourceFrame, provided, value_if, single_in, array_in, fields_from, all_gathered}
-use Rattle.vb6_run.specs.Values.{Value, scalar, fields, elements, Values, Dimension, is_of_shape, is_typed}
+use Rattle.vb6_run.specs.Store.{Held, blank, table, parts, Address, root, Does, SourceCalls, SourceFrame, provided, value_if, single_in, array_in, fields_from, all_gathered, item, item_in}
+use Rattle.vb6_run.specs.Values.{Value, scalar, fields, elements, Values, Dimension, is_of_shape, is_typed, part_in, value_at}
 use Rattle.net_run.specs.Expressions as target
 use Rattle.net_run.specs.Lines.{NetFrame, NetLine, scope_of}
 use Rattle.net_run.specs.Making.{Jobs}
 use Rattle.net_run.specs.Members.{Code}
 use Rattle.net_run.specs.Names as net_names
 use Rattle.net_run.specs.Names.{path_start, starts, at_place}
+use Rattle.net_run.specs.Shapes as shape
 use Rattle.net_run.specs.Store as net
+use Rattle.net_meaning.specs.declared.value.ValueN.TheVariants as n
 use Rattle.net_run.specs.Values as net_value
 use Rattle.written_trees.specs.Exprs.{exp_of, made_if}
 use Rattle.written_trees.specs.Names.{Scope, variable_path}
-use Rattle.run_matches.specs.Addresses.{Bound, HoldsSame, Same, images, mirrored, same_item, same_root}
+use Rattle.run_matches.specs.Addresses.{Bound, HoldsSame, Same, images, mirrored, same_item, same_root, IsElement, IsWhole}
 use Rattle.run_matches.specs.Agreeing.{Agrees}
 use Rattle.run_matches.specs.Covered.{Uses, covers_owner, covers_type, covers_variable}
-use Rattle.run_matches.specs.Frames.{is_element}
-use Rattle.run_matches.specs.Maps.{World, moved_at}
-use Rattle.run_matches.specs.Match.{MemoryMatch}
+use Rattle.run_matches.specs.Maps.{World, moved_at, IsMatched}
+use Rattle.run_matches.specs.Match.{MemoryMatch, HasArray, Holds, holds_blank, holds_parts, holds_single, holds_table}
 use Rattle.run_matches.specs.Pledges.{Pledge}
 use Rattle.run_matches.specs.Upgrades.{Upgrade}
 use Rattle.run_statements.specs.Frames.{IsReadable, ScalarMatch, context_of, AreReadable}
 use Rattle.agreeing_laws.proofs.Agreeing.{agrees_outside, left_alone}
 use Rattle.agreeing_laws.proofs.Lasting.{later_now}
 use Rattle.expression_laws.specs.Images.{HasImage, HaveImages}
-use Rattle.expression_laws.specs.Statements.{VariablesAreReadBy}
 use Rattle.expression_laws.proofs.Types.{both_true, same_as, same_of, covered_shape}
-use Rattle.expression_laws.proofs.Checks.{source_then, checked_agrees, value_checked}
+use Rattle.expression_laws.proofs.Checks.{value_checked}
 
 -- ---- addresses of other shapes
 
@@ -64,31 +70,6 @@ other_array ty e blank x h = absurd (cc h)
 other_array ty e (store.single t z) x h = absurd (cc h)
 other_array ty e (table f dims xs) x h = if_elements ty _ f dims xs x h
 other_array ty e parts x h = absurd (cc h)
-
--- a scalar of a type that isn't covered
-uncovered : (ty s t : Ty) (z : Value6) → covers_type ty ≡ true → covers_type s ≡ false → is_same_type s t ≡ true
-    → is_of_shape (simple ty) (scalar t z) ≡ false
-uncovered ty s t z covers other same = by_test (is_same_type ty t) refl
-  where
-    by_test : (b : Bool) → is_same_type ty t ≡ b → (is_same_type ty t && is_typed t z) ≡ false
-    by_test false e = ap (λ q. q && is_typed t z) e
-    by_test true e =
-        let is : t ≡ ty = same_of ty t covers e in
-        let that : s ≡ ty = same_as s ty covers (subst (λ q. is_same_type s q ≡ true) is same) in
-        let no : covers_type s ≡ true = subst (λ q. covers_type q ≡ true) (sym that) covers in
-        absurd (cc (no, other))
-
-if_uncovered : (ty s t : Ty) (z : Value6) (b : Bool) → covers_type ty ≡ true → covers_type s ≡ false → is_same_type s t ≡ b
-    → IsOther ty (value_if b (scalar t z))
-if_uncovered ty s t z true covers other same x h =
-    let is : scalar t z ≡ x = cc h in subst (λ q. is_of_shape (simple ty) q ≡ false) is (uncovered ty s t z covers other same)
-if_uncovered ty s t z false covers other same x h = absurd (cc h)
-
-other_single : (ty s : Ty) (h : Held) → covers_type ty ≡ true → covers_type s ≡ false → IsOther ty (single_in s h)
-other_single ty s blank covers other x h = absurd (cc h)
-other_single ty s (store.single t z) covers other x h = if_uncovered ty s t z (is_same_type s t) covers other refl x h
-other_single ty s (table e dims xs) covers other x h = absurd (cc h)
-other_single ty s parts covers other x h = absurd (cc h)
 
 -- ---- where a variable is found
 
@@ -128,7 +109,7 @@ path_read S oracle names b w h = ap (λ x. target.value_from S oracle (target.st
 abbrev Checked : Context → Ty → Value → Does Value
 Checked C ty x w = provided (is_of_shape (type_shape (declared C) ty) x) (λ v. gives [] x v) w
 
-module _ (U : Upgrade) (K : Pledge) (reads : VariablesAreReadBy U K) where
+module _ (U : Upgrade) (K : Pledge) where
   other_agrees : (C : Context) (ty : Ty) (o : Option Value) (w : World) (r' : Outcome net.Memory net_value.Value) → covers_type ty ≡ true → IsOther ty o
       → Agrees U K w (ScalarMatch U ty) (then (after [] (found o w.src)) (Checked C ty)) r'
   other_agrees C ty None w r' covers h = agrees_outside U K w (ScalarMatch U ty) r'
@@ -136,42 +117,78 @@ module _ (U : Upgrade) (K : Pledge) (reads : VariablesAreReadBy U K) where
       let is : is_of_shape (type_shape (declared C) ty) x ≡ false = ap (λ s. is_of_shape s x) (covered_shape (declared C) ty covers) ∙ h x refl in
       subst (λ b. Agrees U K w (ScalarMatch U ty) (after [] (provided b (λ v. gives [] x v) w.src)) r') (sym is) (agrees_outside U K w (ScalarMatch U ty) r')
 
-  read_single : (C : Context) (ty s : Ty) (q : Position) (b : net.Address) (w : World) (covered : Bool) → covers_type s ≡ covered → covers_type ty ≡ true
-      → MemoryMatch U w → Same U K w (root (simple s) q) b
-      → Agrees U K w (ScalarMatch U ty) (then (after [] (store.read (root (simple s) q) w.src)) (Checked C ty)) (target.read b w.net)
-  read_single C ty s q b w true is covers start same =
-      source_then U K w (ScalarMatch U s) (ScalarMatch U ty) (after [] (store.read (root (simple s) q) w.src)) (target.read b w.net) (Checked C ty) start
-      (left_alone U K w (ScalarMatch U s) (store.read (root (simple s) q) w.src) (target.read b w.net)
-      (reads w s (root (simple s) q) b is start same (q, refl)))
-      (λ x y v m l. behind x y v m l.match)
+  held_read : (C : Context) (ty s : Ty) (w : World) (h : Held) (c : net.Cell) → covers_type ty ≡ true → MemoryMatch U w → Holds U w h c
+      → Agrees U K w (ScalarMatch U ty) (then (after [] (found (single_in s h) w.src)) (Checked C ty)) (gives [] (net.held c) w.net)
+  held_read C ty s w _ _ covers start holds_blank = agrees_outside U K w (ScalarMatch U ty) (gives [] (net.held net.blank) w.net)
+  held_read C ty s w _ _ covers start (holds_single t x y m) = by (is_same_type s t)
     where
-      behind : (x : Value) (y : net_value.Value) (v : World) → ScalarMatch U s v x y → MemoryMatch U v
-          → Agrees U K v (ScalarMatch U ty) (Checked C ty x v.src) (gives [] y v.net)
-      behind x y v m h =
-          subst (λ z. Agrees U K v (ScalarMatch U ty) (Checked C ty z v.src) (gives [] y v.net)) (sym m.1) (checked_agrees U K C ty s m.0 y v covers h m.2)
-  read_single C ty s q b w false is covers start same =
-      other_agrees C ty (single_in s (w.src.held q)) w (target.read b w.net) covers (other_single ty s (w.src.held q) covers is)
+      by : (b : Bool)
+          → Agrees U K w (ScalarMatch U ty) (then (after [] (found (value_if b (scalar t x)) w.src)) (Checked C ty)) (gives [] (net_value.single y) w.net)
+      by false = agrees_outside U K w (ScalarMatch U ty) (gives [] (net_value.single y) w.net)
+      by true =
+          left_alone U K w (ScalarMatch U ty) (Checked C ty (scalar t x) w.src) (gives [] (net_value.single y) w.net)
+          (value_checked U K C ty (scalar t x) (net_value.single y) w covers start (like_scalar t x y m))
+  held_read C ty s w _ _ covers start (holds_table e dims xs k l) = agrees_outside U K w (ScalarMatch U ty) (gives [] (net.held (net.holds (n.Array k))) w.net)
+  held_read C ty s w _ _ covers start holds_parts = agrees_outside U K w (ScalarMatch U ty) (gives [] (net.held net.structure) w.net)
 
-  read_agrees : (C : Context) (ty : Ty) (s : Shape) (q : Position) (b : net.Address) (w : World) → covers_type ty ≡ true → MemoryMatch U w
-      → Same U K w (root s q) b
-      → Agrees U K w (ScalarMatch U ty) (then (after [] (store.read (root s q) w.src)) (Checked C ty)) (target.read b w.net)
-  read_agrees C ty (simple s) q b w covers start same = read_single C ty s q b w (covers_type s) refl covers start same
-  read_agrees C ty (group t fs) q b w covers start same =
-      other_agrees C ty (fields_from t (all_gathered fs q 0 w.src.held)) w (target.read b w.net) covers (other_fields ty t (all_gathered fs q 0 w.src.held))
-  read_agrees C ty (array e bounds) q b w covers start same =
-      other_agrees C ty (array_in e (w.src.held q)) w (target.read b w.net) covers (other_array ty e (w.src.held q))
-  read_agrees C ty endless q b w covers start same = other_agrees C ty None w (target.read b w.net) covers (λ x h. absurd (cc h))
+  read_single : (C : Context) (ty s : Ty) (q : Position) (d : shape.Shape) (w : World) → covers_type ty ≡ true → MemoryMatch U w → SameShape U (simple s) d
+      → IsMatched U w q
+      → Agrees U K w (ScalarMatch U ty) (then (after [] (store.read (root (simple s) q) w.src)) (Checked C ty))
+      (target.read (net.root d (moved_at U w.map q)) w.net)
+  read_single C ty _ q _ w covers start (same_scalar s t e) m =
+      held_read C ty s w (w.src.held q) (w.net.cell (moved_at U w.map q)) covers start (start.stores.values q m)
+  read_single C ty _ q _ w covers start (same_class k home e) m =
+      held_read C ty (types.class k) w (w.src.held q) (w.net.cell (moved_at U w.map q)) covers start (start.stores.values q m)
 
-  same_agrees : (C : Context) (ty : Ty) (a : Address) (b : net.Address) (w : World) → is_element a ≡ false → covers_type ty ≡ true → MemoryMatch U w
+  read_agrees : (C : Context) (ty : Ty) (s : Shape) (q : Position) (d : shape.Shape) (w : World) → covers_type ty ≡ true → MemoryMatch U w
+      → SameShape U s d → IsMatched U w q
+      → Agrees U K w (ScalarMatch U ty) (then (after [] (store.read (root s q) w.src)) (Checked C ty)) (target.read (net.root d (moved_at U w.map q)) w.net)
+  read_agrees C ty (simple s) q d w covers start same m = read_single C ty s q d w covers start same m
+  read_agrees C ty (group t fs) q d w covers start same m =
+      other_agrees C ty (fields_from t (all_gathered fs q 0 w.src.held)) w (target.read (net.root d (moved_at U w.map q)) w.net) covers
+      (other_fields ty t (all_gathered fs q 0 w.src.held))
+  read_agrees C ty (array e bounds) q d w covers start same m =
+      other_agrees C ty (array_in e (w.src.held q)) w (target.read (net.root d (moved_at U w.map q)) w.net) covers (other_array ty e (w.src.held q))
+  read_agrees C ty endless q d w covers start same m =
+      other_agrees C ty None w (target.read (net.root d (moved_at U w.map q)) w.net) covers (λ x h. absurd (cc h))
+
+  -- an element is read on both sides
+  element_read : (C : Context) (ty : Ty) (e : Shape) (d : shape.Shape) (q : Position) (k j : ℕ) (w : World) → covers_type ty ≡ true → MemoryMatch U w
+      → IsMatched U w q → HasArray U w q e k
+      → Agrees U K w (ScalarMatch U ty) (then (after [] (store.read (item e q j []) w.src)) (Checked C ty)) (target.read (net.item d k j []) w.net)
+  element_read C ty e d q k j w covers start m has =
+      let like = elements_of U w (w.src.held q) (w.net.cell (moved_at U w.map q)) e has.dims has.values k (start.stores.values q m) has.held has.cell in
+      let net_value = gives [] (net_value.or_unknown (net.part_of_some [] (slice_get (w.net.arrays k).elements j))) w.net in
+      subst (λ h. Agrees U K w (ScalarMatch U ty) (then (after [] (found (item_in h j []) w.src)) (Checked C ty)) net_value) (sym has.held)
+      (subst (λ o. Agrees U K w (ScalarMatch U ty) (then (after [] (found o w.src)) (Checked C ty)) net_value) (sym (part_is (value_at has.values j)))
+      (subst (λ z. Agrees U K w (ScalarMatch U ty) (then z (Checked C ty)) net_value) (sym (after_nil (found (value_at has.values j) w.src)))
+      (item_agrees U K C ty covers w start (value_at has.values j) (slice_get (w.net.arrays k).elements j)
+      (items_follow U (numbers_of w) has.values (w.net.arrays k).elements
+      (items_of U w e has.dims has.values (w.net.arrays k) like) j))))
+    where
+      part_is : (o : Option Value) → option_and_then (part_in []) o ≡ o
+      part_is None = refl
+      part_is (Some x) = refl
+
+  same_agrees : (C : Context) (ty : Ty) (a : Address) (b : net.Address) (w : World) → IsWhole a ⊎ IsElement a → covers_type ty ≡ true → MemoryMatch U w
       → Same U K w a b → Agrees U K w (ScalarMatch U ty) (then (after [] (store.read a w.src)) (Checked C ty)) (target.read b w.net)
   same_agrees C ty _ _ w whole covers start (same_root s d q sh m r) =
-      read_agrees C ty s q (net.root d (moved_at U w.map q)) w covers start (same_root s d q sh m r)
-  same_agrees C ty _ _ w whole covers start (same_item e s d q k j inside keeps m has part sh) = absurd (cc whole)
+      read_agrees C ty s q d w covers start sh (matched_whole U w s q m)
+  same_agrees C ty _ _ w (inl whole) covers start (same_item e s d q k j inside keeps m has part sh) = absurd (cc whole)
+  same_agrees C ty _ _ w (inr x) covers start (same_item e s d q k j inside keeps m has part sh) =
+      let flat : inside ≡ [] = ap path_in x.stands in
+      subst (λ i. Agrees U K w (ScalarMatch U ty) (then (after [] (store.read (item e q j i) w.src)) (Checked C ty)) (target.read (net.item d k j i) w.net)) (sym flat)
+      (element_read C ty e d q k j w covers start m has)
+    where
+      path_in : Address → List ℕ
+      path_in (root s q) = []
+      path_in (item e q j inside) = inside
+      path_in (store.constant x) = []
 
   -- ---- values of quiet parameters
 
   -- what two addresses are bound to is read on both sides
-  bound_agrees : (C : Context) (ty : Ty) (exact : Bool) (a : Address) (b : net.Address) (w : World) → is_element a ≡ false → covers_type ty ≡ true
+  bound_agrees : (C : Context) (ty : Ty) (exact : Bool) (a : Address) (b : net.Address) (w : World) → IsWhole a ⊎ IsElement a → covers_type ty ≡ true
       → MemoryMatch U w → Bound U K w exact a b
       → Agrees U K w (ScalarMatch U ty) (then (after [] (store.read a w.src)) (Checked C ty)) (target.read b w.net)
   bound_agrees C ty _ _ _ w whole covers start (images exact a b same) = same_agrees C ty a b w whole covers start same
@@ -195,7 +212,7 @@ module _ (U : Upgrade) (K : Pledge) (p : ℕ) (f : SourceFrame) (g : NetFrame) (
       (then (then (some_of o (λ a u. gives [] (at_address a) u) w.src) (source.made_for (context_of U oracle p f l) class))
       (source.value_in (context_of U oracle p f l) (typed ty (variable v qualified)))) Whole
 
-module _ (U : Upgrade) (K : Pledge) (reads : VariablesAreReadBy U K) (p : ℕ) (f : SourceFrame) (g : NetFrame) (oracle : SourceCalls) (net_oracle : Jobs)
+module _ (U : Upgrade) (K : Pledge) (p : ℕ) (f : SourceFrame) (g : NetFrame) (oracle : SourceCalls) (net_oracle : Jobs)
     (l : SourceLine) (k : NetLine) (c : Code) (T : Scope) (uses : Uses) where
   pub variable_agrees : (ty : Ty) (v : VarId) (qualified : Bool) (w : World) → T.declarations ≡ U.program.declarations → AreReadable U T uses
       → HaveImages U K w f (scope_of U.written c g k) T uses → uses.scalar v ≡ true → covers_type ty ≡ true → MemoryMatch U w
@@ -224,4 +241,4 @@ module _ (U : Upgrade) (K : Pledge) (reads : VariablesAreReadBy U K) (p : ℕ) (
           subst (λ z. Agrees U K w (ScalarMatch U ty) (after [] (then (after [] (store.read a w.src)) (Checked (context_of U oracle p f l) ty))) z)
           (sym (written r x.address (x.found qualified)))
           (left_alone U K w (ScalarMatch U ty) (then (after [] (store.read a w.src)) (Checked (context_of U oracle p f l) ty)) (target.read x.address w.net)
-          (bound_agrees U K reads (context_of U oracle p f l) ty (not (is_quiet U.program.declarations U.known v.0)) a x.address w x.whole covers start x.bound))
+          (bound_agrees U K (context_of U oracle p f l) ty (not (is_quiet U.program.declarations U.known v.0)) a x.address w x.of_scalars covers start x.bound))

@@ -11,7 +11,7 @@ use Rattle.net_run.specs.Lines.{NetFrame}
 use Rattle.net_run.specs.Shapes as shape
 use Rattle.net_run.specs.Store as net
 use Rattle.net_run.specs.Values as net_value
-use Rattle.run_matches.specs.Addresses.{AllLocked, HasParameterRank, IsPlain, IsTarget, Same}
+use Rattle.run_matches.specs.Addresses.{AllLocked, HasParameterRank, IsPlain, IsTarget, Same, GivesWhole}
 use Rattle.run_matches.specs.Agreeing.{ResultMatch}
 use Rattle.run_matches.specs.Likeness.{LikeV}
 use Rattle.run_matches.specs.Maps.{World}
@@ -30,8 +30,8 @@ pub data ArgumentsMatch (U : Upgrade) (K : Pledge) (q : ℕ) : (place : ℕ) →
   no_arguments : (i : ℕ) (w : World) → ArgumentsMatch U K q i w [] []
   next_value : (i : ℕ) (w : World) (ty : Ty) (z : Value6) (y : net_value.Value) (xs : List SourceGiven) (ys : List NetGiven) → LikeV U w (scalar ty z) y
       → ArgumentsMatch U K q (suc i) w xs ys → ArgumentsMatch U K q i w (by_value (scalar ty z) ∷ xs) (by_value y ∷ ys)
-  next_address : (i : ℕ) (w : World) (a : Address) (b : net.Address) (xs : List SourceGiven) (ys : List NetGiven) → Same U K w a b → IsTarget U a → IsPlain U w a
-      → HasParameterRank U q i (net.shape_at b) → ArgumentsMatch U K q (suc i) w xs ys → ArgumentsMatch U K q i w (by_address a ∷ xs) (by_address b ∷ ys)
+  next_address : (i : ℕ) (w : World) (a : Address) (b : net.Address) (xs : List SourceGiven) (ys : List NetGiven) → Same U K w a b → IsTarget U a
+      → GivesWhole U q i a → IsPlain U w a → HasParameterRank U q i (net.shape_at b) → ArgumentsMatch U K q (suc i) w xs ys → ArgumentsMatch U K q i w (by_address a ∷ xs) (by_address b ∷ ys)
 
 -- what a call gives, which is nothing of a Sub
 pub record GivenMatch (U : Upgrade) (w : World) (p : Parts) (a : net.Address) : Type 0 where

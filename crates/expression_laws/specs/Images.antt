@@ -1,5 +1,5 @@
 -- What an expression needs of where it stands: its variables are found on both sides, and stand for each other.
-use Rattle.std.specs.Prelude.{◌≡◌, ℕ, Bool, false, not, Some, []}
+use Rattle.std.specs.Prelude.{◌≡◌, ℕ, Bool, false, not, Some, [], ◌⊎◌, true}
 use Rattle.vb_tree.specs.declared.declared.VarId.{VarId}
 use Rattle.bound_facts.specs.Facts.{is_quiet}
 use Rattle.run_base.specs.Positions.{Position}
@@ -11,9 +11,9 @@ use Rattle.net_run.specs.Names as net_names
 use Rattle.net_run.specs.Names.{path_start, starts, at_place}
 use Rattle.net_run.specs.Shapes as shape
 use Rattle.net_run.specs.Store as net
-use Rattle.run_matches.specs.Addresses.{Bound, IsPlain, IsTarget, Same}
-use Rattle.run_matches.specs.Covered.{Uses, IsUsed}
-use Rattle.run_matches.specs.Frames.{StandsAs, is_element}
+use Rattle.run_matches.specs.Addresses.{Bound, IsPlain, IsTarget, Same, IsElement, IsWhole}
+use Rattle.run_matches.specs.Covered.{Uses, IsUsed, is_relied_on}
+use Rattle.run_matches.specs.Frames.{StandsAs}
 use Rattle.run_matches.specs.Maps.{World}
 use Rattle.run_matches.specs.Pledges.{Pledge}
 use Rattle.run_matches.specs.Upgrades.{Upgrade}
@@ -33,7 +33,8 @@ pub record HasImage (U : Upgrade) (K : Pledge) (w : World) (S : net_names.Scope)
   pub address : net.Address
   pub found : (qualified : Bool) → path_start S false (variable_path T qualified v) ≡ starts (at_place address) []
   pub bound : Bound U K w (not (is_quiet U.program.declarations U.known v)) a address
-  pub whole : is_element a ≡ false
+  pub of_scalars : IsWhole a ⊎ IsElement a
+  pub whole : is_relied_on U.program v ≡ true → IsWhole a
   pub image : is_quiet U.program.declarations U.known v ≡ false → IsImage U K w v a address
 
 abbrev pub HaveImages : Upgrade → Pledge → World → SourceFrame → net_names.Scope → Scope → Uses → Type 0

@@ -173,7 +173,7 @@ module _ (U : Upgrade) (expressions : ExpressionsAgree U) (scalars : ScalarsAreW
           then_agrees U K w1 AnyUnits R (write f.env (scalar ty i) a w1.src) (net_store.written found_v.address i' w1.net)
           (λ u t. source_lines.counted limited (Some l.aims.after) l.aims.otherwise (scalar ty i) (scalar ty j) (scalar ty s) t) (λ u t. started i' j' s' t) later.match
           (scalars K w1 a found_v.address f.env ty i i' (counter_covered ty counts) later.match (address_later U K w w1 a found_v.address later same_v)
-          (whole (made place_v.place), stands_v ∙ ap (λ z. root (simple z) (whole (made place_v.place))) (sym same)) (inl in_place)
+          (whole (made place_v.place), inl (stands_v ∙ ap (λ z. root (simple z) (whole (made place_v.place))) (sym same))) (inl (inl in_place))
           (λ steady. owns.variables v.0 a found mine) like_i)
           (λ u u' w2 m more. counts_from (sym same) w2 more)
       written_from false is =

@@ -273,6 +273,7 @@ module _ (U : Upgrade) (expressions : ExpressionsAgree U) (elements : ElementsAg
           written = m.written;
           array = m.array;
           is_matched = m.is_matched;
+          plain = m.plain;
           has = m.has;
           same = m.same;
           indexes = x.1;

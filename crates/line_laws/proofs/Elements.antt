@@ -214,6 +214,7 @@ spelt U ty w x r m = record {
   written = m.written;
   array = m.array;
   is_matched = m.is_matched;
+  plain = m.plain;
   has = m.has;
   same = m.same;
   indexes = m.indexes;

@@ -52,6 +52,7 @@ element_stays U K w u l ty x r m plain = record {
   written = m.written;
   array = m.array;
   is_matched = matched_stays U K w u l m.position m.is_matched plain;
+  plain = plain_stays U K w u l m.position m.is_matched plain;
   has = array_stays U K w u l m.position m.is_matched plain (simple ty) m.array m.has;
   same = m.same;
   indexes = m.indexes;

@@ -73,7 +73,7 @@ module _ (U : Upgrade) (reads : ScalarsAreRead U) (scalars : ScalarsAreWritten U
           then_agrees U K w1 AnyUnits R (write f.env (scalar ty i) a w1.src) (net_store.written d i' w1.net)
           (λ u t. source_lines.counted D l.aims.back (Some l.aims.after) (scalar ty i) (scalar ty j) (scalar ty s) t)
           (λ u t. then (answered (counts_on i' j' s') t) (λ goes t. back_if g k goes t)) later.match
-          (scalars K w1 a d f.env ty i i' (counter_covered ty counts) later.match (address_later U K w w1 a d later same) kept.place (inl in_place)
+          (scalars K w1 a d f.env ty i i' (counter_covered ty counts) later.match (address_later U K w w1 a d later same) (kept.place.0, inl kept.place.1) (inl (inl in_place))
           (λ steady. owns.variables v a kept.found own) like)
           (λ u u' w2 m more.
           let all : Later U K w w2 = later_then U K w w1 w2 h later more in

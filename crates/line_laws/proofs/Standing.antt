@@ -38,10 +38,10 @@ use Rattle.net_run.specs.Making.{Jobs}
 use Rattle.net_run.specs.Members.{Code}
 use Rattle.net_run.specs.Names as net_names
 use Rattle.net_run.specs.Store as net
-use Rattle.run_matches.specs.Addresses.{AllMatched, IsPlain, Same, same_item, same_root}
-use Rattle.run_matches.specs.Covered.{Uses, are_calm, covers_expr, covers_exprs, covers_type, is_calm, is_declared_as, is_local_in, is_passing_in, is_passing_of, is_reference_in, is_reference_owner_of, widens}
+use Rattle.run_matches.specs.Addresses.{AllMatched, IsPlain, Same, same_item, same_root, IsScalarAt, IsWhole, is_element}
+use Rattle.run_matches.specs.Covered.{Uses, are_calm, covers_expr, covers_exprs, covers_type, is_calm, is_declared_as, is_local_in, is_passing_in, is_passing_of, is_reference_in, is_reference_owner_of, widens, is_relied_on}
 use Rattle.run_matches.specs.Formed.{are_formed, are_longs, is_formed, types_of}
-use Rattle.run_matches.specs.Frames.{FrameMatch, GivenPlace, HasPlace, StandsAs, SameVariable, is_own_of, is_reference_of}
+use Rattle.run_matches.specs.Frames.{FrameMatch, GivenPlace, HasPlace, StandsAs, SameVariable, is_own_of, is_reference_of, GivenAddress}
 use Rattle.run_matches.specs.Maps.{World, IsMade, is_auto_root, mark, moved_at}
 use Rattle.run_matches.specs.Agreeing.{Agrees}
 use Rattle.run_matches.specs.Match.{Holds, MemoryMatch, holds_single}
@@ -74,6 +74,11 @@ same_matched U K w ty q _ _ e (same_root s d p sh m r) = subst (λ a. of_address
     of_address (root s p) = AllMatched U w s p
     of_address _ = Unit {0}
 same_matched U K w ty q _ _ e (same_item x s d p k j path keeps m has part sh) = cc
+
+-- what is no element stands as a variable
+pub whole_stands : (ty : Ty) (a : Address) (q : Position) → IsWhole a → IsScalarAt ty a q → a ≡ root (simple ty) q
+whole_stands ty a q h (inl e) = e
+whole_stands ty a q h (inr x) = absurd (true≢false (sym (ap is_element x.1) ∙ h))
 
 turned : (a b : ℕ) → nat_eq b a ≡ true → nat_eq a b ≡ true
 turned a b e = eq-eqb a b (sym (eqb-true b a e))
@@ -157,7 +162,8 @@ known_plain U K w p f g F S T v k (inr (inr (inr x))) a e =
 -- ---- scalars
 
 module _ (U : Upgrade) (K : Pledge) (w : World) (h : MemoryMatch U w) (p : ℕ) (f : SourceFrame) (g : NetFrame) (S : net_names.Scope) (T : Scope)
-    (declared : T.declarations ≡ U.program.declarations) (F : FrameMatch U K w p f g) (v : ℕ) (r : IsReadable U v) (loud : is_quiet U.program.declarations U.known v ≡ false) where
+    (declared : T.declarations ≡ U.program.declarations) (F : FrameMatch U K w p f g) (v : ℕ) (r : IsReadable U v) (loud : is_quiet U.program.declarations U.known v ≡ false)
+    (relied : is_relied_on U.program v ≡ true) where
   no_object : is_auto U v ≡ false
   no_object = ap is_some (no_auto U v r)
 
@@ -185,8 +191,10 @@ module _ (U : Upgrade) (K : Pledge) (w : World) (h : MemoryMatch U w) (p : ℕ) 
   of_given : IsGiven U p f v → At
   of_given x =
       let y = given_there U K w p f g F v x.reference in
-      let place : GivenPlace U v y.0 = (x.stands y.0 y.1).place loud in
-      of_frame y.0 y.1 place.position (subst (λ d. StandsAs d y.0 place.position) (shape_is U v r) place.stands) (given_address_is U v r p x.reference f)
+      let there : GivenAddress U v y.0 = x.stands y.0 y.1 in
+      let place : GivenPlace U v y.0 = there.place loud in
+      of_frame y.0 y.1 place.position
+      (whole_stands r.variable.ty y.0 place.position (there.whole relied) (subst (λ d. StandsAs d y.0 place.position) (shape_is U v r) place.stands)) (given_address_is U v r p x.reference f)
 
   of_shared : IsShared U S T v → At
   of_shared s =
@@ -312,14 +320,15 @@ module _ (U : Upgrade) (expressions : ExpressionsAgree U) (K : Pledge) (p : ℕ)
       let covers_ty = (both_true (covers_type ty) true covers).0 in
       known (typed ty (constant x o)) x can covers formed (λ s stable. constant_gives C ty x o s covers_ty (formed_constant ty x o covers_ty formed))
   calm_known (typed ty (variable v qualified)) calm can covers formed =
-      let all = both_true (uses.scalar v) (uses.exact v && uses.is_of v ty) calm in
-      let exact = both_true (uses.exact v) (uses.is_of v ty) all.1 in
+      let all = both_true (uses.scalar v) (uses.exact v && (uses.is_of v ty && uses.relied v)) calm in
+      let exact = both_true (uses.exact v) (uses.is_of v ty && uses.relied v) all.1 in
+      let relied = both_true (uses.is_of v ty) (uses.relied v) exact.1 in
       let covers_ty = (both_true (covers_type ty) (uses.scalar v) covers).0 in
       let r : IsReadable U v.0 = readable.scalars v all.0 in
       let same : r.variable.ty ≡ ty =
-      same_type ty r.variable.ty covers_ty (sym (ap (is_declared_as ty) r.is_variable) ∙ readable.types v ty exact.1) in
+      same_type ty r.variable.ty covers_ty (sym (ap (is_declared_as ty) r.is_variable) ∙ readable.types v ty relied.0) in
       let at : Standing U w f v.0 r.variable.ty =
-      standing U K w h p f g S T declared F v.0 r (readable.exact v exact.0) (placed.places v (inl all.0)) in
+      standing U K w h p f g S T declared F v.0 r (readable.exact v exact.0) (readable.relied v relied.1) (placed.places v (inl all.0)) in
       let x = variable_gives ty v qualified r covers_ty (subst (λ t. Standing U w f v.0 t) same at) in
       known (typed ty (variable v qualified)) x.0 can covers formed x.1
   calm_known (typed ty (convert to e)) calm can covers formed =

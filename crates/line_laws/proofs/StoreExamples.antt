@@ -16,6 +16,7 @@ uses = record {
   is_of = λ w ty. is_same_type ty types.long;
   inward = λ q. nat_eq q 0;
   exact = λ w. not (nat_eq w.0 8);
+  relied = λ w. true;
 }
 
 abbrev long_variable : ℕ → Expr

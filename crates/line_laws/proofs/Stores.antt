@@ -20,7 +20,7 @@ use Rattle.vb6_run.specs.Forms.{SourceLine}
 use Rattle.vb6_run.specs.Lines.{let_to, store_at}
 use Rattle.vb6_run.specs.Runnables.{variable_address}
 use Rattle.vb6_run.specs.Shapes.{simple, variable_shape}
-use Rattle.vb6_run.specs.Store.{Address, root, Locked, Memory, SourceCalls, SourceFrame, store, write}
+use Rattle.vb6_run.specs.Store.{Address, root, Locked, Memory, SourceCalls, SourceFrame, store, write, item, put_item}
 use Rattle.vb6_run.specs.Values.{scalar, is_typed, if_of_shape, kept_as}
 use Rattle.net_run.specs.Expressions as target
 use Rattle.net_run.specs.Lines.{NetFrame, NetLine, scope_of, assigned, assignment}
@@ -35,7 +35,7 @@ use Rattle.run_matches.specs.Maps.{World}
 use Rattle.run_matches.specs.Likeness.{LikeV}
 use Rattle.run_matches.specs.Match.{MemoryMatch}
 use Rattle.run_matches.specs.Pledges.{Pledge, Later}
-use Rattle.run_matches.specs.Addresses.{Same, IsTarget}
+use Rattle.run_matches.specs.Addresses.{Same, IsTarget, IsScalarAt}
 use Rattle.run_matches.specs.Agreeing.{Agrees}
 use Rattle.run_matches.specs.Covered.{Uses, covers_type, covers_expr}
 use Rattle.run_matches.specs.Frames.{StandsAs, FrameMatch, OwnsAll, SameVariable, is_own_of, GivenPlace}
@@ -98,6 +98,16 @@ pub not_kept : (locked : Locked) (s t : Ty) (z : Value6) (q : Position) (m : Mem
     → write locked (scalar t z) (root (simple s) q) m ≡ outside []
 not_kept locked s t z q m c e =
     ap (λ o. some_of o (λ x w. store locked x q w) m) (kept_scalar s t z c ∙ ap (λ b. if_of_shape (b && is_typed t z) (scalar t z)) e)
+
+not_kept_item : (locked : Locked) (s t : Ty) (z : Value6) (q : Position) (j : ℕ) (m : Memory) → covers_type s ≡ true → is_same_type s t ≡ false
+    → write locked (scalar t z) (item (simple s) q j []) m ≡ outside []
+not_kept_item locked s t z q j m c e =
+    ap (λ o. some_of o (λ x w. put_item (w.held q) q j [] x w) m) (kept_scalar s t z c ∙ ap (λ b. if_of_shape (b && is_typed t z) (scalar t z)) e)
+
+none_kept : (locked : Locked) (s t : Ty) (z : Value6) (q : Position) (a : Address) (m : Memory) → IsScalarAt s a q → covers_type s ≡ true
+    → is_same_type s t ≡ false → write locked (scalar t z) a m ≡ outside []
+none_kept locked s t z q a m (inl at) c e = ap (λ d. write locked (scalar t z) d m) at ∙ not_kept locked s t z q m c e
+none_kept locked s t z q a m (inr x) c e = ap (λ d. write locked (scalar t z) d m) x.1 ∙ not_kept_item locked s t z q x.0 m c e
 
 -- ---- what is written
 
@@ -180,21 +190,20 @@ module _ (U : Upgrade) (expressions : ExpressionsAgree U) (scalars : ScalarsAreW
         (sym (address_found U C refl ty v qualified readable_v w1.src ∙ ap (λ o. some_of o (λ a s. gives [] a s) w1.src) none))
         (agrees_outside U K w1 AnyUnits (assigned S net_oracle r y w1.net))
 
-    written : (a : Address) (b : net_store.Address) (q : Position) (w1 : World) → MemoryMatch U w1 → Same U K w1 a b → a ≡ root (simple readable_v.variable.ty) q
+    written : (a : Address) (b : net_store.Address) (q : Position) (w1 : World) → MemoryMatch U w1 → Same U K w1 a b → IsScalarAt readable_v.variable.ty a q
         → IsTarget U a → MayChange K a → (z : Value6) (y : net_value.Value) → LikeV U w1 (scalar (type_at e) z) y → (b0 : Bool)
         → is_same_type readable_v.variable.ty (type_at e) ≡ b0
         → Agrees U K w1 AnyUnits (write f.env (scalar (type_at e) z) a w1.src) (net_store.written b y w1.net)
     written a b q w1 h1 same stands i o z y m true t =
         scalars K w1 a b f.env (type_at e) z y (type_covered uses e covers) h1 same
-        (q, stands ∙ ap (λ s. root (simple s) q) (sym (same_type readable_v.variable.ty (type_at e) (scalar_type U v.0 readable_v) t))) i o m
+        (q, subst (λ s. IsScalarAt s a q) (sym (same_type readable_v.variable.ty (type_at e) (scalar_type U v.0 readable_v) t)) stands) i o m
     written a b q w1 h1 same stands i o z y m false t =
         subst (λ x. Agrees U K w1 AnyUnits x (net_store.written b y w1.net))
-        (sym (ap (λ d. write f.env (scalar (type_at e) z) d w1.src) stands
-        ∙ not_kept f.env readable_v.variable.ty (type_at e) z q w1.src (scalar_type U v.0 readable_v) t))
+        (sym (none_kept f.env readable_v.variable.ty (type_at e) z q a w1.src stands (scalar_type U v.0 readable_v) t))
         (agrees_outside U K w1 AnyUnits (net_store.written b y w1.net))
 
     stored : (a : Address) (b : net_store.Address) (q : Position) → source_address ≡ Some a → Same U K w a b
-        → a ≡ root (simple readable_v.variable.ty) q → IsTarget U a → MayChange K a → (w1 : World) → Later U K w w1 → IsStored (at_place b) w1
+        → IsScalarAt readable_v.variable.ty a q → IsTarget U a → MayChange K a → (w1 : World) → Later U K w w1 → IsStored (at_place b) w1
     stored a b q found same stands i o w1 later z y m =
         subst (λ x. Agrees U K w1 AnyUnits (then x (store_at C to (scalar (type_at e) z))) (assigned S net_oracle (at_place b) y w1.net))
         (sym (address_found U C refl ty v qualified readable_v w1.src ∙ ap (λ d. some_of d (λ a s. gives [] a s) w1.src) found))
@@ -208,7 +217,7 @@ module _ (U : Upgrade) (expressions : ExpressionsAgree U) (scalars : ScalarsAreW
     -- to a variable that is found on both sides
     stored_there : (a : Address) (b : net_store.Address) (q : Position) → source_address ≡ Some a
         → net_names.path_start S false (variable_path T qualified v.0) ≡ net_names.starts (at_place b) [] → Same U K w a b
-        → a ≡ root (simple readable_v.variable.ty) q → IsTarget U a → MayChange K a → Goal
+        → IsScalarAt readable_v.variable.ty a q → IsTarget U a → MayChange K a → Goal
     stored_there a b q found leads same stands i o =
         evaluated (at_place b) (variable_reached S net_oracle (variable_path T qualified v.0) b w.net leads) (stored a b q found same stands i o)
 
@@ -227,22 +236,22 @@ module _ (U : Upgrade) (expressions : ExpressionsAgree U) (scalars : ScalarsAreW
         ap (λ n. net_names.var_in g.vars n) (sym (name_is U v.0 readable_v)) ∙ s.found in
         stored_there a s.address (whole (made place.place)) (address_is U v.0 readable_v p own f ∙ found)
         (ap (net_names.path_start S false) (own_path U v.0 readable_v p own T declared qualified)
-        ∙ variable_named S net_oracle readable_v.variable.name s.address name) same stands
-        (inl (record { place = place.place; shape = variable_shape U.program.declarations v.0; path = []; stands = place.stands }))
+        ∙ variable_named S net_oracle readable_v.variable.name s.address name) same (inl stands)
+        (inl (inl (record { place = place.place; shape = variable_shape U.program.declarations v.0; path = []; stands = place.stands })))
         (λ steady. owns.variables v.0 a found own)
 
     shared_by : IsShared U S T v.0 → Goal
     shared_by s =
         let x : SharedPlace U K w f S T v.0 readable_v s = shared_place U K w h f S T v.0 readable_v s in
-        stored_there x.address x.net_address x.position x.found (x.leads qualified) x.same x.stands (inr x.own_key)
+        stored_there x.address x.net_address x.position x.found (x.leads qualified) x.same (inl x.stands) (inl (inr x.own_key))
         (λ steady. absurd (not_own U p S T v.0 s (inward steady)))
 
     static_by : IsOwnStatic U p v.0 → Goal
     static_by s =
         let x : StaticPlace U K w p f g T v.0 readable_v = static_place U K w p f g T declared F v.0 readable_v s in
         stored_there x.address x.net_address x.position x.found
-        (ap (net_names.path_start S false) (x.path qualified) ∙ variable_named S net_oracle readable_v.variable.name x.net_address x.named) x.same x.stands
-        (inr x.own_key) (λ steady. absurd (static_is_not_own U p v.0 s (inward steady)))
+        (ap (net_names.path_start S false) (x.path qualified) ∙ variable_named S net_oracle readable_v.variable.name x.net_address x.named) x.same (inl x.stands)
+        (inl (inr x.own_key)) (λ steady. absurd (static_is_not_own U p v.0 s (inward steady)))
 
     given_by : IsGiven U p f v.0 → (o : Option Address) → lookup (nat_eq v.0) f.vars ≡ o → Goal
     given_by x None none =

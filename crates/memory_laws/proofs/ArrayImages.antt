@@ -5,7 +5,7 @@ use Rattle.net_tree.specs.Types.{TypeName}
 use Rattle.net_meaning.specs.declared.value.ValueN.TheVariants as n
 use Rattle.run_base.specs.Positions.{Position, made, shared}
 use Rattle.vb6_run.specs.Shapes.{Shape, simple, array}
-use Rattle.vb6_run.specs.Store.{Address, root, Locked, table, contains}
+use Rattle.vb6_run.specs.Store.{Address, root, Locked, table, contains, item}
 use Rattle.vb6_run.specs.Values.{Dimension, Values}
 use Rattle.net_run.specs.Shapes as shape
 use Rattle.net_run.specs.Store as net
@@ -93,14 +93,18 @@ module _ (U : Upgrade) (K : Pledge) (w : World) (ty : Ty) (rank : ℕ) (c : cove
   array_image a b m = same_image a b m.bounds m.position m.stands m.same m.ranked
 
   pub array_alone : (a : Address) (b : net.Address) → MemoryMatch U w → (i : ArrayImage U w ty rank a b) → IsTarget U a → GoesAlone U w i.position
-  array_alone a b h i (inl p) =
+  array_alone a b h i (inl (inl p)) =
       let s : i.position ≡ at (made p.place) p.path =
       root_position (array (simple ty) i.bounds) p.shape i.position (at (made p.place) p.path) (sym i.at_source ∙ p.stands) in
       subst (λ x. GoesAlone U w x) (sym s) (place_goes_alone U w h.stores p.place p.path (subst (λ x. IsMatched U w x) s i.is_matched))
-  array_alone a b h i (inr k) =
+  array_alone a b h i (inl (inr k)) =
       let q : Position = at (shared (k.variable ∷ [])) [] in
       let s : i.position ≡ q = root_position (array (simple ty) i.bounds) k.of_shape i.position q (sym i.at_source ∙ k.stands) in
       subst (λ x. GoesAlone U w x) (sym s) (key_goes_alone U w k.variable k.key k.is_key k.differs)
+  array_alone a b h i (inr x) = absurd (no_item x.ty x.array i.position x.index (array (simple ty) i.bounds) (sym x.stands ∙ i.at_source))
+    where
+      no_item : (t : Ty) (q p : Position) (j : ℕ) (s : Shape) → item (simple t) q j [] ≡ root s p → ⊥
+      no_item t q p j s f = cc
 
   -- ---- locks
 

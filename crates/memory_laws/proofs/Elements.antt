@@ -143,7 +143,7 @@ module _ (U : Upgrade) (K : Pledge) (w : World) (ty : Ty) (z : Value6) (y : Valu
     put_agrees _ _ (from_some a b f) = (refl, w.map, tt, element_later)
 
     module _ (locked : Locked) (t : TypeName) (c : covers_type ty ≡ true) (word : scalar_word ty ≡ Some t) where
-      item_agrees : Agrees U K w AnyUnits (write locked x (item (simple ty) q j []) w.src) (net.written (net.item (shape.scalar t) k j []) v w.net)
+      pub item_agrees : Agrees U K w AnyUnits (write locked x (item (simple ty) q j []) w.src) (net.written (net.item (shape.scalar t) k j []) v w.net)
       item_agrees =
           subst
           (λ o. Agrees U K w AnyUnits (some_of o (λ b s. put_item (s.held q) q j [] b s) w.src) (net.written (net.item (shape.scalar t) k j []) v w.net))

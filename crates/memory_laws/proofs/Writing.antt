@@ -1,6 +1,7 @@
 -- A scalar is written to a variable on both sides.
-use Rattle.run_matches.specs.Addresses.{IsInPlace, IsTarget}
-use Rattle.std.proofs.Common.{◌≡◌, refl, sym, subst, ◌∙◌, inl, inr, ℕ, true, cond, Some, [], ◌∷◌}
+use Rattle.memory_laws.proofs.Elements.{item_agrees}
+use Rattle.run_matches.specs.Addresses.{IsInPlace, IsTarget, IsVariable, Same, same_root, same_item}
+use Rattle.std.proofs.Common.{◌≡◌, refl, sym, ap, subst, ◌∙◌, inl, inr, ℕ, true, cond, Some, [], ◌∷◌, List}
 use Rattle.up_base.proofs.Tests.{by_test}
 use Rattle.vb_tree.specs.BoundTree.{Ty}
 use Rattle.vb_tree.specs.declared.value.Value6.{Value6}
@@ -10,8 +11,8 @@ use Rattle.net_meaning.specs.declared.value.ValueN.{ValueN}
 use Rattle.net_meaning.specs.declared.value.ValueN.TheVariants as n
 use Rattle.run_base.specs.Outcomes.{gives, outside, some_of}
 use Rattle.run_base.specs.Positions.{Position, made, shared}
-use Rattle.vb6_run.specs.Shapes.{Shape, simple, variable_shape}
-use Rattle.vb6_run.specs.Store.{Address, root, Locked, Held, blank, single, table, provided, with_held, put_single, store, write}
+use Rattle.vb6_run.specs.Shapes.{Shape, simple, variable_shape, endless, part_shape}
+use Rattle.vb6_run.specs.Store.{Address, root, Locked, Held, blank, single, table, provided, with_held, put_single, store, write, item, constant}
 use Rattle.vb6_run.specs.Values.{scalar}
 use Rattle.net_run.specs.Shapes as shape
 use Rattle.net_run.specs.Store as net
@@ -19,9 +20,9 @@ use Rattle.net_run.specs.Values as net_value
 use Rattle.run_matches.specs.Kinds.{KeepsKind}
 use Rattle.run_matches.specs.Upgrades.{Upgrade}
 use Rattle.run_matches.specs.Maps.{World, IsMatched, moved_at}
-use Rattle.run_matches.specs.Likeness.{LikeV, like_scalar, Like, are_same, scalar_word}
-use Rattle.run_matches.specs.Match.{Holds, holds_blank, holds_single, holds_table, holds_parts, MemoryMatch}
-use Rattle.run_matches.specs.Pledges.{Pledge, Later, IsLasting, IsHeld}
+use Rattle.run_matches.specs.Likeness.{LikeV, like_scalar, Like, are_same, scalar_word, SameShape}
+use Rattle.run_matches.specs.Match.{Holds, holds_blank, holds_single, holds_table, holds_parts, MemoryMatch, HasArray}
+use Rattle.run_matches.specs.Pledges.{Pledge, Later, IsLasting, IsHeld, IsOld}
 use Rattle.run_matches.specs.Agreeing.{Agrees}
 use Rattle.run_matches.specs.Covered.{covers_type}
 use Rattle.run_matches.specs.Frames.{HasPlace, IsOwnAddress}
@@ -32,7 +33,7 @@ use Rattle.memory_laws.specs.Statements.{ScalarsAreWrittenInPlaces}
 use Rattle.memory_laws.proofs.Changes.{changed_later}
 use Rattle.memory_laws.proofs.Moved.{place_goes_alone, key_goes_alone}
 use Rattle.memory_laws.proofs.Positions.{at}
-use Rattle.memory_laws.proofs.Reading.{ScalarImage, scalar_image}
+use Rattle.memory_laws.proofs.Reading.{ScalarImage, scalar_image, HasWord, word_of_shape}
 use Rattle.memory_laws.proofs.Scalars.{scalar_is_no_array, kept_scalar, scalar_of_word, covered_same}
 
 no_table_in : (t : Ty) (x : Value6) (h : Held) → h ≡ single t x → IsNoTable h
@@ -117,7 +118,7 @@ module _ (U : Upgrade) where
   same_in : (s t : Shape) (q r : Position) → root s q ≡ root t r → q ≡ r
   same_in s t q r e = cc
 
-  target_alone : (w : World) (ty : Ty) (a : Address) (b : net.Address) → MemoryMatch U w → (i : ScalarImage U w ty a b) → IsTarget U a
+  target_alone : (w : World) (ty : Ty) (a : Address) (b : net.Address) → MemoryMatch U w → (i : ScalarImage U w ty a b) → IsVariable U a
       → GoesAlone U w i.position
   target_alone w ty a b h i (inl p) =
       let s : i.position ≡ at (made p.place) p.path = same_in (simple ty) p.shape i.position (at (made p.place) p.path) (sym i.at_source ∙ p.stands) in
@@ -127,10 +128,62 @@ module _ (U : Upgrade) where
       let s : i.position ≡ q = same_in (simple ty) k.of_shape i.position q (sym i.at_source ∙ k.stands) in
       subst (λ x. GoesAlone U w x) (sym s) (key_goes_alone U w k.variable k.key k.is_key k.differs)
 
+  -- a root is no element
+  root_is_variable : (ty : Ty) (q : Position) (a : Address) → a ≡ root (simple ty) q → IsTarget U a → IsVariable U a
+  root_is_variable ty q a e (inl v) = v
+  root_is_variable ty q a e (inr x) = absurd (no_item x.ty ty x.array q x.index (sym x.stands ∙ e))
+    where
+      no_item : (s t : Ty) (q p : Position) (j : ℕ) → item (simple s) q j [] ≡ root (simple t) p → ⊥
+      no_item s t q p j f = cc
+
+  variable_is_written : (K : Pledge) (w : World) (a : Address) (b : net.Address) (locked : Locked) (ty : Ty) (z : Value6) (y : net_value.Value)
+      → covers_type ty ≡ true → MemoryMatch U w → Same U K w a b → ((q : Position) × (a ≡ root (simple ty) q)) → IsTarget U a → MayChange K a
+      → LikeV U w (scalar ty z) y → Agrees U K w AnyUnits (write locked (scalar ty z) a w.src) (net.written b y w.net)
+  variable_is_written K w a b locked ty z y c h same at goes own like =
+      let i : ScalarImage U w ty a b = scalar_image U K w ty a b c same at in
+      image_is_written K w a b locked ty z y c h i (target_alone w ty a b h i (root_is_variable ty at.0 a at.1 goes)) own like
+
+  -- an element of an array
+  element_of_like : (K : Pledge) (w : World) (locked : Locked) (ty : Ty) (z : Value6) (y : net_value.Value) (q : Position) (k j : ℕ) (d : shape.Shape)
+      → covers_type ty ≡ true → MemoryMatch U w → IsMatched U w q → HasArray U w q (simple ty) k → (K.steady → IsOld K q.root → ⊥)
+      → SameShape U (simple ty) d → LikeV U w (scalar ty z) y
+      → Agrees U K w AnyUnits (write locked (scalar ty z) (item (simple ty) q j []) w.src) (net.written (net.item d k j []) y w.net)
+  element_of_like K w locked _ _ _ q k j d c h m has own same (like_scalar ty z y like) =
+      let t : HasWord ty d = word_of_shape U ty d c same in
+      subst (λ s. Agrees U K w AnyUnits (write locked (scalar ty z) (item (simple ty) q j []) w.src) (net.written (net.item s k j []) (net_value.single y) w.net))
+      (sym t.1) (item_agrees U K w ty z y h q k m has own like j locked t.0 c t.2)
+
+  item_is_written : (K : Pledge) (w : World) (a : Address) (b : net.Address) (locked : Locked) (ty : Ty) (z : Value6) (y : net_value.Value) (p : Position)
+      (i : ℕ) → covers_type ty ≡ true → MemoryMatch U w → a ≡ item (simple ty) p i [] → Same U K w a b → MayChange K a → LikeV U w (scalar ty z) y
+      → Agrees U K w AnyUnits (write locked (scalar ty z) a w.src) (net.written b y w.net)
+  item_is_written K w _ _ locked ty z y p i c h at (same_root s d q sh m r) own like = absurd (cc at)
+  item_is_written K w _ _ locked ty z y p i c h at (same_item e s d q k j path keeps m has part sh) own like =
+      let of : e ≡ simple ty = ap element_in at in
+      let inside : path ≡ [] = ap path_in at in
+      let shaped : s ≡ simple ty = some_shape (sym part ∙ (ap (λ x. part_shape x e) inside ∙ ap (λ x. Some x) of)) in
+      subst (λ x. Agrees U K w AnyUnits (write locked (scalar ty z) (item e q j x) w.src) (net.written (net.item d k j x) y w.net)) (sym inside)
+      (subst (λ x. Agrees U K w AnyUnits (write locked (scalar ty z) (item x q j []) w.src) (net.written (net.item d k j []) y w.net)) (sym of)
+      (element_of_like K w locked ty z y q k j d c h m (subst (λ x. HasArray U w q x k) of has) (λ steady old. own steady q refl old)
+      (subst (λ x. SameShape U x d) shaped sh) like))
+    where
+      element_in : Address → Shape
+      element_in (root s q) = s
+      element_in (item e q j path) = e
+      element_in (constant x) = endless
+
+      path_in : Address → List ℕ
+      path_in (root s q) = []
+      path_in (item e q j path) = path
+      path_in (constant x) = []
+
+      some_shape : {s t : Shape} → Some s ≡ Some t → s ≡ t
+      some_shape f = cc f
+
   pub scalars_are_written_in_places : ScalarsAreWrittenInPlaces U
-  scalars_are_written_in_places K w a b locked ty z y c h same stands goes own like =
-      let i : ScalarImage U w ty a b = scalar_image U K w ty a b c same stands in
-      image_is_written K w a b locked ty z y c h i (target_alone w ty a b h i goes) own like
+  scalars_are_written_in_places K w a b locked ty z y c h same (q, inl e) goes own like =
+      variable_is_written K w a b locked ty z y c h same (q, e) goes own like
+  scalars_are_written_in_places K w a b locked ty z y c h same (q, inr x) goes own like =
+      item_is_written K w a b locked ty z y q x.0 c h x.1 same own like
 
   pub scalars_are_written : ScalarsAreWritten U
   scalars_are_written = scalars_are_written_in_places

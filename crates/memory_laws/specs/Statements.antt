@@ -11,7 +11,7 @@ use Rattle.net_run.specs.Expressions as target
 use Rattle.net_run.specs.Shapes as shape
 use Rattle.net_run.specs.Store as net
 use Rattle.net_run.specs.Values as net_value
-use Rattle.run_matches.specs.Addresses.{Bound, Same, IsTarget}
+use Rattle.run_matches.specs.Addresses.{Bound, IsScalarAt, Same, IsTarget}
 use Rattle.run_matches.specs.Agreeing.{Agrees}
 use Rattle.run_matches.specs.Covered.{covers_type}
 use Rattle.run_matches.specs.Likeness.{LikeV, scalar_word}
@@ -34,7 +34,7 @@ VariablesAreReadBy U K =
 abbrev pub ScalarsAreWrittenBy : Upgrade → Pledge → Type 0
 ScalarsAreWrittenBy U K =
     (w : World) (a : source.Address) (b : net.Address) (locked : source.Locked) (ty : Ty) (z : Value6) (y : net_value.Value) → covers_type ty ≡ true
-    → MemoryMatch U w → Same U K w a b → ((q : Position) × (a ≡ source.root (simple ty) q)) → IsTarget U a → MayChange K a
+    → MemoryMatch U w → Same U K w a b → ((q : Position) × IsScalarAt ty a q) → IsTarget U a → MayChange K a
     → LikeV U w (scalar ty z) y → Agrees U K w AnyUnits (source.write locked (scalar ty z) a w.src) (net.written b y w.net)
 
 -- a local variable is made

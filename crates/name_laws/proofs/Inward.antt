@@ -26,7 +26,7 @@ in_led [] list q h = h
 in_led (p ∷ pairs) list q h =
     in_led pairs (cond (is_in list p.1 && not (is_in list p.0)) (p.0 ∷ list) list) q (in_more (is_in list p.1 && not (is_in list p.0)) p.0 q list h)
 
-in_grown : (n : ℕ) (pairs : List (ℕ × ℕ)) (list : List ℕ) (q : ℕ) → is_in list q ≡ true → is_in (grown n pairs list) q ≡ true
+pub in_grown : (n : ℕ) (pairs : List (ℕ × ℕ)) (list : List ℕ) (q : ℕ) → is_in list q ≡ true → is_in (grown n pairs list) q ≡ true
 in_grown zero pairs list q h = h
 in_grown (suc n) pairs list q h = in_grown n pairs (led_in pairs list) q (in_led pairs list q h)
 
@@ -37,14 +37,14 @@ implied true b h e = h
 implied false b h e = absurd (true≢false (sym e))
 
 module _ (pairs : List (ℕ × ℕ)) (list : List ℕ) (closed : is_closed pairs list ≡ true) where
-  back : (a b : ℕ) → Chain pairs a b → is_in list b ≡ true → is_in list a ≡ true
+  pub back : (a b : ℕ) → Chain pairs a b → is_in list b ≡ true → is_in list a ≡ true
   back _ _ (empty a) h = h
   back _ _ (longer a b c chain step) h =
       back a b chain
       (implied (is_in list c) (is_in list b)
       (all_among (λ (p : ℕ × ℕ). not (is_in list p.1) || is_in list p.0) pairs (b, c) closed (among pairs (b, c) step)) h)
 
-not_in : (b : Bool) → not b ≡ true → b ≡ true → ⊥
+pub not_in : (b : Bool) → not b ≡ true → b ≡ true → ⊥
 not_in true e h = true≢false (sym e)
 not_in false e h = true≢false (sym h)
 

@@ -15,6 +15,7 @@ pub mod FrameNames
 pub mod Found
 pub mod Owns
 pub mod Inward
+pub mod Keeping
 pub mod Uses
 pub mod Lines
 pub mod OwnsKept

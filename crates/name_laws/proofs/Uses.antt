@@ -124,6 +124,7 @@ uses_are_readable U I p k l clean e T same = record {
   facts = same;
   types = λ v ty h. h;
   inward = λ q h. seen_inward U.program U.known I.known q h;
+  relied = λ v h. h;
 }
 
 -- the line that is clean by itself
@@ -165,6 +166,7 @@ line_uses_are_readable U I p number l C e T same = record {
   facts = same;
   types = λ v ty h. h;
   inward = λ q h. seen_inward U.program U.known I.known q h;
+  relied = λ v h. h;
 }
 
 -- ---- what lines break

@@ -1,5 +1,9 @@
 -- A procedure that passes can be called from the lines of another.
-use Rattle.std.proofs.Common.{◌≡◌, sym, ap, subst, ◌∙◌, ℕ, true, false, Option, Some, ◌++◌, map}
+use Rattle.vb_tree.specs.BoundTree.{Ty}
+use Rattle.name_laws.proofs.Keeping.{seen_to_keep}
+use Rattle.bound_facts.specs.Nodes.{nodes_of_passed}
+use Rattle.run_matches.specs.Keeping.{given_types, keeps_callee, keeps_each, keeps_given, keeps_seen}
+use Rattle.std.proofs.Common.{◌≡◌, sym, ap, subst, ◌∙◌, ℕ, true, false, Option, Some, ◌++◌, map, ◌&&◌, None, List, [], ◌∷◌, inl, inr}
 use Rattle.std.specs.Prelude.{nat_lt, slice_get}
 use Rattle.std.specs.List.{Contains, list_all}
 use Rattle.up_base.proofs.Tests.{both_true}
@@ -16,11 +20,11 @@ use Rattle.net_run.specs.Calls.{passings, passings_of_code}
 use Rattle.written_trees.specs.Arguments.{is_property_at, is_property_kind, parameter_in, takes_reference_of}
 use Rattle.run_matches.specs.Callees.{is_found}
 use Rattle.run_matches.specs.CleanLines.{IsCleanLine, line_points, lines_at, result_points}
-use Rattle.run_matches.specs.Covered.{covers_callee, covers_calls, suits, suits_callee, suits_passed}
+use Rattle.run_matches.specs.Covered.{covers_callee, covers_calls, suits, suits_callee, suits_passed, hands, hands_callee, hands_passed}
 use Rattle.run_matches.specs.Sites.{Site, site_of}
 use Rattle.run_matches.specs.Upgrades.{Upgrade}
 use Rattle.run_statements.specs.Fitting.{FitsNode, FitsPassed}
-use Rattle.run_statements.specs.Frames.{passing_at, passing_by}
+use Rattle.run_statements.specs.Frames.{passing_at, passing_by, KeepsEach, NodesKeep}
 use Rattle.run_statements.specs.Kept.{CalleesAreFound, CanCallFrom}
 use Rattle.run_statements.specs.Written.{Passes, ProceduresAreWritten, WrittenProcedure}
 use Rattle.name_laws.proofs.Lists.{Among, all_among, among, among_left, among_right, contains, map_among}
@@ -48,17 +52,28 @@ callee_parts U p q s o e h =
 -- the parts of the test on the calls of a line
 call_parts : (U : Upgrade) (p : ℕ) (l : Line) → covers_calls U.program p l ≡ true
     → (list_all (λ (z : ℕ × ℕ). covers_callee U.program p (site_of U.program.declarations p) z.1) (line_calls U.program.declarations p l) ≡ true)
-    × (list_all (suits U.program.declarations) (line_uses l) ≡ true)
+    × ((list_all (suits U.program.declarations) (line_uses l) ≡ true) × (list_all (hands U.program) (line_uses l) ≡ true))
 call_parts U p l h =
+    let uses_suit = list_all (suits U.program.declarations) (line_uses l) in
+    let uses_hand = list_all (hands U.program) (line_uses l) in
+    let both =
     both_true (list_all (λ (z : ℕ × ℕ). covers_callee U.program p (site_of U.program.declarations p) z.1) (line_calls U.program.declarations p l))
-    (list_all (suits U.program.declarations) (line_uses l)) h
+    (uses_suit && uses_hand) h in
+    (both.0, both_true uses_suit uses_hand both.1)
 
 -- the arguments suit what is called
 pub call_suits : (U : Upgrade) (p q : ℕ) (l : Line) (d : Expr) → covers_calls U.program p l ≡ true → Contains (line_uses l) d → called d ≡ Some q
     → suits_passed U.program.declarations q 0 (args_at d) ≡ true
 call_suits U p q l d h m e =
     subst (λ o. suits_callee U.program.declarations o (args_at d) ≡ true) e
-    (all_among (suits U.program.declarations) (line_uses l) d (call_parts U p l h).1 (among (line_uses l) d m))
+    (all_among (suits U.program.declarations) (line_uses l) d (call_parts U p l h).1.0 (among (line_uses l) d m))
+
+-- what takes the place of a parameter that is relied on is so too
+pub call_hands : (U : Upgrade) (p q : ℕ) (l : Line) (d : Expr) → covers_calls U.program p l ≡ true → Contains (line_uses l) d → called d ≡ Some q
+    → hands_callee U.program (Some q) (args_at d) ≡ true
+call_hands U p q l d h m e =
+    subst (λ o. hands_callee U.program o (args_at d) ≡ true) e
+    (all_among (hands U.program) (line_uses l) d (call_parts U p l h).1.1 (among (line_uses l) d m))
 
 -- and arrays that are given have the ranks of its parameters
 pub call_fits : (U : Upgrade) (q : ℕ) (d : Expr) → FitsNode U d → called d ≡ Some q → FitsPassed U q 0 (args_at d)
@@ -76,6 +91,24 @@ callee_covered U p q l h c =
 pub callee_within : (U : Upgrade) (p q : ℕ) (s : Site) → site_of U.program.declarations p ≡ Some s
     → covers_callee U.program p (site_of U.program.declarations p) q ≡ true → nat_lt q (count_procedures U.program) ≡ true
 callee_within U p q s e h = (callee_parts U p q s (site_of U.program.declarations p) e h).within
+
+-- ---- elements that are given
+
+seen_each : (U : Upgrade) (q : ℕ) (ts : List Ty) → keeps_each U.program q ts ≡ true → KeepsEach U q ts
+seen_each U q [] h t one = absurd one
+seen_each U q (s ∷ ts) h t (inl e) =
+    seen_to_keep U.program q t (subst (λ z. keeps_seen U.program q z ≡ true) e (both_true (keeps_seen U.program q s) (keeps_each U.program q ts) h).0)
+seen_each U q (s ∷ ts) h t (inr one) = seen_each U q ts (both_true (keeps_seen U.program q s) (keeps_each U.program q ts) h).1 t one
+
+seen_called : (U : Upgrade) (ts : List Ty) (o : Option ℕ) (q : ℕ) → keeps_callee U.program ts o ≡ true → o ≡ Some q → KeepsEach U q ts
+seen_called U ts None q h e = absurd (cc e)
+seen_called U ts (Some p) q h e = seen_each U q ts (subst (λ z. keeps_each U.program z ts ≡ true) (some_is e) h)
+
+seen_inside : (U : Upgrade) (ts : List Ty) (ds : List Expr) → list_all (λ d. keeps_callee U.program ts (called d)) ds ≡ true → NodesKeep U ts ds
+seen_inside U ts [] h = tt
+seen_inside U ts (d ∷ ds) h =
+    let both = both_true (keeps_callee U.program ts (called d)) (list_all (λ d. keeps_callee U.program ts (called d)) ds) h in
+    ((λ q e. seen_called U ts (called d) q both.0 e), seen_inside U ts ds both.1)
 
 module _ (U : Upgrade) (known : AreFacts U.program U.known) (procedures : ProceduresAreWritten U) (found : CalleesAreFound U) (p q : ℕ) (s : Site) (x : Procedure)
     (is_site : site_of U.program.declarations p ≡ Some s) (is_procedure : slice_get U.program.declarations.procs p ≡ Some x)
@@ -105,23 +138,31 @@ module _ (U : Upgrade) (known : AreFacts U.program U.known) (procedures : Proced
       ap (λ ps. passing_at (passings ps) i) (params_are U q c.site c.procedure V)
       ∙ params_pass U c.site q c.procedure.params c.params i
 
-  pub can_call : (args : Passed) → suits_passed U.program.declarations q 0 args ≡ true → FitsPassed U q 0 args → CanCallFrom U p s W.code q args
-  can_call args fit ranks w f g k names = record {
-    passes = pass;
-    keeps = λ ty h. keeps_called U.program p q x is_procedure parts.within l stands call ty h;
-    inward = λ h. inward_called U known p q x is_procedure parts.within l stands call h;
-    number = V.number;
-    is_number = V.is_number;
-    plain = ap is_property_at c.is_procedure ∙ no_property c.procedure.kind c.kind;
-    suits = fit;
-    ranks = ranks;
-    passings = λ i.
-        ap (λ o. passing_at (passings_of_code o) i) V.is_code ∙ passings_are i
-        ∙ sym (ap (λ o. passing_by (takes_reference_of D (parameter_in o i))) c.is_procedure);
-    found = λ qualified.
-        found p q s c.site x c.procedure W V g k is_site is_procedure kind c.is_site c.is_procedure (no_property c.procedure.kind c.kind) is_found_from
-        (names_in_code U p s x W g names) qualified;
-  }
+  pub can_call : (args : Passed) → suits_passed U.program.declarations q 0 args ≡ true → hands_callee U.program (Some q) args ≡ true → FitsPassed U q 0 args
+      → CanCallFrom U p s W.code q args
+  can_call args fit hand ranks w f g k names =
+      let both = both_true (hands_passed U.program q 0 args) (keeps_given U.program q args) hand in
+      let ts = given_types args in
+      let keeping = both_true (keeps_each U.program q ts) (list_all (λ d. keeps_callee U.program ts (called d)) (nodes_of_passed args)) both.1 in
+      record {
+        passes = pass;
+        keeps = λ ty h. keeps_called U.program p q x is_procedure parts.within l stands call ty h;
+        inward = λ h. inward_called U known p q x is_procedure parts.within l stands call h;
+        number = V.number;
+        is_number = V.is_number;
+        plain = ap is_property_at c.is_procedure ∙ no_property c.procedure.kind c.kind;
+        suits = fit;
+        hands = both.0;
+        given = seen_each U q ts keeping.0;
+        inside = seen_inside U ts (nodes_of_passed args) keeping.1;
+        ranks = ranks;
+        passings = λ i.
+            ap (λ o. passing_at (passings_of_code o) i) V.is_code ∙ passings_are i
+            ∙ sym (ap (λ o. passing_by (takes_reference_of D (parameter_in o i))) c.is_procedure);
+        found = λ qualified.
+            found p q s c.site x c.procedure W V g k is_site is_procedure kind c.is_site c.is_procedure (no_property c.procedure.kind c.kind) is_found_from
+            (names_in_code U p s x W g names) qualified;
+      }
 
 -- ---- what a line that is clean by itself calls
 

@@ -27,11 +27,11 @@ use Rattle.written_trees.specs.Bodies.{inside_procedure}
 use Rattle.written_trees.specs.Heads as heads
 use Rattle.written_trees.specs.Names.{Scope, variable_name_of}
 use Rattle.written_trees.specs.Types.{type_with}
-use Rattle.run_matches.specs.Addresses.{ArgsMatch, both_nothing, AllLocked, IsPlain}
+use Rattle.run_matches.specs.Addresses.{ArgsMatch, both_nothing, AllLocked, IsPlain, is_element}
 use Rattle.run_matches.specs.Agreeing.{Agrees}
-use Rattle.run_laws.proofs.Given.{stands_itself}
+use Rattle.run_laws.proofs.Given.{stands_itself, locks_given, locks_joined}
 use Rattle.run_matches.specs.Covered.{are_different, covers_type, belongs_to, covers_line, covers_parameter, covers_own, is_scalar_or_loud}
-use Rattle.run_matches.specs.Frames.{FrameMatch, HasNames, SameVariable, declared_names, dim_name, result_names, static_of, SameStatic, name_of, GivenAddress, frame_pledge, is_element, is_own_of, lines_of, stands_in}
+use Rattle.run_matches.specs.Frames.{FrameMatch, HasNames, SameVariable, declared_names, dim_name, result_names, static_of, SameStatic, name_of, GivenAddress, frame_pledge, is_own_of, lines_of, stands_in}
 use Rattle.run_matches.specs.CleanLines.{or_none}
 use Rattle.run_matches.specs.Callees.{answer_owns, own_of_some, parameter_owns}
 use Rattle.run_matches.specs.Likeness.{scalar_word}
@@ -161,8 +161,8 @@ module _ (U : Upgrade) (p : ℕ) (c : CoveredProcedure U.program p) (W : Written
     K = call_pledge U p base me xs ys
 
     -- the frames that are made of their variables
-    module _ (w u : World) (lat : Later U K w u) (obj : IsObject w me) (held : AllLocked U K w locked) (low : Below base (mark w.src))
-        (ks : List (ℕ × Address)) (bs : List (List ℕ × net.Address)) (m : LocalsMatch U K u all ks bs) (env : Locked) (is : env ≡ locked) where
+    module _ (w u : World) (lat : Later U K w u) (obj : IsObject w me) (env : Locked) (held : AllLocked U K w env) (low : Below base (mark w.src))
+        (ks : List (ℕ × Address)) (bs : List (List ℕ × net.Address)) (m : LocalsMatch U K u all ks bs) where
       abbrev f : SourceFrame
       f = first_frame me env ks
 
@@ -182,11 +182,12 @@ module _ (U : Upgrade) (p : ℕ) (c : CoveredProcedure U.program p) (W : Written
 
       given_of : (v : ℕ) (a : Address) → OwnPlace U K u v a ⊎ GivenVariable U u v a → GivenAddress U v a
       given_of v a (inl k) = record {
-        whole = ap is_element k.place.stands;
+        of_scalars = inl (ap is_element k.place.stands);
+        whole = λ relied. ap is_element k.place.stands;
         place = λ exact. record {
           position = whole (made k.place.place);
           stands = stands_itself (variable_shape U.program.declarations v) a (whole (made k.place.place)) k.place.stands;
-          target = inl (record { place = k.place.place; shape = variable_shape U.program.declarations v; path = []; stands = k.place.stands });
+          target = inl (inl (record { place = k.place.place; shape = variable_shape U.program.declarations v; path = []; stands = k.place.stands }));
         };
       }
       given_of v a (inr k) = k.given
@@ -241,7 +242,7 @@ module _ (U : Upgrade) (p : ℕ) (c : CoveredProcedure U.program p) (W : Written
             (listed_behind v (answer_owns D x.answer) os
             (subst (λ ns. list_any (nat_eq v) ns ≡ true) (sym c.locals) (local_listed p v 0 v D.vars is (omega arith)))));
         has_passing = λ v is. local_there U S K u all ks bs m v (passing_listed U.program p c v is);
-        locks = subst (λ z. AllLocked U K u z) (sym is) (locks_later U K w u locked lat held);
+        locks = locks_later U K w u env lat held;
         low = below_then base (mark w.src) (mark u.src) low lat.grows;
       }
 
@@ -458,7 +459,7 @@ module _ (U : Upgrade) (p : ℕ) (c : CoveredProcedure U.program p) (W : Written
         let r' = target.parameters U.written W.code.home (heads.params_of H false x.params) ys w.net in
         subst (λ z. Agrees U K w R z (enter U.written W.number to tt ys w.net)) (sym (source_entry w.src))
         (subst (λ z. Agrees U K w R (then r source_rest) z) (sym (target_entry to w.net))
-        (then_agrees U K w (Parameters U p H refl refl W.code.home K made_alike made_with w0 start parameter_sound x.params xs) R r r' source_rest
+        (then_agrees U K w (Parameters U p H refl refl W.code.home K made_alike made_with w0 start parameter_sound x.params) R r r' source_rest
         (target_rest to) h
         (parameters_agree U p H refl refl W.code.home K made_alike made_with w0 start parameter_sound x.params c.params 0 placed xs ys args w l low h)
         (λ ds gs u m later.
@@ -468,6 +469,6 @@ module _ (U : Upgrade) (p : ℕ) (c : CoveredProcedure U.program p) (W : Written
         (λ es hs z n more.
         let lat : Later U K w z = later_then U K w u z h later more in
         agrees_gives U K z R (begun_frame me (locked_by xs ++ locked) (ds ++ es)) (net_begun to (gs ++ hs)) more.match
-        (run_match w z lat obj held low (ds ++ es) (gs ++ hs)
-        (match_append z (parameter_owns D x.params) others ds es gs hs (locals_later U K u z (parameter_owns D x.params) ds gs later.match more m.0) n)
-        (locked_by xs ++ locked) (ap (λ ls. ls ++ locked) m.1))))))
+        (run_match w z lat obj (locked_by xs ++ locked)
+        (locks_joined U K w (locked_by xs) locked (locks_later U K w0 w (locked_by xs) l (locks_given U K w0 p 0 xs ys args)) held) low (ds ++ es) (gs ++ hs)
+        (match_append z (parameter_owns D x.params) others ds es gs hs (locals_later U K u z (parameter_owns D x.params) ds gs later.match more m) n))))))

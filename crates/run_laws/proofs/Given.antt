@@ -1,5 +1,5 @@
 -- What a parameter by reference is bound to.
-use Rattle.std.proofs.Common.{◌≡◌, refl, sym, ap, subst, ◌∙◌, ◌&&◌, inl, inr, ℕ, suc, ℤ, Bool, true, false, nat_eq, true≢false, eq-eqb, Option, Some, List, [], ◌∷◌}
+use Rattle.std.proofs.Common.{◌≡◌, refl, sym, ap, subst, ◌∙◌, ◌&&◌, inl, inr, ℕ, suc, ℤ, Bool, true, false, nat_eq, true≢false, eq-eqb, Option, Some, List, [], ◌∷◌, ◌++◌}
 use Rattle.vb_tree.specs.BoundTree as types
 use Rattle.vb_tree.specs.BoundTree.{Ty}
 use Rattle.vb_tree.specs.declared.declared.Owner.{Owner}
@@ -9,21 +9,21 @@ use Rattle.run_base.specs.Frames.{by_address, by_value}
 use Rattle.run_base.specs.Outcomes.{Outcome, after, gives, outside, then}
 use Rattle.run_base.specs.Positions.{Position, made, shared, whole}
 use Rattle.vb6_run.specs.Programs.{bound_to}
-use Rattle.vb6_run.specs.Shapes.{Shape, group, array, endless, is_same_shape, simple, variable_shape}
-use Rattle.vb6_run.specs.Store.{Address, Memory, SourceGiven, is_address_of, item, laid, locked_by, make_with, provided, root, write}
+use Rattle.vb6_run.specs.Shapes.{Shape, group, array, endless, is_same_shape, simple, variable_shape, part_shape}
+use Rattle.vb6_run.specs.Store.{Address, Memory, SourceGiven, is_address_of, item, laid, locked_by, make_with, provided, root, write, constant, Locked}
 use Rattle.vb6_run.specs.Values.{Value, elements, fields, is_makeable, scalar}
 use Rattle.net_run.specs.Program.{parameter_by}
 use Rattle.net_run.specs.Shapes as shape
 use Rattle.net_run.specs.Store as net
 use Rattle.net_run.specs.Values as net_value
 use Rattle.written_trees.specs.Heads as heads
-use Rattle.run_matches.specs.Addresses.{HasParameterRank, IsTarget, Same, same_item, same_root}
+use Rattle.run_matches.specs.Addresses.{HasParameterRank, IsTarget, Same, same_item, same_root, AllLocked, ArgsMatch, IsElement, IsScalarAt, IsVariable, address_args, no_args, source_bound, target_bound, value_args}
 use Rattle.run_matches.specs.Agreeing.{Agrees}
 use Rattle.run_matches.specs.Covered.{covers_type, is_parameter_of}
 use Rattle.run_matches.specs.Frames.{GivenPlace, StandsAs}
 use Rattle.run_matches.specs.Likeness.{SameShape, same_array, same_class, same_scalar, scalar_word}
 use Rattle.run_matches.specs.Maps.{World}
-use Rattle.run_matches.specs.Pledges.{Pledge}
+use Rattle.run_matches.specs.Pledges.{Pledge, NetGiven}
 use Rattle.run_matches.specs.Upgrades.{Upgrade, parameter_rank}
 use Rattle.run_statements.specs.Arrays.{array_shape}
 use Rattle.run_statements.specs.Frames.{HasRankOf, IsArray, IsReadable, IsUsable}
@@ -73,8 +73,8 @@ stands_as : (U : Upgrade) (v : ℕ) → IsUsable U v → (a : Address) (s : Shap
 stands_as U v (inl r) a s q e h =
     let is : variable_shape U.program.declarations v ≡ simple r.variable.ty = readable_shape U v r in
     subst (λ d. StandsAs d a q) (sym is)
-    (e ∙ ap (λ d. root d q)
-    (simple_same r.variable.ty s (readable_type U v r) (address_same (simple r.variable.ty) s a q e (subst (λ d. is_address_of d a ≡ true) is h))))
+    (inl (e ∙ ap (λ d. root d q)
+    (simple_same r.variable.ty s (readable_type U v r) (address_same (simple r.variable.ty) s a q e (subst (λ d. is_address_of d a ≡ true) is h)))))
 stands_as U v (inr x) a s q e h =
     let r : IsArray U v x.0 = x.1 in
     let bounds = r.known.variable.bounds in
@@ -84,24 +84,40 @@ stands_as U v (inr x) a s q e h =
 
 -- an address of a shape stands as that shape
 pub stands_itself : (s : Shape) (a : Address) (q : Position) → a ≡ root s q → StandsAs s a q
-stands_itself (simple ty) a q e = e
+stands_itself (simple ty) a q e = inl e
 stands_itself (group t fs) a q e = e
 stands_itself (array f bounds) a q e = (bounds, e)
 stands_itself endless a q e = e
 
+-- an element of an array stands as a scalar of its type
+element_stands : (U : Upgrade) (v : ℕ) → IsUsable U v → (a : Address) (x : IsElement a) → is_address_of (variable_shape U.program.declarations v) a ≡ true
+    → StandsAs (variable_shape U.program.declarations v) a x.array
+element_stands U v (inl r) a x h =
+    let is : variable_shape U.program.declarations v ≡ simple r.variable.ty = readable_shape U v r in
+    let same : is_same_shape (simple r.variable.ty) (simple x.ty) ≡ true =
+    sym (ap (is_address_of (simple r.variable.ty)) x.stands) ∙ subst (λ d. is_address_of d a ≡ true) is h in
+    subst (λ d. StandsAs d a x.array) (sym is)
+    (inr (x.index, x.stands ∙ ap (λ d. item d x.array x.index []) (simple_same r.variable.ty (simple x.ty) (readable_type U v r) same)))
+element_stands U v (inr y) a x h =
+    let r : IsArray U v y.0 = y.1 in
+    let bounds = r.known.variable.bounds in
+    absurd (true≢false
+    (sym (sym (ap (is_address_of (array (simple y.0) bounds)) x.stands) ∙ subst (λ d. is_address_of d a ≡ true) (array_shape_is U v y.0 r) h)))
+
 module _ (U : Upgrade) (v : ℕ) (r : IsUsable U v) where
   -- an address of the parameter's shape that can be written
   pub given_place : (a : Address) → IsTarget U a → is_address_of (variable_shape U.program.declarations v) a ≡ true → GivenPlace U v a
-  given_place a (inl p) h = record {
+  given_place a (inl (inl p)) h = record {
     position = record { root = made p.place; path = p.path };
     stands = stands_as U v r a p.shape (record { root = made p.place; path = p.path }) p.stands h;
-    target = inl p;
+    target = inl (inl p);
   }
-  given_place a (inr k) h = record {
+  given_place a (inl (inr k)) h = record {
     position = whole (shared (k.variable ∷ []));
     stands = stands_as U v r a k.of_shape (whole (shared (k.variable ∷ []))) k.stands h;
-    target = inr k;
+    target = inl (inr k);
   }
+  given_place a (inr x) h = record { position = x.array; stands = element_stands U v r a x h; target = inr x }
 
 word_itself : (ty : Ty) (t : TypeName) → covers_type ty ≡ true → scalar_word ty ≡ Some t → shape.is_same_word t t ≡ true
 word_itself types.boolean t c e = subst (λ z. shape.is_same_word z z ≡ true) (some_is e) refl
@@ -112,29 +128,49 @@ word_itself types.currency t c e = subst (λ z. shape.is_same_word z z ≡ true)
 word_itself types.str t c e = subst (λ z. shape.is_same_word z z ≡ true) (some_is e) refl
 word_itself _ t c e = absurd (true≢false (sym c))
 
--- its image has the parameter's type exactly
-pub shape_taken : (U : Upgrade) (K : Pledge) (w : World) (ty : Ty) (t : TypeName) (a : Address) (b : net.Address) → covers_type ty ≡ true
-    → scalar_word ty ≡ Some t → Same U K w a b → ((q : Position) × (a ≡ root (simple ty) q)) → shape.is_same_shape (net.shape_at b) (shape.scalar t) ≡ true
-shape_taken U K w ty t a b c e same at =
-    let i : ScalarImage U w ty a b = scalar_image U K w ty a b c same at in
-    let word : i.type_name ≡ t = some_is (sym i.is_name ∙ e) in
-    ap (λ z. shape.is_same_shape (net.shape_at z) (shape.scalar t)) i.at_target
-    ∙ ap (λ z. shape.is_same_word z t) word ∙ word_itself ty t c e
-
--- ---- arrays
-
 root_shape : (s t : Shape) (q p : Position) → root s q ≡ root t p → s ≡ t
 root_shape s t q p e = cc e
 
 no_item : (e s : Shape) (q p : Position) (j : ℕ) (path : List ℕ) → item e q j path ≡ root s p → ⊥
 no_item e s q p j path x = cc x
 
--- what is written for an array has some rank
+abbrev element_in : Address → Shape
+element_in (root s q) = s
+element_in (item e q j path) = e
+element_in (constant x) = endless
+
+abbrev inside_of : Address → List ℕ
+inside_of (root s q) = []
+inside_of (item e q j path) = path
+inside_of (constant x) = []
+
+-- a written scalar
 element_written : (U : Upgrade) (ty : Ty) (t : TypeName) (d : shape.Shape) → covers_type ty ≡ true → scalar_word ty ≡ Some t → SameShape U (simple ty) d
     → d ≡ shape.scalar t
 element_written U _ t _ c w (same_scalar ty u e) = ap (λ z. shape.scalar z) (some_is (sym e ∙ w))
 element_written U _ t _ c w (same_class k home e) = absurd (true≢false (sym c))
 
+item_shape : (U : Upgrade) (K : Pledge) (w : World) (ty : Ty) (t : TypeName) (q : Position) (i : ℕ) (a : Address) (b : net.Address) → covers_type ty ≡ true
+    → scalar_word ty ≡ Some t → Same U K w a b → a ≡ item (simple ty) q i [] → net.shape_at b ≡ shape.scalar t
+item_shape U K w ty t q i _ _ c word (same_root s d p sh m r) at = absurd (no_item (simple ty) s q p i [] (sym at))
+item_shape U K w ty t q i _ _ c word (same_item e s d p k j path keeps m has part sh) at =
+    let shaped : s ≡ simple ty = some_is (sym part ∙ (ap (λ x. part_shape x e) (ap inside_of at) ∙ ap (λ x. Some x) (ap element_in at))) in
+    element_written U ty t d c word (subst (λ z. SameShape U z d) shaped sh)
+
+-- its image has the parameter's type exactly
+pub shape_taken : (U : Upgrade) (K : Pledge) (w : World) (ty : Ty) (t : TypeName) (a : Address) (b : net.Address) → covers_type ty ≡ true
+    → scalar_word ty ≡ Some t → Same U K w a b → ((q : Position) × IsScalarAt ty a q) → shape.is_same_shape (net.shape_at b) (shape.scalar t) ≡ true
+shape_taken U K w ty t a b c e same (q, inl at) =
+    let i : ScalarImage U w ty a b = scalar_image U K w ty a b c same (q, at) in
+    let word : i.type_name ≡ t = some_is (sym i.is_name ∙ e) in
+    ap (λ z. shape.is_same_shape (net.shape_at z) (shape.scalar t)) i.at_target
+    ∙ ap (λ z. shape.is_same_word z t) word ∙ word_itself ty t c e
+shape_taken U K w ty t a b c e same (q, inr x) =
+    ap (λ z. shape.is_same_shape z (shape.scalar t)) (item_shape U K w ty t q x.0 a b c e same x.1) ∙ word_itself ty t c e
+
+-- ---- arrays
+
+-- what is written for an array has some rank
 list_written : (U : Upgrade) (e : Shape) (bounds : List (ℤ × ℤ)) (d : shape.Shape) → SameShape U (array e bounds) d
     → (x : shape.Shape) × (rank : ℕ) × (d ≡ shape.array x rank) × SameShape U e x
 list_written U _ _ _ (same_array e bounds d rank s) = (d, rank, refl, s)
@@ -210,7 +246,30 @@ made_none {A} {B} U K w R e bounds x n k r' = by (is_makeable s)
         (sym (write_none e bounds x q (laid s q (record w.src { next = suc w.src.next })) n)) (agrees_outside U K w R r')
     by false = agrees_outside U K w R r'
 
--- it locks no array
-pub given_unlocked : (U : Upgrade) (a : Address) (xs : List SourceGiven) → IsTarget U a → locked_by (by_address a ∷ xs) ≡ locked_by xs
+-- ---- locks
+
+-- a variable locks no array
+given_unlocked : (U : Upgrade) (a : Address) (xs : List SourceGiven) → IsVariable U a → locked_by (by_address a ∷ xs) ≡ locked_by xs
 given_unlocked U a xs (inl p) = ap (λ z. locked_by (by_address z ∷ xs)) p.stands
 given_unlocked U a xs (inr k) = ap (λ z. locked_by (by_address z ∷ xs)) k.stands
+
+given_locks : (U : Upgrade) (K : Pledge) (w : World) (a : Address) (b : net.Address) (xs : List SourceGiven) → Same U K w a b → AllLocked U K w (locked_by xs)
+    → AllLocked U K w (locked_by (by_address a ∷ xs))
+given_locks U K w _ _ xs (same_root s d q sh m r) rest = rest
+given_locks U K w _ _ xs (same_item e s d q k j path keeps m has part sh) rest =
+    (record { element = e; array = k; is_matched = m; stands = has; kept = keeps }, rest)
+
+-- the arrays are kept of which elements are given
+pub locks_given : (U : Upgrade) (K : Pledge) (w : World) (p i : ℕ) (xs : List SourceGiven) (ys : List NetGiven) → ArgsMatch U K w p i xs ys
+    → AllLocked U K w (locked_by xs)
+locks_given U K w p _ _ _ (no_args i) = tt
+locks_given U K w p _ _ _ (value_args i x y xs ys like none rest) = locks_given U K w p (suc i) xs ys rest
+locks_given U K w p _ _ _ (address_args i a b xs ys same target whole plain ranked rest) =
+    given_locks U K w a b xs same (locks_given U K w p (suc i) xs ys rest)
+locks_given U K w p _ _ _ (source_bound i a s y xs ys quiet mirrors target there plain rest) =
+    subst (λ ls. AllLocked U K w ls) (sym (given_unlocked U a xs target)) (locks_given U K w p (suc i) xs ys rest)
+locks_given U K w p _ _ _ (target_bound i x b xs ys quiet mirrors typed rest) = locks_given U K w p (suc i) xs ys rest
+
+pub locks_joined : (U : Upgrade) (K : Pledge) (w : World) (xs ys : Locked) → AllLocked U K w xs → AllLocked U K w ys → AllLocked U K w (xs ++ ys)
+locks_joined U K w [] ys h k = k
+locks_joined U K w (q ∷ xs) ys h k = (h.0, locks_joined U K w xs ys h.1 k)

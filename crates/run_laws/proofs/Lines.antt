@@ -26,7 +26,7 @@ use Rattle.run_statements.specs.Written.{SameLines, WrittenLine, WrittenProcedur
 use Rattle.run_laws.specs.Premises.{LinePremises}
 use Rattle.run_laws.proofs.Covered.{PlainProcedure, bound_line, not_none, plain_parts, some_is}
 use Rattle.line_laws.proofs.Called.{use_calls}
-use Rattle.run_laws.proofs.Callees.{call_fits, call_suits, callee_covered, called_clean, can_call}
+use Rattle.run_laws.proofs.Callees.{call_fits, call_suits, callee_covered, called_clean, can_call, call_hands}
 use Rattle.run_laws.proofs.Names.{code_is, is_below}
 
 -- the bound lines of a procedure, as its lines
@@ -81,7 +81,7 @@ module _ (U : Upgrade) (h : LinePremises U) where
       can_call U h.known h.procedures h.found p q c.site x.procedure c.is_site x.is_procedure x.kind W c.line
       (record { lines = c.lines; are_lines = c.are_lines; place = k; stands = c.is_line }) call (callee_covered U p q c.line c.calls call)
       (called_clean U p (suc k) c.line clean (ap (λ o. nth_line (or_none o) (suc k)) c.are_lines ∙ c.is_line) q call, c.entered q call)
-      (args_at d) (call_suits U p q c.line d c.calls m e)
+      (args_at d) (call_suits U p q c.line d c.calls m e) (call_hands U p q c.line d c.calls m e)
       (call_fits U q d (h.fits p k c.line clean (ap (λ o. nth_line (or_none o) (suc k)) c.are_lines ∙ c.is_line) d m) e)
 
   one_line : (p k : ℕ) → IsCleanLine U.program U.facts.marks p (suc k) → IsCoveredLine U.program p (suc k) → LineDoesTheSame U p (suc k)

@@ -1,6 +1,7 @@
 -- The parameters and the result variable of an entry are made on both sides.
+use Rattle.line_laws.proofs.Standing.{whole_stands}
 use Rattle.vb_tree.specs.declared.declared.Owner.{Owner}
-use Rattle.std.proofs.Common.{◌≡◌, refl, sym, ap, subst, ◌∙◌, ℕ, suc, Bool, true, false, not, ◌&&◌, true≢false, Some, List, [], ◌∷◌, ◌++◌, inl, inr, cond, ◌+◌, arith}
+use Rattle.std.proofs.Common.{◌≡◌, refl, sym, ap, subst, ◌∙◌, ℕ, suc, Bool, true, false, not, ◌&&◌, true≢false, Some, List, [], ◌∷◌, ◌++◌, inl, inr, cond, ◌+◌, arith, ◌⊎◌}
 use Rattle.std.specs.Prelude.{slice_get}
 use Rattle.std.specs.List.{list_all}
 use Rattle.up_base.proofs.Lists.{all_first, all_rest}
@@ -22,7 +23,7 @@ use Rattle.run_base.specs.Outcomes.{Outcome, after, gives, some_of, then, outsid
 use Rattle.run_base.specs.Positions.{Position, made, whole}
 use Rattle.vb6_run.specs.Programs.{bound_to, parameters, temporary}
 use Rattle.vb6_run.specs.Shapes.{Shape, array, simple, variable_shape}
-use Rattle.vb6_run.specs.Store.{Address, Memory, SourceGiven, constant, is_address_of, locked_by, make, make_with, provided, root, write}
+use Rattle.vb6_run.specs.Store.{Address, Memory, SourceGiven, constant, is_address_of, make, make_with, provided, root, write}
 use Rattle.vb6_run.specs.Values.{Value, elements, fields, scalar}
 use Rattle.net_run.specs.Program as target
 use Rattle.net_run.specs.Shapes as shape
@@ -33,11 +34,11 @@ use Rattle.written_trees.specs.Facts.{Facts, is_array_variable}
 use Rattle.written_trees.specs.Names.{Scope}
 use Rattle.written_trees.specs.Types.{type_with}
 use Rattle.written_trees.specs.Prologues.{is_static}
-use Rattle.run_matches.specs.Addresses.{ArgsMatch, Bound, GivesNoArray, HasParameterRank, IsPlain, IsTarget, IsTypedAs, Mirrors, Same, address_args, images, mirrored, no_args, source_bound, target_bound, value_args}
+use Rattle.run_matches.specs.Addresses.{ArgsMatch, Bound, GivesNoArray, HasParameterRank, IsPlain, IsTarget, IsTypedAs, Mirrors, Same, address_args, images, mirrored, no_args, source_bound, target_bound, value_args, GivesWhole, IsElement, IsVariable, IsWhole, is_element}
 use Rattle.run_matches.specs.Agreeing.{Agrees}
 use Rattle.run_matches.specs.Callees.{own_of_some, parameter_owns}
-use Rattle.run_matches.specs.Covered.{covers_owner, covers_parameter, covers_type, is_parameter_of}
-use Rattle.run_matches.specs.Frames.{GivenPlace, StandsAs, is_element, is_own_of}
+use Rattle.run_matches.specs.Covered.{covers_owner, covers_parameter, covers_type, is_parameter_of, is_relied_id}
+use Rattle.run_matches.specs.Frames.{GivenPlace, StandsAs, is_own_of}
 use Rattle.run_matches.specs.Likeness.{LikeV, scalar_word}
 use Rattle.run_matches.specs.Maps.{Below, World, mark}
 use Rattle.run_matches.specs.Match.{MemoryMatch, StoreMatch}
@@ -61,7 +62,7 @@ use Rattle.run_laws.specs.Premises.{LocalsAreMadeBy, ValuesAreMadeBy}
 use Rattle.run_laws.proofs.Covered.{some_is}
 use Rattle.run_laws.proofs.Usable.{array_shape_is}
 use Rattle.run_laws.proofs.Dims.{WordOf, word_of}
-use Rattle.run_laws.proofs.Given.{IsNoElements, array_taken, given_place, given_unlocked, made_none, rank_for, shape_taken, value_bound, value_taken}
+use Rattle.run_laws.proofs.Given.{IsNoElements, array_taken, given_place, made_none, rank_for, shape_taken, value_bound, value_taken}
 use Rattle.run_laws.proofs.Heads.{Parameter, parameter_is}
 use Rattle.run_laws.proofs.Keeping.{yields_after, yields_then}
 use Rattle.run_laws.proofs.Locals.{local_later, makes_next, new_place}
@@ -77,10 +78,14 @@ never_static : (p : ℕ) (o : Owner) → is_parameter_of p o ≡ true → is_sta
 never_static p (owner.Static q) h = absurd (true≢false (sym h))
 never_static p _ h = refl
 
--- what is given by reference is no element
-whole_of : (U : Upgrade) (a : Address) → IsTarget U a → is_element a ≡ false
+-- a variable is no element
+whole_of : (U : Upgrade) (a : Address) → IsVariable U a → IsWhole a
 whole_of U a (inl p) = ap is_element p.stands
 whole_of U a (inr k) = ap is_element k.stands
+
+of_scalars_is : (U : Upgrade) (a : Address) → IsTarget U a → IsWhole a ⊎ IsElement a
+of_scalars_is U a (inl v) = inl (whole_of U a v)
+of_scalars_is U a (inr x) = inr x
 
 -- ---- making
 
@@ -233,14 +238,14 @@ module _ (U : Upgrade) (p : ℕ) (S : Scope) (same : S.declarations ≡ U.progra
 
   module _ (K : Pledge) (made_alike : LocalsAreMadeBy U K) (made_with : ValuesAreMadeBy U K) (w0 : World) (start : StoreMatch U w0)
       (readable : AreParameters U p) where
-    -- the variables of parameters, which lock no array
-    abbrev pub Parameters : List VarId → List SourceGiven → World → List (ℕ × Address) → List (List ℕ × net.Address) → Type 0
-    Parameters vs xs u ks bs = LocalsMatch U K u (parameter_owns D vs) ks bs × (locked_by xs ≡ [])
+    -- the variables of parameters
+    abbrev pub Parameters : List VarId → World → List (ℕ × Address) → List (List ℕ × net.Address) → Type 0
+    Parameters vs u ks bs = LocalsMatch U K u (parameter_owns D vs) ks bs
 
     abbrev Rest : List VarId → (i : ℕ) → List SourceGiven → List NetGiven → Type 0
     Rest vs i xs ys =
         (w : World) → Later U K w0 w → Below K.base (mark w.src) → MemoryMatch U w
-        → Agrees U K w (Parameters vs xs) (parameters (runnable_of U) p i vs xs w.src) (target.parameters U.written home (heads.params_of S false vs) ys w.net)
+        → Agrees U K w (Parameters vs) (parameters (runnable_of U) p i vs xs w.src) (target.parameters U.written home (heads.params_of S false vs) ys w.net)
 
     -- the source's first parameter is bound, then the others
     abbrev source_from : (v : VarId) → Outcome Memory Address → (i : ℕ) → List VarId → List SourceGiven → Outcome Memory (List (ℕ × Address))
@@ -304,7 +309,7 @@ module _ (U : Upgrade) (p : ℕ) (S : Scope) (same : S.declarations ≡ U.progra
             bound = subst (λ t. Bound U K u (not t) a b) (sym quiet) (mirrored a b n.mirrors);
             ranked = subst (λ d. HasRankOf U v.0 d) (sym n.shape_is) tt;
             standing =
-                inr (record { given = record { whole = n.whole; place = λ exact. absurd (true≢false (sym quiet ∙ exact)) }; plain = n.plain; foreign = foreign id is });
+                inr (record { given = record { of_scalars = inl n.whole; whole = λ relied. n.whole; place = λ exact. absurd (true≢false (sym quiet ∙ exact)) }; plain = n.plain; foreign = foreign id is });
           }
 
           quiet_agrees : (w : World) (z : Outcome Memory Address) (z' : Outcome net.Memory net.Address)
@@ -335,7 +340,7 @@ module _ (U : Upgrade) (p : ℕ) (S : Scope) (same : S.declarations ≡ U.progra
               (target_is_bound U K r.variable.ty m.word (readable_type U v.0 r) word w0 w b start l x mirrors typed))
 
           -- a value on the target's side alone
-          source_agrees : (w : World) (a : Address) (k : shape.Shape) (y : net_value.Value) → Mirrors U K w0 a (net.constant k y) → IsTarget U a → IsPlain U w a
+          source_agrees : (w : World) (a : Address) (k : shape.Shape) (y : net_value.Value) → Mirrors U K w0 a (net.constant k y) → IsVariable U a → IsPlain U w a
               → Later U K w0 w → BoundHere w (inl r) true (owner.Reference id) (by_address a) (by_value y)
           unfolding param_written
           source_agrees w a k y mirrors at plain l = by (is_address_of s a) refl
@@ -344,16 +349,19 @@ module _ (U : Upgrade) (p : ℕ) (S : Scope) (same : S.declarations ≡ U.progra
                   → Agrees U K w (Local U K made_alike made_with v.0) (provided t (λ w. gives [] a w) w.src) (net.made_with (shape.scalar m.word) y w.net)
               by false e = agrees_outside U K w (Local U K made_alike made_with v.0) (net.made_with (shape.scalar m.word) y w.net)
               by true e =
-                  let place : GivenPlace U v.0 a = given_place U v.0 (inl r) a at e in
+                  let place : GivenPlace U v.0 a = given_place U v.0 (inl r) a (inl at) e in
                   quiet_agrees w (gives [] a w.src) (net.made_with (shape.scalar m.word) y w.net)
-                  (source_is_bound U K r.variable.ty m.word (readable_type U v.0 r) word w0 w a k y start l mirrors
-                  (place.position, subst (λ d. StandsAs d a place.position) shaped place.stands) plain)
+                  (source_is_bound U K r.variable.ty m.word (readable_type U v.0 r) word w0 w a k y start l mirrors (
+                    place.position,
+                    whole_stands r.variable.ty a place.position (whole_of U a at) (subst (λ d. StandsAs d a place.position) shaped place.stands),
+                  ) plain)
 
       -- variables on both sides
       address_agrees : (u : IsUsable U v.0) (id : ProcId) → q.variable.owner ≡ owner.Reference id → (quiet : Bool) (w : World) (a : Address) (b : net.Address)
-          → Same U K w0 a b → IsTarget U a → IsPlain U w0 a → HasParameterRank U p i (net.shape_at b) → Later U K w0 w → MemoryMatch U w
+          → Same U K w0 a b → IsTarget U a → GivesWhole U p i a → IsPlain U w0 a → HasParameterRank U p i (net.shape_at b) → Later U K w0 w
+          → MemoryMatch U w
           → BoundHere w u quiet (owner.Reference id) (by_address a) (by_address b)
-      address_agrees u id is quiet w a b alike target plain ranked l h = by (is_address_of s a) refl
+      address_agrees u id is quiet w a b alike target whole plain ranked l h = by (is_address_of s a) refl
         where
           by : (t : Bool) → is_address_of (variable_shape D v.0) a ≡ t
               → Agrees U K w (Local U K made_alike made_with v.0) (provided t (λ w. gives [] a w) w.src)
@@ -373,21 +381,25 @@ module _ (U : Upgrade) (p : ℕ) (S : Scope) (same : S.declarations ≡ U.progra
                 ranked = rank;
                 standing =
                     inr (record {
-                      given = record { whole = whole_of U a target; place = λ exact. place };
+                      given = record {
+                        of_scalars = of_scalars_is U a target;
+                        whole = λ relied. whole (ap (is_relied_id U.program) at ∙ relied);
+                        place = λ exact. place;
+                      };
                       plain = plain_later U w0 w a l.extends (λ z k. bounds.same_made U K w0 a b alike z k) plain;
                       foreign = foreign id is;
                     });
               }))
 
       -- then the others
-      next_agrees : (u : IsUsable U v.0) (g : SourceGiven) (h : NetGiven) (xs : List SourceGiven) (ys : List NetGiven) → locked_by (g ∷ xs) ≡ locked_by xs
+      next_agrees : (u : IsUsable U v.0) (g : SourceGiven) (h : NetGiven) (xs : List SourceGiven) (ys : List NetGiven)
           → Rest vs (suc i) xs ys → (w : World) → Later U K w0 w → Below K.base (mark w.src) → MemoryMatch U w
           → BoundHere w u ((runnable_of U).quiet p i) q.variable.owner g h
-          → Agrees U K w (Parameters (v ∷ vs) (g ∷ xs)) (parameters (runnable_of U) p i (v ∷ vs) (g ∷ xs) w.src)
+          → Agrees U K w (Parameters (v ∷ vs)) (parameters (runnable_of U) p i (v ∷ vs) (g ∷ xs) w.src)
           (target.parameters U.written home (heads.params_of S false (v ∷ vs)) (h ∷ ys) w.net)
-      next_agrees u g h xs ys unlocked rest w l low start_w bound_here =
+      next_agrees u g h xs ys rest w l low start_w bound_here =
           let n : ParamWritten v q = param_written v q u in
-          let R = Parameters (v ∷ vs) (g ∷ xs) in
+          let R = Parameters (v ∷ vs) in
           let name = q.variable.name in
           let others = heads.params_of S false vs in
           let z = bound_to ((runnable_of U).quiet p i) q.variable.owner s g w.src in
@@ -407,26 +419,24 @@ module _ (U : Upgrade) (p : ℕ) (S : Scope) (same : S.declarations ≡ U.progra
           (λ a b u n later.
           right_alone U K u R (then (parameters (runnable_of U) p (suc i) vs xs u.src) (λ rest w. gives [] ((v.0, a) ∷ rest) w))
           (then (target.parameters U.written home others ys u.net) (λ bs t. gives [] ((name, b) ∷ bs) t))
-          (then_agrees U K u (Parameters vs xs) R (parameters (runnable_of U) p (suc i) vs xs u.src) (target.parameters U.written home others ys u.net)
+          (then_agrees U K u (Parameters vs) R (parameters (runnable_of U) p (suc i) vs xs u.src) (target.parameters U.written home others ys u.net)
           (λ rest w. gives [] ((v.0, a) ∷ rest) w) (λ bs t. gives [] ((name, b) ∷ bs) t) later.match
           (rest u (later_from U K K w0 w u start (weaker_self w0 K) l later) (below_then K.base (mark w.src) (mark u.src) low later.grows) later.match)
           (λ ks bs z ms more.
-          agrees_gives U K z R ((v.0, a) ∷ ks) ((name, b) ∷ bs) more.match (
-            subst (λ os. LocalsMatch U K z os ((v.0, a) ∷ ks) ((name, b) ∷ bs)) (sym (owns_is v q vs))
-                (next_variable v.0 q.variable a (name, b) (parameter_owns D vs) ks bs (never_static p q.variable.owner q.parameter) refl
-                (local_later U K u z v.0 a b later.match more n) ms.0),
-            unlocked ∙ ms.1,
-          ))))))))
+          agrees_gives U K z R ((v.0, a) ∷ ks) ((name, b) ∷ bs) more.match
+          (subst (λ os. LocalsMatch U K z os ((v.0, a) ∷ ks) ((name, b) ∷ bs)) (sym (owns_is v q vs))
+          (next_variable v.0 q.variable a (name, b) (parameter_owns D vs) ks bs (never_static p q.variable.owner q.parameter) refl
+          (local_later U K u z v.0 a b later.match more n) ms)))))))))
 
       -- an address at a parameter that takes a value
       first_outside : (id : ProcId) → q.variable.owner ≡ owner.Value id → (a : Address) (xs : List SourceGiven) (w : World)
           (r' : Outcome net.Memory (List (List ℕ × net.Address)))
-          → Agrees U K w (Parameters (v ∷ vs) (by_address a ∷ xs)) (parameters (runnable_of U) p i (v ∷ vs) (by_address a ∷ xs) w.src) r'
+          → Agrees U K w (Parameters (v ∷ vs)) (parameters (runnable_of U) p i (v ∷ vs) (by_address a ∷ xs) w.src) r'
       first_outside id is a xs w r' =
-          subst (λ z. Agrees U K w (Parameters (v ∷ vs) (by_address a ∷ xs)) (source_from v z (suc i) vs xs) r')
+          subst (λ z. Agrees U K w (Parameters (v ∷ vs)) (source_from v z (suc i) vs xs) r')
           (sym (bound_is v q ((runnable_of U).quiet p i) (by_address a) w.src
           ∙ ap (λ o. bound_to ((runnable_of U).quiet p i) o (variable_shape D v.0) (by_address a) w.src) is))
-          (agrees_outside U K w (Parameters (v ∷ vs) (by_address a ∷ xs)) r')
+          (agrees_outside U K w (Parameters (v ∷ vs)) r')
 
       by_reference_here : (runnable_of U).quiet p i ≡ true → (id : ProcId) × (q.variable.owner ≡ owner.Reference id)
       by_reference_here is =
@@ -466,20 +476,20 @@ module _ (U : Upgrade) (p : ℕ) (S : Scope) (same : S.declarations ≡ U.progra
       value_first (inr r) (elements e dims zs) y like none w l low = absurd (true≢false (sym (array_there v i r.0 r.1 at) ∙ none))
 
       address_first : (u : IsUsable U v.0) (a : Address) (b : net.Address) (xs : List SourceGiven) (ys : List NetGiven) → Same U K w0 a b → IsTarget U a
-          → IsPlain U w0 a → HasParameterRank U p i (net.shape_at b) → Rest vs (suc i) xs ys → (w : World) → Later U K w0 w → Below K.base (mark w.src)
+          → GivesWhole U p i a → IsPlain U w0 a → HasParameterRank U p i (net.shape_at b) → Rest vs (suc i) xs ys → (w : World) → Later U K w0 w → Below K.base (mark w.src)
           → MemoryMatch U w → (o : Owner) → q.variable.owner ≡ o → is_parameter_of p o ≡ true
-          → Agrees U K w (Parameters (v ∷ vs) (by_address a ∷ xs)) (parameters (runnable_of U) p i (v ∷ vs) (by_address a ∷ xs) w.src)
+          → Agrees U K w (Parameters (v ∷ vs)) (parameters (runnable_of U) p i (v ∷ vs) (by_address a ∷ xs) w.src)
           (target.parameters U.written home (heads.params_of S false (v ∷ vs)) (by_address b ∷ ys) w.net)
-      address_first u a b xs ys alike target_is plain ranked rest w l low h (owner.Value id) is k =
+      address_first u a b xs ys alike target_is whole plain ranked rest w l low h (owner.Value id) is k =
           first_outside id is a xs w (target.parameters U.written home (heads.params_of S false (v ∷ vs)) (by_address b ∷ ys) w.net)
-      address_first u a b xs ys alike target_is plain ranked rest w l low h (owner.Reference id) is k =
-          next_agrees u (by_address a) (by_address b) xs ys (given_unlocked U a xs target_is) rest w l low h
+      address_first u a b xs ys alike target_is whole plain ranked rest w l low h (owner.Reference id) is k =
+          next_agrees u (by_address a) (by_address b) xs ys rest w l low h
           (subst (λ z. BoundHere w u ((runnable_of U).quiet p i) z (by_address a) (by_address b)) (sym is)
-          (address_agrees u id is ((runnable_of U).quiet p i) w a b alike target_is plain ranked l h))
-      address_first u a b xs ys alike target_is plain ranked rest w l low h _ is k = absurd (true≢false (sym k))
+          (address_agrees u id is ((runnable_of U).quiet p i) w a b alike target_is whole plain ranked l h))
+      address_first u a b xs ys alike target_is whole plain ranked rest w l low h _ is k = absurd (true≢false (sym k))
 
       source_first : (u : IsUsable U v.0) (a : Address) (k : shape.Shape) (y : net_value.Value) → (runnable_of U).quiet p i ≡ true
-          → Mirrors U K w0 a (net.constant k y) → IsTarget U a → (w : World) → IsPlain U w a → Later U K w0 w
+          → Mirrors U K w0 a (net.constant k y) → IsVariable U a → (w : World) → IsPlain U w a → Later U K w0 w
           → BoundHere w u ((runnable_of U).quiet p i) q.variable.owner (by_address a) (by_value y)
       source_first (inl r) a k y e mirrors target_is w plain l =
           let o = by_reference_here e in
@@ -502,37 +512,37 @@ module _ (U : Upgrade) (p : ℕ) (S : Scope) (same : S.declarations ≡ U.progra
     pub parameters_agree : (vs : List VarId) → list_all (covers_parameter U.program p) vs ≡ true → (i : ℕ)
         → ((j : ℕ) → slice_get ps (i + j) ≡ slice_get vs j) → (xs : List SourceGiven) (ys : List NetGiven) → ArgsMatch U K w0 p i xs ys → Rest vs i xs ys
     parameters_agree [] h i there _ _ (no_args _) w l low m =
-        agrees_gives U K w (Parameters [] []) [] [] m (no_locals, refl)
+        agrees_gives U K w (Parameters []) [] [] m no_locals
     parameters_agree [] h i there _ ys (value_args _ x y xs others like none rest) w l low m =
-        agrees_outside U K w (Parameters [] (by_value x ∷ xs)) (target.parameters U.written home [] ys w.net)
-    parameters_agree [] h i there _ ys (address_args _ a b xs others same target_is plain ranked rest) w l low m =
-        agrees_outside U K w (Parameters [] (by_address a ∷ xs)) (target.parameters U.written home [] ys w.net)
+        agrees_outside U K w (Parameters []) (target.parameters U.written home [] ys w.net)
+    parameters_agree [] h i there _ ys (address_args _ a b xs others same target_is whole plain ranked rest) w l low m =
+        agrees_outside U K w (Parameters []) (target.parameters U.written home [] ys w.net)
     parameters_agree [] h i there _ ys (source_bound _ a s y xs others is mirrors target_is made_there plain rest) w l low m =
-        agrees_outside U K w (Parameters [] (by_address a ∷ xs)) (target.parameters U.written home [] ys w.net)
+        agrees_outside U K w (Parameters []) (target.parameters U.written home [] ys w.net)
     parameters_agree [] h i there _ ys (target_bound _ x b xs others is mirrors typed rest) w l low m =
-        agrees_outside U K w (Parameters [] (by_value x ∷ xs)) (target.parameters U.written home [] ys w.net)
+        agrees_outside U K w (Parameters []) (target.parameters U.written home [] ys w.net)
     parameters_agree (v ∷ vs) h i there _ ys (no_args _) w l low m =
-        agrees_outside U K w (Parameters (v ∷ vs) []) (target.parameters U.written home (heads.params_of S false (v ∷ vs)) ys w.net)
+        agrees_outside U K w (Parameters (v ∷ vs)) (target.parameters U.written home (heads.params_of S false (v ∷ vs)) ys w.net)
     parameters_agree (v ∷ vs) h i there _ _ (value_args _ x y xs ys like none rest) w l low m =
         let q : Parameter U.program p v = parameter_is U.program p v (all_first (covers_parameter U.program p) v vs h) in
         let at : slice_get ps i ≡ Some v = first_there i v vs there in
-        next_agrees v q i at vs (readable v q) (by_value x) (by_value y) xs ys refl
+        next_agrees v q i at vs (readable v q) (by_value x) (by_value y) xs ys
         (parameters_agree vs (all_rest (covers_parameter U.program p) v vs h) (suc i) (rest_there i v vs there) xs ys rest) w l low m
         (value_first v q i at vs (readable v q) x y like none w l low)
-    parameters_agree (v ∷ vs) h i there _ _ (address_args _ a b xs ys same target_is plain ranked rest) w l low m =
+    parameters_agree (v ∷ vs) h i there _ _ (address_args _ a b xs ys same target_is whole plain ranked rest) w l low m =
         let q : Parameter U.program p v = parameter_is U.program p v (all_first (covers_parameter U.program p) v vs h) in
-        address_first v q i (first_there i v vs there) vs (readable v q) a b xs ys same target_is plain ranked
+        address_first v q i (first_there i v vs there) vs (readable v q) a b xs ys same target_is whole plain ranked
         (parameters_agree vs (all_rest (covers_parameter U.program p) v vs h) (suc i) (rest_there i v vs there) xs ys rest) w l low m
         q.variable.owner refl q.parameter
     parameters_agree (v ∷ vs) h i there _ _ (source_bound _ a s y xs ys is mirrors target_is made_there plain rest) w l low m =
         let q : Parameter U.program p v = parameter_is U.program p v (all_first (covers_parameter U.program p) v vs h) in
         let at : slice_get ps i ≡ Some v = first_there i v vs there in
-        next_agrees v q i at vs (readable v q) (by_address a) (by_value y) xs ys (given_unlocked U a xs target_is)
+        next_agrees v q i at vs (readable v q) (by_address a) (by_value y) xs ys
         (parameters_agree vs (all_rest (covers_parameter U.program p) v vs h) (suc i) (rest_there i v vs there) xs ys rest) w l low m
         (source_first v q i at vs (readable v q) a s y is mirrors target_is w (plain_later U w0 w a l.extends made_there plain) l)
     parameters_agree (v ∷ vs) h i there _ _ (target_bound _ x b xs ys is mirrors typed rest) w l low m =
         let q : Parameter U.program p v = parameter_is U.program p v (all_first (covers_parameter U.program p) v vs h) in
         let at : slice_get ps i ≡ Some v = first_there i v vs there in
-        next_agrees v q i at vs (readable v q) (by_value x) (by_address b) xs ys refl
+        next_agrees v q i at vs (readable v q) (by_value x) (by_address b) xs ys
         (parameters_agree vs (all_rest (covers_parameter U.program p) v vs h) (suc i) (rest_there i v vs there) xs ys rest) w l low m
         (target_first v q i at vs (readable v q) x b is mirrors typed w l)

@@ -48,7 +48,7 @@ use Rattle.run_laws.specs.Premises.{ArraysAreMadeInCalls, ArraysHaveRanks, Local
 use Rattle.run_laws.proofs.Covered.{CoveredProcedure, all_at, blocks_are_kept, covered_parts, form_at, form_covered, jumps_soundly, labels_are_sound, no_property, not_none, some_is, extents_given, own_covered_at, scalar_declared}
 use Rattle.run_laws.proofs.Entries.{all_names, entries_agree}
 use Rattle.line_laws.proofs.Called.{use_calls}
-use Rattle.run_laws.proofs.Callees.{call_fits, call_suits, callee_covered, callee_within, can_call}
+use Rattle.run_laws.proofs.Callees.{call_fits, call_suits, callee_covered, callee_within, can_call, call_hands}
 use Rattle.run_laws.proofs.Names.{is_below}
 use Rattle.run_laws.proofs.Heads.{HasAnswer, answer_sound}
 use Rattle.run_laws.proofs.Keeping.{line_keeps}
@@ -121,7 +121,7 @@ module _ (U : Upgrade) (h : RunPremises U) where
         can_call U h.known h.procedures h.found p q c.site c.procedure c.is_site c.is_procedure (no_property c.procedure.kind c.kind) W l stands call test (
           clean_called U.program p q c.procedure c.is_procedure within l stands call U.facts.marks pass.0,
           covered_called U.program p q c.procedure c.is_procedure within l stands call pass.1,
-        ) (args_at d) (call_suits U p q l d calls m e) (call_fits U q d (h.fits p k l pass.0 (ap (λ (ls : List Line). slice_get ls k) lines_are ∙ at) d m) e)
+        ) (args_at d) (call_suits U p q l d calls m e) (call_hands U p q l d calls m e) (call_fits U q d (h.fits p k l pass.0 (ap (λ (ls : List Line). slice_get ls k) lines_are ∙ at) d m) e)
 
     -- no line is replaced, so each line and the written one of its number go the same ways
     same_ways : (n : ℕ) (o : Option SourceLine) → line_at (source.machine_of R) p n ≡ o → SameWays o (line_at (target.machine_of N) (written p pass).number n)

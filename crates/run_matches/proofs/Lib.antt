@@ -6,6 +6,7 @@ pub mod CallSamples
 mod ReferenceSamples
 mod QuietSamples
 mod ArraySamples
+mod ElementSamples
 pub mod StoreExamples
 mod CoveredExamples
 mod LibraryExamples

@@ -14,6 +14,7 @@ use Rattle.net_run.specs.Names as net_part
 use Rattle.net_run.specs.Shapes as shape
 use Rattle.net_run.specs.Store as net
 use Rattle.net_run.specs.Values as net_value
+use Rattle.run_matches.specs.Covered.{is_relied_at}
 use Rattle.run_matches.specs.Upgrades.{Upgrade, class_home, variable_key, is_flagged_field, parameter_rank, runnable_of, takes_array}
 use Rattle.run_matches.specs.Maps.{World, mark, IsMade, IsMatched, moved_at, is_auto_root, is_fixed_position}
 use Rattle.run_matches.specs.Likeness.{SameShape, LikeV, ShapedAs}
@@ -102,9 +103,33 @@ pub record HasOwnKey (U : Upgrade) (a : Address) : Type 0 where
   pub is_key : variable_key U variable ≡ Some key
   pub differs : (u : ℕ) → variable_key U u ≡ Some key → variable ≡ u
 
--- where a scalar can be written: a place, or a variable of a standard module
+abbrev pub is_element : Address → Bool
+is_element (root s q) = false
+is_element (item e q j path) = true
+is_element (constant x) = false
+
+-- a variable or a value, and no element
+abbrev pub IsWhole : Address → Type 0
+IsWhole a = is_element a ≡ false
+
+-- an element of an array of scalars
+pub record IsElement (a : Address) : Type 0 where
+  pub ty : Ty
+  pub array : Position
+  pub index : ℕ
+  pub stands : a ≡ item (simple ty) array index []
+
+-- a variable that can be written: in a place, or one of a standard module
+abbrev pub IsVariable : Upgrade → Address → Type 0
+IsVariable U a = IsInPlace a ⊎ HasOwnKey U a
+
+-- where a scalar can be written
 abbrev pub IsTarget : Upgrade → Address → Type 0
-IsTarget U a = IsInPlace a ⊎ HasOwnKey U a
+IsTarget U a = IsVariable U a ⊎ IsElement a
+
+-- a variable of a type, or an element of an array of elements of the type
+abbrev pub IsScalarAt : Ty → Address → Position → Type 0
+IsScalarAt ty a q = (a ≡ root (simple ty) q) ⊎ ((index : ℕ) × (a ≡ item (simple ty) q index []))
 
 -- ---- parts of expressions
 
@@ -203,6 +228,10 @@ IsThere w a = (q : Position) → position_of a ≡ Some q → IsMade (mark w.src
 abbrev pub IsTypedAs : Upgrade → Value → shape.Shape → Type 0
 IsTypedAs U x s = (ty : Ty) (z : Value6) → x ≡ scalar ty z → SameShape U (simple ty) s
 
+-- a parameter that is relied on is given no element
+abbrev pub GivesWhole : Upgrade → (procedure place : ℕ) → Address → Type 0
+GivesWhole U p i a = is_relied_at U.program p i ≡ true → IsWhole a
+
 -- Arguments from a place on. An ordinary reference parameter is bound by reference on both sides, quiet or not. At a quiet one either
 -- side alone may have a value, and the target has one where it is an index parameter of a property.
 pub data ArgsMatch (U : Upgrade) (K : Pledge) (w : World) (p : ℕ) : (place : ℕ) → List SourceGiven → List NetGiven → Type 0 where
@@ -211,11 +240,12 @@ pub data ArgsMatch (U : Upgrade) (K : Pledge) (w : World) (p : ℕ) : (place : �
       (i : ℕ) (x : Value) (y : net_value.Value) (xs : List SourceGiven) (ys : List NetGiven) → LikeV U w x y → GivesNoArray U p i x
       → ArgsMatch U K w p (suc i) xs ys → ArgsMatch U K w p i (by_value x ∷ xs) (by_value y ∷ ys)
   address_args :
-      (i : ℕ) (a : Address) (b : net.Address) (xs : List SourceGiven) (ys : List NetGiven) → Same U K w a b → IsTarget U a → IsPlain U w a
-      → HasParameterRank U p i (net.shape_at b) → ArgsMatch U K w p (suc i) xs ys → ArgsMatch U K w p i (by_address a ∷ xs) (by_address b ∷ ys)
+      (i : ℕ) (a : Address) (b : net.Address) (xs : List SourceGiven) (ys : List NetGiven) → Same U K w a b → IsTarget U a → GivesWhole U p i a
+      → IsPlain U w a → HasParameterRank U p i (net.shape_at b) → ArgsMatch U K w p (suc i) xs ys
+      → ArgsMatch U K w p i (by_address a ∷ xs) (by_address b ∷ ys)
   source_bound :
       (i : ℕ) (a : Address) (s : shape.Shape) (y : net_value.Value) (xs : List SourceGiven) (ys : List NetGiven) → (runnable_of U).quiet p i ≡ true
-      → Mirrors U K w a (net.constant s y) → IsTarget U a → IsThere w a → IsPlain U w a → ArgsMatch U K w p (suc i) xs ys → ArgsMatch U K w p i (by_address a ∷ xs) (by_value y ∷ ys)
+      → Mirrors U K w a (net.constant s y) → IsVariable U a → IsThere w a → IsPlain U w a → ArgsMatch U K w p (suc i) xs ys → ArgsMatch U K w p i (by_address a ∷ xs) (by_value y ∷ ys)
   target_bound :
       (i : ℕ) (x : Value) (b : net.Address) (xs : List SourceGiven) (ys : List NetGiven) → (runnable_of U).quiet p i ≡ true
       → Mirrors U K w (constant x) b → IsTypedAs U x (net.shape_at b) → ArgsMatch U K w p (suc i) xs ys → ArgsMatch U K w p i (by_value x ∷ xs) (by_address b ∷ ys)

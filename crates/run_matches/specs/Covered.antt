@@ -1,7 +1,8 @@
 -- Which procedures and lines are proved to do the same: the one file that a form group edits. What isn't covered is translated all the same.
+use Rattle.run_matches.specs.Keeping.{keeps_given}
 use Rattle.std.specs.Prelude.{◌≡◌, ◌⊎◌, ℕ, ℤ, suc, pos, negsuc, Bool, true, false, cond, not, ◌&&◌, ◌||◌, int_le, nat_eq, Option, Some, None, is_some, List, [], ◌∷◌, length, map, slice_get, nat_lt}
 use Rattle.std.specs.Cmp.Lexicographic.{pointwise}
-use Rattle.std.specs.List.{list_all, list_any, Contains}
+use Rattle.std.specs.List.{list_all, list_any, flat_map, Contains}
 use Rattle.up_base.specs.Names.{is_same_name}
 use Rattle.vb_tree.specs.BoundTree as types
 use Rattle.vb_tree.specs.BoundTree.{Ty}
@@ -28,10 +29,11 @@ use Rattle.bound_tree.specs.Tree as tree
 use Rattle.bound_facts.specs.Bounds.{ranks}
 use Rattle.bound_facts.specs.CanRaise.{raises_by}
 use Rattle.bound_facts.specs.Calls.{Reaches, line_calls, count_procedures, count_variables}
-use Rattle.bound_facts.specs.Effects.{touched}
+use Rattle.bound_facts.specs.Effects.{params_at, passes, touched}
 use Rattle.bound_facts.specs.Facts.{acts}
 use Rattle.bound_facts.specs.Folded.{folded}
-use Rattle.bound_facts.specs.Leading.{is_in}
+use Rattle.bound_facts.specs.Items.{project_items}
+use Rattle.bound_facts.specs.Leading.{is_in, within}
 use Rattle.bound_facts.specs.Locks.{is_same_type}
 use Rattle.bound_facts.specs.Node.{type_at, called, args_at, is_array_type}
 use Rattle.bound_facts.specs.Nodes.{nodes, nodes_of_all}
@@ -49,7 +51,7 @@ use Rattle.vb6_run.specs.Runnables.{is_class_file}
 use Rattle.vb6_run.specs.Values.{is_typed}
 use Rattle.run_matches.specs.Callees.{frame_owns, is_found}
 use Rattle.run_matches.specs.Formed.{is_formed}
-use Rattle.run_matches.specs.Inward.{is_inward_in}
+use Rattle.run_matches.specs.Inward.{grown, is_apart, is_inward_in}
 use Rattle.run_matches.specs.Shared.{names_lead, others_differ, is_alone_static}
 use Rattle.run_matches.specs.Upgrades.{takes_array}
 use Rattle.run_matches.specs.Sites.{Site, site_of, Own, own_variable, own_constant, own_name, owns_of, local_numbers, static_numbers, statement_of}
@@ -254,6 +256,8 @@ pub record Uses : Type 0 where
   -- procedures that are seen to be inward
   pub inward : (procedure : ℕ) → Bool
   pub exact : VarId → Bool
+  -- variables that are bound to no element, since a line that stores one may rely on them
+  pub relied : VarId → Bool
 
 abbrev pub IsUsed : Uses → VarId → Type 0
 IsUsed uses v = (uses.scalar v ≡ true) ⊎ ((element : Ty) × (uses.array v element ≡ true))
@@ -261,6 +265,31 @@ IsUsed uses v = (uses.scalar v ≡ true) ⊎ ((element : Ty) × (uses.array v el
 abbrev pub is_declared_as : Ty → Option Variable → Bool
 is_declared_as ty None = false
 is_declared_as ty (Some x) = is_same_type ty x.ty
+
+abbrev pub is_element_term : Term → Bool
+is_element_term (element a indexes) = true
+is_element_term t = false
+
+abbrev pub stores_element : List Expr → Bool
+stores_element [] = false
+stores_element (typed ty t ∷ es) = is_element_term t
+
+abbrev pub mentioned_variable : Mention → List ℕ
+mentioned_variable (mention.Var u) = u.0 ∷ []
+mentioned_variable m = []
+
+abbrev pub relied_items : (procedure : ℕ) → tree.Line → List ℕ
+relied_items i l = cond (stores_element l.bindings.exprs) (flat_map mentioned_variable l.bindings.mentions) []
+
+-- those that lines mention that store an element
+abbrev pub relied : Program → List ℕ
+relied P = project_items relied_items P.bodies
+
+-- A line that stores an element mentions the variable, or a parameter to which it is passed on: indexes or value may have to be what it holds,
+-- whatever is evaluated before. So it is bound to no element, which the source may not find.
+abbrev pub is_relied_on : Program → (variable : ℕ) → Bool
+is_relied_on P v =
+    not (is_apart (within (count_variables P) (passes P)) (grown (count_variables P) (within (count_variables P) (passes P)) (relied P)) v)
 
 -- those that a line of a procedure uses and mentions
 abbrev pub uses_in : Program → (procedure : ℕ) → List Mention → Uses
@@ -270,6 +299,7 @@ uses_in P p mentions = record {
   is_of = λ v ty. is_declared_as ty (slice_get P.declarations.vars v.0);
   inward = is_inward_in P;
   exact = λ v. is_loud P v.0 (slice_get P.declarations.vars v.0);
+  relied = λ v. is_relied_on P v.0;
 }
 
 abbrev pub is_without_object : Object → Bool
@@ -429,7 +459,7 @@ abbrev mutual
 
   pub is_calm_term : Uses → Ty → Term → Bool
   is_calm_term uses ty (constant x origin) = true
-  is_calm_term uses ty (variable v qualified) = uses.scalar v && (uses.exact v && uses.is_of v ty)
+  is_calm_term uses ty (variable v qualified) = uses.scalar v && (uses.exact v && (uses.is_of v ty && uses.relied v))
   is_calm_term uses ty (convert to e) = is_same_type to ty && (widens (type_at e) to && is_calm uses e)
   is_calm_term uses ty t = false
 
@@ -847,9 +877,12 @@ covers_callee P p (Some s) q =
     nat_lt q (count_procedures P)
     && is_found P.declarations (slice_get P.declarations.procs p) s (slice_get P.declarations.procs q) (site_of P.declarations q)
 
--- a variable, or a conversion, which is a temporary
+abbrev pub is_item : Expr → Bool
+is_item (typed ty t) = is_element_term t
+
+-- a variable, a conversion, which is a temporary, or an element of an array
 abbrev pub is_referred : Expr → Bool
-is_referred e = is_variable e || is_conversion e
+is_referred e = is_variable e || (is_conversion e || is_item e)
 
 -- an array goes to a parameter that takes one
 abbrev pub suits_array : Declarations → (procedure place : ℕ) → Expr → Bool
@@ -871,11 +904,39 @@ suits_callee D (Some q) args = suits_passed D q 0 args
 abbrev pub suits : Declarations → Expr → Bool
 suits D e = suits_callee D (called e) (args_at e)
 
+abbrev pub is_relied_id : Program → Option VarId → Bool
+is_relied_id P None = false
+is_relied_id P (Some v) = is_relied_on P v.0
+
+-- what takes a parameter's place is relied on where the parameter is, which all lines of the program fulfil
+abbrev pub is_relied_at : Program → (procedure place : ℕ) → Bool
+is_relied_at P q i = is_relied_id P (slice_get (params_at (slice_get P.declarations.procs q)) i)
+
+abbrev pub hands_term : Program → (procedure place : ℕ) → Term → Bool
+hands_term P q i (variable v qualified) = not (is_relied_at P q i) || is_relied_on P v.0
+hands_term P q i (element a indexes) = not (is_relied_at P q i)
+hands_term P q i t = true
+
+abbrev pub hands_argument : Program → (procedure place : ℕ) → Argument → Bool
+hands_argument P q i (by_value e) = true
+hands_argument P q i (by_reference (typed ty t)) = hands_term P q i t
+
+abbrev pub hands_passed : Program → (procedure place : ℕ) → Passed → Bool
+hands_passed P q i no_passed = true
+hands_passed P q i (next_passed a rest) = hands_argument P q i a && hands_passed P q (suc i) rest
+
+abbrev pub hands_callee : Program → Option ℕ → Passed → Bool
+hands_callee P None args = true
+hands_callee P (Some q) args = hands_passed P q 0 args && keeps_given P q args
+
+abbrev pub hands : Program → Expr → Bool
+hands P e = hands_callee P (called e) (args_at e)
+
 -- what a line calls, with arguments that suit its parameters
 abbrev pub covers_calls : Program → (procedure : ℕ) → tree.Line → Bool
 covers_calls P p l =
     list_all (λ (c : ℕ × ℕ). covers_callee P p (site_of P.declarations p) c.1) (line_calls P.declarations p l)
-    && list_all (suits P.declarations) (line_uses l)
+    && (list_all (suits P.declarations) (line_uses l) && list_all (hands P) (line_uses l))
 
 abbrev pub covers_all_calls : Program → (procedure : ℕ) → Option (List tree.Line) → Bool
 covers_all_calls P p None = false

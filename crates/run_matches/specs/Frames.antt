@@ -1,5 +1,5 @@
 -- When frames of both languages match, and what a frame has as its own.
-use Rattle.std.specs.Prelude.{◌≡◌, ℕ, ℤ, suc, ◌<◌, Bool, true, false, not, ◌&&◌, ◌||◌, cond, nat_eq, Option, Some, None, option_map, List, [], ◌∷◌, ◌++◌, map, slice_get}
+use Rattle.std.specs.Prelude.{◌≡◌, ◌⊎◌, ℕ, ℤ, suc, ◌<◌, Bool, true, false, not, ◌&&◌, ◌||◌, cond, nat_eq, Option, Some, None, option_map, List, [], ◌∷◌, ◌++◌, map, slice_get}
 use Rattle.std.specs.List.{list_any}
 use Rattle.std.specs.Map.{lookup}
 use Rattle.vb_tree.specs.BoundTree.{Ty}
@@ -31,12 +31,12 @@ use Rattle.net_run.specs.Shapes as shape
 use Rattle.net_run.specs.Store as net
 use Rattle.net_run.specs.Values as net_value
 use Rattle.run_matches.specs.CleanLines.{lines_at}
-use Rattle.run_matches.specs.Covered.{IsUsed, covers_line, uses_in, is_local_in, is_passing_in, is_reference_in}
+use Rattle.run_matches.specs.Covered.{IsUsed, covers_line, is_relied_on, uses_in, is_local_in, is_passing_in, is_reference_in}
 use Rattle.run_matches.specs.Upgrades.{Upgrade, code_of, is_flagged, is_auto}
 use Rattle.run_matches.specs.Maps.{World, mark, Below, moved_at}
 use Rattle.run_matches.specs.Likeness.{SameShape}
 use Rattle.run_matches.specs.Pledges.{Own, Pledge, IsOld, pledge, own_object}
-use Rattle.run_matches.specs.Addresses.{AllMatched, AllRanked, Bound, position_of, IsPlain, IsInPlace, IsTarget, KeptMatch, AllLocked}
+use Rattle.run_matches.specs.Addresses.{AllMatched, AllRanked, Bound, position_of, IsPlain, IsElement, IsInPlace, IsScalarAt, IsTarget, IsWhole, KeptMatch, AllLocked}
 use Rattle.written_trees.specs.Names.{variable_name_of}
 
 -- ---- the variables of a frame
@@ -213,9 +213,10 @@ pub record FrameMatch (U : Upgrade) (K : Pledge) (w : World) (p : ℕ) (f : Sour
 abbrev pub is_reference_of : Upgrade → (procedure variable : ℕ) → Bool
 is_reference_of U p v = is_reference_in p (slice_get U.program.declarations.vars v)
 
--- a variable of a shape; an array may have other bounds, as a fixed one that is given to a parameter
+-- A variable of a shape; a scalar may be an element of an array, and an array may have other bounds, as a fixed one that is given to a
+-- parameter.
 abbrev pub StandsAs : Shape → Address → Position → Type 0
-StandsAs (simple ty) a q = a ≡ root (simple ty) q
+StandsAs (simple ty) a q = IsScalarAt ty a q
 StandsAs (group t fs) a q = a ≡ root (group t fs) q
 StandsAs (array e bounds) a q = (others : List (ℤ × ℤ)) × (a ≡ root (array e others) q)
 StandsAs endless a q = a ≡ root endless q
@@ -226,14 +227,10 @@ pub record GivenPlace (U : Upgrade) (v : ℕ) (a : Address) : Type 0 where
   pub stands : StandsAs (variable_shape U.program.declarations v) a position
   pub target : IsTarget U a
 
-abbrev pub is_element : Address → Bool
-is_element (root s q) = false
-is_element (item e q j path) = true
-is_element (constant x) = false
-
--- A quiet parameter may stand for a value. None stands for an element of an array yet: nothing keeps arrays apart that stand in elements.
+-- a quiet parameter may stand for a value
 pub record GivenAddress (U : Upgrade) (v : ℕ) (a : Address) : Type 0 where
-  pub whole : is_element a ≡ false
+  pub of_scalars : IsWhole a ⊎ IsElement a
+  pub whole : is_relied_on U.program v ≡ true → IsWhole a
   pub place : is_quiet U.program.declarations U.known v ≡ false → GivenPlace U v a
 
 -- so it is with those that a line uses

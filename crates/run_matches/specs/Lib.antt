@@ -16,4 +16,5 @@ pub mod Owing
 pub mod Formed
 pub mod Callees
 pub mod Inward
+pub mod Keeping
 pub mod Covered

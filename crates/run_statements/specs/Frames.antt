@@ -1,4 +1,6 @@
 -- What variables, expressions and assignments do in frames that match.
+use Rattle.bound_facts.specs.Nodes.{nodes_of_passed}
+use Rattle.run_matches.specs.Keeping.{given_types}
 use Rattle.std.specs.List.{list_all}
 use Rattle.std.specs.Prelude.{◌≡◌, ◌⊎◌, ℕ, ℤ, Bool, true, false, Some, [], ◌∷◌, slice_get, None, zero, suc, nat_eq, List, length}
 use Rattle.vb_tree.specs.BoundTree.{Ty, array}
@@ -11,7 +13,7 @@ use Rattle.vb_tree.specs.declared.value.Value6.{Value6}
 use Rattle.bound_tree.specs.Tree.{Variable, Expr, typed, Term, constant, variable, field, element, call, library, unary, binary, convert, new_object, me, with_object, err_number, err_raise, err_clear, is_same, loose, no_object, Exprs, no_exprs, next_expr, Argument, by_value, by_reference, Passed, no_passed, next_passed}
 use Rattle.bound_facts.specs.Facts.{is_quiet}
 use Rattle.bound_facts.specs.Locks.{Keeps}
-use Rattle.bound_facts.specs.Node.{type_at}
+use Rattle.bound_facts.specs.Node.{type_at, called}
 use Rattle.net_tree.specs.declared.declaration.NetPassing.{NetPassing}
 use Rattle.net_tree.specs.declared.declaration.NetPassing.TheVariants as passing
 use Rattle.net_tree.specs.Tree.{call_of, path}
@@ -39,14 +41,14 @@ use Rattle.net_run.specs.Values as net_value
 use Rattle.net_meaning.specs.declared.value.ValueN.TheVariants as n
 use Rattle.written_trees.specs.Exprs.{exp_of, passed_of}
 use Rattle.written_trees.specs.Names.{Scope, variable_path, procedure_path}
-use Rattle.run_matches.specs.Addresses.{Same, IsPlain, IsTarget, SameIndexes}
+use Rattle.run_matches.specs.Addresses.{Same, IsPlain, IsScalarAt, IsTarget, SameIndexes}
 use Rattle.written_trees.specs.Arguments.{is_property, takes_reference}
 use Rattle.run_matches.specs.Agreeing.{Agrees}
 use Rattle.run_matches.specs.Formed.{passed_are_formed, is_formed}
-use Rattle.run_matches.specs.Covered.{Uses, IsUsed, covers_type, covers_variable, covers_array, covers_expr, covers_exprs, covers_passed, is_declared_as, is_in_order, suits_passed}
+use Rattle.run_matches.specs.Covered.{Uses, IsUsed, covers_type, covers_variable, covers_array, covers_expr, covers_exprs, covers_passed, hands_passed, is_declared_as, is_in_order, is_relied_on, suits_passed}
 use Rattle.run_matches.specs.Frames.{FrameMatch, GivenAddress, HasPlace, IsOwnAddress, is_own_of, is_reference_of}
 use Rattle.run_matches.specs.Likeness.{LikeV, SameShape, scalar_word}
-use Rattle.run_matches.specs.Maps.{IsMatched, World}
+use Rattle.run_matches.specs.Maps.{IsMatched, World, is_auto_root}
 use Rattle.run_matches.specs.Match.{HasArray, MemoryMatch}
 use Rattle.run_matches.specs.Pledges.{Pledge, Later, is_inward}
 use Rattle.run_matches.specs.Upgrades.{Upgrade, runnable_of, is_flagged, variable_key, written_number}
@@ -97,6 +99,7 @@ pub record AreReadable (U : Upgrade) (T : Scope) (uses : Uses) : Type 0 where
   pub facts : T.facts ≡ U.facts
   pub types : (v : VarId) (ty : Ty) → uses.is_of v ty ≡ true → is_declared_as ty (slice_get U.program.declarations.vars v.0) ≡ true
   pub inward : (q : ℕ) → uses.inward q ≡ true → is_inward U q ≡ true
+  pub relied : (v : VarId) → uses.relied v ≡ true → is_relied_on U.program v.0 ≡ true
 
 -- an array has the rank of its declaration
 abbrev pub HasRankOf : Upgrade → (variable : ℕ) → shape.Shape → Type 0
@@ -202,7 +205,7 @@ MayChange K a = K.steady → IsOwnAddress K a
 abbrev pub ScalarsAreWritten : Upgrade → Type 1
 ScalarsAreWritten U =
     (K : Pledge) (w : World) (a : Address) (b : net.Address) (locked : Locked) (ty : Ty) (z : Value6) (y : net_value.Value) → covers_type ty ≡ true
-    → MemoryMatch U w → Same U K w a b → ((q : Position) × (a ≡ root (simple ty) q)) → IsTarget U a → MayChange K a → LikeV U w (scalar ty z) y
+    → MemoryMatch U w → Same U K w a b → ((q : Position) × IsScalarAt ty a q) → IsTarget U a → MayChange K a → LikeV U w (scalar ty z) y
     → Agrees U K w AnyUnits (write locked (scalar ty z) a w.src) (net.written b y w.net)
 
 -- ---- expressions
@@ -268,6 +271,17 @@ abbrev pub passing_by : (by_reference : Bool) → NetPassing
 passing_by true = passing.Reference
 passing_by false = passing.Value
 
+abbrev pub IsOne : {X : Type 0} → List X → X → Type 0
+IsOne [] x = ⊥
+IsOne (y ∷ ys) x = (y ≡ x) ⊎ IsOne ys x
+
+abbrev pub KeepsEach : Upgrade → (procedure : ℕ) → List Ty → Type 0
+KeepsEach U q ts = (t : Ty) → IsOne ts t → Keeps U.program q t
+
+abbrev pub NodesKeep : Upgrade → List Ty → List Expr → Type 0
+NodesKeep U ts [] = Unit {0}
+NodesKeep U ts (d ∷ ds) = ((q : ℕ) → called d ≡ Some q → KeepsEach U q ts) × NodesKeep U ts ds
+
 -- A procedure that can be called with arguments from where something is written: it passes, and promises what is promised there; the
 -- arguments suit its parameters; what is written for it takes them as it does, and is found by its name.
 pub record CanCall (U : Upgrade) (K : Pledge) (S : net_names.Scope) (T : Scope) (q : ℕ) (args : Passed) : Type 0 where
@@ -278,6 +292,9 @@ pub record CanCall (U : Upgrade) (K : Pledge) (S : net_names.Scope) (T : Scope) 
   pub is_number : written_number U q ≡ Some number
   pub plain : is_property U.program.declarations q ≡ false
   pub suits : suits_passed U.program.declarations q 0 args ≡ true
+  pub hands : hands_passed U.program q 0 args ≡ true
+  pub given : KeepsEach U q (given_types args)
+  pub inside : NodesKeep U (given_types args) (nodes_of_passed args)
   pub ranks : FitsPassed U q 0 args
   pub passings : (i : ℕ) → passing_at (passings_at U.written (Some number)) i ≡ passing_by (takes_reference U.program.declarations q i)
   pub found :
@@ -296,6 +313,7 @@ pub record ElementMatch (U : Upgrade) (ty : Ty) (w : World) (x : source.Parts) (
   pub written : shape.Shape
   pub array : ℕ
   pub is_matched : IsMatched U w position
+  pub plain : is_auto_root U w.map position.root ≡ false
   pub has : HasArray U w position (simple ty) array
   pub same : SameShape U (simple ty) written
   pub indexes : List ℤ

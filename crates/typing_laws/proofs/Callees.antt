@@ -1,5 +1,5 @@
 -- Procedures that can be run, and what they reach.
-use Rattle.std.proofs.Common.{◌≡◌, ◌⊎◌, inl, inr, refl, sym, ap, subst, ◌∙◌, ℕ, zero, suc, ◌+◌, ◌<◌, Bool, true, false, cond, true≢false, List, [], ◌∷◌, ◌++◌, length, Option, Some, None, arith, lt-ltb}
+use Rattle.std.proofs.Common.{◌≡◌, ◌⊎◌, inl, inr, refl, sym, ap, subst, ◌∙◌, ℕ, zero, suc, ◌+◌, ◌<◌, Bool, true, false, cond, true≢false, List, [], ◌∷◌, ◌++◌, length, Option, Some, None, arith, lt-ltb, ◌&&◌}
 use Rattle.std.specs.Prelude.{filter, nat_lt, slice_get}
 use Rattle.std.specs.List.{Contains, flat_map, list_all}
 use Rattle.up_base.proofs.Tests.{both_true, and_true}
@@ -12,7 +12,7 @@ use Rattle.bound_facts.specs.Node.{called}
 use Rattle.bound_facts.specs.Nodes.{nodes}
 use Rattle.bound_facts.specs.Parts.{line_uses}
 use Rattle.vb6_run.specs.Runnables.{Runnable}
-use Rattle.run_matches.specs.Covered.{covers_callee, covers_calls, suits}
+use Rattle.run_matches.specs.Covered.{covers_callee, covers_calls, suits, hands}
 use Rattle.run_matches.specs.Sites.{Site, site_of}
 use Rattle.typing_laws.specs.Calls.{CallsAreSuited, Each, IsReady, IsSuited}
 use Rattle.typing_laws.proofs.Places.{not_none, some_is}
@@ -152,12 +152,13 @@ pub line_suited : (R : Runnable) (p k : ℕ) (x : Procedure) (lines : List Line)
 line_suited R p k x lines l is are_lines stands covers ready =
     let D : Declarations = R.program.declarations in
     let P : Program = R.program in
-    let b = both_true (list_all (λ (c : ℕ × ℕ). covers_callee P p (site_of D p) c.1) (line_calls D p l)) (list_all (suits D) (line_uses l)) covers in
+    let b = both_true (list_all (λ (c : ℕ × ℕ). covers_callee P p (site_of D p) c.1) (line_calls D p l)) (list_all (suits D) (line_uses l) && list_all (hands P) (line_uses l)) covers in
+    let c = both_true (list_all (suits D) (line_uses l)) (list_all (hands P) (line_uses l)) b.1 in
     each_of (IsSuited R) (line_uses l) (λ e m. record {
-      suits = all_among (suits D) (line_uses l) e b.1 m;
-      ready = λ q c.
+      suits = all_among (suits D) (line_uses l) e c.0 m;
+      ready = λ q n.
           let call : Among (line_calls D p l) (p, q) =
-          flat_among (node_calls D p) (line_uses l) e (p, q) m (first_pair p q (called e) (pair_to p (initialized D e) []) c) in
+          flat_among (node_calls D p) (line_uses l) e (p, q) m (first_pair p q (called e) (pair_to p (initialized D e) []) n) in
           ready_called R p q k x is (callee_known P p (site_of D p) q (all_among (λ (c : ℕ × ℕ). covers_callee P p (site_of D p) c.1) (line_calls D p l) (p, q) b.0 call))
           lines l are_lines stands call ready;
     })

@@ -25,8 +25,9 @@ use Rattle.vb6_run.specs.Shapes.{simple}
 use Rattle.vb6_run.specs.Store as store
 use Rattle.vb6_run.specs.Store.{Address, root, Memory, SourceGiven}
 use Rattle.vb6_run.specs.Values.{Value, scalar}
-use Rattle.run_matches.specs.Covered.{Uses, covers_expr, covers_library, covers_term, covers_type, is_plain_kind, is_referred, is_variable}
+use Rattle.run_matches.specs.Covered.{Uses, covers_expr, covers_library, covers_term, covers_type, is_plain_kind, is_referred, is_variable, covers_array, covers_exprs, uses_in}
 use Rattle.run_matches.specs.Formed.{is_row_of_call, types_of}
+use Rattle.typing_laws.proofs.Scalars.{no_array_covered}
 use Rattle.typing_laws.specs.Scalars.{scalar_uses}
 use Rattle.typing_laws.specs.Calls.{CallsKeep, EndsAsCall, IsReady, SourceJob}
 use Rattle.typing_laws.specs.Frames.{AreGiven, IsGiven, IsReturned, Keeps, Stands}
@@ -287,12 +288,14 @@ module _ (C : Context) (F : Footprint) (X : SourceJob → Memory → Type 0) (ca
       (then_ends K (IsTyped ty) (GoodGiven (Some y)) (Leaves C X d w) w (value_of C d w) (λ x v. gives [] (by_value x) v) h
       (λ o x v one k p. (keeps_self K v, value_given y ty x v same p)))
 
-  no_reference : (ty : Ty) (t : Term) → is_variable (typed ty t) ≡ false → is_conversion (typed ty t) ≡ false → is_referred (typed ty t) ≡ true → ⊥
-  no_reference ty t a b h = by (either (is_variable (typed ty t)) (is_conversion (typed ty t)) h)
-    where
-      by : (is_variable (typed ty t) ≡ true) ⊎ (is_conversion (typed ty t) ≡ true) → ⊥
-      by (inl e) = true≢false (sym e ∙ a)
-      by (inr e) = true≢false (sym e ∙ b)
+  no_reference : (ty : Ty) (t : Term) → is_referred (typed ty t) ≡ false → is_referred (typed ty t) ≡ true → ⊥
+  no_reference ty t a h = true≢false (sym h ∙ a)
+
+  -- no element is covered here
+  no_element_given : (ty : Ty) (e : Expr) (i : Exprs) → covers_expr uses (typed ty (element e i)) ≡ true → ⊥
+  no_element_given ty e i covers =
+      no_array_covered (uses_in C.runnable.program C.procedure mentions) e
+      (both_true (covers_array uses e) (covers_exprs uses i) (both_true (covers_type ty) (covers_array uses e && covers_exprs uses i) covers).1).0
 
   pub reference_ends : (w : Memory) → Fits C F w → (y : Variable) (e : Expr) (quiet : Bool) → covers_expr uses e ≡ true → is_typed D e ≡ true → is_referred e ≡ true
       → type_at e ≡ y.ty → is_reference_owner y.owner ≡ true → quiet ≡ false
@@ -302,19 +305,19 @@ module _ (C : Context) (F : Footprint) (X : SourceJob → Memory → Type 0) (ca
       variable_given w fits y ty x qualified quiet (both_true (covers_type ty) (uses.scalar x) covers).1 typing same reference loud
   reference_ends w fits y (typed ty (convert to e)) quiet covers typing referred same reference loud h =
       converted_given w y ty to e quiet (both_true (covers_type ty) (covers_type to && covers_expr uses e) covers).0 same h
-  reference_ends w fits y (typed ty (constant x origin)) quiet covers typing referred same reference loud h = absurd (no_reference ty (constant x origin) refl refl referred)
+  reference_ends w fits y (typed ty (constant x origin)) quiet covers typing referred same reference loud h = absurd (no_reference ty (constant x origin) refl referred)
   reference_ends w fits y (typed ty (call q qualified of args)) quiet covers typing referred same reference loud h =
-      absurd (no_reference ty (call q qualified of args) refl refl referred)
-  reference_ends w fits y (typed ty (library f args)) quiet covers typing referred same reference loud h = absurd (no_reference ty (library f args) refl refl referred)
-  reference_ends w fits y (typed ty (unary op e)) quiet covers typing referred same reference loud h = absurd (no_reference ty (unary op e) refl refl referred)
-  reference_ends w fits y (typed ty (binary op d e)) quiet covers typing referred same reference loud h = absurd (no_reference ty (binary op d e) refl refl referred)
-  reference_ends w fits y (typed ty (field e i)) quiet covers typing referred same reference loud h = absurd (no_reference ty (field e i) refl refl referred)
-  reference_ends w fits y (typed ty (element e i)) quiet covers typing referred same reference loud h = absurd (no_reference ty (element e i) refl refl referred)
-  reference_ends w fits y (typed ty (new_object c)) quiet covers typing referred same reference loud h = absurd (no_reference ty (new_object c) refl refl referred)
-  reference_ends w fits y (typed ty me) quiet covers typing referred same reference loud h = absurd (no_reference ty me refl refl referred)
-  reference_ends w fits y (typed ty (with_object r)) quiet covers typing referred same reference loud h = absurd (no_reference ty (with_object r) refl refl referred)
-  reference_ends w fits y (typed ty err_number) quiet covers typing referred same reference loud h = absurd (no_reference ty err_number refl refl referred)
-  reference_ends w fits y (typed ty (err_raise e)) quiet covers typing referred same reference loud h = absurd (no_reference ty (err_raise e) refl refl referred)
-  reference_ends w fits y (typed ty err_clear) quiet covers typing referred same reference loud h = absurd (no_reference ty err_clear refl refl referred)
-  reference_ends w fits y (typed ty (is_same d e)) quiet covers typing referred same reference loud h = absurd (no_reference ty (is_same d e) refl refl referred)
-  reference_ends w fits y (typed ty (loose e r)) quiet covers typing referred same reference loud h = absurd (no_reference ty (loose e r) refl refl referred)
+      absurd (no_reference ty (call q qualified of args) refl referred)
+  reference_ends w fits y (typed ty (library f args)) quiet covers typing referred same reference loud h = absurd (no_reference ty (library f args) refl referred)
+  reference_ends w fits y (typed ty (unary op e)) quiet covers typing referred same reference loud h = absurd (no_reference ty (unary op e) refl referred)
+  reference_ends w fits y (typed ty (binary op d e)) quiet covers typing referred same reference loud h = absurd (no_reference ty (binary op d e) refl referred)
+  reference_ends w fits y (typed ty (field e i)) quiet covers typing referred same reference loud h = absurd (no_reference ty (field e i) refl referred)
+  reference_ends w fits y (typed ty (element e i)) quiet covers typing referred same reference loud h = absurd (no_element_given ty e i covers)
+  reference_ends w fits y (typed ty (new_object c)) quiet covers typing referred same reference loud h = absurd (no_reference ty (new_object c) refl referred)
+  reference_ends w fits y (typed ty me) quiet covers typing referred same reference loud h = absurd (no_reference ty me refl referred)
+  reference_ends w fits y (typed ty (with_object r)) quiet covers typing referred same reference loud h = absurd (no_reference ty (with_object r) refl referred)
+  reference_ends w fits y (typed ty err_number) quiet covers typing referred same reference loud h = absurd (no_reference ty err_number refl referred)
+  reference_ends w fits y (typed ty (err_raise e)) quiet covers typing referred same reference loud h = absurd (no_reference ty (err_raise e) refl referred)
+  reference_ends w fits y (typed ty err_clear) quiet covers typing referred same reference loud h = absurd (no_reference ty err_clear refl referred)
+  reference_ends w fits y (typed ty (is_same d e)) quiet covers typing referred same reference loud h = absurd (no_reference ty (is_same d e) refl referred)
+  reference_ends w fits y (typed ty (loose e r)) quiet covers typing referred same reference loud h = absurd (no_reference ty (loose e r) refl referred)

@@ -15,6 +15,7 @@ scalars_alone uses = record {
   array = λ v e. false;
   is_of = uses.is_of;
   inward = uses.inward;
+  relied = uses.relied;
   exact = uses.exact;
 }
 

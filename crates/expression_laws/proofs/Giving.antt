@@ -1,0 +1,150 @@
+-- While a call with elements by reference is evaluated, their arrays are kept.
+use Rattle.std.proofs.Common.{◌≡◌, ◌⊎◌, inl, inr, refl, ℕ, Bool, not, Some, List, [], ◌∷◌, ◌++◌}
+use Rattle.vb_tree.specs.BoundTree.{Ty}
+use Rattle.vb_tree.specs.declared.bound.LibCall.{LibCall}
+use Rattle.bound_tree.specs.Tree.{Expr, typed, constant, variable, field, element, call, library, unary, binary, convert, new_object, me, with_object, err_number, err_raise, err_clear, is_same, loose, Exprs, no_exprs, next_expr, Passed, no_passed, next_passed, by_value, by_reference}
+use Rattle.bound_facts.specs.Facts.{is_quiet}
+use Rattle.bound_facts.specs.Locks.{Keeps}
+use Rattle.bound_facts.specs.Node.{called}
+use Rattle.bound_facts.specs.Nodes.{nodes, nodes_in, nodes_of_all, nodes_of_object, nodes_of_passed}
+use Rattle.written_trees.specs.Names.{Scope}
+use Rattle.vb6_run.specs.Store.{Address, SourceFrame}
+use Rattle.net_run.specs.Lines.{NetFrame}
+use Rattle.net_run.specs.Names as net_names
+use Rattle.net_run.specs.Store as net
+use Rattle.run_matches.specs.Addresses.{Bound, images, mirrored}
+use Rattle.run_matches.specs.Covered.{Uses}
+use Rattle.run_matches.specs.Keeping.{given_types}
+use Rattle.run_matches.specs.Maps.{World}
+use Rattle.run_matches.specs.Match.{MemoryMatch}
+use Rattle.run_matches.specs.Pledges.{Pledge}
+use Rattle.run_matches.specs.Upgrades.{Upgrade}
+use Rattle.run_statements.specs.Frames.{AllCalled, AllCalledAll, AllCalledFor, CanCall, Demands, IsOne, KeepsEach, NodesKeep, demands}
+use Rattle.agreeing_laws.specs.Promises.{Weaker}
+use Rattle.agreeing_laws.proofs.Lasting.{later_weaker}
+use Rattle.agreeing_laws.proofs.Moves.{address_promised, locks_promised}
+use Rattle.expression_laws.specs.Calls.{Stands}
+use Rattle.expression_laws.specs.Images.{HasImage, HaveImages, IsImage}
+
+-- arrays of elements of these types are kept too
+abbrev pub giving : Pledge → List Ty → Pledge
+giving K ts = record { keeps = λ t. K.keeps t ⊎ IsOne ts t; steady = K.steady; base = K.base; own = K.own; takes = K.takes }
+
+pub giving_more : (K : Pledge) (ts : List Ty) (w : World) → Weaker w K (giving K ts)
+giving_more K ts w = record {
+  keeps = λ t h. inl h;
+  steady = λ h. h;
+  old = λ r m s o. record { is_made = o.is_made; foreign = o.foreign };
+  takes = λ k lt h. h;
+}
+
+-- ---- the frames
+
+module _ (U : Upgrade) (K : Pledge) (ts : List Ty) (w : World) (start : MemoryMatch U w) where
+  abbrev M : Pledge
+  M = giving K ts
+
+  bound_giving : (exact : Bool) (a : Address) (b : net.Address) → Bound U K w exact a b → Bound U (giving K ts) w exact a b
+  bound_giving _ _ _ (images exact a b same) = images exact a b (address_promised U K (giving K ts) w w a b (giving_more K ts w) same)
+  bound_giving _ _ _ (mirrored a b m) = mirrored a b (record { holds = λ z l. m.holds z (later_weaker U K (giving K ts) w z start (giving_more K ts w) l) })
+
+  image_giving : (v : ℕ) (a : Address) (b : net.Address) → IsImage U K w v a b → IsImage U (giving K ts) w v a b
+  image_giving v a b x = record {
+    same = address_promised U K (giving K ts) w w a b (giving_more K ts w) x.same;
+    target = x.target;
+    plain = x.plain;
+    position = x.position;
+    stands = x.stands;
+    ranked = x.ranked;
+  }
+
+  pub images_giving : (f : SourceFrame) (S : net_names.Scope) (T : Scope) (uses : Uses) → HaveImages U K w f S T uses → HaveImages U (giving K ts) w f S T uses
+  images_giving f S T uses h v a used is =
+      let x : HasImage U K w S T v.0 a = h v a used is in
+      record {
+        address = x.address;
+        found = x.found;
+        bound = bound_giving (not (is_quiet U.program.declarations U.known v.0)) a x.address x.bound;
+        of_scalars = x.of_scalars;
+        whole = x.whole;
+        image = λ exact. image_giving v.0 a x.address (x.image exact);
+      }
+
+  pub stands_giving : (f : SourceFrame) (g : NetFrame) → Stands U K w f g → Stands U (giving K ts) w f g
+  stands_giving f g h = record { me = h.me; object = h.object; locks = locks_promised U K (giving K ts) w w f.env (giving_more K ts w) h.locks }
+
+-- ---- what is called
+
+nodes_left : (U : Upgrade) (ts : List Ty) (ds es : List Expr) → NodesKeep U ts (ds ++ es) → NodesKeep U ts ds
+nodes_left U ts [] es h = tt
+nodes_left U ts (d ∷ ds) es h = (h.0, nodes_left U ts ds es h.1)
+
+nodes_right : (U : Upgrade) (ts : List Ty) (ds es : List Expr) → NodesKeep U ts (ds ++ es) → NodesKeep U ts es
+nodes_right U ts [] es h = h
+nodes_right U ts (d ∷ ds) es h = nodes_right U ts ds es h.1
+
+pub keeps_both : (U : Upgrade) (K : Pledge) (ts : List Ty) (q : ℕ) → ((t : Ty) → K.keeps t → Keeps U.program q t) → KeepsEach U q ts → (t : Ty)
+    → K.keeps t ⊎ IsOne ts t → Keeps U.program q t
+keeps_both U K ts q old new t (inl h) = old t h
+keeps_both U K ts q old new t (inr h) = new t h
+
+module _ (U : Upgrade) (K : Pledge) (S : net_names.Scope) (T : Scope) (ts : List Ty) where
+  abbrev pub can_giving : (q : ℕ) (args : Passed) → KeepsEach U q ts → CanCall U K S T q args → CanCall U (giving K ts) S T q args
+  can_giving q args new c = record {
+    passes = c.passes;
+    keeps = keeps_both U K ts q c.keeps new;
+    inward = c.inward;
+    number = c.number;
+    is_number = c.is_number;
+    plain = c.plain;
+    suits = c.suits;
+    hands = c.hands;
+    given = c.given;
+    inside = c.inside;
+    ranks = c.ranks;
+    passings = c.passings;
+    found = c.found;
+  }
+
+  abbrev Q : Demands
+  Q = demands U K S T
+
+  abbrev R : Demands
+  R = demands U (giving K ts) S T
+
+  abbrev Keep : List Expr → Type 0
+  Keep ds = NodesKeep U ts ds
+
+  mutual
+    called_giving : (e : Expr) → Keep (nodes e) → AllCalled Q e → AllCalled R e
+    called_giving (typed ty (constant x origin)) s h = tt
+    called_giving (typed ty (variable v qualified)) s h = tt
+    called_giving (typed ty (field e k)) s h = tt
+    called_giving (typed ty (element e indexes)) s h = (h.0, called_giving_all indexes (nodes_right U ts (nodes e) (nodes_of_all indexes) s.1) h.1)
+    called_giving (typed ty (call p qualified of args)) s h =
+        (can_giving p.0 args (s.0 p.0 refl) h.0, called_giving_for args (nodes_right U ts (nodes_of_object of) (nodes_of_passed args) s.1) h.1)
+    called_giving (typed ty (library f args)) s h = (h.0, called_giving_all args s.1 h.1)
+    called_giving (typed ty (unary op e)) s h = called_giving e s.1 h
+    called_giving (typed ty (binary op d e)) s h =
+        (called_giving d (nodes_left U ts (nodes d) (nodes e) s.1) h.0, called_giving e (nodes_right U ts (nodes d) (nodes e) s.1) h.1)
+    called_giving (typed ty (convert to e)) s h = called_giving e s.1 h
+    called_giving (typed ty (new_object c)) s h = tt
+    called_giving (typed ty me) s h = tt
+    called_giving (typed ty (with_object root)) s h = tt
+    called_giving (typed ty err_number) s h = tt
+    called_giving (typed ty (err_raise e)) s h = called_giving e s.1 h
+    called_giving (typed ty err_clear) s h = tt
+    called_giving (typed ty (is_same d e)) s h = tt
+    called_giving (typed ty (loose e rules)) s h = tt
+
+    called_giving_all : (es : Exprs) → Keep (nodes_of_all es) → AllCalledAll Q es → AllCalledAll R es
+    called_giving_all no_exprs s h = tt
+    called_giving_all (next_expr e rest) s h =
+        (called_giving e (nodes_left U ts (nodes e) (nodes_of_all rest) s) h.0, called_giving_all rest (nodes_right U ts (nodes e) (nodes_of_all rest) s) h.1)
+
+    pub called_giving_for : (args : Passed) → Keep (nodes_of_passed args) → AllCalledFor Q args → AllCalledFor R args
+    called_giving_for no_passed s h = tt
+    called_giving_for (next_passed (by_value e) rest) s h =
+        (called_giving e (nodes_left U ts (nodes e) (nodes_of_passed rest) s) h.0, called_giving_for rest (nodes_right U ts (nodes e) (nodes_of_passed rest) s) h.1)
+    called_giving_for (next_passed (by_reference e) rest) s h =
+        (called_giving e (nodes_left U ts (nodes e) (nodes_of_passed rest) s) h.0, called_giving_for rest (nodes_right U ts (nodes e) (nodes_of_passed rest) s) h.1)
