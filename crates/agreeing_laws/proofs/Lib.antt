@@ -8,4 +8,8 @@ pub mod Machines
 pub mod Frames
 pub mod Scalars
 pub mod Moves
+pub mod Fields
+pub mod UserShapes
+pub mod SoundParts
+pub mod FieldNames
 pub mod Indexes

@@ -49,7 +49,7 @@ mutual
   )
   all_matched_later U K w0 w1 l endless q h = h
 
-  fields_matched_later : (U : Upgrade) (K : Pledge) (w0 w1 : World) → Later U K w0 w1 → (t k : ℕ) (fs : Shapes) (q : Position)
+  pub fields_matched_later : (U : Upgrade) (K : Pledge) (w0 w1 : World) → Later U K w0 w1 → (t k : ℕ) (fs : Shapes) (q : Position)
       → FieldsMatched U w0 t k fs q → FieldsMatched U w1 t k fs q
   fields_matched_later U K w0 w1 l t k no_shapes q h = tt
   fields_matched_later U K w0 w1 l t k (next_shape s rest) q h =

@@ -308,7 +308,7 @@ module _ (U : Upgrade) (p : ℕ) (f : SourceFrame) (g : NetFrame) (oracle : Sour
           (then (source.address_of C a w.src) (λ b s. then (source.indexes_of C indexes s) (λ zs s. gives [] (b, zs) s)))
           (target.reach S net_oracle false (exp_of T (typed t (element a indexes))) w.net)) (sym (same_of x.element ty r.covers typed_as))
           (indexed_agrees U K p f g oracle net_oracle l k c T same_declarations x.element x.rank x.id x.qualified r w start
-          (λ a at. have x.id a (inr (x.element, x.used)) at) indexes (length (types_of indexes)) readable.facts (leads x.id x.element x.used)
+          (λ a at. have x.id a (inr (inl (x.element, x.used))) at) indexes (length (types_of indexes)) readable.facts (leads x.id x.element x.used)
           (fits (sound_array U x.id x.element (types.array x.element x.rank) x.qualified r refl)) given))
 
   -- the bounds of an array
@@ -324,7 +324,7 @@ module _ (U : Upgrade) (p : ℕ) (f : SourceFrame) (g : NetFrame) (oracle : Sour
       subst (λ d. Agrees U K w (ScalarMatch U ty) (source.value_of C (typed ty (library function (next_expr d rest))) w.src)
       (written (typed ty (library function (next_expr d rest))) w)) (sym x.is)
       (bounds_agree U K p f g oracle net_oracle l k c T same_declarations readable.facts opened.support x.element x.rank x.id x.qualified
-      (readable.arrays x.id x.element x.used) w start (λ a at. have x.id a (inr (x.element, x.used)) at) function ty rest both.0
+      (readable.arrays x.id x.element x.used) w start (λ a at. have x.id a (inr (inl (x.element, x.used))) at) function ty rest both.0
       (long_bound function (types_of (next_expr e rest)) ty both.0 forms.0))
 
   -- what is written for a value without an address
@@ -637,7 +637,7 @@ elements_agree_by U K w p f g oracle net_oracle l k c T uses ty a indexes start 
 pub arrays_agree_by : (U : Upgrade) (K : Pledge) → ArraysAgreeBy U K
 arrays_agree_by U K w p f g oracle net_oracle l k c T uses d rank (variable v qualified) start frames declarations readable placed covers =
     array_agrees U K p f g oracle net_oracle l k c T declarations d rank v qualified (readable.arrays v d covers) w start
-    (λ a at. images_now U K w p f g (scope_of U.written c g k) refl T declarations frames uses start readable placed v a (inr (d, covers)) at)
+    (λ a at. images_now U K w p f g (scope_of U.written c g k) refl T declarations frames uses start readable placed v a (inr (inl (d, covers))) at)
 arrays_agree_by U K w p f g oracle net_oracle l k c T uses d rank _ start frames declarations readable placed covers = absurd (cc covers)
 
 pub indexes_agree_all : (U : Upgrade) → VariablesAreRead U → IndexesAgree U

@@ -28,16 +28,19 @@ use Rattle.net_run.specs.Store as net
 use Rattle.run_matches.specs.Addresses.{AllMatched, AllRanked, Same, same_root, Bound, images, mirrored, IsPlain, position_of, same_item, IsScalarAt, is_element}
 use Rattle.run_matches.specs.Covered.{Uses, IsUsed, covers_owner, covers_type, covers_variable, is_reference_in, is_reference_owner_of}
 use Rattle.run_matches.specs.Frames.{StandsAs, FrameMatch, SameVariable, SameStatic, HasPlace, is_own_of, is_static_in, static_of, GivenAddress, is_reference_of}
-use Rattle.run_matches.specs.Kinds.{IsKind}
-use Rattle.run_matches.specs.Likeness.{SameShape, same_scalar, same_class}
+use Rattle.run_matches.specs.Kinds.{IsKind, AreKinds}
+use Rattle.run_matches.specs.Likeness.{SameShape, same_scalar, same_class, same_group, same_array}
 use Rattle.run_matches.specs.Maps.{World, IsMade, IsMatched, is_auto_root, is_auto_variable, key_or_none, mark, moved_at}
 use Rattle.run_matches.specs.Match.{HasRank, HeldAs, Holds, holds_blank, holds_single, holds_table, holds_parts, MemoryMatch, StoreMatch}
-use Rattle.run_matches.specs.Pledges.{Pledge, Later}
-use Rattle.run_matches.specs.Upgrades.{Upgrade, has_bounds, is_auto, is_fixed, variable_key}
-use Rattle.run_statements.specs.Frames.{HasRankOf, IsArray, IsKnown, IsReadable, IsOwnStatic, IsShared, IsGiven, IsPlaced, ArePlaced, AreReadable}
+use Rattle.run_matches.specs.Pledges.{Pledge, Later, type_of_shape}
+use Rattle.run_matches.specs.SoundShapes.{IsSoundShape}
+use Rattle.run_matches.specs.Upgrades.{Upgrade, has_bounds, is_auto, is_fixed, type_of, type_of_some, variable_key}
+use Rattle.run_statements.specs.Frames.{HasRankOf, IsArray, IsGroup, IsKnown, IsReadable, IsOwnStatic, IsShared, IsGiven, IsPlaced, ArePlaced, AreReadable}
 use Rattle.agreeing_laws.proofs.Made.{same_variable}
 use Rattle.agreeing_laws.proofs.Lasting.{later_then}
 use Rattle.agreeing_laws.proofs.Moves.{address_later, matched_whole}
+use Rattle.agreeing_laws.proofs.SoundParts.{all_matched_made, all_ranked_sound}
+use Rattle.agreeing_laws.proofs.UserShapes.{covered_type_of}
 use Rattle.expression_laws.specs.Images.{HasImage, HaveImages, IsImage}
 use Rattle.expression_laws.proofs.Types.{both_true, simple_type}
 
@@ -66,7 +69,8 @@ known_scalar U v r =
 
 pub known_used : (U : Upgrade) (T : Scope) (uses : Uses) → AreReadable U T uses → (v : VarId) → IsUsed uses v → IsKnown U v.0
 known_used U T uses readable v (inl h) = known_scalar U v.0 (readable.scalars v h)
-known_used U T uses readable v (inr h) = (readable.arrays v h.0 h.1).known
+known_used U T uses readable v (inr (inl h)) = (readable.arrays v h.0 h.1).known
+known_used U T uses readable v (inr (inr h)) = (readable.groups v h.0 h.1).known
 
 -- it is no As New one
 not_auto : (U : Upgrade) (v : ℕ) → IsKnown U v → is_auto U v ≡ false
@@ -147,10 +151,11 @@ shared_matched U w v x e = record {
   sound = ap not x.sound;
 }
 
--- the shape of a variable that is used: that of a scalar, or of an array of scalars, which has bounds where it is fixed
+-- the shape of a variable that is used: that of a scalar, of an array of scalars, which has bounds where it is fixed, or of a user type
 pub data UsedShape (U : Upgrade) (v : ℕ) : Shape → Type 0 where
   used_scalar : (ty : Ty) → UsedShape U v (simple ty)
   used_array : (ty : Ty) (bounds : List (ℤ × ℤ)) → (is_fixed U v ≡ true → bounds ≡ [] → ⊥) → UsedShape U v (array (simple ty) bounds)
+  used_group : (s : Shape) → IsSoundShape U s → type_of U v ≡ Some (type_of_shape s) → UsedShape U v s
 
 -- a variable that stands with the shape of its declaration
 stands_as : (s : Shape) (a : Address) (q : Position) → a ≡ root s q → StandsAs s a q
@@ -180,6 +185,12 @@ array_stands U v element r a q h = subst (λ s. StandsAs s a q) (array_shape_is 
 fixed_bounds : (U : Upgrade) (v : ℕ) (x : Variable) → slice_get U.program.declarations.vars v ≡ Some x → is_fixed U v ≡ true → x.bounds ≡ [] → ⊥
 fixed_bounds U v x is fixed none = true≢false (sym fixed ∙ ap has_bounds is ∙ ap (λ b. is_some (slice_get b 0)) none)
 
+pub group_shape_is : (U : Upgrade) (v t : ℕ) (r : IsGroup U v t) → variable_shape U.program.declarations v ≡ user_shapes U.program.declarations t
+group_shape_is U v t r =
+    let x : Variable = r.known.variable in
+    let users : ℕ → Shape = user_shapes U.program.declarations in
+    ap (declared_shape users) r.known.is_variable ∙ ap (shape_by users x.bounds) r.is_user
+
 shape_used : (U : Upgrade) (T : Scope) (uses : Uses) → AreReadable U T uses → (v : VarId) → IsUsed uses v
     → UsedShape U v.0 (variable_shape U.program.declarations v.0)
 shape_used U T uses readable v (inl h) =
@@ -188,15 +199,22 @@ shape_used U T uses readable v (inl h) =
     subst (λ s. UsedShape U v.0 s)
     (sym (ap (declared_shape users) r.is_variable ∙ simple_type users r.variable.bounds r.variable.ty (type_covered r.variable r.covers)))
     (used_scalar r.variable.ty)
-shape_used U T uses readable v (inr h) =
+shape_used U T uses readable v (inr (inr h)) =
+    let r : IsGroup U v.0 h.0 = readable.groups v h.0 h.1 in
+    let is : variable_shape U.program.declarations v.0 ≡ user_shapes U.program.declarations h.0 = group_shape_is U v.0 h.0 r in
+    subst (λ s. UsedShape U v.0 s) (sym is)
+    (used_group (user_shapes U.program.declarations h.0) r.fields
+    (ap type_of_some r.known.is_variable ∙ ap (λ t. Some t) (r.is_user ∙ sym (covered_type_of U.program.declarations h.0 r.covers))))
+shape_used U T uses readable v (inr (inl h)) =
     let r : IsArray U v.0 h.0 = readable.arrays v h.0 h.1 in
     let x : Variable = r.known.variable in
     subst (λ s. UsedShape U v.0 s) (sym (array_shape_is U v.0 h.0 r)) (used_array h.0 x.bounds (fixed_bounds U v.0 x r.known.is_variable))
 
-shared_all : (U : Upgrade) (w : World) (v : ℕ) (s : Shape) → UsedShape U v s → IsMatched U w (at_key v) → IsKind s (w.src.held (at_key v))
+shared_all : (U : Upgrade) (w : World) (v : ℕ) (s : Shape) → UsedShape U v s → IsMatched U w (at_key v) → AreKinds s (at_key v) w.src.held
     → AllMatched U w s (at_key v)
 shared_all U w v _ (used_scalar ty) m kind = (m, kind)
 shared_all U w v _ (used_array ty bounds fixed) m kind = (m, kind, fixed)
+shared_all U w v _ (used_group s c of) m kind = all_matched_made U w (shared (v ∷ [])) v m.is_made m.counterpart refl s [] c of m.sound kind
 
 -- where the source has an array, a number of one stands in the cell
 array_number : (U : Upgrade) (w : World) (h : Held) (c : net.Cell) (e : Shape) (dims : List Dimension) (xs : Values) → Holds U w h c → h ≡ table e dims xs
@@ -208,15 +226,16 @@ array_number U w _ _ e dims xs holds_parts is = absurd (cc is)
 
 -- an array of a standard module has the rank of its declaration
 shared_ranked : (U : Upgrade) (w : World) → StoreMatch U w → (v : ℕ) (s : Shape) → UsedShape U v s → (d : net_shapes.Shape) → SameShape U s d
-    → HasRankOf U v d → IsMatched U w (at_key v) → IsKind s (w.src.held (at_key v)) → AllRanked U w s d (at_key v)
+    → HasRankOf U v d → IsMatched U w (at_key v) → AreKinds s (at_key v) w.src.held → AllRanked U w s d (at_key v)
 shared_ranked U w h v _ (used_scalar ty) d same ranked m kind = tt
 shared_ranked U w h v _ (used_array ty bounds fixed) (net_shapes.array d rank) same ranked m kind =
     let there = array_number U w (w.src.held (at_key v)) (w.net.cell (moved_at U w.map (at_key v))) (simple ty) kind.0 kind.1 (h.values (at_key v) m) kind.2 in
     (there.0, there.1, h.ranks (at_key v) v v there.0 m refl refl there.1 ∙ sym ranked)
 shared_ranked U w h v _ (used_array ty bounds fixed) _ same ranked m kind = tt
+shared_ranked U w h v _ (used_group s c of) d same ranked m kind = all_ranked_sound U w s d (at_key v) c
 
-not_blank : (D : Declarations) (v file : ℕ) (o : Owner) (h : Held) → o ≡ owner.Module file → is_class_file D file ≡ false → HeldAs D v o h
-    → IsKind (variable_shape D v) h
+not_blank : (D : Declarations) (v file : ℕ) (o : Owner) (h : Position → Held) → o ≡ owner.Module file → is_class_file D file ≡ false → HeldAs D v o h
+    → AreKinds (variable_shape D v) (at_key v) h
 not_blank D v file o h is standard (inl b) =
     absurd (true≢false (sym (ap (is_module_variable D) is ∙ ap not standard) ∙ b.1))
 not_blank D v file o h is standard (inr kind) = kind
@@ -238,8 +257,8 @@ module _ (U : Upgrade) (K : Pledge) (w : World) (start : StoreMatch U w) (f : So
   shared_same : Same U K w (root (variable_shape D v) (at_key v)) there
   shared_same =
       let m : IsMatched U w (at_key v) = shared_matched U w v r key_there in
-      let kind : IsKind (variable_shape D v) (w.src.held (at_key v)) =
-      not_blank D v s.file s.variable.owner (w.src.held (at_key v)) s.is_owner s.standard (start.kinds v s.variable s.is_variable r.sound) in
+      let kind : AreKinds (variable_shape D v) (at_key v) w.src.held =
+      not_blank D v s.file s.variable.owner w.src.held s.is_owner s.standard (start.kinds v s.variable s.is_variable r.sound) in
       same_root (variable_shape D v) s.written (at_key v) s.same (shared_all U w v (variable_shape D v) used m kind)
       (shared_ranked U w start v (variable_shape D v) used s.written s.same s.ranked m kind)
 
@@ -261,6 +280,7 @@ module _ (U : Upgrade) (K : Pledge) (w : World) (start : StoreMatch U w) (f : So
                 variable = v;
                 key = s.key;
                 of_shape = variable_shape D v;
+                path = [];
                 stands = stands;
                 is_key = s.is_key;
                 differs = s.differs;
@@ -275,6 +295,14 @@ module _ (U : Upgrade) (K : Pledge) (w : World) (start : StoreMatch U w) (f : So
 
 -- ---- Statics of the procedure
 
+-- what has no array is written as none
+sound_no_array : (U : Upgrade) (s : Shape) (d : net_shapes.Shape) → SameShape U s d → IsSoundShape U s → (e : net_shapes.Shape) (rank : ℕ)
+    → d ≡ net_shapes.array e rank → ⊥
+sound_no_array U _ _ (same_scalar t word is) c e rank shaped = cc
+sound_no_array U _ _ (same_class k home is) c e rank shaped = cc
+sound_no_array U _ _ (same_group t home member fs gs is fields) c e rank shaped = cc
+sound_no_array U _ _ (same_array f bounds d rank' same) c e rank shaped = absurd c
+
 -- an array has the rank of its declaration
 static_ranked : (U : Upgrade) (w : World) → StoreMatch U w → (v : ℕ) (s : Shape) → UsedShape U v s → (d : net_shapes.Shape) → SameShape U s d
     → (e : net_shapes.Shape) (rank : ℕ) → d ≡ net_shapes.array e rank → IsMatched U w (at_key v) → AllRanked U w s d (at_key v) → rank ≡ U.facts.rank v
@@ -283,6 +311,7 @@ static_ranked U w h v _ (used_scalar ty) _ (same_class c home is) e rank shaped 
 static_ranked U w h v _ (used_array ty bounds fixed) d same e rank shaped m ranked =
     let there : HasRank U w (at_key v) rank = subst (λ z. AllRanked U w (array (simple ty) bounds) z (at_key v)) shaped ranked in
     sym there.2 ∙ h.ranks (at_key v) v v there.0 m refl refl there.1
+static_ranked U w h v _ (used_group s c of) d same e rank shaped m ranked = absurd (sound_no_array U s d same c e rank shaped)
 
 key_present : (o : Option Key) → is_some o ≡ true → o ≡ Some (key_or_none o)
 key_present None h = absurd (cc h)
@@ -372,6 +401,7 @@ module _ (U : Upgrade) (K : Pledge) (w : World) (p : ℕ) (f : SourceFrame) (g :
                 variable = v;
                 key = key_or_none (variable_key U v);
                 of_shape = variable_shape U.program.declarations v;
+                path = [];
                 stands = stands;
                 is_key = key_present (variable_key U v) (matched_whole U w (variable_shape U.program.declarations v) (at_key v) x.is_matched).counterpart;
                 differs =

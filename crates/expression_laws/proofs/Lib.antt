@@ -4,6 +4,8 @@ pub mod Variables
 pub mod RowsAgree
 pub mod Conversions
 pub mod Images
+mod FieldPaths
+pub mod Places
 mod LibraryArguments
 mod Inputs
 pub mod Library

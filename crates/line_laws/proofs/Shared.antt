@@ -18,7 +18,7 @@ use Rattle.net_run.specs.Names.{path_start, starts, at_place, var_in}
 use Rattle.net_run.specs.Store as net
 use Rattle.run_matches.specs.Addresses.{AllMatched, Same, same_root, HasOwnKey}
 use Rattle.run_matches.specs.Frames.{FrameMatch, SameStatic, is_own_of, is_static_in, static_of}
-use Rattle.run_matches.specs.Kinds.{IsKind}
+use Rattle.run_matches.specs.Kinds.{AreKinds}
 use Rattle.run_matches.specs.Likeness.{SameShape}
 use Rattle.run_matches.specs.Maps.{World, key_or_none, moved_at}
 use Rattle.run_matches.specs.Match.{HeldAs, MemoryMatch}
@@ -53,8 +53,8 @@ shared_address D f v x file is of standard =
     ∙ ap (λ b. root_address D v (cond b (object_root f.me v) (Some (shared (v ∷ []))))) standard
 
 -- what a variable of a standard module holds is of its kind
-kind_there : (D : Declarations) (v file : ℕ) (o : Owner) (x : Held) → o ≡ owner.Module file → is_class_file D file ≡ false → HeldAs D v o x
-    → IsKind (variable_shape D v) x
+kind_there : (D : Declarations) (v file : ℕ) (o : Owner) (x : Position → Held) → o ≡ owner.Module file → is_class_file D file ≡ false → HeldAs D v o x
+    → AreKinds (variable_shape D v) (at_key v) x
 kind_there D v file o x of standard (inl h) = absurd (true≢false (sym (ap (is_module_variable D) of ∙ ap not standard) ∙ h.1))
 kind_there D v file o x of standard (inr k) = k
 
@@ -63,8 +63,8 @@ shared_matched : (U : Upgrade) (w : World) → MemoryMatch U w → (v : ℕ) (r 
     → AllMatched U w (simple r.variable.ty) (at_key v)
 shared_matched U w h v r file of standard e = (
   record { is_made = tt; counterpart = ap is_some e; sound = ap not r.sound },
-  subst (λ s. IsKind s (w.src.held (at_key v))) (shape_is U v r)
-      (kind_there U.program.declarations v file r.variable.owner (w.src.held (at_key v)) of standard (h.stores.kinds v r.variable r.is_variable r.sound)),
+  subst (λ s. AreKinds s (at_key v) w.src.held) (shape_is U v r)
+      (kind_there U.program.declarations v file r.variable.owner w.src.held of standard (h.stores.kinds v r.variable r.is_variable r.sound)),
 )
 
 pub shared_place : (U : Upgrade) (K : Pledge) (w : World) → MemoryMatch U w → (f : SourceFrame) (S : net_names.Scope) (T : Scope) (v : ℕ) (r : IsReadable U v)

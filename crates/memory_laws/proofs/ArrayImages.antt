@@ -19,7 +19,7 @@ use Rattle.run_matches.specs.Covered.{covers_type}
 use Rattle.run_statements.specs.Frames.{ArrayMatch}
 use Rattle.run_statements.specs.Memory.{MayResize}
 use Rattle.memory_laws.specs.Changes.{GoesAlone}
-use Rattle.memory_laws.proofs.Moved.{place_goes_alone, key_goes_alone}
+use Rattle.memory_laws.proofs.Moved.{place_goes_alone, part_goes_alone}
 use Rattle.memory_laws.proofs.Positions.{at, other_position}
 
 -- ---- an array variable on both sides
@@ -98,9 +98,9 @@ module _ (U : Upgrade) (K : Pledge) (w : World) (ty : Ty) (rank : ℕ) (c : cove
       root_position (array (simple ty) i.bounds) p.shape i.position (at (made p.place) p.path) (sym i.at_source ∙ p.stands) in
       subst (λ x. GoesAlone U w x) (sym s) (place_goes_alone U w h.stores p.place p.path (subst (λ x. IsMatched U w x) s i.is_matched))
   array_alone a b h i (inl (inr k)) =
-      let q : Position = at (shared (k.variable ∷ [])) [] in
+      let q : Position = at (shared (k.variable ∷ [])) k.path in
       let s : i.position ≡ q = root_position (array (simple ty) i.bounds) k.of_shape i.position q (sym i.at_source ∙ k.stands) in
-      subst (λ x. GoesAlone U w x) (sym s) (key_goes_alone U w k.variable k.key k.is_key k.differs)
+      subst (λ x. GoesAlone U w x) (sym s) (part_goes_alone U w k.variable k.key k.is_key k.differs k.path)
   array_alone a b h i (inr x) = absurd (no_item x.ty x.array i.position x.index (array (simple ty) i.bounds) (sym x.stands ∙ i.at_source))
     where
       no_item : (t : Ty) (q p : Position) (j : ℕ) (s : Shape) → item (simple t) q j [] ≡ root s p → ⊥

@@ -7,7 +7,7 @@ use Rattle.net_tree.specs.Tree as net_tree
 use Rattle.net_tree.specs.Types.{TypeName}
 use Rattle.net_meaning.specs.declared.value.ValueN.TheVariants as n
 use Rattle.run_base.specs.Outcomes.{Outcome, gives, outside, after, answered, then}
-use Rattle.run_base.specs.Positions.{Key, Position, made, shared, whole, updated_at}
+use Rattle.run_base.specs.Positions.{Key, Position, made, shared, whole, updated, updated_at}
 use Rattle.vb6_run.specs.Programs.{lay_if_blank}
 use Rattle.vb6_run.specs.Shapes.{Shape, simple, array, declared_shape, shape_by, user_shapes, variable_shape}
 use Rattle.vb6_run.specs.Store.{root, Held, Memory, blank, table, provided, laid, make}
@@ -20,7 +20,7 @@ use Rattle.net_run.specs.Structures.{initial_value}
 use Rattle.net_run.specs.Values as net_value
 use Rattle.run_matches.specs.Addresses.{same_root}
 use Rattle.run_matches.specs.Agreeing.{Agrees}
-use Rattle.run_matches.specs.Kinds.{IsKind}
+use Rattle.run_matches.specs.Kinds.{AreKinds}
 use Rattle.run_matches.specs.Likeness.{are_same, numbers_of, same_array, same_scalar, scalar_word}
 use Rattle.run_matches.specs.Maps.{World, IsMatched, is_fixed_position, is_fixed_variable, key_or_none, moved_at}
 use Rattle.run_matches.specs.Match.{Holds, holds_blank, holds_single, holds_table, holds_parts, MemoryMatch}
@@ -205,8 +205,9 @@ module _ (U : Upgrade) (v : ℕ) (ty : Ty) (r : IsArray U v ty) (t : TypeName) (
     suits e = record {
       kept = blank_keeps (w.src.held at) (table (simple ty) dims values) e;
       laid = λ u f b.
-          subst (λ z. IsKind (variable_shape U.program.declarations z) (table (simple ty) dims values)) (same_variable_place v u f)
-          (subst (λ s. IsKind s (table (simple ty) dims values)) (sym shape_is) (dims, values, refl));
+          subst (λ z. AreKinds (variable_shape U.program.declarations z) at (updated w.src.held at (table (simple ty) dims values))) (same_variable_place v u f)
+          (subst (λ s. AreKinds s at (updated w.src.held at (table (simple ty) dims values))) (sym shape_is)
+          (dims, values, updated_here w.src.held at (table (simple ty) dims values)));
     }
 
     static_ranked : (x u : ℕ) → Some v ≡ Some x → part_variable U x [] ≡ Some u → length counts ≡ U.facts.rank u

@@ -14,6 +14,9 @@ pub mod Places
 pub mod Scalars
 pub mod Reading
 pub mod Writing
+pub mod Groups
+pub mod GroupValues
+pub mod GroupWriting
 pub mod Elements
 pub mod Making
 pub mod Parameters

@@ -107,8 +107,12 @@ module _ (U : Upgrade) (w : World) (v : ℕ) (key : Key) (is : variable_key U v 
   from_key path (made n) rest x e = absurd (true≢false (sym (ap is_place e)))
   from_key path (field o k) rest x e = absurd (true≢false (sym (ap is_field e)))
 
+  -- a field in it
+  pub part_goes_alone : (path : List ℕ) → GoesAlone U w (at (shared (v ∷ [])) path)
+  part_goes_alone path p x e = from_key path p.root p.path x e
+
   pub key_goes_alone : GoesAlone U w (at (shared (v ∷ [])) [])
-  key_goes_alone p x e = from_key [] p.root p.path x e
+  key_goes_alone = part_goes_alone []
 
 -- ---- where the keys of variables differ, all positions
 

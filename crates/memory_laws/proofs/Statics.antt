@@ -5,7 +5,7 @@ use Rattle.vb_tree.specs.BoundTree.{Ty}
 use Rattle.net_tree.specs.Tree as net_tree
 use Rattle.net_tree.specs.Types.{TypeName}
 use Rattle.run_base.specs.Outcomes.{gives, outside, after, then}
-use Rattle.run_base.specs.Positions.{Key, Position, shared, whole}
+use Rattle.run_base.specs.Positions.{Key, Position, shared, updated, whole}
 use Rattle.vb6_run.specs.Shapes.{simple, variable_shape}
 use Rattle.vb6_run.specs.Store.{Held, blank, single}
 use Rattle.vb6_run.specs.Programs.{lay_if_blank}
@@ -15,7 +15,7 @@ use Rattle.net_run.specs.Program.{made_once}
 use Rattle.net_run.specs.Shapes as shape
 use Rattle.net_run.specs.Store as net
 use Rattle.net_run.specs.Structures.{initial_value}
-use Rattle.run_matches.specs.Kinds.{IsKind}
+use Rattle.run_matches.specs.Kinds.{AreKinds}
 use Rattle.run_matches.specs.Upgrades.{Upgrade, variable_key}
 use Rattle.run_matches.specs.Maps.{World, IsMatched, key_or_none, moved_at}
 use Rattle.run_matches.specs.Likeness.{are_same, scalar_word}
@@ -28,6 +28,7 @@ use Rattle.memory_laws.specs.Changes.{changed, IsSuited}
 use Rattle.memory_laws.proofs.Changes.{changed_later}
 use Rattle.memory_laws.proofs.Making.{blank_keeps, no_table_in, no_array_in, readable_type, readable_shape}
 use Rattle.memory_laws.proofs.Moved.{key_goes_alone, same_variable_place}
+use Rattle.memory_laws.proofs.Positions.{updated_here}
 use Rattle.memory_laws.proofs.Scalars.{scalar_is_no_array, FirstMatch, first_match}
 
 abbrev at_key : ℕ → Position
@@ -51,8 +52,9 @@ module _ (U : Upgrade) (K : Pledge) (w : World) (v : ℕ) (r : IsReadable U v) (
   laid_suits e = record {
     kept = blank_keeps (w.src.held q) (single ty (first_scalar ty)) e;
     laid = λ u at b.
-        subst (λ z. IsKind (variable_shape U.program.declarations z) (single ty (first_scalar ty))) (same_variable_place v u at)
-        (subst (λ s. IsKind s (single ty (first_scalar ty))) (sym (readable_shape U v r)) (first_scalar ty, refl));
+        subst (λ z. AreKinds (variable_shape U.program.declarations z) q (updated w.src.held q (single ty (first_scalar ty)))) (same_variable_place v u at)
+        (subst (λ s. AreKinds s q (updated w.src.held q (single ty (first_scalar ty)))) (sym (readable_shape U v r))
+        (first_scalar ty, updated_here w.src.held q (single ty (first_scalar ty))));
   }
 
   -- what is laid on both sides

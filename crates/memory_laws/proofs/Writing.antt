@@ -31,7 +31,7 @@ use Rattle.agreeing_laws.proofs.Agreeing.{agrees_outside}
 use Rattle.memory_laws.specs.Changes.{changed, IsNoTable, IsSuited, GoesAlone}
 use Rattle.memory_laws.specs.Statements.{ScalarsAreWrittenInPlaces}
 use Rattle.memory_laws.proofs.Changes.{changed_later}
-use Rattle.memory_laws.proofs.Moved.{place_goes_alone, key_goes_alone}
+use Rattle.memory_laws.proofs.Moved.{place_goes_alone, part_goes_alone}
 use Rattle.memory_laws.proofs.Positions.{at}
 use Rattle.memory_laws.proofs.Reading.{ScalarImage, scalar_image, HasWord, word_of_shape}
 use Rattle.memory_laws.proofs.Scalars.{scalar_is_no_array, kept_scalar, scalar_of_word, covered_same}
@@ -74,7 +74,7 @@ module _ (U : Upgrade) (K : Pledge) (w : World) (ty : Ty) (z : Value6) (y : Valu
       (λ e. (refl, w.map, tt, written_later t old before (covered_same t ty c e) is net_is l))
       (λ e. agrees_outside U K w AnyUnits (gives [] tt (net.with_cell (moved_at U w.map q) (net.holds y) w.net)))
 
-  put_agrees : (x : Held) (d : net.Cell) → w.src.held q ≡ x → w.net.cell (moved_at U w.map q) ≡ d → Holds U w x d
+  pub put_agrees : (x : Held) (d : net.Cell) → w.src.held q ≡ x → w.net.cell (moved_at U w.map q) ≡ d → Holds U w x d
       → Agrees U K w AnyUnits (put_single x q ty z w.src) (net.put d (moved_at U w.map q) y w.net)
   put_agrees _ _ is net_is holds_blank = agrees_outside U K w AnyUnits (net.put net.blank (moved_at U w.map q) y w.net)
   put_agrees _ _ is net_is (holds_single t old before l) = typed_agrees t old before is net_is l
@@ -124,9 +124,9 @@ module _ (U : Upgrade) where
       let s : i.position ≡ at (made p.place) p.path = same_in (simple ty) p.shape i.position (at (made p.place) p.path) (sym i.at_source ∙ p.stands) in
       subst (λ x. GoesAlone U w x) (sym s) (place_goes_alone U w h.stores p.place p.path (subst (λ x. IsMatched U w x) s i.is_matched))
   target_alone w ty a b h i (inr k) =
-      let q : Position = at (shared (k.variable ∷ [])) [] in
+      let q : Position = at (shared (k.variable ∷ [])) k.path in
       let s : i.position ≡ q = same_in (simple ty) k.of_shape i.position q (sym i.at_source ∙ k.stands) in
-      subst (λ x. GoesAlone U w x) (sym s) (key_goes_alone U w k.variable k.key k.is_key k.differs)
+      subst (λ x. GoesAlone U w x) (sym s) (part_goes_alone U w k.variable k.key k.is_key k.differs k.path)
 
   -- a root is no element
   root_is_variable : (ty : Ty) (q : Position) (a : Address) → a ≡ root (simple ty) q → IsTarget U a → IsVariable U a

@@ -1,12 +1,12 @@
 -- Two memories in which one position has changed, or a place was made.
 use Rattle.std.specs.Prelude.{◌≡◌, ℕ, suc, false, Option, List, [], ◌∷◌}
 use Rattle.net_meaning.specs.declared.value.ValueN.TheVariants as n
-use Rattle.run_base.specs.Positions.{Position, shared, updated_at, whole}
+use Rattle.run_base.specs.Positions.{Position, shared, updated, updated_at, whole}
 use Rattle.vb6_run.specs.Shapes.{Shape, variable_shape}
 use Rattle.vb6_run.specs.Store.{Held, blank, table, with_held}
 use Rattle.vb6_run.specs.Values.{Dimension, Values}
 use Rattle.net_run.specs.Store as net
-use Rattle.run_matches.specs.Kinds.{IsKind, KeepsKind}
+use Rattle.run_matches.specs.Kinds.{AreKinds, KeepsKind}
 use Rattle.run_matches.specs.Upgrades.{Upgrade}
 use Rattle.run_matches.specs.Maps.{World, IsMatched, moved_at}
 
@@ -39,4 +39,6 @@ GoesAlone U w q = (p : Position) → IsMatched U w p → moved_at U w.map q ≡ 
 -- What is put at a position is of the kind of what stood there, and what its variable declares where nothing stood there yet.
 pub record IsSuited (U : Upgrade) (w : World) (q : Position) (x : Held) : Type 0 where
   pub kept : KeepsKind (w.src.held q) x
-  pub laid : (v : ℕ) → q ≡ whole (shared (v ∷ [])) → w.src.held q ≡ blank → IsKind (variable_shape U.program.declarations v) x
+  pub laid :
+      (v : ℕ) → q ≡ whole (shared (v ∷ [])) → w.src.held q ≡ blank
+      → AreKinds (variable_shape U.program.declarations v) q (updated w.src.held q x)

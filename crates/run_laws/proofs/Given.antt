@@ -113,8 +113,8 @@ module _ (U : Upgrade) (v : ℕ) (r : IsUsable U v) where
     target = inl (inl p);
   }
   given_place a (inl (inr k)) h = record {
-    position = whole (shared (k.variable ∷ []));
-    stands = stands_as U v r a k.of_shape (whole (shared (k.variable ∷ []))) k.stands h;
+    position = record { root = shared (k.variable ∷ []); path = k.path };
+    stands = stands_as U v r a k.of_shape (record { root = shared (k.variable ∷ []); path = k.path }) k.stands h;
     target = inl (inr k);
   }
   given_place a (inr x) h = record { position = x.array; stands = element_stands U v r a x h; target = inr x }

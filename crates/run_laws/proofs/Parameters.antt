@@ -34,7 +34,7 @@ use Rattle.written_trees.specs.Facts.{Facts, is_array_variable}
 use Rattle.written_trees.specs.Names.{Scope}
 use Rattle.written_trees.specs.Types.{type_with}
 use Rattle.written_trees.specs.Prologues.{is_static}
-use Rattle.run_matches.specs.Addresses.{ArgsMatch, Bound, GivesNoArray, HasParameterRank, IsPlain, IsTarget, IsTypedAs, Mirrors, Same, address_args, images, mirrored, no_args, source_bound, target_bound, value_args, GivesWhole, IsElement, IsVariable, IsWhole, is_element}
+use Rattle.run_matches.specs.Addresses.{ArgsMatch, Bound, GivesNoArray, HasParameterRank, IsPlain, IsTarget, IsTypedAs, Mirrors, Same, address_args, images, mirrored, no_args, source_bound, target_bound, value_args, GivesWhole, IsElement, IsVariable, IsWhole, is_element, IsGivable}
 use Rattle.run_matches.specs.Agreeing.{Agrees}
 use Rattle.run_matches.specs.Callees.{own_of_some, parameter_owns}
 use Rattle.run_matches.specs.Covered.{covers_owner, covers_parameter, covers_type, is_parameter_of, is_relied_id}
@@ -460,7 +460,7 @@ module _ (U : Upgrade) (p : ℕ) (S : Scope) (same : S.declarations ≡ U.progra
           (subst (λ z. Agrees U K w R z z') (then_gives (make_with (array (simple element) r.known.variable.bounds) x w.src))
           (made_none U K w R (simple element) r.known.variable.bounds x n (λ a w. gives [] a w) z'))))
 
-      value_first : (u : IsUsable U v.0) (x : Value) (y : net_value.Value) → LikeV U w0 x y → GivesNoArray U p i x → (w : World) → Later U K w0 w
+      value_first : (u : IsUsable U v.0) (x : Value) (y : net_value.Value) → LikeV U w0 x y → IsGivable U p i x → (w : World) → Later U K w0 w
           → Below K.base (mark w.src) → BoundHere w u ((runnable_of U).quiet p i) q.variable.owner (by_value x) (by_value y)
       value_first (inl r) x y like none w l low = by ((runnable_of U).quiet p i) refl
         where

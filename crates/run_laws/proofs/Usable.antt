@@ -16,7 +16,7 @@ use Rattle.net_run.specs.Shapes as shape
 use Rattle.net_run.specs.Store as net
 use Rattle.net_tree.specs.Types.{TypeName}
 use Rattle.run_matches.specs.Addresses.{AllMatched, AllRanked}
-use Rattle.run_matches.specs.Kinds.{IsKind}
+use Rattle.run_matches.specs.Kinds.{IsKind, AreKinds}
 use Rattle.run_matches.specs.Likeness.{Numbers, SameShape, numbers_of, same_array, same_scalar, scalar_word}
 use Rattle.run_matches.specs.Maps.{IsMatched, World, moved_at}
 use Rattle.run_matches.specs.Match.{HasRank, HeldLike, StoreMatch, holds_blank, holds_parts, holds_single, holds_table}
@@ -107,7 +107,7 @@ module _ (U : Upgrade) (w : World) (h : StoreMatch U w) (v : ℕ) (x : Variable)
   key_matched : IsMatched U w (at_key v)
   key_matched = record { is_made = tt; counterpart = ap is_some is_key; sound = ap not sound }
 
-  kind : IsKind (variable_shape U.program.declarations v) (w.src.held (at_key v))
+  kind : AreKinds (variable_shape U.program.declarations v) (at_key v) w.src.held
   kind = ⊎_elim (λ z. absurd (there z.0)) (λ z. z) (h.kinds v x is sound)
 
   -- a scalar
@@ -119,7 +119,7 @@ module _ (U : Upgrade) (w : World) (h : StoreMatch U w) (v : ℕ) (x : Variable)
         written = shape.scalar t;
         same = subst (λ s. SameShape U s (shape.scalar t)) (sym shaped) (same_scalar r.variable.ty t word);
         matched =
-            subst (λ s. AllMatched U w s (at_key v)) (sym shaped) (key_matched, subst (λ s. IsKind s (w.src.held (at_key v))) shaped kind);
+            subst (λ s. AllMatched U w s (at_key v)) (sym shaped) (key_matched, subst (λ s. AreKinds s (at_key v) w.src.held) shaped kind);
         ranked = subst (λ s. AllRanked U w s (shape.scalar t) (at_key v)) (sym shaped) tt;
         key = key;
         is_key = is_key;
@@ -132,7 +132,7 @@ module _ (U : Upgrade) (w : World) (h : StoreMatch U w) (v : ℕ) (x : Variable)
   array_static element r t word b stands =
       let bounds = r.known.variable.bounds in
       let shaped : variable_shape U.program.declarations v ≡ array (simple element) bounds = array_shape_is U v element r in
-      let held : IsKind (array (simple element) bounds) (w.src.held (at_key v)) = subst (λ s. IsKind s (w.src.held (at_key v))) shaped kind in
+      let held : IsKind (array (simple element) bounds) (w.src.held (at_key v)) = subst (λ s. AreKinds s (at_key v) w.src.held) shaped kind in
       let cell = table_cell U (numbers_of w) (w.src.held (at_key v)) (w.net.cell (moved_at U w.map (at_key v))) (simple element) held.0 held.1
       (h.values (at_key v) key_matched) held.2 in
       let rank : HasRank U w (at_key v) (U.facts.rank v) = (cell.0, cell.1, h.ranks (at_key v) v v cell.0 key_matched refl refl cell.1) in

@@ -148,7 +148,7 @@ not_module x y e f = subst (λ z. is_module_variable program.declarations z.owne
     from_some x y e = cc
 
 kinds_at : (x : ℕ) (y : Variable) → slice_get program.declarations.vars x ≡ Some y
-    → HeldAs program.declarations x y.owner (start.held (whole (shared (x ∷ []))))
+    → HeldAs program.declarations x y.owner start.held
 kinds_at zero y e = inr (v.Long (pos 0), refl)
 kinds_at (suc zero) y e = inl (refl, not_module _ y e refl)
 kinds_at (suc (suc zero)) y e = inl (refl, not_module _ y e refl)

@@ -7,6 +7,7 @@ mod ReferenceSamples
 mod QuietSamples
 mod ArraySamples
 mod ElementSamples
+mod TypeSamples
 pub mod StoreExamples
 mod CoveredExamples
 mod LibraryExamples

@@ -253,7 +253,7 @@ not_module x y e f = subst (λ z. is_module_variable program.declarations z.owne
     from_some x y e = cc
 
 kinds_at : (x : ℕ) (y : Variable) → slice_get program.declarations.vars x ≡ Some y
-    → HeldAs program.declarations x y.owner (held_at (shared (x ∷ [])) [])
+    → HeldAs program.declarations x y.owner (λ q. held_at q.root q.path)
 kinds_at zero y e = inr (v.Long (pos 7), refl)
 kinds_at (suc zero) y e = inl (refl, not_module _ y e refl)
 kinds_at (suc (suc zero)) y e = inl (refl, not_module _ y e refl)

@@ -5,9 +5,9 @@ use Rattle.vb_tree.specs.BoundTree.{Ty, class}
 use Rattle.vb_tree.specs.declared.value.Value6.{Value6}
 use Rattle.net_meaning.specs.declared.value.ValueN.TheVariants as n
 use Rattle.run_base.specs.Frames.{by_value, by_address, Kept, keeps_nothing, keeps_limit, keeps_value, keeps_address}
-use Rattle.run_base.specs.Positions.{Key, Position, inner, made, shared, whole}
+use Rattle.run_base.specs.Positions.{Key, Position, inner, made, shared}
 use Rattle.vb6_run.specs.Expressions as source
-use Rattle.vb6_run.specs.Shapes.{Shape, simple, group, array, endless, Shapes, no_shapes, next_shape, part_shape}
+use Rattle.vb6_run.specs.Shapes.{Shape, simple, group, array, endless, Shapes, no_shapes, next_shape, part_shape, user_shapes}
 use Rattle.vb6_run.specs.Store.{Address, root, item, constant, Locked, SourceGiven, held_at}
 use Rattle.vb6_run.specs.Values.{Dimension, Value, scalar, fields, elements, Values}
 use Rattle.net_run.specs.Names as net_part
@@ -18,7 +18,7 @@ use Rattle.run_matches.specs.Covered.{is_relied_at}
 use Rattle.run_matches.specs.Upgrades.{Upgrade, class_home, variable_key, is_flagged_field, parameter_rank, runnable_of, takes_array}
 use Rattle.run_matches.specs.Maps.{World, mark, IsMade, IsMatched, moved_at, is_auto_root, is_fixed_position}
 use Rattle.run_matches.specs.Likeness.{SameShape, LikeV, ShapedAs}
-use Rattle.run_matches.specs.Kinds.{IsKind}
+use Rattle.run_matches.specs.Kinds.{IsKind, IsValueOf}
 use Rattle.run_matches.specs.Match.{IsLoose, HasArray, HasRank}
 use Rattle.run_matches.specs.Pledges.{Pledge, Later, type_of_shape, NetGiven, taken_by}
 
@@ -94,12 +94,13 @@ pub record IsInPlace (a : Address) : Type 0 where
   pub path : List ℕ
   pub stands : a ≡ root shape (record { root = made place; path = path })
 
--- the address of a variable of a standard module, or of a Static in one, that is written with a key of its own
+-- the address of a variable of a standard module, or of a Static in one, that is written with a key of its own, or of a field in it
 pub record HasOwnKey (U : Upgrade) (a : Address) : Type 0 where
   pub variable : ℕ
   pub key : Key
   pub of_shape : Shape
-  pub stands : a ≡ root of_shape (whole (shared (variable ∷ [])))
+  pub path : List ℕ
+  pub stands : a ≡ root of_shape (record { root = shared (variable ∷ []); path = path })
   pub is_key : variable_key U variable ≡ Some key
   pub differs : (u : ℕ) → variable_key U u ≡ Some key → variable ≡ u
 
@@ -209,11 +210,11 @@ pub data KeptMatch (U : Upgrade) (K : Pledge) (w : World) (exact : Bool) : Kept 
 abbrev pub IsPlain : Upgrade → World → Address → Type 0
 IsPlain U w a = (q : Position) → position_of a ≡ Some q → is_auto_root U w.map q.root ≡ false
 
--- a parameter that is an array is given one by reference
-abbrev pub GivesNoArray : Upgrade → (procedure place : ℕ) → Value → Type 0
-GivesNoArray U p i (scalar ty x) = Unit {0}
-GivesNoArray U p i (fields t xs) = Unit {0}
-GivesNoArray U p i (elements e dims xs) = takes_array U.program.declarations p i ≡ false
+-- a parameter that is an array is given one by reference; a user type has a value for each of its fields
+abbrev pub IsGivable : Upgrade → (procedure place : ℕ) → Value → Type 0
+IsGivable U p i (scalar ty x) = Unit {0}
+IsGivable U p i (fields t xs) = IsValueOf (user_shapes U.program.declarations t) (fields t xs)
+IsGivable U p i (elements e dims xs) = takes_array U.program.declarations p i ≡ false
 
 -- an array is given to a parameter of its rank
 abbrev pub HasParameterRank : Upgrade → (procedure place : ℕ) → shape.Shape → Type 0
@@ -237,7 +238,7 @@ GivesWhole U p i a = is_relied_at U.program p i ≡ true → IsWhole a
 pub data ArgsMatch (U : Upgrade) (K : Pledge) (w : World) (p : ℕ) : (place : ℕ) → List SourceGiven → List NetGiven → Type 0 where
   no_args : (i : ℕ) → ArgsMatch U K w p i [] []
   value_args :
-      (i : ℕ) (x : Value) (y : net_value.Value) (xs : List SourceGiven) (ys : List NetGiven) → LikeV U w x y → GivesNoArray U p i x
+      (i : ℕ) (x : Value) (y : net_value.Value) (xs : List SourceGiven) (ys : List NetGiven) → LikeV U w x y → IsGivable U p i x
       → ArgsMatch U K w p (suc i) xs ys → ArgsMatch U K w p i (by_value x ∷ xs) (by_value y ∷ ys)
   address_args :
       (i : ℕ) (a : Address) (b : net.Address) (xs : List SourceGiven) (ys : List NetGiven) → Same U K w a b → IsTarget U a → GivesWhole U p i a

@@ -1,6 +1,6 @@
 -- Which procedures and lines are proved to do the same: the one file that a form group edits. What isn't covered is translated all the same.
 use Rattle.run_matches.specs.Keeping.{keeps_given}
-use Rattle.std.specs.Prelude.{◌≡◌, ◌⊎◌, ℕ, ℤ, suc, pos, negsuc, Bool, true, false, cond, not, ◌&&◌, ◌||◌, int_le, nat_eq, Option, Some, None, is_some, List, [], ◌∷◌, length, map, slice_get, nat_lt}
+use Rattle.std.specs.Prelude.{◌≡◌, ◌⊎◌, ℕ, ℤ, suc, pos, negsuc, Bool, true, false, cond, not, ◌&&◌, ◌||◌, int_le, nat_eq, Option, Some, None, is_some, List, [], ◌∷◌, length, map, slice_get, nat_lt, zero}
 use Rattle.std.specs.Cmp.Lexicographic.{pointwise}
 use Rattle.std.specs.List.{list_all, list_any, flat_map, Contains}
 use Rattle.up_base.specs.Names.{is_same_name}
@@ -22,6 +22,7 @@ use Rattle.vb_tree.specs.Tree.{CaseItem, Form, Module}
 use Rattle.vb_tree.specs.Tree as source
 use Rattle.bound_tree.specs.declared.body.Mention.{Mention}
 use Rattle.bound_tree.specs.declared.body.Mention.TheVariants as mention
+use Rattle.bound_tree.specs.declared.declared.TypeDecl.{TypeDecl}
 use Rattle.bound_tree.specs.Labels.{Label, label_of}
 use Rattle.bound_tree.specs.Labels as mark
 use Rattle.bound_tree.specs.Tree.{Variable, Constant, Procedure, Declarations, Program, Expr, typed, Term, constant, variable, field, element, call, library, unary, binary, convert, new_object, me, with_object, err_number, err_raise, err_clear, is_same, loose, Exprs, no_exprs, next_expr, Object, no_object, of_object, Argument, by_value, by_reference, Passed, no_passed, next_passed}
@@ -35,6 +36,7 @@ use Rattle.bound_facts.specs.Folded.{folded}
 use Rattle.bound_facts.specs.Items.{project_items}
 use Rattle.bound_facts.specs.Leading.{is_in, within}
 use Rattle.bound_facts.specs.Locks.{is_same_type}
+use Rattle.bound_facts.specs.Members.{field_of}
 use Rattle.bound_facts.specs.Node.{type_at, called, args_at, is_array_type}
 use Rattle.bound_facts.specs.Nodes.{nodes, nodes_of_all}
 use Rattle.bound_facts.specs.Parts.{line_uses, Extent, Resize, resizes}
@@ -53,7 +55,8 @@ use Rattle.run_matches.specs.Callees.{frame_owns, is_found}
 use Rattle.run_matches.specs.Formed.{is_formed}
 use Rattle.run_matches.specs.Inward.{grown, is_apart, is_inward_in}
 use Rattle.run_matches.specs.Shared.{names_lead, others_differ, is_alone_static}
-use Rattle.run_matches.specs.Upgrades.{takes_array}
+use Rattle.run_matches.specs.Upgrades.{takes_array, type_of_some}
+use Rattle.run_matches.specs.UserTypes.{type_leads, field_names, is_user_of}
 use Rattle.run_matches.specs.Sites.{Site, site_of, Own, own_variable, own_constant, own_name, owns_of, local_numbers, static_numbers, statement_of}
 
 -- ---- types
@@ -164,10 +167,6 @@ abbrev pub covers_array_variable : (element : Ty) → Variable → Bool
 covers_array_variable e x =
     covers_array_owner x.owner && (covers_type e && (is_array_of e x.ty && (covers_bounds x.ty x.bounds && not x.auto)))
 
--- a scalar, or an array of scalars
-abbrev pub covers_declared : Variable → Bool
-covers_declared x = covers_variable x || covers_array_variable (element_type x.ty) x
-
 -- before indexes the name of a Function would lead to the Function
 abbrev pub is_named_apart : Option Procedure → (name : List ℕ) → Bool
 is_named_apart None name = false
@@ -190,6 +189,75 @@ abbrev pub covers_array_use : Program → (procedure : ℕ) → List Mention →
 covers_array_use P p mentions v e =
     list_any (is_mention_of v) mentions
     && (covers_some_array P.declarations p v.0 e (slice_get P.declarations.vars v.0) && is_loud P v.0 (slice_get P.declarations.vars v.0))
+
+-- ---- user types
+
+abbrev pub is_named_in : List ℕ → List (List ℕ) → Bool
+is_named_in name names = list_any (is_same_name name) names
+
+abbrev pub are_different : List (List ℕ) → Bool
+are_different [] = true
+are_different (name ∷ names) = not (is_named_in name names) && are_different names
+
+-- a scalar, or a user type of those that pass
+abbrev pub covers_field_type : (users : ℕ → Bool) → Ty → Bool
+covers_field_type users ty = covers_type ty || is_user_of users ty
+
+abbrev pub covers_field : (users : ℕ → Bool) → Option Variable → Bool
+covers_field users None = false
+covers_field users (Some x) = covers_field_type users x.ty
+
+abbrev pub covers_user_by : Declarations → (users : ℕ → Bool) → (user_type : ℕ) → Option TypeDecl → Bool
+covers_user_by D users t None = false
+covers_user_by D users t (Some d) =
+    type_leads D t d
+    && (are_different (field_names D d) && list_all (λ (v : VarId). covers_field users (slice_get D.vars v.0)) d.fields)
+
+-- user types down to a depth
+abbrev pub covers_user_within : Declarations → (depth user_type : ℕ) → Bool
+covers_user_within D zero t = false
+covers_user_within D (suc depth) t = covers_user_by D (covers_user_within D depth) t (slice_get D.types t)
+
+-- a user type to which names lead, with fields of different names that are scalars or such user types
+abbrev pub covers_user : Declarations → (user_type : ℕ) → Bool
+covers_user D t = covers_user_within D (length D.types) t
+
+-- user types of modules, local ones and Statics, and parameters
+abbrev pub covers_group_owner : Owner → Bool
+covers_group_owner (owner.Module file) = true
+covers_group_owner (owner.Local p) = true
+covers_group_owner (owner.Static p) = true
+covers_group_owner (owner.Value p) = true
+covers_group_owner (owner.Reference p) = true
+covers_group_owner (owner.Answer p) = false
+covers_group_owner (owner.Field t) = false
+
+abbrev pub covers_group_variable : Declarations → Variable → Bool
+covers_group_variable D x = covers_group_owner x.owner && (is_user_of (covers_user D) x.ty && not x.auto)
+
+abbrev pub covers_some_group : Declarations → (procedure variable user_type : ℕ) → Option Variable → Bool
+covers_some_group D p v t None = false
+covers_some_group D p v t (Some x) =
+    is_reached D p v x.name x.owner && (is_same_type (types.user t) x.ty && covers_group_variable D x)
+
+-- variables of user types, as arrays are
+abbrev pub covers_group_use : Program → (procedure : ℕ) → List Mention → VarId → (user_type : ℕ) → Bool
+covers_group_use P p mentions v t =
+    list_any (is_mention_of v) mentions
+    && (covers_some_group P.declarations p v.0 t (slice_get P.declarations.vars v.0) && is_loud P v.0 (slice_get P.declarations.vars v.0))
+
+abbrev pub field_type_of : Declarations → List Mention → Option ℕ → Option Ty
+field_type_of D mentions None = None
+field_type_of D mentions (Some v) =
+    cond (list_any (is_mention_of (record { 0 = v })) mentions) (type_of_some (slice_get D.vars v)) None
+
+-- the type of a field of a user type that is mentioned
+abbrev pub field_type_in : Declarations → List Mention → (user_type field : ℕ) → Option Ty
+field_type_in D mentions t k = field_type_of D mentions (field_of D (types.user t) k)
+
+-- a scalar, an array of scalars, or a user type of scalars and such user types
+abbrev pub covers_declared : Declarations → Variable → Bool
+covers_declared D x = covers_variable x || (covers_array_variable (element_type x.ty) x || covers_group_variable D x)
 
 -- ---- operators and the library
 
@@ -247,10 +315,13 @@ covers_library lib.InputBox = true
 
 -- ---- expressions
 
--- which variables are covered: as scalars, and as arrays of elements of a type; and which are no quiet parameters
+-- which variables are covered: as scalars, as arrays of elements of a type, and as of user types, with the types of the fields that these
+-- may be asked for; and which are no quiet parameters
 pub record Uses : Type 0 where
   pub scalar : VarId → Bool
   pub array : VarId → (element : Ty) → Bool
+  pub group : VarId → (user_type : ℕ) → Bool
+  pub field_type : (user_type field : ℕ) → Option Ty
   -- variables that are declared with a type
   pub is_of : VarId → Ty → Bool
   -- procedures that are seen to be inward
@@ -260,7 +331,8 @@ pub record Uses : Type 0 where
   pub relied : VarId → Bool
 
 abbrev pub IsUsed : Uses → VarId → Type 0
-IsUsed uses v = (uses.scalar v ≡ true) ⊎ ((element : Ty) × (uses.array v element ≡ true))
+IsUsed uses v =
+    (uses.scalar v ≡ true) ⊎ (((element : Ty) × (uses.array v element ≡ true)) ⊎ ((user_type : ℕ) × (uses.group v user_type ≡ true)))
 
 abbrev pub is_declared_as : Ty → Option Variable → Bool
 is_declared_as ty None = false
@@ -296,6 +368,8 @@ abbrev pub uses_in : Program → (procedure : ℕ) → List Mention → Uses
 uses_in P p mentions = record {
   scalar = covers_use P p mentions;
   array = covers_array_use P p mentions;
+  group = covers_group_use P p mentions;
+  field_type = field_type_in P.declarations mentions;
   is_of = λ v ty. is_declared_as ty (slice_get P.declarations.vars v.0);
   inward = is_inward_in P;
   exact = λ v. is_loud P v.0 (slice_get P.declarations.vars v.0);
@@ -313,13 +387,15 @@ is_variable_in t = false
 abbrev pub is_variable : Expr → Bool
 is_variable (typed ty t) = is_variable_in t
 
-abbrev pub is_changeable_in : Uses → Term → Bool
-is_changeable_in uses (variable v qualified) = uses.exact v
-is_changeable_in uses t = false
+abbrev mutual
+  pub is_changeable_in : Uses → Term → Bool
+  is_changeable_in uses (variable v qualified) = uses.exact v
+  is_changeable_in uses (field e k) = is_changeable uses e
+  is_changeable_in uses _ = false
 
--- a variable that is changed, and so is no quiet parameter
-abbrev pub is_changeable : Uses → Expr → Bool
-is_changeable uses (typed ty t) = is_changeable_in uses t
+  -- a variable that is changed, and so is no quiet parameter, or a field of one
+  pub is_changeable : Uses → Expr → Bool
+  is_changeable uses (typed ty t) = is_changeable_in uses t
 
 abbrev pub is_passable_in : Uses → Term → Bool
 is_passable_in uses (variable v qualified) = uses.exact v
@@ -340,6 +416,46 @@ covers_array_as uses ty t = false
 -- an array variable
 abbrev pub covers_array : Uses → Expr → Bool
 covers_array uses (typed ty t) = covers_array_as uses ty t
+
+-- ---- fields
+
+-- a type that some field has
+abbrev pub is_type : Ty → Option Ty → Bool
+is_type ty None = false
+is_type ty (Some f) = is_same_type ty f
+
+-- a field of a user type has a type
+abbrev pub has_field : Uses → (of : Ty) → (field : ℕ) → Ty → Bool
+has_field uses (types.user t) k ty = is_type ty (uses.field_type t k)
+has_field uses of k ty = false
+
+-- a user type has a field that is of a user type
+abbrev pub has_inner : Uses → (of : Ty) → (field : ℕ) → Ty → Bool
+has_inner uses of k (types.user t) = has_field uses of k (types.user t)
+has_inner uses of k ty = false
+
+abbrev pub is_group : Uses → VarId → Ty → Bool
+is_group uses v (types.user t) = uses.group v t
+is_group uses v ty = false
+
+abbrev mutual
+  -- a variable of a user type, or a field of such a place that is of a user type itself
+  pub covers_place : Uses → Expr → Bool
+  covers_place uses (typed ty t) = covers_place_term uses ty t
+
+  pub covers_place_term : Uses → Ty → Term → Bool
+  covers_place_term uses ty (variable v qualified) = is_group uses v ty
+  covers_place_term uses ty (field e k) = has_inner uses (type_at e) k ty && covers_place uses e
+  covers_place_term uses ty _ = false
+
+abbrev pub is_scalar_type : Option Ty → Bool
+is_scalar_type None = false
+is_scalar_type (Some ty) = covers_type ty
+
+-- a field of a user type is a scalar
+abbrev pub has_scalar : Uses → (of : Ty) → (field : ℕ) → Bool
+has_scalar uses (types.user t) k = is_scalar_type (uses.field_type t k)
+has_scalar uses _ k = false
 
 -- ---- bounds of arrays
 
@@ -366,7 +482,7 @@ abbrev pub covers_bounded : Uses → Exprs → Bool
 covers_bounded uses no_exprs = false
 covers_bounded uses (next_expr a rest) = covers_array uses a && covers_dimension rest
 
--- literals and uses of constants, variables, elements, operators, conversions, calls of the library, bounds of arrays, Err.Number, and calls
+-- literals and uses of constants, variables, elements, fields, operators, conversions, calls of the library, bounds of arrays, Err.Number, and calls
 -- without an object
 abbrev mutual
   pub covers_expr : Uses → Expr → Bool
@@ -375,7 +491,7 @@ abbrev mutual
   pub covers_term : Uses → Term → Bool
   covers_term uses (constant x origin) = true
   covers_term uses (variable v qualified) = uses.scalar v
-  covers_term uses (field e k) = false
+  covers_term uses (field e k) = has_scalar uses (type_at e) k && covers_place uses e
   covers_term uses (element e indexes) = covers_array uses e && covers_exprs uses indexes
   covers_term uses (call p qualified of args) = is_without_object of && covers_passed uses args
   covers_term uses (library f args) = (covers_library f && covers_exprs uses args) || (is_bound f && covers_bounded uses args)
@@ -401,8 +517,8 @@ abbrev mutual
 
   -- arguments by value and by reference
   pub covers_argument : Uses → Argument → Bool
-  covers_argument uses (by_value e) = covers_expr uses e
-  covers_argument uses (by_reference e) = (is_passable uses e && covers_expr uses e) || covers_array uses e
+  covers_argument uses (by_value e) = covers_expr uses e || covers_place uses e
+  covers_argument uses (by_reference e) = (is_passable uses e && covers_expr uses e) || (covers_array uses e || covers_place uses e)
 
 -- an expression of a type
 abbrev pub covers_value : Uses → Ty → Expr → Bool
@@ -492,9 +608,14 @@ is_ordered_in uses ty t e = false
 abbrev pub is_ordered : Uses → (target value : Expr) → Bool
 is_ordered uses (typed ty t) e = is_ordered_in uses ty t e
 
--- an assignment to a variable or an element
+-- a user type is assigned as a whole
+abbrev pub covers_copy : Uses → (target value : Expr) → Bool
+covers_copy uses to e = is_changeable uses to && (is_same_type (type_at to) (type_at e) && (covers_place uses to && covers_place uses e))
+
+-- an assignment to a variable, a field or an element
 abbrev pub covers_store : Uses → List Expr → Bool
-covers_store uses (to ∷ e ∷ []) = (is_changeable uses to || is_ordered uses to e) && (covers_expr uses to && covers_expr uses e)
+covers_store uses (to ∷ e ∷ []) =
+    ((is_changeable uses to || is_ordered uses to e) && (covers_expr uses to && covers_expr uses e)) || covers_copy uses to e
 covers_store uses es = false
 
 -- a condition, or what a Select Case compares: one expression
@@ -782,7 +903,7 @@ abbrev pub is_parameter_in : (procedure : ℕ) → Option Variable → Bool
 is_parameter_in p None = false
 is_parameter_in p (Some x) = is_parameter_of p x.owner
 
--- a scalar, or no quiet parameter
+-- a scalar, or no quiet parameter: an array or a user type
 abbrev pub is_scalar_or_loud : Program → (variable : ℕ) → Variable → Bool
 is_scalar_or_loud P v x = covers_type x.ty || is_loud_owner P v x.owner
 
@@ -790,7 +911,7 @@ abbrev pub is_taken_in : Program → (procedure variable : ℕ) → Option Varia
 is_taken_in P p v None = false
 is_taken_in P p v (Some x) = is_parameter_of p x.owner && is_scalar_or_loud P v x
 
--- parameters by value and by reference; an array is no quiet one
+-- parameters by value and by reference; an array and a user type are no quiet ones
 abbrev pub covers_parameter : Program → (procedure : ℕ) → VarId → Bool
 covers_parameter P p v = is_taken_in P p v.0 (slice_get P.declarations.vars v.0)
 
@@ -825,7 +946,7 @@ covers_head P p (Some x) =
 -- each variable of the procedure is covered, and each ReDim of the project gives extents
 abbrev pub covers_variables : Program → (procedure : ℕ) → Bool
 covers_variables P p =
-    list_all (λ (x : Variable). cond (belongs_to p x.owner) (covers_declared x) true) P.declarations.vars && has_extents P
+    list_all (λ (x : Variable). cond (belongs_to p x.owner) (covers_declared P.declarations x) true) P.declarations.vars && has_extents P
 
 -- all lines, also in their blocks
 abbrev pub covers_body : Program → (procedure : ℕ) → Option (List tree.Line) → Bool
@@ -843,13 +964,6 @@ covers_names D =
     list_all (λ (m : Module). is_free_name m.name) D.project.modules
     && (list_all (λ (x : Variable). is_free_name x.name) D.vars
     && (list_all (λ (c : Constant). is_free_name c.name) D.consts && list_all (λ (q : Procedure). is_free_name q.name) D.procs))
-
-abbrev pub is_named_in : List ℕ → List (List ℕ) → Bool
-is_named_in name names = list_any (is_same_name name) names
-
-abbrev pub are_different : List (List ℕ) → Bool
-are_different [] = true
-are_different (name ∷ names) = not (is_named_in name names) && are_different names
 
 abbrev pub covers_own : Declarations → (procedure : ℕ) → Own → Bool
 covers_own D p (own_variable v x) = others_differ (is_static_of p) v x.name 0 D.vars
@@ -888,10 +1002,25 @@ is_referred e = is_variable e || (is_conversion e || is_item e)
 abbrev pub suits_array : Declarations → (procedure place : ℕ) → Expr → Bool
 suits_array D q i e = not (is_array_type (type_at e)) || takes_array D q i
 
+abbrev pub is_parameter_type : Ty → Option Variable → Bool
+is_parameter_type ty None = false
+is_parameter_type ty (Some x) = is_same_type ty x.ty
+
+abbrev pub is_type_at : Declarations → Ty → Option VarId → Bool
+is_type_at D ty None = false
+is_type_at D ty (Some v) = is_parameter_type ty (slice_get D.vars v.0)
+
+abbrev pub is_user : Ty → Bool
+is_user ty = is_user_of (λ t. true) ty
+
+-- a user type goes to a parameter of that type
+abbrev pub suits_group : Declarations → (procedure place : ℕ) → Expr → Bool
+suits_group D q i e = not (is_user (type_at e)) || is_type_at D (type_at e) (slice_get (params_at (slice_get D.procs q)) i)
+
 -- a reference goes to a parameter that takes one
 abbrev pub suits_argument : Declarations → (procedure place : ℕ) → Argument → Bool
-suits_argument D q i (by_value e) = true
-suits_argument D q i (by_reference e) = takes_reference D q i && (is_referred e && suits_array D q i e)
+suits_argument D q i (by_value e) = suits_group D q i e
+suits_argument D q i (by_reference e) = takes_reference D q i && (is_referred e && (suits_array D q i e && suits_group D q i e))
 
 abbrev pub suits_passed : Declarations → (procedure place : ℕ) → Passed → Bool
 suits_passed D q i no_passed = true

@@ -98,7 +98,7 @@ abbrev mutual
   pub is_formed_term : Ty → Term → Bool
   is_formed_term ty (constant x origin) = is_same_type (type_of_constant x) ty && (is_within x && is_literal x)
   is_formed_term ty (variable v qualified) = true
-  is_formed_term ty (field e k) = false
+  is_formed_term ty (field e k) = true
   is_formed_term ty (element e indexes) = has_elements (type_at e) ty && (are_longs (types_of indexes) && are_formed indexes)
   is_formed_term ty (call p qualified of args) = passed_are_formed args
   is_formed_term ty (library f args) = is_row_of_call f (types_of args) ty && are_formed args

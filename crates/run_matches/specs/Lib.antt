@@ -6,6 +6,7 @@ pub mod Match
 pub mod Pledges
 pub mod Sites
 pub mod Shared
+pub mod UserTypes
 pub mod CleanLines
 pub mod Addresses
 pub mod Agreeing
@@ -18,3 +19,4 @@ pub mod Callees
 pub mod Inward
 pub mod Keeping
 pub mod Covered
+pub mod SoundShapes

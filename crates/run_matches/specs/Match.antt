@@ -14,7 +14,7 @@ use Rattle.vb6_run.specs.Shapes.{Shape, variable_shape}
 use Rattle.vb6_run.specs.Store.{Held, blank, single, table, parts}
 use Rattle.vb6_run.specs.Values.{Dimension, Values}
 use Rattle.net_run.specs.Store as net
-use Rattle.run_matches.specs.Kinds.{IsKind}
+use Rattle.run_matches.specs.Kinds.{AreKinds}
 use Rattle.run_matches.specs.Upgrades.{Upgrade, class_home, is_flagged, part_variable}
 use Rattle.run_matches.specs.Maps.{World, moved_at, mark, net_mark, IsUnmade, IsMatched, root_variable}
 use Rattle.run_matches.specs.Likeness.{Numbers, numbers_of, ArrayLike}
@@ -37,8 +37,9 @@ SameClass U None (Some home) = ⊥
 SameClass U (Some c) None = ⊥
 SameClass U (Some c) (Some home) = (class_home U c ≡ Some home) × (terminator U.program.declarations c ≡ None)
 
-abbrev pub HeldAs : Declarations → (variable : ℕ) → Owner → Held → Type 0
-HeldAs D v of h = ((h ≡ blank) × (is_module_variable D of ≡ false)) ⊎ IsKind (variable_shape D v) h
+abbrev pub HeldAs : Declarations → (variable : ℕ) → Owner → (Position → Held) → Type 0
+HeldAs D v of h =
+    ((h (whole (shared (v ∷ []))) ≡ blank) × (is_module_variable D of ≡ false)) ⊎ AreKinds (variable_shape D v) (whole (shared (v ∷ []))) h
 
 -- The target's store stands for the source's under the map: it maps what was made to what was made, one to one, and objects to objects of
 -- their class; what is compared matches, and no two positions share an array. Nothing stands where nothing was made.
@@ -65,7 +66,7 @@ pub record StoreMatch (U : Upgrade) (w : World) : Type 0 where
   -- a variable of a standard module holds what its declaration says, and so does a Static that was made
   pub kinds :
       (v : ℕ) (x : Variable) → slice_get U.program.declarations.vars v ≡ Some x → is_flagged U v ≡ false
-      → HeldAs U.program.declarations v x.owner (w.src.held (whole (shared (v ∷ []))))
+      → HeldAs U.program.declarations v x.owner w.src.held
 
 -- the stores match, as many steps are left, and the same inputs are to come
 pub record MemoryMatch (U : Upgrade) (w : World) : Type 0 where

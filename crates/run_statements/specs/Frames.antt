@@ -3,7 +3,7 @@ use Rattle.bound_facts.specs.Nodes.{nodes_of_passed}
 use Rattle.run_matches.specs.Keeping.{given_types}
 use Rattle.std.specs.List.{list_all}
 use Rattle.std.specs.Prelude.{◌≡◌, ◌⊎◌, ℕ, ℤ, Bool, true, false, Some, [], ◌∷◌, slice_get, None, zero, suc, nat_eq, List, length}
-use Rattle.vb_tree.specs.BoundTree.{Ty, array}
+use Rattle.vb_tree.specs.BoundTree.{Ty, array, user}
 use Rattle.vb_tree.specs.declared.declared.Owner.TheVariants as owner
 use Rattle.std.specs.Map.{lookup}
 use Rattle.vb_tree.specs.declared.bound.LibCall.{LibCall}
@@ -26,7 +26,7 @@ use Rattle.bound_facts.specs.SelfMade.{module_of}
 use Rattle.vb6_run.specs.Programs.{is_static_of}
 use Rattle.vb6_run.specs.Runnables.{is_class_file}
 use Rattle.vb6_run.specs.Shapes as source_shape
-use Rattle.vb6_run.specs.Shapes.{simple, variable_shape}
+use Rattle.vb6_run.specs.Shapes.{simple, user_shapes, variable_shape}
 use Rattle.vb6_run.specs.Store.{Address, root, Locked, SourceCalls, SourceFrame, make, read, write, make_with}
 use Rattle.vb6_run.specs.Values.{Value, scalar}
 use Rattle.net_run.specs.Calls.{passings_at}
@@ -45,7 +45,8 @@ use Rattle.run_matches.specs.Addresses.{Same, IsPlain, IsScalarAt, IsTarget, Sam
 use Rattle.written_trees.specs.Arguments.{is_property, takes_reference}
 use Rattle.run_matches.specs.Agreeing.{Agrees}
 use Rattle.run_matches.specs.Formed.{passed_are_formed, is_formed}
-use Rattle.run_matches.specs.Covered.{Uses, IsUsed, covers_type, covers_variable, covers_array, covers_expr, covers_exprs, covers_passed, hands_passed, is_declared_as, is_in_order, is_relied_on, suits_passed}
+use Rattle.run_matches.specs.Covered.{Uses, IsUsed, covers_type, covers_variable, covers_array, covers_expr, covers_exprs, covers_passed, hands_passed, is_declared_as, is_in_order, is_relied_on, suits_passed, covers_user}
+use Rattle.run_matches.specs.SoundShapes.{IsField, IsSoundShape}
 use Rattle.run_matches.specs.Frames.{FrameMatch, GivenAddress, HasPlace, IsOwnAddress, is_own_of, is_reference_of}
 use Rattle.run_matches.specs.Likeness.{LikeV, SameShape, scalar_word}
 use Rattle.run_matches.specs.Maps.{IsMatched, World, is_auto_root}
@@ -80,6 +81,14 @@ pub record IsArray (U : Upgrade) (v : ℕ) (element : Ty) : Type 0 where
   pub covers : covers_type element ≡ true
   pub bounds : AreBounds (U.facts.rank v) known.variable.bounds
 
+-- a variable of a covered user type, which is no quiet parameter
+pub record IsGroup (U : Upgrade) (v user_type : ℕ) : Type 0 where
+  pub known : IsKnown U v
+  pub exact : is_quiet U.program.declarations U.known v ≡ false
+  pub is_user : known.variable.ty ≡ user user_type
+  pub covers : covers_user U.program.declarations user_type ≡ true
+  pub fields : IsSoundShape U (user_shapes U.program.declarations user_type)
+
 -- a variable of a covered type, whose declaration carries no issue
 pub record IsReadable (U : Upgrade) (v : ℕ) : Type 0 where
   pub variable : Variable
@@ -87,14 +96,16 @@ pub record IsReadable (U : Upgrade) (v : ℕ) : Type 0 where
   pub covers : covers_variable variable ≡ true
   pub sound : is_flagged U v ≡ false
 
--- a scalar or an array of scalars
+-- a scalar, an array of scalars, or of a user type
 abbrev pub IsUsable : Upgrade → (variable : ℕ) → Type 0
-IsUsable U v = IsReadable U v ⊎ ((element : Ty) × IsArray U v element)
+IsUsable U v = IsReadable U v ⊎ (((element : Ty) × IsArray U v element) ⊎ ((user_type : ℕ) × IsGroup U v user_type))
 
 -- What is known of the variables that are used where a scope is written, which has the facts of the program.
 pub record AreReadable (U : Upgrade) (T : Scope) (uses : Uses) : Type 0 where
   pub scalars : (v : VarId) → uses.scalar v ≡ true → IsReadable U v.0
   pub arrays : (v : VarId) (element : Ty) → uses.array v element ≡ true → IsArray U v.0 element
+  pub groups : (v : VarId) (user_type : ℕ) → uses.group v user_type ≡ true → IsGroup U v.0 user_type
+  pub fields : (user_type field : ℕ) (ty : Ty) → uses.field_type user_type field ≡ Some ty → IsField U user_type field ty
   pub exact : (v : VarId) → uses.exact v ≡ true → is_quiet U.program.declarations U.known v.0 ≡ false
   pub facts : T.facts ≡ U.facts
   pub types : (v : VarId) (ty : Ty) → uses.is_of v ty ≡ true → is_declared_as ty (slice_get U.program.declarations.vars v.0) ≡ true

@@ -1,0 +1,26 @@
+-- User types of scalars, none of whose declarations carries an issue.
+use Rattle.std.specs.Prelude.{◌≡◌, ℕ, suc, true, false, Some}
+use Rattle.vb_tree.specs.BoundTree.{Ty}
+use Rattle.vb6_run.specs.Shapes.{Shape, simple, group, array, endless, Shapes, no_shapes, next_shape}
+use Rattle.run_matches.specs.Covered.{covers_type}
+use Rattle.run_matches.specs.Pledges.{type_of_shape}
+use Rattle.run_matches.specs.Upgrades.{Upgrade, field_variable, is_flagged, type_of}
+
+-- a field of a user type has a type, and its declaration carries no issue
+pub record IsField (U : Upgrade) (user_type field : ℕ) (ty : Ty) : Type 0 where
+  pub variable : ℕ
+  pub declares : field_variable U user_type field ≡ Some variable
+  pub is_type : type_of U variable ≡ Some ty
+  pub sound : is_flagged U variable ≡ false
+
+abbrev mutual
+  -- a scalar of a covered type, or a user type of such fields as are declared, where no declaration of one carries an issue
+  pub IsSoundShape : Upgrade → Shape → Type 0
+  IsSoundShape U (simple ty) = covers_type ty ≡ true
+  IsSoundShape U (group t fs) = AreSoundShapes U t 0 fs
+  IsSoundShape U (array e bounds) = ⊥
+  IsSoundShape U endless = ⊥
+
+  pub AreSoundShapes : Upgrade → (user_type field : ℕ) → Shapes → Type 0
+  AreSoundShapes U t k no_shapes = Unit {0}
+  AreSoundShapes U t k (next_shape s rest) = IsField U t k (type_of_shape s) × IsSoundShape U s × AreSoundShapes U t (suc k) rest
