@@ -10,7 +10,7 @@ use Rattle.bound_facts.specs.Members.{at_option, type_fields, field_of}
 use Rattle.bound_tree.specs.declared.declared.TypeDecl.{TypeDecl}
 use Rattle.bound_tree.specs.Tree.{Declarations}
 use Rattle.written_trees.specs.Names.{variable_name}
-use Rattle.run_matches.specs.Covered.{are_different, is_named_in, covers_field, covers_user_by, covers_user_within, covers_user}
+use Rattle.run_matches.specs.CoveredVariables.{are_different, is_named_in, covers_field, covers_user_by, covers_user_within, covers_user}
 use Rattle.run_matches.specs.Upgrades.{Upgrade, field_name, field_variable}
 use Rattle.run_matches.specs.UserTypes.{field_names, type_leads}
 use Rattle.agreeing_laws.proofs.Fields.{IsFirstNamed}

@@ -10,7 +10,7 @@ use Rattle.bound_tree.specs.declared.declared.TypeDecl.{TypeDecl}
 use Rattle.bound_facts.specs.Members.{at_option, type_fields, field_of}
 use Rattle.bound_tree.specs.Tree.{Variable, Declarations}
 use Rattle.vb6_run.specs.Shapes.{Shape, group, Shapes, next_shape, shape_at, shape_by, declared_shape, field_shapes, group_by, user_shape, user_shapes}
-use Rattle.run_matches.specs.Covered.{are_different, covers_field_type, covers_field, covers_user_by, covers_user_within, covers_user}
+use Rattle.run_matches.specs.CoveredVariables.{are_different, covers_field_type, covers_field, covers_user_by, covers_user_within, covers_user}
 use Rattle.run_matches.specs.Pledges.{type_of_shape}
 use Rattle.run_matches.specs.UserTypes.{field_names, type_leads}
 use Rattle.run_matches.specs.Upgrades.{type_of_some}

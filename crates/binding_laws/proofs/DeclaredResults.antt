@@ -19,7 +19,7 @@ use Rattle.declarations.specs.Numbered.{numbered}
 use Rattle.declarations.specs.Typed.{result_of, typed, typed_variables, with_result}
 use Rattle.binder.specs.Programs.{bound_program}
 use Rattle.vb6_run.specs.Runnables.{Runnable}
-use Rattle.run_matches.specs.Covered.{covers_type}
+use Rattle.run_matches.specs.CoveredVariables.{covers_type}
 use Rattle.typing_laws.specs.Calls.{HaveResults}
 use Rattle.typing_laws.specs.Typed.{gives_what_it_has}
 

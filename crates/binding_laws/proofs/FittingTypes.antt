@@ -19,7 +19,8 @@ use Rattle.expression_words.specs.Flaws as flaws
 use Rattle.expression_words.specs.Flaws.{Typed, known, breaks, on_known}
 use Rattle.expression_words.specs.Converting.{gives_none, fails, converted, plain, finally, by_conversion, wanted}
 use Rattle.expression_words.specs.Members.{is_kind, is_part, is_property, part, store_part, store_part_of}
-use Rattle.run_matches.specs.Covered.{covers_type, is_plain_kind}
+use Rattle.run_matches.specs.CoveredVariables.{covers_type}
+use Rattle.run_matches.specs.Covered.{is_plain_kind}
 use Rattle.typing_laws.specs.Typed.{fits_type, is_unknown}
 use Rattle.binding_laws.proofs.AssignedTypes.{Fits, Makes, converts_makes}
 

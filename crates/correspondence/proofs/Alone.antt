@@ -16,7 +16,8 @@ use Rattle.written_trees.specs.Prologues.{declares, is_statement, variables_from
 use Rattle.vb6_run.specs.Programs.{answer_in, is_local_of, owned_from, is_static_of}
 use Rattle.vb6_run.specs.Runnables.{is_class_file}
 use Rattle.run_matches.specs.Callees.{answer_owns, frame_owns, own_of_some, parameter_owns}
-use Rattle.run_matches.specs.Covered.{are_different, belongs_to, covers_body, covers_all_calls, covers_declared, covers_head, covers_kind, covers_names, covers_own, covers_owner, covers_owns, covers_parameter, covers_procedure, covers_result, covers_site, covers_variables, has_extents, has_result, is_answer_of, is_named_in, is_value_of, is_parameter_of}
+use Rattle.run_matches.specs.CoveredVariables.{are_different, belongs_to, covers_declared, covers_owner, has_extents, is_named_in}
+use Rattle.run_matches.specs.Covered.{covers_body, covers_all_calls, covers_head, covers_kind, covers_names, covers_own, covers_owns, covers_parameter, covers_procedure, covers_result, covers_site, covers_variables, has_result, is_answer_of, is_value_of, is_parameter_of}
 use Rattle.run_matches.specs.Sites.{Own, own_variable, own_constant, own_name, own_variables, own_constants, statement_owns, owns_from, owns_of, Site, site_of, site_lines, first_statement, local_numbers, static_numbers, variable_numbers}
 use Rattle.correspondence.specs.Lists.{In}
 use Rattle.correspondence.specs.Uses.{IsAlone}

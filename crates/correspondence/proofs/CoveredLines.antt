@@ -24,7 +24,9 @@ use Rattle.written_trees.specs.Lines.{as_call, case_items, empty_extents, first_
 use Rattle.written_trees.specs.Names.{Scope, Path, module_name, procedure_path}
 use Rattle.written_trees.specs.Puts.{formed, order_shows, put_type, rank_of, store_by, store_line, target_rank}
 use Rattle.written_trees.specs.Types.{element_type, written_type}
-use Rattle.run_matches.specs.Covered.{covers_type, covers_expr, covers_term, covers_condition, covers_counter, covers_counting, covers_items, covers_step, covers_store, covers_form, covers_line, covers_value, is_comparison, is_counter, is_variable, covers_library, covers_exprs, covers_box, covers_call, covers_called_in, is_box, is_reached, uses_in, is_bound, covers_bounded, covers_erased, covers_resizes}
+use Rattle.run_matches.specs.CoveredVariables.{covers_type, is_reached}
+use Rattle.run_matches.specs.CoveredExprs.{covers_expr, covers_term, covers_value, is_variable, covers_library, covers_exprs, uses_in, is_bound, covers_bounded}
+use Rattle.run_matches.specs.CoveredLines.{covers_condition, covers_counter, covers_counting, covers_items, covers_step, covers_store, covers_form, covers_line, is_comparison, is_counter, covers_box, covers_call, covers_called_in, is_box, covers_erased, covers_resizes}
 use Rattle.run_matches.specs.Formed.{is_formed, is_row_of_call, are_formed}
 use Rattle.correspondence.specs.Uses.{redim_exps, resize_exprs, FormCorresponds, SameUses, case_exps, names, total, uses, CallCorresponds, IsAlone, IsSharedAlone, is_call_in, is_call_of, path_names, shared_names}
 use Rattle.correspondence.proofs.NamedCalls.{neither, none_of_both, path_other, shared_path_other}

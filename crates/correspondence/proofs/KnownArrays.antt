@@ -27,7 +27,8 @@ use Rattle.written_trees.specs.Lines.{empty_extents}
 use Rattle.written_trees.specs.Names.{Path, Scope, owner_path}
 use Rattle.written_trees.specs.Puts.{put_type, store_by}
 use Rattle.written_trees.specs.Supports.{fixed_functions}
-use Rattle.run_matches.specs.Covered.{IsUsed, covers_array, covers_bounded, covers_dimension, covers_type, is_bound, uses_in}
+use Rattle.run_matches.specs.CoveredVariables.{covers_type}
+use Rattle.run_matches.specs.CoveredExprs.{IsUsed, covers_array, covers_bounded, covers_dimension, is_bound, uses_in}
 use Rattle.correspondence.specs.Paths.{paths_of_exp, paths_of_exps, paths_of_line}
 use Rattle.correspondence.proofs.KnownPaths.{AreKnown, HasKnown, IsFunction, IsKnown, in_place, known_append}
 use Rattle.correspondence.proofs.Variables.{IsVariablePath, path_is, used_at, variable_exp}

@@ -12,7 +12,7 @@ use Rattle.written_trees.specs.Exprs.{exp_of, exps_of, library_of}
 use Rattle.written_trees.specs.Library.{text_call, absolute_path}
 use Rattle.written_trees.specs.Names.{Path, Scope}
 use Rattle.written_trees.specs.Supports.{fixed_functions}
-use Rattle.run_matches.specs.Covered.{covers_library}
+use Rattle.run_matches.specs.CoveredExprs.{covers_library}
 use Rattle.correspondence.specs.Paths.{paths_of_exp, paths_of_exps}
 use Rattle.correspondence.proofs.KnownPaths.{AreKnown, HasKnown, IsFunction, in_place, checked_known, converted_known}
 

@@ -24,7 +24,10 @@ use Rattle.written_trees.specs.Literals.{is_hexadecimal}
 use Rattle.written_trees.specs.Names.{Scope, procedure_path}
 use Rattle.written_trees.specs.Puts.{order_shows, rank_of}
 use Rattle.written_trees.specs.Operators.{typed_operator, typed_unary, operand, is_product_in_currency, variant_operator, variant_unary}
-use Rattle.run_matches.specs.Covered.{covers_type, covers_operator, covers_expr, covers_term, covers_exprs, covers_condition, covers_counter, covers_counting, covers_items, covers_step, covers_store, covers_form, covers_line, covers_value, is_comparison, is_counter, is_variable, covers_library, covers_box, covers_call, is_box, covers_called_in, covers_names, covers_passed, uses_in, covers_array, covers_bounded, covers_erased, covers_extent, covers_low, covers_resize, covers_resizes, is_bound, is_passable}
+use Rattle.run_matches.specs.CoveredVariables.{covers_type}
+use Rattle.run_matches.specs.CoveredExprs.{covers_operator, covers_expr, covers_term, covers_exprs, covers_value, is_variable, covers_library, covers_passed, uses_in, covers_array, covers_bounded, is_bound, is_passable}
+use Rattle.run_matches.specs.CoveredLines.{covers_condition, covers_counter, covers_counting, covers_items, covers_step, covers_store, covers_form, covers_line, is_comparison, is_counter, covers_box, covers_call, is_box, covers_called_in, covers_erased, covers_extent, covers_low, covers_resize, covers_resizes}
+use Rattle.run_matches.specs.Covered.{covers_names}
 use Rattle.run_matches.specs.Formed.{is_formed}
 use Rattle.correspondence.specs.Paths.{paths_of_case, paths_of_exp, paths_of_line, paths_of_option, paths_of_exps, paths_of_redim}
 use Rattle.correspondence.proofs.CoveredLines.{stored_plain, type_covered}

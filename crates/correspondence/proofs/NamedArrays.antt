@@ -19,7 +19,7 @@ use Rattle.written_trees.specs.Exprs.{exp_of, exps_of, index_at, index_from, ind
 use Rattle.written_trees.specs.Library.{absolute_path, low_at, low_exp}
 use Rattle.written_trees.specs.Names.{Path, Scope, support, strings, procedure_path}
 use Rattle.written_trees.specs.Prologues.{one_if}
-use Rattle.run_matches.specs.Covered.{IsUsed, covers_array, covers_bounded, covers_dimension, covers_expr, is_bound, uses_in}
+use Rattle.run_matches.specs.CoveredExprs.{IsUsed, covers_array, covers_bounded, covers_dimension, covers_expr, is_bound, uses_in}
 use Rattle.correspondence.specs.Uses.{uses, exprs_uses, names, exps_name}
 use Rattle.correspondence.proofs.NamedCalls.{covered_type, reference_names}
 

@@ -13,7 +13,8 @@ use Rattle.written_trees.specs.Arguments.{argument_exp, copy_by, has_address, in
 use Rattle.written_trees.specs.Exprs.{called, exp_of}
 use Rattle.written_trees.specs.Facts.{Facts, holds_array}
 use Rattle.written_trees.specs.Names.{Path, Scope, first_name, is_foreign, is_standard_module, module_at, module_name, procedure_name, procedure_path, procedure_path_of}
-use Rattle.run_matches.specs.Covered.{Uses, covers_expr, covers_term, covers_type}
+use Rattle.run_matches.specs.CoveredVariables.{covers_type}
+use Rattle.run_matches.specs.CoveredExprs.{Uses, covers_expr, covers_term}
 use Rattle.correspondence.specs.Uses.{exps_name, is_named_there, names, path_names, shared_names, stands_elsewhere}
 use Rattle.correspondence.proofs.Variables.{one_of, same_itself, shared_other}
 

@@ -21,7 +21,8 @@ use Rattle.net_tree.specs.Types.{TypeName}
 use Rattle.written_trees.specs.Exprs.{exp_of}
 use Rattle.written_trees.specs.Lines.{empty_extents, extent_exp, extents_exps, resized_array}
 use Rattle.written_trees.specs.Names.{Path, Scope}
-use Rattle.run_matches.specs.Covered.{Uses, covers_array, covers_expr, covers_extent, covers_resize, covers_resizes, covers_value, uses_in}
+use Rattle.run_matches.specs.CoveredExprs.{Uses, covers_array, covers_expr, covers_value, uses_in}
+use Rattle.run_matches.specs.CoveredLines.{covers_extent, covers_resize, covers_resizes}
 use Rattle.run_matches.specs.Formed.{is_formed}
 use Rattle.correspondence.specs.Uses.{exps_name, extent_exprs, listed, names, redim_exps, resize_exprs, total, uses}
 use Rattle.correspondence.proofs.NamedArrays.{IsRight, array_names}

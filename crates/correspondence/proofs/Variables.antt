@@ -20,7 +20,8 @@ use Rattle.written_trees.specs.Exprs.{exp_of, made_if}
 use Rattle.written_trees.specs.Names.{Path, Scope, module_at, is_standard_module, module_name, is_foreign, variable_path_of, owner_path, support}
 use Rattle.written_trees.specs.Prologues.{one_if}
 use Rattle.written_trees.specs.Types.{element_type}
-use Rattle.run_matches.specs.Covered.{Uses, covers_expr, covers_array, is_passable, covers_type, covers_owner, covers_variable, belongs_to, is_foreign_name, is_reached, covers_some, is_mention_of, is_loud, IsUsed, covers_array_owner, covers_array_variable, covers_bounds, covers_declared, covers_some_array, is_array_of, is_named_apart, uses_in}
+use Rattle.run_matches.specs.CoveredVariables.{covers_type, covers_owner, covers_variable, belongs_to, is_foreign_name, is_reached, covers_some, is_mention_of, is_loud, covers_array_owner, covers_array_variable, covers_bounds, covers_declared, covers_some_array, is_array_of, is_named_apart}
+use Rattle.run_matches.specs.CoveredExprs.{Uses, covers_expr, covers_array, is_passable, IsUsed, uses_in}
 use Rattle.run_matches.specs.Shared.{names_lead, leads_to_home, is_alone_static}
 use Rattle.correspondence.proofs.Among.{or_cases}
 use Rattle.correspondence.specs.Uses.{path_names, shared_names, names, IsAlone, IsSharedAlone}

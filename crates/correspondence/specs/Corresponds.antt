@@ -17,7 +17,8 @@ use Rattle.written_trees.specs.Projects.{main_of, makers, has_initializer, modul
 use Rattle.written_trees.specs.Comments.{texts}
 use Rattle.written_trees.specs.DeclaredMembers.{member_comments}
 use Rattle.written_trees.specs.Placing.{Numbers, first_line, last_line, placed_members, behind_members, last_comments}
-use Rattle.run_matches.specs.Covered.{belongs_to, covers_procedure}
+use Rattle.run_matches.specs.CoveredVariables.{belongs_to}
+use Rattle.run_matches.specs.Covered.{covers_procedure}
 use Rattle.run_matches.specs.Sites.{Site, site_of, site_lines, first_statement, owns_of}
 use Rattle.run_matches.specs.Upgrades.{Upgrade, written_number}
 use Rattle.run_statements.specs.Written.{site_scope}

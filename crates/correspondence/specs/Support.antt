@@ -5,7 +5,8 @@ use Rattle.bound_tree.specs.Tree.{Declarations, Line, Program}
 use Rattle.net_tree.specs.Tree as net
 use Rattle.written_trees.specs.Facts.{Facts}
 use Rattle.written_trees.specs.Supports.{all_functions, is_used, calls, is_same_function}
-use Rattle.run_matches.specs.Covered.{covers_line, covers_names}
+use Rattle.run_matches.specs.CoveredLines.{covers_line}
+use Rattle.run_matches.specs.Covered.{covers_names}
 use Rattle.correspondence.specs.Lists.{In}
 use Rattle.correspondence.specs.Paths.{Each, NamesFunction, paths_of_line}
 use Rattle.correspondence.specs.Variants.{is_replaced}

@@ -14,7 +14,7 @@ use Rattle.net_tree.specs.Tree as net
 use Rattle.written_trees.specs.Conversions.{one, two}
 use Rattle.written_trees.specs.Lines.{print_name}
 use Rattle.written_trees.specs.Names.{Path, Scope, is_standard_module, module_at, module_name, support, procedure_name}
-use Rattle.run_matches.specs.Covered.{belongs_to, is_reached}
+use Rattle.run_matches.specs.CoveredVariables.{belongs_to, is_reached}
 
 -- ---- bound expressions
 

@@ -12,7 +12,7 @@ use Rattle.net_tree.specs.Types.{TypeName}
 use Rattle.written_trees.specs.Conversions.{one, two}
 use Rattle.written_trees.specs.Lines.{replacing, replaced_by, flagged_line, line_of, jump, net_label, comparison, exit_of, print_name}
 use Rattle.written_trees.specs.Names.{Scope, support}
-use Rattle.run_matches.specs.Covered.{covers_line}
+use Rattle.run_matches.specs.CoveredLines.{covers_line}
 use Rattle.correspondence.specs.Uses.{FormCorresponds}
 use Rattle.correspondence.specs.Lists.{Pairwise}
 

@@ -57,7 +57,7 @@ use Rattle.row_laws.proofs.Calls.{answer_taken, call_gives}
 use Rattle.row_laws.proofs.Composing.{after_nil, then_assoc}
 use Rattle.row_laws.proofs.Support.{support_start}
 use Rattle.run_matches.specs.Agreeing.{Agrees}
-use Rattle.run_matches.specs.Covered.{is_bound}
+use Rattle.run_matches.specs.CoveredExprs.{is_bound}
 use Rattle.run_matches.specs.Formed.{is_row_of_call}
 use Rattle.run_matches.specs.Likeness.{SameCounts, counts_of, like_scalar, no_counts, same_counts}
 use Rattle.run_matches.specs.Maps.{World, moved_at}

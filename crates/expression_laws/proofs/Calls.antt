@@ -35,7 +35,7 @@ use Rattle.written_trees.specs.Facts.{Facts, holds_array}
 use Rattle.written_trees.specs.Names as written_names
 use Rattle.written_trees.specs.Names.{procedure_path}
 use Rattle.run_matches.specs.Agreeing.{Agrees, ResultMatch}
-use Rattle.run_matches.specs.Covered.{covers_type}
+use Rattle.run_matches.specs.CoveredVariables.{covers_type}
 use Rattle.run_matches.specs.Maps.{World, mark}
 use Rattle.run_matches.specs.Match.{MemoryMatch}
 use Rattle.run_matches.specs.Pledges.{NetGiven, Pledge}

@@ -33,7 +33,7 @@ use Rattle.written_trees.specs.Conversions as written
 use Rattle.written_trees.specs.Conversions.{converted, literal_or, applied}
 use Rattle.written_trees.specs.Literals.{is_whole, takes_literals, literal_of, literal_as, written_constant, is_hexadecimal}
 use Rattle.run_matches.specs.Agreeing.{Agrees}
-use Rattle.run_matches.specs.Covered.{covers_type}
+use Rattle.run_matches.specs.CoveredVariables.{covers_type}
 use Rattle.run_matches.specs.Likeness.{are_same, like_scalar}
 use Rattle.run_matches.specs.Maps.{World}
 use Rattle.run_matches.specs.Match.{MemoryMatch}

@@ -23,7 +23,7 @@ use Rattle.net_run.specs.Store as net
 use Rattle.net_run.specs.Values as net_value
 use Rattle.row_laws.proofs.Composing.{after_nil, then_assoc}
 use Rattle.run_matches.specs.Agreeing.{Agrees}
-use Rattle.run_matches.specs.Covered.{covers_type}
+use Rattle.run_matches.specs.CoveredVariables.{covers_type}
 use Rattle.run_matches.specs.Likeness.{ArrayLike, ItemsLike, LikeV, SameCounts, numbers_of, same_elements}
 use Rattle.run_matches.specs.Maps.{World, moved_at}
 use Rattle.run_matches.specs.Match.{Holds, MemoryMatch, holds_blank, holds_parts, holds_single, holds_table}

@@ -15,7 +15,7 @@ use Rattle.net_run.specs.Names as net_names
 use Rattle.net_run.specs.Store as net
 use Rattle.written_trees.specs.Exprs.{exp_of}
 use Rattle.written_trees.specs.Names.{Scope}
-use Rattle.run_matches.specs.Covered.{Uses, covers_expr}
+use Rattle.run_matches.specs.CoveredExprs.{Uses, covers_expr}
 use Rattle.run_matches.specs.Formed.{is_formed}
 
 -- a Byte beyond its limits

@@ -50,7 +50,9 @@ use Rattle.written_trees.specs.Library.{low_at}
 use Rattle.written_trees.specs.Names.{Scope, procedure_path}
 use Rattle.written_trees.specs.Operators.{binary_exp, unary_exp}
 use Rattle.run_matches.specs.Agreeing.{Agrees}
-use Rattle.run_matches.specs.Covered.{Uses, covers_array, covers_bounded, covers_dimension, covers_exprs, covers_library, is_bound, covers_type, covers_term, covers_operator, covers_expr, covers_passed, is_passable, is_referred, is_variable, suits_array, suits_passed, hands_argument, hands_passed, is_item}
+use Rattle.run_matches.specs.CoveredVariables.{covers_type}
+use Rattle.run_matches.specs.CoveredExprs.{Uses, covers_array, covers_bounded, covers_dimension, covers_exprs, covers_library, is_bound, covers_term, covers_operator, covers_expr, covers_passed, is_passable, is_variable}
+use Rattle.run_matches.specs.Covered.{is_referred, suits_array, suits_passed, hands_argument, hands_passed, is_item}
 use Rattle.run_matches.specs.Frames.{frame_pledge}
 use Rattle.run_matches.specs.Likeness.{are_same}
 use Rattle.run_matches.specs.Maps.{World}

@@ -13,7 +13,7 @@ use Rattle.net_run.specs.Lines.{NetFrame}
 use Rattle.net_run.specs.Names as net_names
 use Rattle.net_run.specs.Store as net
 use Rattle.run_matches.specs.Addresses.{Bound, images, mirrored}
-use Rattle.run_matches.specs.Covered.{Uses}
+use Rattle.run_matches.specs.CoveredExprs.{Uses}
 use Rattle.run_matches.specs.Keeping.{given_types}
 use Rattle.run_matches.specs.Maps.{World}
 use Rattle.run_matches.specs.Match.{MemoryMatch}

@@ -26,7 +26,9 @@ use Rattle.net_run.specs.Names.{path_start, starts, at_place, frame_start, var_i
 use Rattle.net_run.specs.Shapes as net_shapes
 use Rattle.net_run.specs.Store as net
 use Rattle.run_matches.specs.Addresses.{AllMatched, AllRanked, Same, same_root, Bound, images, mirrored, IsPlain, position_of, same_item, IsScalarAt, is_element}
-use Rattle.run_matches.specs.Covered.{Uses, IsUsed, covers_owner, covers_type, covers_variable, is_reference_in, is_reference_owner_of}
+use Rattle.run_matches.specs.CoveredVariables.{covers_owner, covers_type, covers_variable}
+use Rattle.run_matches.specs.CoveredExprs.{Uses, IsUsed}
+use Rattle.run_matches.specs.Covered.{is_reference_in, is_reference_owner_of}
 use Rattle.run_matches.specs.Frames.{StandsAs, FrameMatch, SameVariable, SameStatic, HasPlace, is_own_of, is_static_in, static_of, GivenAddress, is_reference_of}
 use Rattle.run_matches.specs.Kinds.{IsKind, AreKinds}
 use Rattle.run_matches.specs.Likeness.{SameShape, same_scalar, same_class, same_group, same_array}

@@ -31,7 +31,8 @@ use Rattle.written_trees.specs.Exprs.{exp_of, library_of}
 use Rattle.written_trees.specs.Library.{library_call}
 use Rattle.written_trees.specs.Names.{Scope}
 use Rattle.run_matches.specs.Agreeing.{Agrees}
-use Rattle.run_matches.specs.Covered.{Uses, covers_type, covers_library, covers_expr, covers_term, covers_exprs}
+use Rattle.run_matches.specs.CoveredVariables.{covers_type}
+use Rattle.run_matches.specs.CoveredExprs.{Uses, covers_library, covers_expr, covers_term, covers_exprs}
 use Rattle.run_matches.specs.Formed.{types_of, is_call, is_conversion_to, is_signed, is_row_of_call, is_formed, are_formed}
 use Rattle.run_matches.specs.Likeness.{are_same}
 use Rattle.run_matches.specs.Maps.{World}

@@ -31,7 +31,8 @@ use Rattle.written_trees.specs.Exprs.{exp_of, made_if, member_of}
 use Rattle.written_trees.specs.Names.{Scope, variable_name, variable_path}
 use Rattle.run_matches.specs.Addresses.{AllMatched, AllRanked, IsPlain, IsTarget, Same, same_item, same_root, position_of}
 use Rattle.run_matches.specs.Agreeing.{Agrees}
-use Rattle.run_matches.specs.Covered.{Uses, IsUsed, covers_place, covers_user, is_type}
+use Rattle.run_matches.specs.CoveredVariables.{covers_user}
+use Rattle.run_matches.specs.CoveredExprs.{Uses, IsUsed, covers_place, is_type}
 use Rattle.run_matches.specs.Maps.{World, is_auto_root, moved_at}
 use Rattle.run_matches.specs.Likeness.{SameShape}
 use Rattle.run_matches.specs.Match.{MemoryMatch}

@@ -35,7 +35,9 @@ use Rattle.written_trees.specs.Exprs.{exp_of}
 use Rattle.written_trees.specs.Names.{Scope, variable_path}
 use Rattle.run_matches.specs.Addresses.{HasParameterRank, IsPlain, IsTarget, Same, same_item, same_root, GivesWhole, IsScalarAt}
 use Rattle.run_matches.specs.Agreeing.{Agrees}
-use Rattle.run_matches.specs.Covered.{Uses, IsUsed, covers_array, covers_expr, covers_type, is_passable, is_variable, suits_array, hands_argument, is_relied_at, is_relied_on}
+use Rattle.run_matches.specs.CoveredVariables.{covers_type}
+use Rattle.run_matches.specs.CoveredExprs.{Uses, IsUsed, covers_array, covers_expr, is_passable, is_variable, is_relied_on}
+use Rattle.run_matches.specs.Covered.{suits_array, hands_argument, is_relied_at}
 use Rattle.run_matches.specs.Likeness.{SameShape, same_array, same_class, same_group, same_scalar}
 use Rattle.run_matches.specs.Maps.{World}
 use Rattle.run_matches.specs.Match.{MemoryMatch}

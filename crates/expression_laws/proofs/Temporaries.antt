@@ -21,7 +21,7 @@ use Rattle.net_run.specs.Values as net_value
 use Rattle.written_trees.specs.Arguments.{argument_exp, copy_by, has_address, in_parentheses, is_conversion, is_copied, kept, temporary_exp}
 use Rattle.written_trees.specs.Exprs.{exp_of}
 use Rattle.written_trees.specs.Names as written_names
-use Rattle.run_matches.specs.Covered.{covers_type}
+use Rattle.run_matches.specs.CoveredVariables.{covers_type}
 use Rattle.run_matches.specs.Pledges.{NetGiven}
 use Rattle.agreeing_laws.specs.Promises.{Yields}
 use Rattle.row_laws.proofs.Composing.{then_assoc, then_gives}

@@ -7,7 +7,7 @@ use Rattle.bound_facts.specs.Locks.{is_same_type}
 use Rattle.net_meaning.specs.SameValues.{is_typed}
 use Rattle.vb6_run.specs.Expressions.{type_shape}
 use Rattle.vb6_run.specs.Shapes.{Shape, simple, shape_by}
-use Rattle.run_matches.specs.Covered.{covers_type}
+use Rattle.run_matches.specs.CoveredVariables.{covers_type}
 
 pub both_true : (a b : Bool) → (a && b) ≡ true → (a ≡ true) × (b ≡ true)
 both_true true b h = (refl, h)

@@ -39,7 +39,8 @@ use Rattle.written_trees.specs.Exprs.{exp_of, made_if}
 use Rattle.written_trees.specs.Names.{Scope, variable_path}
 use Rattle.run_matches.specs.Addresses.{Bound, HoldsSame, Same, images, mirrored, same_item, same_root, IsElement, IsWhole}
 use Rattle.run_matches.specs.Agreeing.{Agrees}
-use Rattle.run_matches.specs.Covered.{Uses, covers_owner, covers_type, covers_variable}
+use Rattle.run_matches.specs.CoveredVariables.{covers_owner, covers_type, covers_variable}
+use Rattle.run_matches.specs.CoveredExprs.{Uses}
 use Rattle.run_matches.specs.Maps.{World, moved_at, IsMatched}
 use Rattle.run_matches.specs.Match.{MemoryMatch, HasArray, Holds, holds_blank, holds_parts, holds_single, holds_table}
 use Rattle.run_matches.specs.Pledges.{Pledge}

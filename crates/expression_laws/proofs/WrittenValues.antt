@@ -28,7 +28,8 @@ use Rattle.written_trees.specs.Names as written_names
 use Rattle.written_trees.specs.Names.{procedure_path, strings}
 use Rattle.written_trees.specs.Operators.{binary_exp, checked, is_product_in_currency, is_text, operand, typed_operator, typed_unary, unary_exp, variant_operator, variant_unary}
 use Rattle.row_laws.proofs.Support.{free_start}
-use Rattle.run_matches.specs.Covered.{Uses, covers_bounded, covers_expr, covers_library, covers_term, covers_type, is_bound}
+use Rattle.run_matches.specs.CoveredVariables.{covers_type}
+use Rattle.run_matches.specs.CoveredExprs.{Uses, covers_bounded, covers_expr, covers_library, covers_term, is_bound}
 use Rattle.run_matches.specs.Formed.{is_formed, is_row_of_call, are_formed, types_of}
 use Rattle.run_matches.specs.Pledges.{Pledge}
 use Rattle.run_matches.specs.Upgrades.{Upgrade}

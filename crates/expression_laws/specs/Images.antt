@@ -12,7 +12,7 @@ use Rattle.net_run.specs.Names.{path_start, starts, at_place}
 use Rattle.net_run.specs.Shapes as shape
 use Rattle.net_run.specs.Store as net
 use Rattle.run_matches.specs.Addresses.{Bound, IsPlain, IsTarget, Same, IsElement, IsWhole}
-use Rattle.run_matches.specs.Covered.{Uses, IsUsed, is_relied_on}
+use Rattle.run_matches.specs.CoveredExprs.{Uses, IsUsed, is_relied_on}
 use Rattle.run_matches.specs.Frames.{StandsAs}
 use Rattle.run_matches.specs.Maps.{World}
 use Rattle.run_matches.specs.Pledges.{Pledge}

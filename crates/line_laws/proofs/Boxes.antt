@@ -38,7 +38,8 @@ use Rattle.run_matches.specs.Likeness.{LikeV, like_scalar}
 use Rattle.run_matches.specs.Match.{MemoryMatch}
 use Rattle.run_matches.specs.Pledges.{Pledge}
 use Rattle.run_matches.specs.Agreeing.{Agrees}
-use Rattle.run_matches.specs.Covered.{Uses, covers_expr, covers_exprs, covers_term, covers_box, is_box}
+use Rattle.run_matches.specs.CoveredExprs.{Uses, covers_expr, covers_exprs, covers_term}
+use Rattle.run_matches.specs.CoveredLines.{covers_box, is_box}
 use Rattle.run_matches.specs.Formed.{is_call, types_of, is_formed, are_formed}
 use Rattle.run_matches.specs.Frames.{FrameMatch}
 use Rattle.run_statements.specs.Frames.{ArePlaced, ExpressionsAgree, IsOpen, ScalarMatch, context_of, AllCalled, AllCalledAll, AllCalledIn, demands, AreReadable}

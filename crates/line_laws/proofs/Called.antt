@@ -10,7 +10,8 @@ use Rattle.bound_facts.specs.Calls.{initialized, line_calls, node_calls, pair_to
 use Rattle.bound_facts.specs.Node.{called}
 use Rattle.bound_facts.specs.Nodes.{nodes, nodes_in, nodes_of_all, nodes_of_object, nodes_of_passed}
 use Rattle.bound_facts.specs.Parts.{line_uses, used_nodes}
-use Rattle.run_matches.specs.Covered.{Uses, covers_form}
+use Rattle.run_matches.specs.CoveredExprs.{Uses}
+use Rattle.run_matches.specs.CoveredLines.{covers_form}
 use Rattle.run_statements.specs.Frames.{Demands, AllCalled, AllCalledAll, AllCalledFor}
 
 abbrev pub AllIn : {A : Type 0} → (A → Type 0) → List A → Type 0

@@ -35,7 +35,8 @@ use Rattle.vb6_run.specs.Values.{Value, scalar, fields, elements, is_of_shape, i
 use Rattle.net_run.specs.Store as net_store
 use Rattle.net_run.specs.Values as net_value
 use Rattle.run_matches.specs.Agreeing.{Agrees, world_of}
-use Rattle.run_matches.specs.Covered.{Uses, are_still, converts_constant, covers_expr, covers_type, gives_typed, is_calm, is_literal_value, widens}
+use Rattle.run_matches.specs.CoveredVariables.{covers_type}
+use Rattle.run_matches.specs.CoveredExprs.{Uses, are_still, converts_constant, covers_expr, gives_typed, is_calm, is_literal_value, widens}
 use Rattle.run_matches.specs.Formed.{is_formed}
 use Rattle.run_matches.specs.Likeness.{LikeV, like_scalar}
 use Rattle.run_matches.specs.Maps.{World}

@@ -59,7 +59,9 @@ use Rattle.run_matches.specs.Pledges.{Pledge, Later}
 use Rattle.run_matches.specs.Addresses.{KeptMatch, both_nothing, both_limits, both_choices, both_objects, both_arrays, both_addresses}
 use Rattle.run_matches.specs.Agreeing.{Agrees}
 use Rattle.run_matches.specs.Formed.{is_formed}
-use Rattle.run_matches.specs.Covered.{Uses, chooses_among, covers_expr, covers_form, covers_items, covers_line, covers_part, covers_type, head_line, is_comparison, uses_in}
+use Rattle.run_matches.specs.CoveredVariables.{covers_type}
+use Rattle.run_matches.specs.CoveredExprs.{Uses, covers_expr, uses_in}
+use Rattle.run_matches.specs.CoveredLines.{chooses_among, covers_form, covers_items, covers_line, covers_part, head_line, is_comparison}
 use Rattle.run_matches.specs.Frames.{FrameMatch, IsChoice, KeptBy, is_exact_head, lines_of}
 use Rattle.run_statements.specs.Frames.{ArePlaced, ExpressionsAgree, IsOpen, ScalarMatch, context_of, AllCalled, demands, AreReadable}
 use Rattle.run_statements.specs.Written.{Passes}

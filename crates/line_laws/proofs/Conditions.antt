@@ -33,7 +33,7 @@ use Rattle.run_matches.specs.Likeness.{LikeV, like_scalar, are_same}
 use Rattle.run_matches.specs.Match.{MemoryMatch}
 use Rattle.run_matches.specs.Pledges.{Pledge, Later}
 use Rattle.run_matches.specs.Agreeing.{Agrees}
-use Rattle.run_matches.specs.Covered.{Uses}
+use Rattle.run_matches.specs.CoveredExprs.{Uses}
 use Rattle.run_matches.specs.Frames.{FrameMatch}
 use Rattle.run_statements.specs.Frames.{ArePlaced, ExpressionsAgree, IsOpen, ScalarMatch, context_of, AllCalled, demands, AreReadable}
 use Rattle.run_statements.specs.Written.{Passes}

@@ -24,7 +24,9 @@ use Rattle.vb6_run.specs.Lines.{low_of}
 use Rattle.vb6_run.specs.Store.{Memory, provided}
 use Rattle.vb6_run.specs.Store as store
 use Rattle.vb6_run.specs.Values.{scalar, is_of_shape}
-use Rattle.run_matches.specs.Covered.{Uses, covers_expr, covers_low, covers_operator, covers_term, covers_type}
+use Rattle.run_matches.specs.CoveredVariables.{covers_type}
+use Rattle.run_matches.specs.CoveredExprs.{Uses, covers_expr, covers_operator, covers_term}
+use Rattle.run_matches.specs.CoveredLines.{covers_low}
 use Rattle.line_laws.proofs.Bounds.{some_is}
 
 -- ---- constants

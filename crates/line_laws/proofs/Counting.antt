@@ -42,7 +42,9 @@ use Rattle.run_matches.specs.Pledges.{Pledge, Later}
 use Rattle.run_matches.specs.Addresses.{Same, both_limits, IsInPlace}
 use Rattle.run_matches.specs.Agreeing.{Agrees}
 use Rattle.run_matches.specs.Formed.{is_formed}
-use Rattle.run_matches.specs.Covered.{Uses, covers_counter, covers_counting, covers_expr, covers_step, covers_type, covers_value, is_counter, is_local, is_local_term, is_variable}
+use Rattle.run_matches.specs.CoveredVariables.{covers_type}
+use Rattle.run_matches.specs.CoveredExprs.{Uses, covers_expr, covers_value, is_variable}
+use Rattle.run_matches.specs.CoveredLines.{covers_counter, covers_counting, covers_step, is_counter, is_local, is_local_term}
 use Rattle.run_matches.specs.Frames.{FrameMatch, HasPlace, OwnsAll, SameVariable, is_own_of}
 use Rattle.run_statements.specs.Frames.{AnyUnits, ArePlaced, ExpressionsAgree, IsOpen, IsReadable, ScalarMatch, ScalarsAreWritten, context_of, AllCalled, demands, AreReadable}
 use Rattle.run_statements.specs.Written.{Passes}

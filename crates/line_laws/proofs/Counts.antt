@@ -41,7 +41,8 @@ use Rattle.run_matches.specs.Likeness.{LikeV, like_scalar, are_same}
 use Rattle.run_matches.specs.Match.{MemoryMatch}
 use Rattle.run_matches.specs.Pledges.{Pledge}
 use Rattle.run_matches.specs.Agreeing.{Agrees}
-use Rattle.run_matches.specs.Covered.{covers_type, is_counter, is_local_in}
+use Rattle.run_matches.specs.CoveredVariables.{covers_type}
+use Rattle.run_matches.specs.CoveredLines.{is_counter, is_local_in}
 use Rattle.run_matches.specs.Frames.{is_own_of}
 use Rattle.run_statements.specs.Frames.{ScalarMatch}
 use Rattle.agreeing_laws.proofs.Agreeing.{agrees_gives, agrees_outside, agrees_raises, left_alone, right_alone}

@@ -27,7 +27,8 @@ use Rattle.net_run.specs.Names as net_names
 use Rattle.net_run.specs.Store as net_store
 use Rattle.row_laws.proofs.Composing.{then_gives}
 use Rattle.run_matches.specs.Agreeing.{Agrees}
-use Rattle.run_matches.specs.Covered.{Uses, are_calm, are_still, both_raise, covers_array, covers_expr, covers_exprs, covers_type, is_calm, is_literal_value, is_raising, keeps_order}
+use Rattle.run_matches.specs.CoveredVariables.{covers_type}
+use Rattle.run_matches.specs.CoveredExprs.{Uses, are_calm, are_still, both_raise, covers_array, covers_expr, covers_exprs, is_calm, is_literal_value, is_raising, keeps_order}
 use Rattle.run_matches.specs.Formed.{is_formed}
 use Rattle.run_matches.specs.Frames.{OwnsAll, is_own_of}
 use Rattle.run_matches.specs.Maps.{World}

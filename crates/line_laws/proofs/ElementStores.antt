@@ -38,7 +38,8 @@ use Rattle.net_run.specs.Values as net_value
 use Rattle.row_laws.proofs.Composing.{then_assoc, then_gives}
 use Rattle.run_matches.specs.Agreeing.{Agrees, world_of}
 use Rattle.run_matches.specs.Addresses.{IsPlain}
-use Rattle.run_matches.specs.Covered.{Uses, are_calm, are_still, covers_array, covers_expr, covers_exprs, covers_type, is_calm, is_literal_value}
+use Rattle.run_matches.specs.CoveredVariables.{covers_type}
+use Rattle.run_matches.specs.CoveredExprs.{Uses, are_calm, are_still, covers_array, covers_expr, covers_exprs, is_calm, is_literal_value}
 use Rattle.run_matches.specs.Formed.{are_formed, are_longs, has_elements, is_formed, types_of}
 use Rattle.run_matches.specs.Frames.{FrameMatch, IsOwnAddress, OwnsAll, is_own_of}
 use Rattle.run_matches.specs.Likeness.{LikeV, SameShape, same_class, same_scalar, scalar_word}

@@ -24,7 +24,7 @@ use Rattle.vb6_run.specs.Values.{Value, scalar, fields, elements}
 use Rattle.net_run.specs.Names as net_names
 use Rattle.net_run.specs.Values as net_value
 use Rattle.row_laws.proofs.Composing.{after_nil, then_assoc, then_gives}
-use Rattle.run_matches.specs.Covered.{Uses, covers_array}
+use Rattle.run_matches.specs.CoveredExprs.{Uses, covers_array}
 use Rattle.run_matches.specs.Frames.{OwnsAll, IsOwnAddress, is_own_of}
 use Rattle.run_matches.specs.Maps.{World}
 use Rattle.run_matches.specs.Pledges.{IsOld, Pledge}

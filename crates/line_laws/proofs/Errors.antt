@@ -45,7 +45,7 @@ use Rattle.run_matches.specs.Likeness.{LikeV, like_scalar}
 use Rattle.run_matches.specs.Match.{MemoryMatch}
 use Rattle.run_matches.specs.Pledges.{Pledge, Later}
 use Rattle.run_matches.specs.Agreeing.{Agrees, world_of}
-use Rattle.run_matches.specs.Covered.{Uses, covers_expr}
+use Rattle.run_matches.specs.CoveredExprs.{Uses, covers_expr}
 use Rattle.run_matches.specs.Formed.{is_formed}
 use Rattle.run_matches.specs.Frames.{FrameMatch}
 use Rattle.run_matches.specs.Runs.{CallsAgree}

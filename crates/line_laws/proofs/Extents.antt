@@ -58,7 +58,8 @@ use Rattle.run_matches.specs.Match.{MemoryMatch}
 use Rattle.run_matches.specs.Pledges.{Pledge, Later}
 use Rattle.run_matches.specs.Agreeing.{Agrees}
 use Rattle.run_matches.specs.Formed.{is_formed}
-use Rattle.run_matches.specs.Covered.{Uses, covers_expr, covers_extent, covers_low, covers_value}
+use Rattle.run_matches.specs.CoveredExprs.{Uses, covers_expr, covers_value}
+use Rattle.run_matches.specs.CoveredLines.{covers_extent, covers_low}
 use Rattle.run_matches.specs.Runs.{CallsAgree}
 use Rattle.run_statements.specs.Fitting.{low_in_dimension, FitsExtent, HasConstantLow}
 use Rattle.run_statements.specs.Frames.{AllCalled, AreReadable, ArePlaced, ExpressionsAgree, IsOpen, ScalarMatch, context_of, demands}

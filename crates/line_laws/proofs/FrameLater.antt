@@ -18,7 +18,7 @@ use Rattle.run_matches.specs.Maps.{World, Below, Extends, mark}
 use Rattle.run_matches.specs.Match.{MemoryMatch}
 use Rattle.run_matches.specs.Pledges.{Pledge, Later}
 use Rattle.run_matches.specs.Addresses.{KeptMatch}
-use Rattle.run_matches.specs.Covered.{covers_line}
+use Rattle.run_matches.specs.CoveredLines.{covers_line}
 use Rattle.run_matches.specs.Frames.{SameVariable, SameStatic, HasNames, HasPlace, KeptBy, FrameMatch, OwnsAll, is_exact_head, lines_of}
 use Rattle.agreeing_laws.proofs.Made.{more, below_then, same_at}
 use Rattle.agreeing_laws.proofs.Moves.{all_matched_later, all_ranked_later, matched_whole, locks_later}

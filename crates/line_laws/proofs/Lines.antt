@@ -51,7 +51,9 @@ use Rattle.run_matches.specs.Match.{MemoryMatch}
 use Rattle.run_matches.specs.Pledges.{Pledge, Later}
 use Rattle.run_matches.specs.Agreeing.{Agrees}
 use Rattle.run_matches.specs.Formed.{is_formed}
-use Rattle.run_matches.specs.Covered.{Uses, covers_array, covers_exprs, is_ordered_in, keeps_order, is_changeable_in, covers_type, covers_expr, covers_condition, covers_store, covers_form, covers_part, head_line, jump_of, resumes, covers_call, covers_called, uses_in}
+use Rattle.run_matches.specs.CoveredVariables.{covers_type}
+use Rattle.run_matches.specs.CoveredExprs.{Uses, covers_array, covers_exprs, keeps_order, is_changeable_in, covers_expr, uses_in}
+use Rattle.run_matches.specs.CoveredLines.{is_ordered_in, covers_condition, covers_store, covers_form, covers_part, head_line, jump_of, resumes, covers_call, covers_called}
 use Rattle.run_matches.specs.Frames.{FrameMatch, KeptBy, NextMatch, OwnsAll, is_own_of, frame_pledge, lines_of}
 use Rattle.run_matches.specs.Runs.{line_result, CallsAgree}
 use Rattle.run_matches.specs.Sites.{site_lines}

@@ -24,7 +24,7 @@ use Rattle.net_run.specs.Values.{Value, single}
 use Rattle.row_laws.specs.Uncaptured.{IsUncaptured}
 use Rattle.row_laws.proofs.Composing.{after_nil, then_assoc, then_gives}
 use Rattle.row_laws.proofs.Support.{support_start}
-use Rattle.run_matches.specs.Covered.{covers_type}
+use Rattle.run_matches.specs.CoveredVariables.{covers_type}
 use Rattle.run_matches.specs.Likeness.{scalar_word}
 
 -- ---- the functions by their types

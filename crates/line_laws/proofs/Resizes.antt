@@ -53,7 +53,9 @@ use Rattle.run_matches.specs.Match.{MemoryMatch}
 use Rattle.run_matches.specs.Pledges.{Pledge}
 use Rattle.run_matches.specs.Agreeing.{Agrees}
 use Rattle.run_matches.specs.Formed.{is_formed}
-use Rattle.run_matches.specs.Covered.{Uses, covers_array, covers_extent, covers_resize, covers_resizes, covers_type}
+use Rattle.run_matches.specs.CoveredVariables.{covers_type}
+use Rattle.run_matches.specs.CoveredExprs.{Uses, covers_array}
+use Rattle.run_matches.specs.CoveredLines.{covers_extent, covers_resize, covers_resizes}
 use Rattle.run_matches.specs.Frames.{FrameMatch, OwnsAll, is_own_of}
 use Rattle.run_matches.specs.Runs.{CallsAgree}
 use Rattle.run_statements.specs.Fitting.{FitsExtent, FitsResize, IsSoundArray, low_in_dimension, rank_of}

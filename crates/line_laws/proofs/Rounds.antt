@@ -32,7 +32,8 @@ use Rattle.run_matches.specs.Pledges.{Pledge, Later}
 use Rattle.run_matches.specs.Addresses.{KeptMatch, Same, both_nothing, both_limits, both_choices, both_objects, both_arrays, both_addresses, IsInPlace}
 use Rattle.run_matches.specs.Agreeing.{Agrees}
 use Rattle.run_matches.specs.Formed.{is_formed}
-use Rattle.run_matches.specs.Covered.{Uses, counts_local, covers_counter, covers_expr, covers_form, covers_line, covers_part, covers_step, covers_value, head_line, is_counter, is_local_term, is_variable, uses_in}
+use Rattle.run_matches.specs.CoveredExprs.{Uses, covers_expr, covers_value, is_variable, uses_in}
+use Rattle.run_matches.specs.CoveredLines.{counts_local, covers_counter, covers_form, covers_line, covers_part, covers_step, head_line, is_counter, is_local_term}
 use Rattle.run_matches.specs.Frames.{CounterKept, FrameMatch, HasPlace, IsCounting, KeptBy, OwnsAll, is_exact_head, is_own_of, lines_of}
 use Rattle.run_statements.specs.Frames.{AnyUnits, ScalarMatch, ScalarsAreRead, ScalarsAreWritten, context_of}
 use Rattle.agreeing_laws.proofs.Agreeing.{agrees_outside, then_agrees}

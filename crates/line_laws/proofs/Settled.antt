@@ -27,7 +27,8 @@ use Rattle.net_run.specs.Store as net_store
 use Rattle.run_matches.specs.Upgrades.{Upgrade}
 use Rattle.run_matches.specs.Maps.{World}
 use Rattle.run_matches.specs.Pledges.{Pledge}
-use Rattle.run_matches.specs.Covered.{is_local_in, is_passing_of, is_passing_in, is_reference_in, is_reference_owner_of}
+use Rattle.run_matches.specs.CoveredLines.{is_local_in, is_passing_of, is_passing_in}
+use Rattle.run_matches.specs.Covered.{is_reference_in, is_reference_owner_of}
 use Rattle.run_matches.specs.Frames.{FrameMatch, SameStatic, SameVariable, is_own_of, is_reference_of, is_static_in, name_of, static_of}
 use Rattle.run_statements.specs.Frames.{IsKnown, IsOwnStatic, IsPlaced}
 use Rattle.line_laws.proofs.Uses.{variable_named, variable_reached}

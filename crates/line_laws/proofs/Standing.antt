@@ -39,7 +39,10 @@ use Rattle.net_run.specs.Members.{Code}
 use Rattle.net_run.specs.Names as net_names
 use Rattle.net_run.specs.Store as net
 use Rattle.run_matches.specs.Addresses.{AllMatched, IsPlain, Same, same_item, same_root, IsScalarAt, IsWhole, is_element}
-use Rattle.run_matches.specs.Covered.{Uses, are_calm, covers_expr, covers_exprs, covers_type, is_calm, is_declared_as, is_local_in, is_passing_in, is_passing_of, is_reference_in, is_reference_owner_of, widens, is_relied_on}
+use Rattle.run_matches.specs.CoveredVariables.{covers_type}
+use Rattle.run_matches.specs.CoveredExprs.{Uses, are_calm, covers_expr, covers_exprs, is_calm, is_declared_as, widens, is_relied_on}
+use Rattle.run_matches.specs.CoveredLines.{is_local_in, is_passing_in, is_passing_of}
+use Rattle.run_matches.specs.Covered.{is_reference_in, is_reference_owner_of}
 use Rattle.run_matches.specs.Formed.{are_formed, are_longs, is_formed, types_of}
 use Rattle.run_matches.specs.Frames.{FrameMatch, GivenPlace, HasPlace, StandsAs, SameVariable, is_own_of, is_reference_of, GivenAddress}
 use Rattle.run_matches.specs.Maps.{World, IsMade, is_auto_root, mark, moved_at}

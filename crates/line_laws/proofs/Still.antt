@@ -18,7 +18,7 @@ use Rattle.net_run.specs.Names as net_names
 use Rattle.net_run.specs.Store as net
 use Rattle.net_run.specs.Values as net_value
 use Rattle.run_matches.specs.Addresses.{Bound, images, mirrored, KeptMatch, both_nothing, both_limits, both_choices, both_objects, both_arrays, both_addresses}
-use Rattle.run_matches.specs.Covered.{Uses, are_still, is_seen_inward}
+use Rattle.run_matches.specs.CoveredExprs.{Uses, are_still, is_seen_inward}
 use Rattle.run_matches.specs.Frames.{FrameMatch, is_exact_head, lines_of}
 use Rattle.run_matches.specs.Maps.{World, IsMade, is_auto_root, mark}
 use Rattle.run_matches.specs.Match.{MemoryMatch}

@@ -6,7 +6,8 @@ use Rattle.vb_tree.specs.declared.value.Value6.TheVariants as v
 use Rattle.bound_tree.specs.declared.expression.Origin.TheVariants.{Literal}
 use Rattle.bound_tree.specs.Tree.{Expr, typed, constant, variable, element, call, binary, no_object, no_passed, no_exprs, next_expr}
 use Rattle.bound_facts.specs.Locks.{is_same_type}
-use Rattle.run_matches.specs.Covered.{Uses, is_ordered}
+use Rattle.run_matches.specs.CoveredExprs.{Uses}
+use Rattle.run_matches.specs.CoveredLines.{is_ordered}
 
 -- all variables are Longs or arrays of Longs, the variable 8 is a quiet parameter, and the procedure 0 is inward
 abbrev uses : Uses

@@ -37,7 +37,8 @@ use Rattle.run_matches.specs.Match.{MemoryMatch}
 use Rattle.run_matches.specs.Pledges.{Pledge, Later}
 use Rattle.run_matches.specs.Addresses.{Same, IsTarget, IsScalarAt}
 use Rattle.run_matches.specs.Agreeing.{Agrees}
-use Rattle.run_matches.specs.Covered.{Uses, covers_type, covers_expr}
+use Rattle.run_matches.specs.CoveredVariables.{covers_type}
+use Rattle.run_matches.specs.CoveredExprs.{Uses, covers_expr}
 use Rattle.run_matches.specs.Frames.{StandsAs, FrameMatch, OwnsAll, SameVariable, is_own_of, GivenPlace}
 use Rattle.run_statements.specs.Frames.{ExpressionsAgree, ScalarsAreWritten, IsOpen, IsReadable, IsShared, IsPlaced, ArePlaced, MayChange, ScalarMatch, AnyUnits, context_of, AllCalled, IsOwnStatic, IsGiven, demands, AreReadable}
 use Rattle.run_matches.specs.Runs.{CallsAgree}

@@ -16,7 +16,7 @@ use Rattle.bound_facts.specs.Node.{type_at}
 use Rattle.reach_table.specs.Chains.{Chain, empty, longer}
 use Rattle.run_base.specs.Machines.{nth_line}
 use Rattle.run_matches.specs.CleanLines.{lines_at, or_none}
-use Rattle.run_matches.specs.Covered.{covers_type}
+use Rattle.run_matches.specs.CoveredVariables.{covers_type}
 
 -- ---- lists
 

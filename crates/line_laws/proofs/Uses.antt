@@ -31,7 +31,9 @@ use Rattle.net_run.specs.Shapes.{module_named, module_at, members_of}
 use Rattle.net_run.specs.Store as store
 use Rattle.run_matches.specs.Upgrades.{Upgrade, runnable_of}
 use Rattle.run_matches.specs.Formed.{is_formed}
-use Rattle.run_matches.specs.Covered.{Uses, covers_type, covers_owner, covers_expr, covers_term, is_reference_in, is_reference_owner_of}
+use Rattle.run_matches.specs.CoveredVariables.{covers_type, covers_owner}
+use Rattle.run_matches.specs.CoveredExprs.{Uses, covers_expr, covers_term}
+use Rattle.run_matches.specs.Covered.{is_reference_in, is_reference_owner_of}
 use Rattle.run_matches.specs.Frames.{is_own_of, is_reference_of, name_of}
 use Rattle.run_statements.specs.Frames.{IsReadable}
 

@@ -21,7 +21,8 @@ use Rattle.run_matches.specs.Maps.{World}
 use Rattle.run_matches.specs.Match.{MemoryMatch}
 use Rattle.run_matches.specs.Pledges.{Pledge, Later}
 use Rattle.run_matches.specs.Agreeing.{Agrees}
-use Rattle.run_matches.specs.Covered.{covers_line, uses_in}
+use Rattle.run_matches.specs.CoveredExprs.{uses_in}
+use Rattle.run_matches.specs.CoveredLines.{covers_line}
 use Rattle.run_matches.specs.Frames.{HasNames, FrameMatch, OwnsAll, is_own_of, frame_pledge, GivenStand}
 use Rattle.run_matches.specs.Runs.{line_result, CallsAgree}
 use Rattle.run_matches.specs.Sites.{Site}

@@ -15,7 +15,7 @@ use Rattle.run_matches.specs.Likeness.{SameShape, same_scalar, same_class, same_
 use Rattle.run_matches.specs.Match.{HasRank, MemoryMatch}
 use Rattle.run_matches.specs.Pledges.{Pledge, type_of_shape}
 use Rattle.run_matches.specs.Addresses.{Same, same_root, same_item, AllMatched, AllRanked, AllLocked, IsTarget}
-use Rattle.run_matches.specs.Covered.{covers_type}
+use Rattle.run_matches.specs.CoveredVariables.{covers_type}
 use Rattle.run_statements.specs.Frames.{ArrayMatch}
 use Rattle.run_statements.specs.Memory.{MayResize}
 use Rattle.memory_laws.specs.Changes.{GoesAlone}

@@ -24,7 +24,7 @@ use Rattle.net_run.specs.Store as net
 use Rattle.net_run.specs.Values as net_value
 use Rattle.run_matches.specs.Addresses.{SameIndexes}
 use Rattle.run_matches.specs.Agreeing.{Agrees}
-use Rattle.run_matches.specs.Covered.{covers_type}
+use Rattle.run_matches.specs.CoveredVariables.{covers_type}
 use Rattle.run_matches.specs.Kinds.{KeepsKind}
 use Rattle.run_matches.specs.Likeness.{numbers_of, are_same, scalar_word, Like, LikeV, like_scalar, ValueLike, ArrayLike}
 use Rattle.run_matches.specs.Maps.{World, IsMatched, moved_at}

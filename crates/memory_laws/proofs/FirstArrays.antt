@@ -20,7 +20,7 @@ use Rattle.net_run.specs.Structures as written
 use Rattle.net_run.specs.Values as net_value
 use Rattle.written_trees.specs.Lines.{empty_extents}
 use Rattle.written_trees.specs.Prologues.{extents, fixed_extents}
-use Rattle.run_matches.specs.Covered.{is_in_order}
+use Rattle.run_matches.specs.CoveredVariables.{is_in_order}
 use Rattle.run_matches.specs.Likeness.{Numbers, ItemsLike, ArrayLike, same_elements, same_scalar, SameCounts, no_counts, same_counts, counts_of, scalar_word}
 use Rattle.run_matches.specs.Upgrades.{Upgrade}
 use Rattle.run_statements.specs.Frames.{AreBounds}

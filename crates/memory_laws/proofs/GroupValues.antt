@@ -15,7 +15,7 @@ use Rattle.run_matches.specs.Upgrades.{Upgrade}
 use Rattle.run_matches.specs.Maps.{World}
 use Rattle.run_matches.specs.Likeness.{SameShape, same_scalar, same_class, same_group, SameFields, no_fields, same_field, flagged_field, LikeV, like_scalar, like_fields, like_elements, FieldsLike, like_none, like_field, like_flagged, IsFieldRanked, are_same, numbers_of}
 use Rattle.run_matches.specs.Pledges.{Later, Pledge, type_of_shape}
-use Rattle.run_matches.specs.Covered.{covers_type}
+use Rattle.run_matches.specs.CoveredVariables.{covers_type}
 use Rattle.run_matches.specs.SoundShapes.{IsSoundShape, AreSoundShapes}
 use Rattle.run_matches.specs.Kinds.{IsValueOf, AreValuesOf}
 use Rattle.agreeing_laws.proofs.Scalars.{matches_more, same_later}

@@ -19,7 +19,7 @@ use Rattle.run_matches.specs.Likeness.{SameShape, LikeV, like_scalar, like_field
 use Rattle.run_matches.specs.Pledges.{IsOld, Later, Pledge, type_of_shape}
 use Rattle.run_matches.specs.Addresses.{AllMatched, FieldsMatched, IsTarget, Same, same_root}
 use Rattle.run_matches.specs.Agreeing.{Agrees}
-use Rattle.run_matches.specs.Covered.{covers_type}
+use Rattle.run_matches.specs.CoveredVariables.{covers_type}
 use Rattle.run_matches.specs.SoundShapes.{IsSoundShape, AreSoundShapes}
 use Rattle.run_statements.specs.Frames.{AnyUnits}
 use Rattle.run_matches.specs.Kinds.{IsValueOf, AreValuesOf}

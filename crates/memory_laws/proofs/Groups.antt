@@ -23,7 +23,7 @@ use Rattle.run_matches.specs.Likeness.{SameShape, same_scalar, same_class, same_
 use Rattle.run_matches.specs.Pledges.{type_of_shape}
 use Rattle.run_matches.specs.Addresses.{AllMatched, FieldsMatched, Same, same_root}
 use Rattle.run_matches.specs.Agreeing.{Agrees}
-use Rattle.run_matches.specs.Covered.{covers_type}
+use Rattle.run_matches.specs.CoveredVariables.{covers_type}
 use Rattle.run_matches.specs.SoundShapes.{IsField, IsSoundShape, AreSoundShapes}
 use Rattle.run_statements.specs.Groups.{ValueMatch, GroupsAreRead}
 use Rattle.agreeing_laws.proofs.Agreeing.{agrees_gives}

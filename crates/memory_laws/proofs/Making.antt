@@ -22,7 +22,7 @@ use Rattle.run_matches.specs.Match.{holds_single, MemoryMatch}
 use Rattle.run_matches.specs.Pledges.{Pledge, Later}
 use Rattle.run_matches.specs.Addresses.{same_root}
 use Rattle.run_matches.specs.Agreeing.{Agrees}
-use Rattle.run_matches.specs.Covered.{covers_type, covers_owner}
+use Rattle.run_matches.specs.CoveredVariables.{covers_type, covers_owner}
 use Rattle.run_statements.specs.Frames.{IsReadable, MadeMatch, LocalsAreMade}
 use Rattle.agreeing_laws.proofs.Lasting.{later_then}
 use Rattle.memory_laws.specs.Changes.{changed, with_place, IsNoTable, IsNoArray, IsSuited}

@@ -22,7 +22,7 @@ use Rattle.run_matches.specs.Likeness.{LikeV, like_scalar, like_fields, like_ele
 use Rattle.run_matches.specs.Match.{MemoryMatch}
 use Rattle.run_matches.specs.Pledges.{Pledge, Later}
 use Rattle.run_matches.specs.Agreeing.{Agrees}
-use Rattle.run_matches.specs.Covered.{covers_type}
+use Rattle.run_matches.specs.CoveredVariables.{covers_type}
 use Rattle.run_statements.specs.Frames.{MadeMatch, ValuesAreMade}
 use Rattle.agreeing_laws.proofs.Agreeing.{agrees_outside, left_alone}
 use Rattle.agreeing_laws.proofs.Scalars.{matches_more, same_later}

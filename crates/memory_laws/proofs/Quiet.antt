@@ -19,7 +19,7 @@ use Rattle.net_run.specs.Store as net
 use Rattle.net_run.specs.Values as net_value
 use Rattle.run_matches.specs.Addresses.{HoldsSame, IsPlain, IsTypedAs, Mirrors, is_element}
 use Rattle.run_matches.specs.Agreeing.{Agrees}
-use Rattle.run_matches.specs.Covered.{covers_type}
+use Rattle.run_matches.specs.CoveredVariables.{covers_type}
 use Rattle.run_matches.specs.Likeness.{LikeV, like_scalar, like_fields, like_elements, Like, SameShape, ShapedAs, are_same, scalar_shaped, scalar_word}
 use Rattle.run_matches.specs.Maps.{World}
 use Rattle.run_matches.specs.Match.{MemoryMatch, StoreMatch}

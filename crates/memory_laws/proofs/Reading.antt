@@ -21,7 +21,7 @@ use Rattle.run_matches.specs.Likeness.{SameShape, same_scalar, same_class, scala
 use Rattle.run_matches.specs.Pledges.{Pledge}
 use Rattle.run_matches.specs.Addresses.{Same, same_root, same_item, images, mirrored, HoldsSame}
 use Rattle.run_matches.specs.Agreeing.{Agrees}
-use Rattle.run_matches.specs.Covered.{covers_type}
+use Rattle.run_matches.specs.CoveredVariables.{covers_type}
 use Rattle.run_statements.specs.Frames.{ScalarMatch}
 use Rattle.agreeing_laws.proofs.Lasting.{later_now}
 use Rattle.agreeing_laws.specs.Promises.{Follows, from_none, from_some}

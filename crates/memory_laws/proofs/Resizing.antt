@@ -29,7 +29,7 @@ use Rattle.run_matches.specs.Match.{MemoryMatch}
 use Rattle.run_matches.specs.Pledges.{Pledge, Later, IsLasting}
 use Rattle.run_matches.specs.Addresses.{AllLocked}
 use Rattle.run_matches.specs.Agreeing.{Agrees}
-use Rattle.run_matches.specs.Covered.{covers_type}
+use Rattle.run_matches.specs.CoveredVariables.{covers_type}
 use Rattle.run_matches.specs.Frames.{IsOwnAddress}
 use Rattle.run_statements.specs.Frames.{AnyUnits, ArrayMatch, MayChange}
 use Rattle.run_statements.specs.Memory.{ArraysAreResized, ArraysAreErased, MayResize}

@@ -14,7 +14,7 @@ use Rattle.vb6_run.specs.Values.{scalar, kept_as, first_scalar}
 use Rattle.net_run.specs.Shapes.{default_of_word, is_of_word}
 use Rattle.net_run.specs.Store as net
 use Rattle.net_run.specs.Values as net_value
-use Rattle.run_matches.specs.Covered.{covers_type}
+use Rattle.run_matches.specs.CoveredVariables.{covers_type}
 use Rattle.run_matches.specs.Likeness.{scalar_word}
 use Rattle.memory_laws.specs.Changes.{IsNoArray}
 

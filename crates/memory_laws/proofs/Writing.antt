@@ -24,7 +24,7 @@ use Rattle.run_matches.specs.Likeness.{LikeV, like_scalar, Like, are_same, scala
 use Rattle.run_matches.specs.Match.{Holds, holds_blank, holds_single, holds_table, holds_parts, MemoryMatch, HasArray}
 use Rattle.run_matches.specs.Pledges.{Pledge, Later, IsLasting, IsHeld, IsOld}
 use Rattle.run_matches.specs.Agreeing.{Agrees}
-use Rattle.run_matches.specs.Covered.{covers_type}
+use Rattle.run_matches.specs.CoveredVariables.{covers_type}
 use Rattle.run_matches.specs.Frames.{HasPlace, IsOwnAddress}
 use Rattle.run_statements.specs.Frames.{AnyUnits, ScalarsAreWritten, MayChange}
 use Rattle.agreeing_laws.proofs.Agreeing.{agrees_outside}

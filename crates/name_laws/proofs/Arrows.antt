@@ -19,7 +19,7 @@ use Rattle.bound_facts.specs.Locks.{user_in}
 use Rattle.bound_facts.specs.Parts.{line_uses}
 use Rattle.written_trees.specs.Facts.{Facts, is_flagged_variable, is_flagged_constant}
 use Rattle.run_matches.specs.CleanLines.{line_points, result_points}
-use Rattle.run_matches.specs.Covered.{belongs_to, is_mention_of}
+use Rattle.run_matches.specs.CoveredVariables.{belongs_to, is_mention_of}
 use Rattle.name_laws.proofs.Lists.{neither, second_false, same_number, some_same, Among, contains, among_at, among_left, among_right, map_among, flat_among}
 use Rattle.name_laws.proofs.Sets.{unbroken_set}
 

@@ -25,7 +25,9 @@ use Rattle.run_base.specs.Machines.{nth_line}
 use Rattle.vb6_run.specs.Programs.{is_static_of}
 use Rattle.vb6_run.specs.Runnables.{is_class_file}
 use Rattle.run_matches.specs.CleanLines.{lines_at}
-use Rattle.run_matches.specs.Covered.{Uses, covers_array, covers_exprs, covers_type, is_ordered, is_ordered_in, is_foreign_name, is_reached, covers_expr, covers_term, covers_form, covers_line, is_changeable, is_changeable_in, uses_in}
+use Rattle.run_matches.specs.CoveredVariables.{covers_type, is_foreign_name, is_reached}
+use Rattle.run_matches.specs.CoveredExprs.{Uses, covers_array, covers_exprs, covers_expr, covers_term, is_changeable, is_changeable_in, uses_in}
+use Rattle.run_matches.specs.CoveredLines.{is_ordered, is_ordered_in, covers_form, covers_line}
 use Rattle.run_matches.specs.Formed.{is_formed}
 use Rattle.run_matches.specs.Pledges.{stands_in_class}
 use Rattle.run_matches.specs.Shared.{names_lead, is_alone_static, is_outer, others_differ}

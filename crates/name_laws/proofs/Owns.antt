@@ -21,7 +21,8 @@ use Rattle.written_trees.specs.Names.{Scope}
 use Rattle.written_trees.specs.Prologues.{declares, constant_dim_by, constant_dim, is_static}
 use Rattle.written_trees.specs.Types.{element_type}
 use Rattle.vb6_run.specs.Programs.{is_local_of, owned_from, is_static_of}
-use Rattle.run_matches.specs.Covered.{covers_type, covers_owner, covers_variable, belongs_to, covers_head, covers_variables, covers_body, covers_names, are_different, covers_all_calls, covers_own, covers_owns, covers_site, covers_procedure, is_loud, is_loud_owner, is_scalar_or_loud, is_touched, covers_array_owner, covers_array_variable, covers_bounds, covers_declared, has_extents, is_array_of, is_in_order}
+use Rattle.run_matches.specs.CoveredVariables.{covers_type, covers_owner, covers_variable, belongs_to, are_different, is_loud, is_loud_owner, is_touched, covers_array_owner, covers_array_variable, covers_bounds, covers_declared, has_extents, is_array_of, is_in_order}
+use Rattle.run_matches.specs.Covered.{covers_head, covers_variables, covers_body, covers_names, covers_all_calls, covers_own, covers_owns, covers_site, covers_procedure, is_scalar_or_loud}
 use Rattle.run_matches.specs.Callees.{frame_owns}
 use Rattle.run_matches.specs.Sites.{Site, site_of, site_lines, first_statement, Own, own_variable, own_constant, own_name, owns_from, owns_of, local_number, local_numbers, static_number, static_numbers}
 use Rattle.run_matches.specs.Upgrades.{Upgrade, is_flagged, is_unknown, type_of_some, type_of}

@@ -22,7 +22,9 @@ use Rattle.net_run.specs.Lines.{NetFrame, NetLine, scope_of}
 use Rattle.net_run.specs.Members.{code_at}
 use Rattle.net_run.specs.Names as net_names
 use Rattle.net_run.specs.Names.{frame_start, is_result, path_start, var_in}
-use Rattle.run_matches.specs.Covered.{IsUsed, is_foreign_name, is_named_apart, is_reached, uses_in, is_reference_in, is_reference_owner_of}
+use Rattle.run_matches.specs.CoveredVariables.{is_foreign_name, is_named_apart, is_reached}
+use Rattle.run_matches.specs.CoveredExprs.{IsUsed, uses_in}
+use Rattle.run_matches.specs.Covered.{is_reference_in, is_reference_owner_of}
 use Rattle.run_matches.specs.Frames.{HasNames, GivenAddress, GivenStand, is_reference_of}
 use Rattle.run_matches.specs.Shared.{names_lead, is_alone_static, is_outer, others_differ}
 use Rattle.run_matches.specs.Sites.{Site, site_of}

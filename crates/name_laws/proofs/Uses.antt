@@ -13,7 +13,8 @@ use Rattle.vb6_run.specs.Forms.{SourceLine, with_aims, body_of}
 use Rattle.vb6_run.specs.Lines.{source_lines}
 use Rattle.vb6_run.specs.Programs.{machine_of}
 use Rattle.run_matches.specs.CleanLines.{IsCleanLine, lines_at, or_none, line_points}
-use Rattle.run_matches.specs.Covered.{covers_variable, is_reached, covers_some, is_loud, is_loud_owner, is_mention_of, covers_use, uses_in, covers_array_use, covers_array_variable, covers_some_array, is_named_apart}
+use Rattle.run_matches.specs.CoveredVariables.{covers_variable, is_reached, covers_some, is_loud, is_loud_owner, is_mention_of, covers_use, covers_array_use, covers_array_variable, covers_some_array, is_named_apart}
+use Rattle.run_matches.specs.CoveredExprs.{uses_in}
 use Rattle.run_matches.specs.Upgrades.{Upgrade, runnable_of}
 use Rattle.written_trees.specs.Names.{Scope}
 use Rattle.name_laws.proofs.Inward.{seen_inward}

@@ -12,7 +12,7 @@ use Rattle.vb6_run.specs.Shapes.{Shape, array, shape_by, simple, user_shapes}
 use Rattle.net_run.specs.Shapes as written_shape
 use Rattle.net_run.specs.Shapes.{is_same_word, is_structure, scalar, shape_of, shape_within}
 use Rattle.written_trees.specs.Types.{type_with}
-use Rattle.run_matches.specs.Covered.{covers_type}
+use Rattle.run_matches.specs.CoveredVariables.{covers_type}
 use Rattle.run_matches.specs.Likeness.{SameShape, same_array, same_scalar, scalar_word}
 use Rattle.run_matches.specs.Upgrades.{Upgrade}
 use Rattle.run_statements.specs.Frames.{HasRankOf}

@@ -19,7 +19,7 @@ use Rattle.written_trees.specs.Heads.{head_of}
 use Rattle.written_trees.specs.Lines.{replaced_by}
 use Rattle.written_trees.specs.Prologues.{code_sets}
 use Rattle.net_run.specs.Members.{Code}
-use Rattle.run_matches.specs.Covered.{covers_label, has_sound_label, has_sound_label_in}
+use Rattle.run_matches.specs.CoveredLines.{covers_label, has_sound_label, has_sound_label_in}
 use Rattle.run_matches.specs.Sites.{Site, first_statement, site_lines}
 use Rattle.run_matches.specs.Upgrades.{Upgrade}
 use Rattle.run_statements.specs.Kept.{IsFoundLabel, IsUnreplaced, LabelsAreFound}

@@ -23,7 +23,10 @@ use Rattle.vb6_run.specs.Runnables.{is_class_file}
 use Rattle.written_trees.specs.Arguments.{is_property_kind}
 use Rattle.written_trees.specs.Types.{element_type}
 use Rattle.run_matches.specs.Formed.{is_formed}
-use Rattle.run_matches.specs.Covered.{Uses, belongs_to, covers_body, covers_form, covers_head, covers_in_block, covers_kind, covers_label, covers_line, covers_names, covers_owns, covers_procedure, covers_site, covers_variable, covers_variables, covers_array_owner, covers_array_variable, covers_bounds, covers_declared, has_extents, is_array_of, has_sound_label, has_sound_label_in, is_plain, is_plain_kind, jump_of, keeps_blocks, keeps_blocks_in, are_different, covers_own, covers_all_calls, covers_calls, covers_parameter, covers_result, has_result, is_answer_of, is_value_of, covers_owner, covers_type, is_parameter_of, uses_in}
+use Rattle.run_matches.specs.CoveredVariables.{belongs_to, covers_variable, covers_array_owner, covers_array_variable, covers_bounds, covers_declared, has_extents, is_array_of, are_different, covers_owner, covers_type}
+use Rattle.run_matches.specs.CoveredExprs.{Uses, uses_in}
+use Rattle.run_matches.specs.CoveredLines.{covers_form, covers_in_block, covers_label, covers_line, has_sound_label, has_sound_label_in, jump_of}
+use Rattle.run_matches.specs.Covered.{covers_body, covers_head, covers_kind, covers_names, covers_owns, covers_procedure, covers_site, covers_variables, is_plain, is_plain_kind, keeps_blocks, keeps_blocks_in, covers_own, covers_all_calls, covers_calls, covers_parameter, covers_result, has_result, is_answer_of, is_value_of, is_parameter_of}
 use Rattle.run_matches.specs.Callees.{frame_owns}
 use Rattle.run_matches.specs.Frames.{is_exact_head, is_own_head, is_own_line, is_quiet_head}
 use Rattle.run_matches.specs.Sites.{Site, own_name, owns_of, site_of, local_numbers, static_numbers}

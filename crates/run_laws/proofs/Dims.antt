@@ -25,7 +25,7 @@ use Rattle.written_trees.specs.Prologues.{constant_dim, constant_dim_by, extents
 use Rattle.written_trees.specs.Types.{type_with}
 use Rattle.row_laws.proofs.Composing.{then_assoc}
 use Rattle.agreeing_laws.proofs.Outputs.{after_nothing}
-use Rattle.run_matches.specs.Covered.{covers_owner, covers_type}
+use Rattle.run_matches.specs.CoveredVariables.{covers_owner, covers_type}
 use Rattle.run_matches.specs.Likeness.{scalar_word}
 use Rattle.run_matches.specs.Sites.{own_constant, own_variable}
 use Rattle.run_matches.specs.Upgrades.{Upgrade, is_unknown, type_of}

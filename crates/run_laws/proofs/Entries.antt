@@ -30,7 +30,9 @@ use Rattle.written_trees.specs.Types.{type_with}
 use Rattle.run_matches.specs.Addresses.{ArgsMatch, both_nothing, AllLocked, IsPlain, is_element}
 use Rattle.run_matches.specs.Agreeing.{Agrees}
 use Rattle.run_laws.proofs.Given.{stands_itself, locks_given, locks_joined}
-use Rattle.run_matches.specs.Covered.{are_different, covers_type, belongs_to, covers_line, covers_parameter, covers_own, is_scalar_or_loud}
+use Rattle.run_matches.specs.CoveredVariables.{are_different, covers_type, belongs_to}
+use Rattle.run_matches.specs.CoveredLines.{covers_line}
+use Rattle.run_matches.specs.Covered.{covers_parameter, covers_own, is_scalar_or_loud}
 use Rattle.run_matches.specs.Frames.{FrameMatch, HasNames, SameVariable, declared_names, dim_name, result_names, static_of, SameStatic, name_of, GivenAddress, frame_pledge, is_own_of, lines_of, stands_in}
 use Rattle.run_matches.specs.CleanLines.{or_none}
 use Rattle.run_matches.specs.Callees.{answer_owns, own_of_some, parameter_owns}

@@ -19,7 +19,8 @@ use Rattle.net_run.specs.Values as net_value
 use Rattle.written_trees.specs.Heads as heads
 use Rattle.run_matches.specs.Addresses.{HasParameterRank, IsTarget, Same, same_item, same_root, AllLocked, ArgsMatch, IsElement, IsScalarAt, IsVariable, address_args, no_args, source_bound, target_bound, value_args}
 use Rattle.run_matches.specs.Agreeing.{Agrees}
-use Rattle.run_matches.specs.Covered.{covers_type, is_parameter_of}
+use Rattle.run_matches.specs.CoveredVariables.{covers_type}
+use Rattle.run_matches.specs.Covered.{is_parameter_of}
 use Rattle.run_matches.specs.Frames.{GivenPlace, StandsAs}
 use Rattle.run_matches.specs.Likeness.{SameShape, same_array, same_class, same_scalar, scalar_word}
 use Rattle.run_matches.specs.Maps.{World}

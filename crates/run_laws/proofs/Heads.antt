@@ -21,7 +21,8 @@ use Rattle.written_trees.specs.Heads as heads
 use Rattle.written_trees.specs.Heads.{is_function}
 use Rattle.written_trees.specs.Names.{Scope}
 use Rattle.run_matches.specs.Callees.{answer_owns, own_of_some}
-use Rattle.run_matches.specs.Covered.{covers_parameter, has_answer, has_result, is_answer_of, is_result_in, belongs_to, covers_type, is_loud_owner, is_parameter_of, is_scalar_or_loud, is_taken_in}
+use Rattle.run_matches.specs.CoveredVariables.{belongs_to, covers_type, is_loud_owner}
+use Rattle.run_matches.specs.Covered.{covers_parameter, has_answer, has_result, is_answer_of, is_result_in, is_parameter_of, is_scalar_or_loud, is_taken_in}
 use Rattle.run_matches.specs.Frames.{result_names}
 use Rattle.run_matches.specs.Sites.{Site, own_name}
 use Rattle.run_matches.specs.Upgrades.{Upgrade}

@@ -21,7 +21,8 @@ use Rattle.vb6_run.specs.Runnables.{Runnable}
 use Rattle.vb6_run.specs.Store.{Address, Memory, SourceFrame, read, set_err, write}
 use Rattle.vb6_run.specs.Values.{Value}
 use Rattle.agreeing_laws.specs.Promises.{Yields}
-use Rattle.run_matches.specs.Covered.{Uses, covers_condition, covers_form, covers_call}
+use Rattle.run_matches.specs.CoveredExprs.{Uses}
+use Rattle.run_matches.specs.CoveredLines.{covers_condition, covers_form, covers_call}
 use Rattle.run_matches.specs.Runs.{line_result}
 
 pub yields_after : {M A : Type 0} (Q : A → M → Type 0) (o : List Output) (r : Outcome M A) → Yields Q r → Yields Q (after o r)

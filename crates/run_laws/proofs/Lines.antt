@@ -14,7 +14,9 @@ use Rattle.vb6_run.specs.Programs as source
 use Rattle.net_run.specs.Lines.{NetFrame, NetLine, scope_of}
 use Rattle.net_run.specs.Program as target
 use Rattle.run_matches.specs.CleanLines.{IsCleanLine, or_none, lines_at}
-use Rattle.run_matches.specs.Covered.{IsCoveredLine, covers_in_block, covers_line, covers_names, jump_of, keeps_blocks, resumes, uses_in}
+use Rattle.run_matches.specs.CoveredExprs.{uses_in}
+use Rattle.run_matches.specs.CoveredLines.{covers_in_block, covers_line, jump_of, resumes}
+use Rattle.run_matches.specs.Covered.{IsCoveredLine, covers_names, keeps_blocks}
 use Rattle.run_matches.specs.Frames.{HasNames, lines_of}
 use Rattle.run_matches.specs.Runs.{LineDoesTheSame, CallsAgree}
 use Rattle.run_matches.specs.Sites.{Site, site_of}

@@ -24,7 +24,8 @@ use Rattle.net_tree.specs.Types.{TypeName}
 use Rattle.written_trees.specs.Names.{Scope}
 use Rattle.run_matches.specs.Addresses.{Same, images, position_of, same_item, same_root}
 use Rattle.run_matches.specs.Agreeing.{Agrees}
-use Rattle.run_matches.specs.Covered.{are_different, is_local_in, is_named_in}
+use Rattle.run_matches.specs.CoveredVariables.{are_different, is_named_in}
+use Rattle.run_matches.specs.CoveredLines.{is_local_in}
 use Rattle.run_matches.specs.Frames.{IsOwnAddress, is_own_of, is_place, stands_in}
 use Rattle.run_matches.specs.Maps.{Below, IsMade, World, mark}
 use Rattle.run_matches.specs.Match.{MemoryMatch}

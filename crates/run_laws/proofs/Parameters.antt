@@ -34,10 +34,11 @@ use Rattle.written_trees.specs.Facts.{Facts, is_array_variable}
 use Rattle.written_trees.specs.Names.{Scope}
 use Rattle.written_trees.specs.Types.{type_with}
 use Rattle.written_trees.specs.Prologues.{is_static}
-use Rattle.run_matches.specs.Addresses.{ArgsMatch, Bound, GivesNoArray, HasParameterRank, IsPlain, IsTarget, IsTypedAs, Mirrors, Same, address_args, images, mirrored, no_args, source_bound, target_bound, value_args, GivesWhole, IsElement, IsVariable, IsWhole, is_element, IsGivable}
+use Rattle.run_matches.specs.Addresses.{ArgsMatch, Bound, HasParameterRank, IsPlain, IsTarget, IsTypedAs, Mirrors, Same, address_args, images, mirrored, no_args, source_bound, target_bound, value_args, GivesWhole, IsElement, IsVariable, IsWhole, is_element, IsGivable}
 use Rattle.run_matches.specs.Agreeing.{Agrees}
 use Rattle.run_matches.specs.Callees.{own_of_some, parameter_owns}
-use Rattle.run_matches.specs.Covered.{covers_owner, covers_parameter, covers_type, is_parameter_of, is_relied_id}
+use Rattle.run_matches.specs.CoveredVariables.{covers_owner, covers_type}
+use Rattle.run_matches.specs.Covered.{covers_parameter, is_parameter_of, is_relied_id}
 use Rattle.run_matches.specs.Frames.{GivenPlace, StandsAs, is_own_of}
 use Rattle.run_matches.specs.Likeness.{LikeV, scalar_word}
 use Rattle.run_matches.specs.Maps.{Below, World, mark}

@@ -10,7 +10,8 @@ use Rattle.bound_tree.specs.Tree.{Declarations, Procedure, Program, Variable}
 use Rattle.vb6_run.specs.Programs.{answer_in, owned_from}
 use Rattle.written_trees.specs.Prologues.{is_static}
 use Rattle.run_matches.specs.Callees.{answer_owns, own_of_some, parameter_owns}
-use Rattle.run_matches.specs.Covered.{covers_parameter, is_answer_of, is_parameter_of, is_passing_in, is_passing_of}
+use Rattle.run_matches.specs.CoveredLines.{is_passing_in, is_passing_of}
+use Rattle.run_matches.specs.Covered.{covers_parameter, is_answer_of, is_parameter_of}
 use Rattle.run_matches.specs.Sites.{Own, local_numbers, own_constant, own_variable, owns_of}
 use Rattle.run_laws.proofs.Covered.{CoveredProcedure, some_is}
 use Rattle.run_laws.proofs.Heads.{HasAnswer, HasNone, Parameter, answer_parts, parameter_is}

@@ -16,7 +16,7 @@ use Rattle.net_run.specs.Lines.{NetFrame}
 use Rattle.net_run.specs.Store as net
 use Rattle.net_run.specs.Values as net_value
 use Rattle.run_matches.specs.Addresses.{AllLocked, Bound, KeptMatch, LockOk, Same, both_addresses, both_arrays, both_choices, both_limits, both_nothing, both_objects, images, mirrored, same_item, same_root}
-use Rattle.run_matches.specs.Covered.{covers_line}
+use Rattle.run_matches.specs.CoveredLines.{covers_line}
 use Rattle.run_matches.specs.Frames.{FrameMatch, NextMatch, SameVariable, frame_pledge, is_exact_head, is_kept_from, is_kept_in, is_own_of, is_own_place, lines_of, own_of, stands_in}
 use Rattle.run_matches.specs.Maps.{Below, Mark, World, mark}
 use Rattle.run_matches.specs.Match.{MemoryMatch}

@@ -26,7 +26,7 @@ use Rattle.net_run.specs.Store as net
 use Rattle.written_trees.specs.Names.{variable_name_of}
 use Rattle.run_matches.specs.Addresses.{Bound, Same, images, mirrored, same_item, same_root}
 use Rattle.run_matches.specs.Agreeing.{Agrees, ResultMatch}
-use Rattle.run_matches.specs.Covered.{are_different, is_named_in}
+use Rattle.run_matches.specs.CoveredVariables.{are_different, is_named_in}
 use Rattle.run_matches.specs.Frames.{FrameMatch, HasPlace, SameVariable, declared_names, dim_name, frame_pledge, is_own_of, result_names}
 use Rattle.run_matches.specs.Likeness.{LikeV}
 use Rattle.run_matches.specs.Maps.{Mark, World}

@@ -25,7 +25,10 @@ use Rattle.net_run.specs.Store as net
 use Rattle.run_matches.specs.Addresses.{AllLocked, ArgsMatch}
 use Rattle.run_matches.specs.Agreeing.{Agrees, ResultMatch}
 use Rattle.run_matches.specs.CleanLines.{lines_at, or_none}
-use Rattle.run_matches.specs.Covered.{covers_in_block, covers_line, covers_procedure, has_sound_label, keeps_blocks, are_different, belongs_to, covers_array_owner, covers_calls, is_scalar_or_loud, uses_in}
+use Rattle.run_matches.specs.CoveredVariables.{are_different, belongs_to, covers_array_owner}
+use Rattle.run_matches.specs.CoveredExprs.{uses_in}
+use Rattle.run_matches.specs.CoveredLines.{covers_in_block, covers_line, has_sound_label}
+use Rattle.run_matches.specs.Covered.{covers_procedure, keeps_blocks, covers_calls, is_scalar_or_loud}
 use Rattle.run_matches.specs.Frames.{lines_of, declared_names}
 use Rattle.run_matches.specs.Maps.{World, mark, Below, Mark}
 use Rattle.run_matches.specs.Match.{MemoryMatch, StoreMatch}

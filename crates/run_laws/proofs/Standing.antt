@@ -21,7 +21,7 @@ use Rattle.net_run.specs.Store as net
 use Rattle.written_trees.specs.Heads as heads
 use Rattle.written_trees.specs.Names.{Scope}
 use Rattle.run_matches.specs.Addresses.{IsPlain}
-use Rattle.run_matches.specs.Covered.{are_different, is_named_in}
+use Rattle.run_matches.specs.CoveredVariables.{are_different, is_named_in}
 use Rattle.run_matches.specs.Frames.{HasPlace, KeptBy, is_static_in, static_of}
 use Rattle.run_matches.specs.Maps.{World, is_auto_root, is_auto_variable}
 use Rattle.run_matches.specs.Runs.{IsObject}

@@ -18,7 +18,7 @@ use Rattle.vb_tree.specs.declared.declared.Owner.{Owner}
 use Rattle.vb_tree.specs.declared.declared.Owner.TheVariants as owner
 use Rattle.written_trees.specs.Names.{Scope}
 use Rattle.written_trees.specs.Prologues.{is_static}
-use Rattle.run_matches.specs.Covered.{are_different, is_named_in}
+use Rattle.run_matches.specs.CoveredVariables.{are_different, is_named_in}
 use Rattle.run_matches.specs.Frames.{dim_name}
 use Rattle.run_matches.specs.Maps.{World}
 use Rattle.run_matches.specs.Pledges.{Pledge}

@@ -13,7 +13,7 @@ use Rattle.net_run.specs.Store as net
 use Rattle.net_tree.specs.Tree.{Project}
 use Rattle.vb6_run.specs.Runnables.{Runnable}
 use Rattle.run_matches.specs.Agreeing.{Agrees, ResultMatch}
-use Rattle.run_matches.specs.Covered.{covers_line}
+use Rattle.run_matches.specs.CoveredLines.{covers_line}
 use Rattle.run_matches.specs.Frames.{FrameMatch, NextMatch, frame_pledge, lines_of}
 use Rattle.run_matches.specs.Maps.{Mark, World}
 use Rattle.run_matches.specs.Match.{MemoryMatch}

@@ -19,7 +19,10 @@ use Rattle.run_matches.specs.Agreeing.{Agrees}
 use Rattle.run_matches.specs.CleanLines.{IsCleanLine, lines_at}
 use Rattle.written_trees.specs.Bodies.{inside_procedure}
 use Rattle.written_trees.specs.Facts.{is_array_variable}
-use Rattle.run_matches.specs.Covered.{IsCoveredLine, covers_line, covers_procedure, uses_in, belongs_to, covers_declared, covers_variable, has_extents, is_scalar_or_loud}
+use Rattle.run_matches.specs.CoveredVariables.{belongs_to, covers_declared, covers_variable, has_extents}
+use Rattle.run_matches.specs.CoveredExprs.{uses_in}
+use Rattle.run_matches.specs.CoveredLines.{covers_line}
+use Rattle.run_matches.specs.Covered.{IsCoveredLine, covers_procedure, is_scalar_or_loud}
 use Rattle.run_matches.specs.Likeness.{scalar_word, LikeV}
 use Rattle.run_matches.specs.Maps.{Mark, World}
 use Rattle.run_matches.specs.Match.{MemoryMatch}

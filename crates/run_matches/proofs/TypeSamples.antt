@@ -22,7 +22,8 @@ use Rattle.written_trees.specs.Projects.{written_project}
 use Rattle.run_base.specs.Outcomes.{outputs, printed}
 use Rattle.vb6_run.specs.Programs.{run_program}
 use Rattle.net_run.specs.Program.{program_runs}
-use Rattle.run_matches.specs.Covered.{covers_procedure, covers_user}
+use Rattle.run_matches.specs.CoveredVariables.{covers_user}
+use Rattle.run_matches.specs.Covered.{covers_procedure}
 use Rattle.run_matches.specs.Upgrades.{Upgrade, runnable_of}
 use Rattle.run_matches.proofs.Samples.{any, at_line, body, declared, facts, known, line, proc_id, procedure, signature, var_id}
 

@@ -31,7 +31,9 @@ use Rattle.net_run.specs.Shapes as shape
 use Rattle.net_run.specs.Store as net
 use Rattle.net_run.specs.Values as net_value
 use Rattle.run_matches.specs.CleanLines.{lines_at}
-use Rattle.run_matches.specs.Covered.{IsUsed, covers_line, is_relied_on, uses_in, is_local_in, is_passing_in, is_reference_in}
+use Rattle.run_matches.specs.CoveredExprs.{IsUsed, is_relied_on, uses_in}
+use Rattle.run_matches.specs.CoveredLines.{covers_line, is_local_in, is_passing_in}
+use Rattle.run_matches.specs.Covered.{is_reference_in}
 use Rattle.run_matches.specs.Upgrades.{Upgrade, code_of, is_flagged, is_auto}
 use Rattle.run_matches.specs.Maps.{World, mark, Below, moved_at}
 use Rattle.run_matches.specs.Likeness.{SameShape}

@@ -18,5 +18,8 @@ pub mod Formed
 pub mod Callees
 pub mod Inward
 pub mod Keeping
+pub mod CoveredVariables
+pub mod CoveredExprs
+pub mod CoveredLines
 pub mod Covered
 pub mod SoundShapes

@@ -2,7 +2,7 @@
 use Rattle.std.specs.Prelude.{◌≡◌, ℕ, suc, true, false, Some}
 use Rattle.vb_tree.specs.BoundTree.{Ty}
 use Rattle.vb6_run.specs.Shapes.{Shape, simple, group, array, endless, Shapes, no_shapes, next_shape}
-use Rattle.run_matches.specs.Covered.{covers_type}
+use Rattle.run_matches.specs.CoveredVariables.{covers_type}
 use Rattle.run_matches.specs.Pledges.{type_of_shape}
 use Rattle.run_matches.specs.Upgrades.{Upgrade, field_variable, is_flagged, type_of}
 

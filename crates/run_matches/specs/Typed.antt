@@ -10,15 +10,13 @@ use Rattle.net_meaning.specs.declared.value.ValueN.TheVariants as n
 use Rattle.net_tree.specs.Types.{TypeName}
 use Rattle.run_base.specs.Outcomes.{Outcome, gives, raises, spent, outside}
 use Rattle.run_base.specs.Positions.{Root, Position, whole, inner}
-use Rattle.vb6_run.specs.Programs.{run6}
 use Rattle.vb6_run.specs.Shapes.{Shape, simple, group, array, Shapes, no_shapes, next_shape, is_same_shape, variable_shape}
-use Rattle.vb6_run.specs.Store.{Memory, Held, blank, single, table, parts, root, item, constant, SourceGiven}
-use Rattle.run_base.specs.Frames.{by_value, by_address}
+use Rattle.vb6_run.specs.Store.{Memory, Held, blank, single, table, parts}
 use Rattle.vb6_run.specs.Values.{Dimension, Value, scalar, fields, elements, Values, no_values, next_value, count_values, size, is_within_limits}
 use Rattle.net_run.specs.Shapes as shape
 use Rattle.net_run.specs.Store as net
 use Rattle.net_run.specs.Values as net_value
-use Rattle.run_matches.specs.Upgrades.{Upgrade, runnable_of}
+use Rattle.run_matches.specs.Upgrades.{Upgrade}
 use Rattle.run_matches.specs.Maps.{Map, Mark, World, mark, IsMade, IsMatched, moved_at, root_variable}
 use Rattle.run_matches.specs.Likeness.{SameShape}
 
@@ -143,7 +141,7 @@ pub record NetTyped (U : Upgrade) (w : World) : Type 0 where
       → SameShape U (variable_shape U.program.declarations x) d
       → (w.net.cell (moved_at U w.map (whole r)) ≡ net.blank) ⊎ AllCells w.net d (moved_at U w.map (whole r))
 
--- ---- what runs keep, each side by itself
+-- ---- where runs end
 
 -- where a computation ends with a memory, that has a property
 abbrev pub EndsIn : {M A : Type 0} → (M → Type 0) → Outcome M A → Type 0
@@ -151,21 +149,3 @@ EndsIn Q (gives o a s) = Q s
 EndsIn Q (raises o e s) = Q s
 EndsIn Q (spent o s) = Q s
 EndsIn Q (outside o) = Unit {0}
-
--- an argument that a well-typed store can hold at some type
-abbrev pub IsTypedGiven : Memory → SourceGiven → Type 0
-IsTypedGiven s (by_value x) = (d : Shape) × IsOf s d x
-IsTypedGiven s (by_address (constant x)) = (d : Shape) × IsOf s d x
-IsTypedGiven s (by_address (root d q)) = Unit {0}
-IsTypedGiven s (by_address (item e q j path)) = Unit {0}
-
--- an object that was made
-abbrev pub IsMadeObject : Memory → Option ℕ → Type 0
-IsMadeObject s None = Unit {0}
-IsMadeObject s (Some o) = o < s.next_object
-
--- a run of the source keeps its store well typed
-abbrev pub KeepsSourceTyped : Upgrade → (p : ℕ) → Type 0
-KeepsSourceTyped U p =
-    (m : Map) (s : Memory) (me : Option ℕ) (xs : List SourceGiven) (inputs : List (List ℕ)) (n : ℕ) → SourceTyped U m (mark s) s → IsMadeObject s me
-    → All (IsTypedGiven s) xs → EndsIn (SourceTyped U m (mark s)) (run6 (runnable_of U) p me xs inputs n s)

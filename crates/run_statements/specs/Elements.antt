@@ -24,7 +24,7 @@ use Rattle.net_run.specs.Shapes as shape
 use Rattle.net_run.specs.Values as net_value
 use Rattle.run_matches.specs.Addresses.{SameIndexes}
 use Rattle.run_matches.specs.Agreeing.{Agrees}
-use Rattle.run_matches.specs.Covered.{Uses, covers_array, covers_exprs}
+use Rattle.run_matches.specs.CoveredExprs.{Uses, covers_array, covers_exprs}
 use Rattle.run_matches.specs.Formed.{is_formed}
 use Rattle.run_matches.specs.Frames.{FrameMatch}
 use Rattle.run_matches.specs.Likeness.{SameShape}

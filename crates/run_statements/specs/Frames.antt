@@ -45,7 +45,9 @@ use Rattle.run_matches.specs.Addresses.{Same, IsPlain, IsScalarAt, IsTarget, Sam
 use Rattle.written_trees.specs.Arguments.{is_property, takes_reference}
 use Rattle.run_matches.specs.Agreeing.{Agrees}
 use Rattle.run_matches.specs.Formed.{passed_are_formed, is_formed}
-use Rattle.run_matches.specs.Covered.{Uses, IsUsed, covers_type, covers_variable, covers_array, covers_expr, covers_exprs, covers_passed, hands_passed, is_declared_as, is_in_order, is_relied_on, suits_passed, covers_user}
+use Rattle.run_matches.specs.CoveredVariables.{covers_type, covers_variable, is_in_order, covers_user}
+use Rattle.run_matches.specs.CoveredExprs.{Uses, IsUsed, covers_array, covers_expr, covers_exprs, covers_passed, is_declared_as, is_relied_on}
+use Rattle.run_matches.specs.Covered.{hands_passed, suits_passed}
 use Rattle.run_matches.specs.SoundShapes.{IsField, IsSoundShape}
 use Rattle.run_matches.specs.Frames.{FrameMatch, GivenAddress, HasPlace, IsOwnAddress, is_own_of, is_reference_of}
 use Rattle.run_matches.specs.Likeness.{LikeV, SameShape, scalar_word}

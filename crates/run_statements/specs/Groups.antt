@@ -22,7 +22,7 @@ use Rattle.written_trees.specs.Exprs.{exp_of}
 use Rattle.written_trees.specs.Names.{Scope}
 use Rattle.run_matches.specs.Addresses.{IsPlain, IsTarget, Same}
 use Rattle.run_matches.specs.Agreeing.{Agrees}
-use Rattle.run_matches.specs.Covered.{Uses, covers_place}
+use Rattle.run_matches.specs.CoveredExprs.{Uses, covers_place}
 use Rattle.run_matches.specs.Frames.{FrameMatch, HasPlace}
 use Rattle.run_matches.specs.Kinds.{IsValueOf}
 use Rattle.run_matches.specs.Likeness.{LikeV, SameShape}

@@ -25,7 +25,9 @@ use Rattle.vb6_run.specs.Store.{SourceFrame}
 use Rattle.net_run.specs.Members.{Code, code_at}
 use Rattle.net_run.specs.Names as net_names
 use Rattle.net_run.specs.Program as net_program
-use Rattle.run_matches.specs.Covered.{covers_in_block, covers_label, covers_line, covers_names, has_sound_label, jump_of, keeps_blocks, resumes, uses_in}
+use Rattle.run_matches.specs.CoveredExprs.{uses_in}
+use Rattle.run_matches.specs.CoveredLines.{covers_in_block, covers_label, covers_line, has_sound_label, jump_of, resumes}
+use Rattle.run_matches.specs.Covered.{covers_names, keeps_blocks}
 use Rattle.run_matches.specs.Frames.{HasNames, lines_of, FrameMatch, NextMatch, frame_pledge, GivenStand}
 use Rattle.run_matches.specs.Pledges.{is_inward, is_self_made}
 use Rattle.run_matches.specs.Runs.{CallsAgree, line_result}

@@ -26,7 +26,8 @@ use Rattle.run_base.specs.Machines.{line_at, nth_line}
 use Rattle.net_run.specs.Lines.{NetLine}
 use Rattle.net_run.specs.Members.{Code, code_at}
 use Rattle.net_run.specs.Program as net_program
-use Rattle.run_matches.specs.Covered.{IsCovered, IsCoveredLine, has_extents}
+use Rattle.run_matches.specs.CoveredVariables.{has_extents}
+use Rattle.run_matches.specs.Covered.{IsCovered, IsCoveredLine}
 use Rattle.run_matches.specs.CleanLines.{IsCleanLine, lines_at}
 use Rattle.run_matches.specs.Runs.{RunsTheSame, LineDoesTheSame}
 use Rattle.run_matches.specs.Sites.{Site, site_of, site_lines, first_statement}

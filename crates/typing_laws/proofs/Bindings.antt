@@ -20,7 +20,8 @@ use Rattle.vb6_run.specs.Runnables.{Runnable, declarations_of, is_class_file, ob
 use Rattle.vb6_run.specs.Shapes.{Shape, simple, variable_shape}
 use Rattle.vb6_run.specs.Store.{Address, Held, blank, root, item, constant, single, Memory, Locked, SourceGiven, make, make_with, provided, put_single, store, with_held, write}
 use Rattle.vb6_run.specs.Values.{Value, scalar, first_scalar}
-use Rattle.run_matches.specs.Covered.{covers_parameter, covers_type, is_parameter_of}
+use Rattle.run_matches.specs.CoveredVariables.{covers_type}
+use Rattle.run_matches.specs.Covered.{covers_parameter, is_parameter_of}
 use Rattle.typing_laws.specs.Frames.{AreGiven, IsGiven, IsSound, Keeps, MayStand, Stands, is_static, shared_place}
 use Rattle.typing_laws.specs.Plain.{IsValue}
 use Rattle.typing_laws.specs.Scalars.{has_scalar_variables}

@@ -28,7 +28,8 @@ use Rattle.vb6_run.specs.Expressions.{Context, declared, scalar_value, value_of}
 use Rattle.vb6_run.specs.Lines.{and_later, case_of, chosen, fits, item_fits, keeps_at, or_later, some_fits, truth_of}
 use Rattle.vb6_run.specs.Store.{Address, Memory}
 use Rattle.vb6_run.specs.Values.{Value}
-use Rattle.run_matches.specs.Covered.{Uses, chooses_among, covers_expr, covers_items, covers_line, covers_part, head_line, is_comparison}
+use Rattle.run_matches.specs.CoveredExprs.{Uses, covers_expr}
+use Rattle.run_matches.specs.CoveredLines.{chooses_among, covers_items, covers_line, covers_part, head_line, is_comparison}
 use Rattle.typing_laws.specs.Scalars.{scalar_uses}
 use Rattle.typing_laws.specs.Calls.{CallsKeep, Each, IsAimed, SourceJob}
 use Rattle.typing_laws.specs.Frames.{IsChoice, choice_of, numbered}

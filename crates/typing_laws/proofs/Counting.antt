@@ -29,7 +29,9 @@ use Rattle.vb6_run.specs.Lines.{branch, counted, for_does, for_from, has_passed,
 use Rattle.vb6_run.specs.Shapes.{Shape, simple}
 use Rattle.vb6_run.specs.Store.{Address, Memory, SourceFrame, root, item, constant, single, with_held, write}
 use Rattle.vb6_run.specs.Values.{Value, scalar}
-use Rattle.run_matches.specs.Covered.{Uses, counts_local, covers_counter, covers_counting, covers_expr, covers_form, covers_line, covers_part, covers_step, covers_type, covers_value, head_line, is_counter, is_variable, uses_in}
+use Rattle.run_matches.specs.CoveredVariables.{covers_type}
+use Rattle.run_matches.specs.CoveredExprs.{Uses, covers_expr, covers_value, is_variable, uses_in}
+use Rattle.run_matches.specs.CoveredLines.{counts_local, covers_counter, covers_counting, covers_form, covers_line, covers_part, covers_step, head_line, is_counter}
 use Rattle.run_matches.specs.Formed.{is_formed}
 use Rattle.typing_laws.specs.Scalars.{scalar_uses}
 use Rattle.typing_laws.specs.Calls.{CallsKeep, Each, IsAimed, SourceJob}

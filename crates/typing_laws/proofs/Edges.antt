@@ -26,7 +26,8 @@ use Rattle.net_tree.specs.declared.expression.NetBin.{NetBin}
 use Rattle.net_tree.specs.declared.expression.NetBin.TheVariants as op
 use Rattle.net_meaning.specs.WrittenRows as written
 use Rattle.net_meaning.specs.WrittenRows.{Written, kind_of, write_operator, write_unary, write_conversion}
-use Rattle.run_matches.specs.Covered.{covers_type, covers_operator}
+use Rattle.run_matches.specs.CoveredVariables.{covers_type}
+use Rattle.run_matches.specs.CoveredExprs.{covers_operator}
 use Rattle.typing_laws.specs.Edges.{IsEdge, least_by_minus_one, joined_too_long, sum_too_long, IsTooLong, divides}
 use Rattle.typing_laws.proofs.Plain.{Plain, a_boolean, a_byte, an_integer, a_long, a_currency, a_text, HasText, has_text}
 

@@ -18,7 +18,8 @@ use Rattle.vb6_run.specs.Programs.{Bindings, answer_in, entered_as, entry, is_lo
 use Rattle.vb6_run.specs.Runnables.{Runnable, declarations_of, declared_address, is_class_file, object_root, owned_address, root_address, static_root, variable_address}
 use Rattle.vb6_run.specs.Shapes.{simple}
 use Rattle.vb6_run.specs.Store.{root, Memory, Locked, SourceFrame, SourceGiven, locked_by}
-use Rattle.run_matches.specs.Covered.{belongs_to, covers_type, is_answer_of, is_parameter_of}
+use Rattle.run_matches.specs.CoveredVariables.{belongs_to, covers_type}
+use Rattle.run_matches.specs.Covered.{is_answer_of, is_parameter_of}
 use Rattle.typing_laws.specs.Calls.{IsReady}
 use Rattle.typing_laws.specs.Frames.{AreGiven, IsSound, IsTypedFrame, Stands, is_static, shared_place}
 use Rattle.typing_laws.proofs.Ends.{Ends, keeps_self, keeps_then, sound_later, then_ends}

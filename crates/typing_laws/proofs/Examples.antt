@@ -33,7 +33,9 @@ use Rattle.vb6_run.specs.Expressions.{Context, term_parts}
 use Rattle.vb6_run.specs.Programs.{empty_memory, run6}
 use Rattle.vb6_run.specs.Runnables.{Runnable}
 use Rattle.vb6_run.specs.Store.{Memory, set_err}
-use Rattle.run_matches.specs.Covered.{Uses, covers_form, covers_procedure}
+use Rattle.run_matches.specs.CoveredExprs.{Uses}
+use Rattle.run_matches.specs.CoveredLines.{covers_form}
+use Rattle.run_matches.specs.Covered.{covers_procedure}
 use Rattle.typing_laws.specs.Edges.{IsEdge, IsLibraryEdge, least_by_minus_one, number_past_127}
 use Rattle.typing_laws.specs.Scalars.{has_scalars, scalars_alone}
 use Rattle.typing_laws.specs.Typed.{is_typed_line, is_typed_procedure}

@@ -32,7 +32,8 @@ use Rattle.vb6_run.specs.Shapes.{simple}
 use Rattle.vb6_run.specs.Store as store
 use Rattle.vb6_run.specs.Store.{Address, root, Memory, SourceGiven, Does, provided, read, single_in, value_if}
 use Rattle.vb6_run.specs.Values.{Value, scalar, is_of_shape}
-use Rattle.run_matches.specs.Covered.{Uses, covers_operator, covers_type}
+use Rattle.run_matches.specs.CoveredVariables.{covers_type}
+use Rattle.run_matches.specs.CoveredExprs.{Uses, covers_operator}
 use Rattle.run_matches.specs.Formed.{is_call, is_row_of_call, is_row_of_one, is_row_of_two, types_of}
 use Rattle.typing_laws.specs.Scalars.{scalar_uses}
 use Rattle.typing_laws.specs.Calls.{CallsKeep, SourceJob}

@@ -24,7 +24,8 @@ use Rattle.vb6_run.specs.Expressions.{Context, declared, parts_of}
 use Rattle.vb6_run.specs.Forms.{SourceLine, form_does, idle_machine}
 use Rattle.vb6_run.specs.Lines.{condition, goes_on, goes_to, handles_by, line_of_label, redim_does, to_label, when_done}
 use Rattle.vb6_run.specs.Store.{Does, Memory, SourceFrame, set_err}
-use Rattle.run_matches.specs.Covered.{Uses, covers_array, covers_called, covers_condition, covers_counter, covers_counting, covers_expr, covers_form, covers_items, covers_part, covers_resize, covers_resizes, covers_step, covers_value, head_line, is_changeable, is_comparison, is_counter, is_ordered, is_variable, uses_in}
+use Rattle.run_matches.specs.CoveredExprs.{Uses, covers_array, covers_expr, covers_value, is_changeable, is_variable, uses_in}
+use Rattle.run_matches.specs.CoveredLines.{covers_called, covers_condition, covers_counter, covers_counting, covers_form, covers_items, covers_part, covers_resize, covers_resizes, covers_step, head_line, is_comparison, is_counter, is_ordered}
 use Rattle.bound_facts.specs.Locks.{is_same_type}
 use Rattle.run_matches.specs.Formed.{is_formed}
 use Rattle.typing_laws.specs.Scalars.{is_scalar_line, scalar_uses}

@@ -24,7 +24,8 @@ use Rattle.vb6_run.specs.Runnables.{variable_address}
 use Rattle.vb6_run.specs.Store.{Address, Does, Memory, held_at, provided, read}
 use Rattle.vb6_run.specs.Store as store
 use Rattle.vb6_run.specs.Values.{Value, scalar, fields, elements}
-use Rattle.run_matches.specs.Covered.{Uses, covers_bounded, covers_expr, covers_exprs, covers_library, covers_operator, covers_term, covers_type, is_bound, uses_in}
+use Rattle.run_matches.specs.CoveredVariables.{covers_type}
+use Rattle.run_matches.specs.CoveredExprs.{Uses, covers_bounded, covers_expr, covers_exprs, covers_library, covers_operator, covers_term, is_bound, uses_in}
 use Rattle.typing_laws.specs.Inert.{ChangesNothing, gives_itself, is_inert, is_inert_node}
 use Rattle.typing_laws.proofs.Uses.{Used, use_is}
 

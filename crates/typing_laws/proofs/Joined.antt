@@ -9,7 +9,7 @@ use Rattle.run_base.specs.Outcomes.{Outcome, gives, raises, spent, outside}
 use Rattle.vb6_run.specs.Expressions.{Context, declared, scalar_value}
 use Rattle.vb6_run.specs.Forms.{form_does}
 use Rattle.vb6_run.specs.Store.{Memory, SourceFrame}
-use Rattle.run_matches.specs.Covered.{covers_expr}
+use Rattle.run_matches.specs.CoveredExprs.{covers_expr}
 use Rattle.run_matches.specs.Formed.{is_formed}
 use Rattle.typing_laws.specs.Calls.{CallsAreSuited, CallsKeep, IsAt, SourceJob}
 use Rattle.typing_laws.specs.Frames.{Footprint, HasOwn, IsSound, IsTypedFrame, ground}

@@ -18,7 +18,7 @@ use Rattle.vb6_meaning.specs.Library.{call, from_place, counted, plain, capital,
 use Rattle.vb6_meaning.specs.Values.{coerce, text}
 use Rattle.bound_facts.specs.Locks.{is_same_type}
 use Rattle.net_meaning.specs.WrittenRows.{write_conversion}
-use Rattle.run_matches.specs.Covered.{covers_type}
+use Rattle.run_matches.specs.CoveredVariables.{covers_type}
 use Rattle.run_matches.specs.Formed.{is_call, is_conversion_to, is_row_of_call, is_signed}
 use Rattle.typing_laws.specs.Edges.{IsLibraryEdge, capital_past_127, small_past_127, blanks_too_long, character_past_127, number_past_127, is_plain_unit}
 use Rattle.typing_laws.proofs.Plain.{Plain, a_boolean, a_byte, an_integer, a_long, a_currency, a_text, is_covered, same_as}

@@ -28,7 +28,9 @@ use Rattle.vb6_run.specs.Store.{Address, Held, root, single, Memory, SourceFrame
 use Rattle.run_base.specs.Positions.{Position}
 use Rattle.vb6_run.specs.Shapes.{simple}
 use Rattle.vb6_run.specs.Values.{Value, scalar}
-use Rattle.run_matches.specs.Covered.{Uses, covers_called, covers_expr, covers_library, covers_exprs, covers_term, covers_type, is_box, is_variable, uses_in}
+use Rattle.run_matches.specs.CoveredVariables.{covers_type}
+use Rattle.run_matches.specs.CoveredExprs.{Uses, covers_expr, covers_library, covers_exprs, covers_term, is_variable, uses_in}
+use Rattle.run_matches.specs.CoveredLines.{covers_called, is_box}
 use Rattle.run_matches.specs.Formed.{are_formed, is_formed, is_row_of_call, types_of}
 use Rattle.typing_laws.specs.Scalars.{scalar_uses}
 use Rattle.typing_laws.specs.Calls.{CallsAreSuited, CallsKeep, Each, IsAimed, IsSuited, SourceJob}

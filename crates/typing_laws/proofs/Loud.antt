@@ -10,7 +10,7 @@ use Rattle.bound_tree.specs.Tree.{Procedure, Program, Variable}
 use Rattle.reach_table.specs.Chains.{empty}
 use Rattle.bound_facts.specs.Effects.{params_at}
 use Rattle.bound_facts.specs.Facts.{AreFacts, Known, acts, is_quiet_owner, is_quiet_variable}
-use Rattle.run_matches.specs.Covered.{is_loud, is_loud_owner, is_touched}
+use Rattle.run_matches.specs.CoveredVariables.{is_loud, is_loud_owner, is_touched}
 use Rattle.run_matches.specs.Upgrades.{Upgrade, is_quiet_id, runnable_of}
 use Rattle.typing_laws.specs.Calls.{AreLoud, OverScalars}
 use Rattle.typing_laws.specs.Scalars.{are_scalar_lines, has_loud_parameters, has_scalar_variables, is_loud_parameter}

@@ -19,7 +19,7 @@ use Rattle.vb6_meaning.specs.NumberTexts.{text_of}
 use Rattle.vb6_meaning.specs.Values as meaning
 use Rattle.vb6_meaning.specs.Values.{common_whole, converted, divided, operate, text, typed}
 use Rattle.vb6_run.specs.Store.{Memory}
-use Rattle.run_matches.specs.Covered.{covers_type}
+use Rattle.run_matches.specs.CoveredVariables.{covers_type}
 use Rattle.run_matches.specs.Typed.{IsScalar}
 use Rattle.typing_laws.specs.Edges.{IsEdge, least_by_minus_one, joined_too_long, sum_too_long, divides, IsTooLong}
 use Rattle.typing_laws.proofs.Places.{some_is}

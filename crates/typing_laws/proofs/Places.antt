@@ -11,7 +11,7 @@ use Rattle.run_base.specs.Positions.{Root, shared, made, field, Position, whole,
 use Rattle.vb6_run.specs.Shapes.{simple, declared_shape, user_shapes, variable_shape}
 use Rattle.vb6_run.specs.Store.{Held, blank, single, table, parts, Memory, with_held}
 use Rattle.vb6_run.specs.Values.{first_scalar}
-use Rattle.run_matches.specs.Covered.{covers_type}
+use Rattle.run_matches.specs.CoveredVariables.{covers_type}
 use Rattle.run_matches.specs.Maps.{IsMade, mark}
 use Rattle.typing_laws.specs.Frames.{Ground, IsBlankStatic, Keeps, MayStand, Stands, is_static, shared_place}
 use Rattle.typing_laws.proofs.Plain.{Plain, shape_is}

@@ -18,7 +18,7 @@ use Rattle.vb6_run.specs.Expressions.{type_shape}
 use Rattle.vb6_run.specs.Shapes.{Shape, simple, shape_by}
 use Rattle.vb6_run.specs.Store.{Memory}
 use Rattle.vb6_run.specs.Values.{scalar, is_of_shape, kept_as, first_scalar}
-use Rattle.run_matches.specs.Covered.{covers_type}
+use Rattle.run_matches.specs.CoveredVariables.{covers_type}
 use Rattle.run_matches.specs.Typed.{IsScalar}
 pub use Rattle.typing_laws.specs.Plain.{Plain, a_boolean, a_byte, an_integer, a_long, a_currency, a_text}
 

@@ -15,7 +15,9 @@ use Rattle.bound_facts.specs.Locks.{is_same_type}
 use Rattle.vb6_run.specs.Forms.{body_of}
 use Rattle.vb6_run.specs.Programs.{answer_in, owned_from}
 use Rattle.vb6_run.specs.Runnables.{Runnable, is_class_file}
-use Rattle.run_matches.specs.Covered.{belongs_to, covers_all_calls, covers_body, covers_calls, covers_head, covers_in_block, covers_kind, covers_line, covers_names, covers_parameter, covers_procedure, covers_result, covers_site, covers_type, covers_variables, has_answer, has_result, is_answer_of, is_parameter_of, is_plain_kind, is_result_in, is_scalar_or_loud, is_taken_in}
+use Rattle.run_matches.specs.CoveredVariables.{belongs_to, covers_type}
+use Rattle.run_matches.specs.CoveredLines.{covers_in_block, covers_line}
+use Rattle.run_matches.specs.Covered.{covers_all_calls, covers_body, covers_calls, covers_head, covers_kind, covers_names, covers_parameter, covers_procedure, covers_result, covers_site, covers_variables, has_answer, has_result, is_answer_of, is_parameter_of, is_plain_kind, is_result_in, is_scalar_or_loud, is_taken_in}
 use Rattle.run_matches.specs.Sites.{site_of}
 use Rattle.typing_laws.specs.Scalars.{are_scalar_lines, has_loud_parameters, has_scalar_variables, is_scalar_line}
 use Rattle.typing_laws.specs.Calls.{IsReady}

@@ -20,7 +20,8 @@ use Rattle.net_meaning.specs.WrittenRows.{Row, Written, write_operator, write_un
 use Rattle.meaning_laws.proofs.SameRows as same
 use Rattle.meaning_laws.proofs.ConversionRows.{minus, turn, conversion}
 use Rattle.row_laws.specs.Rows.{is_direct, is_ready}
-use Rattle.run_matches.specs.Covered.{covers_type, covers_operator}
+use Rattle.run_matches.specs.CoveredVariables.{covers_type}
+use Rattle.run_matches.specs.CoveredExprs.{covers_operator}
 use Rattle.run_matches.specs.Formed.{is_row_of_one, is_row_of_two}
 use Rattle.typing_laws.specs.Edges.{IsEdge}
 use Rattle.typing_laws.proofs.Plain.{Plain, HasMatch, has_match, of_match, same_as, is_no_variant}

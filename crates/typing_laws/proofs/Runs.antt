@@ -19,7 +19,9 @@ use Rattle.vb6_run.specs.Programs.{answer_of, entered_as, line_does, machine_of,
 use Rattle.vb6_run.specs.Runnables.{Runnable, declarations_of}
 use Rattle.vb6_run.specs.Store.{Locked, Memory, SourceFrame, SourceGiven, read, set_err}
 use Rattle.vb6_run.specs.Values.{Value, scalar}
-use Rattle.run_matches.specs.Covered.{covers_calls, covers_in_block, covers_part, covers_type, head_line}
+use Rattle.run_matches.specs.CoveredVariables.{covers_type}
+use Rattle.run_matches.specs.CoveredLines.{covers_in_block, covers_part, head_line}
+use Rattle.run_matches.specs.Covered.{covers_calls}
 use Rattle.typing_laws.specs.Calls.{CallsKeep, EndsAsCall, IsReady, SourceJob}
 use Rattle.typing_laws.specs.Frames.{AreGiven, IsReturned, IsSound, IsTypedFrame, Keeps, Stands, code_line, numbered}
 use Rattle.typing_laws.specs.Leaving.{LineLeaves, RunLeaves, TurnLeaves, at_head, behind_entry, behind_line, context_at, started, stepped_to}

@@ -5,7 +5,9 @@ use Rattle.vb_tree.specs.BoundTree as types
 use Rattle.vb_tree.specs.declared.bound.LibCall.{LibCall}
 use Rattle.bound_tree.specs.Tree.{Expr, typed, variable, element, library, Exprs, no_exprs, next_expr}
 use Rattle.bound_tree.specs.Tree as tree
-use Rattle.run_matches.specs.Covered.{Uses, covers_argument, covers_array, covers_bounded, covers_dimension, covers_expr, covers_exprs, covers_library, covers_term, covers_type, is_bound, is_changeable, is_ordered, is_passable, is_variable}
+use Rattle.run_matches.specs.CoveredVariables.{covers_type}
+use Rattle.run_matches.specs.CoveredExprs.{Uses, covers_argument, covers_array, covers_bounded, covers_dimension, covers_expr, covers_exprs, covers_library, covers_term, is_bound, is_changeable, is_passable, is_variable}
+use Rattle.run_matches.specs.CoveredLines.{is_ordered}
 use Rattle.typing_laws.specs.Scalars.{scalars_alone}
 
 pub no_array_covered : (u : Uses) (e : Expr) → covers_array (scalars_alone u) e ≡ true → ⊥

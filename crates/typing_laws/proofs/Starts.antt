@@ -12,7 +12,7 @@ use Rattle.vb6_run.specs.Programs.{empty_memory, is_module_variable, lay_module_
 use Rattle.vb6_run.specs.Shapes.{Shape, simple, group, array, endless, Shapes, no_shapes, next_shape, variable_shape}
 use Rattle.vb6_run.specs.Store.{Held, Memory, all_laid, blank, laid, parts, provided, single, with_held}
 use Rattle.vb6_run.specs.Values.{first_scalar, is_makeable}
-use Rattle.run_matches.specs.Covered.{covers_type}
+use Rattle.run_matches.specs.CoveredVariables.{covers_type}
 use Rattle.run_matches.specs.Typed.{EndsIn}
 use Rattle.typing_laws.specs.Frames.{Ground, IsSound, Stands, anywhere, ground, is_static, shared_place}
 use Rattle.typing_laws.proofs.Owned.{OwnedAt, owned_at, owned_of}

@@ -13,7 +13,7 @@ use Rattle.vb6_run.specs.Programs.{run6}
 use Rattle.vb6_run.specs.Shapes.{Shape, simple, group, array, endless, Shapes, no_shapes, next_shape, variable_shape}
 use Rattle.vb6_run.specs.Store.{Held, Memory, SourceGiven, blank, parts, single}
 use Rattle.vb6_run.specs.Values.{Value, Values}
-use Rattle.run_matches.specs.Covered.{covers_type}
+use Rattle.run_matches.specs.CoveredVariables.{covers_type}
 use Rattle.run_matches.specs.Maps.{IsMade, Map, mark, root_variable}
 use Rattle.run_matches.specs.Typed.{AllHeld, AreOf, EachOf, EndsIn, FieldsHeld, IsHeld, IsObjectOf, IsOf, IsScalar, SourceTyped, held_parts, held_single, held_table, next_each, next_of, none_each, none_of, of_elements, of_fields, of_scalar}
 use Rattle.run_matches.specs.Upgrades.{Upgrade, runnable_of}

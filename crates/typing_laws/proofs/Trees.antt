@@ -24,7 +24,9 @@ use Rattle.run_base.specs.Outcomes.{gives, then}
 use Rattle.written_trees.specs.Arguments.{takes_reference}
 use Rattle.vb6_run.specs.Expressions.{Context, declared, value_of, scalar_value, argument_of, args_of, library_call, values_of}
 use Rattle.vb6_run.specs.Store.{Memory}
-use Rattle.run_matches.specs.Covered.{Uses, covers_argument, covers_array, covers_expr, covers_exprs, covers_library, covers_operator, covers_parameter, covers_passed, covers_term, covers_type, is_referred, suits_argument, suits_array, suits_passed, uses_in}
+use Rattle.run_matches.specs.CoveredVariables.{covers_type}
+use Rattle.run_matches.specs.CoveredExprs.{Uses, covers_argument, covers_array, covers_expr, covers_exprs, covers_library, covers_operator, covers_passed, covers_term, uses_in}
+use Rattle.run_matches.specs.Covered.{covers_parameter, is_referred, suits_argument, suits_array, suits_passed}
 use Rattle.run_matches.specs.Formed.{are_formed, is_formed, is_formed_argument, is_row_of_call, is_row_of_one, is_row_of_two, passed_are_formed, types_of}
 use Rattle.typing_laws.specs.Scalars.{has_scalar_variables, scalar_uses}
 use Rattle.typing_laws.specs.Calls.{CallsAreSuited, CallsKeep, Each, IsSuited, SourceJob}

@@ -20,7 +20,7 @@ use Rattle.vb6_run.specs.Runnables.{declared_address, is_class_file, object_root
 use Rattle.run_base.specs.Positions.{shared}
 use Rattle.vb6_run.specs.Shapes.{simple, variable_shape}
 use Rattle.vb6_run.specs.Store.{Memory, SourceFrame, root}
-use Rattle.run_matches.specs.Covered.{belongs_to, covers_owner, covers_some, covers_type, covers_use, covers_variable, is_foreign_name, is_mention_of, is_reached}
+use Rattle.run_matches.specs.CoveredVariables.{belongs_to, covers_owner, covers_some, covers_type, covers_use, covers_variable, is_foreign_name, is_mention_of, is_reached}
 use Rattle.run_matches.specs.Shared.{is_alone_static, leads_to_home, leads_to_member, names_lead, placed_module}
 use Rattle.typing_laws.specs.Frames.{Ground, HasOwn, IsSound, Stands, shared_place}
 use Rattle.typing_laws.specs.Scalars.{has_scalar_variables}

@@ -25,7 +25,9 @@ use Rattle.vb6_run.specs.Shapes.{simple}
 use Rattle.vb6_run.specs.Store as store
 use Rattle.vb6_run.specs.Store.{Address, root, Memory, SourceGiven}
 use Rattle.vb6_run.specs.Values.{Value, scalar}
-use Rattle.run_matches.specs.Covered.{Uses, covers_expr, covers_library, covers_term, covers_type, is_plain_kind, is_referred, is_variable, covers_array, covers_exprs, uses_in}
+use Rattle.run_matches.specs.CoveredVariables.{covers_type}
+use Rattle.run_matches.specs.CoveredExprs.{Uses, covers_expr, covers_library, covers_term, is_variable, covers_array, covers_exprs, uses_in}
+use Rattle.run_matches.specs.Covered.{is_plain_kind, is_referred}
 use Rattle.run_matches.specs.Formed.{is_row_of_call, types_of}
 use Rattle.typing_laws.proofs.Scalars.{no_array_covered}
 use Rattle.typing_laws.specs.Scalars.{scalar_uses}

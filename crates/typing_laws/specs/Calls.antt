@@ -13,7 +13,8 @@ use Rattle.vb6_run.specs.Expressions.{Context, declared}
 use Rattle.vb6_run.specs.Runnables.{Runnable, declarations_of}
 use Rattle.vb6_run.specs.Store.{Address, Memory, Locked, SourceGiven}
 use Rattle.vb6_run.specs.Values.{Value}
-use Rattle.run_matches.specs.Covered.{IsCovered, covers_part, head_line, suits}
+use Rattle.run_matches.specs.CoveredLines.{covers_part, head_line}
+use Rattle.run_matches.specs.Covered.{IsCovered, suits}
 use Rattle.typing_laws.specs.Frames.{AreGiven, Footprint, Ground, IsReturned, IsSound, Keeps, code_line, ground}
 use Rattle.typing_laws.specs.Scalars.{has_scalars, is_scalar_line}
 use Rattle.typing_laws.specs.Typed.{gives_what_it_has, is_typed_line, is_typed_procedure}

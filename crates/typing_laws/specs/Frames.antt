@@ -21,7 +21,7 @@ use Rattle.vb6_run.specs.Runnables.{Runnable, declarations_of, variable_address}
 use Rattle.vb6_run.specs.Shapes.{simple}
 use Rattle.vb6_run.specs.Store.{Address, blank, single, root, item, constant, Memory, SourceFrame, SourceGiven}
 use Rattle.vb6_run.specs.Values.{Value}
-use Rattle.run_matches.specs.Covered.{belongs_to, covers_type}
+use Rattle.run_matches.specs.CoveredVariables.{belongs_to, covers_type}
 use Rattle.run_matches.specs.Maps.{IsMade, mark}
 use Rattle.typing_laws.specs.Plain.{Plain, IsValue}
 

@@ -5,7 +5,9 @@ use Rattle.std.specs.List.{list_all}
 use Rattle.vb_tree.specs.declared.declared.VarId.{VarId}
 use Rattle.bound_tree.specs.declared.body.Mention.{Mention}
 use Rattle.bound_tree.specs.Tree.{Variable, Procedure, Line, Program}
-use Rattle.run_matches.specs.Covered.{Uses, belongs_to, covers_form, covers_variable, is_loud, uses_in}
+use Rattle.run_matches.specs.CoveredVariables.{belongs_to, covers_variable, is_loud}
+use Rattle.run_matches.specs.CoveredExprs.{Uses, uses_in}
+use Rattle.run_matches.specs.CoveredLines.{covers_form}
 use Rattle.run_matches.specs.Formed.{is_formed}
 
 -- the same scalars, and no array: so no element, bound, ReDim or Erase is covered, and no array by reference

@@ -12,7 +12,8 @@ use Rattle.bound_tree.specs.Tree.{Variable, Procedure, Declarations, Program, Ex
 use Rattle.bound_tree.specs.Tree as tree
 use Rattle.bound_facts.specs.Locks.{is_same_type}
 use Rattle.bound_facts.specs.Node.{type_at}
-use Rattle.run_matches.specs.Covered.{covers_type, is_plain_kind}
+use Rattle.run_matches.specs.CoveredVariables.{covers_type}
+use Rattle.run_matches.specs.Covered.{is_plain_kind}
 
 -- ---- expressions
 

@@ -18,7 +18,8 @@ ghost use Rattle.vb6_run.specs.Programs.{empty_memory, is_module_variable, lay_m
 ghost use Rattle.vb6_run.specs.Runnables.{Runnable, declarations_of};
 ghost use Rattle.vb6_run.specs.Store.{Memory, SourceGiven};
 ghost use Rattle.bound_facts.specs.Facts.{AreFacts};
-ghost use Rattle.run_matches.specs.Covered.{covers_expr, covers_type, uses_in};
+ghost use Rattle.run_matches.specs.CoveredVariables.{covers_type};
+ghost use Rattle.run_matches.specs.CoveredExprs.{covers_expr, uses_in};
 ghost use Rattle.run_matches.specs.Maps.{Map, mark};
 ghost use Rattle.run_matches.specs.Formed.{is_formed};
 ghost use Rattle.run_matches.specs.Typed.{EndsIn, IsScalar, SourceTyped};

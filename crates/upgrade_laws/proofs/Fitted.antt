@@ -16,7 +16,7 @@ use Rattle.written_trees.specs.Facts.{is_array_variable, is_flagged_variable, li
 use Rattle.written_facts.specs.United.{AreUnited}
 use Rattle.run_base.specs.Machines.{nth_line}
 use Rattle.run_matches.specs.CleanLines.{lines_at, or_none}
-use Rattle.run_matches.specs.Covered.{has_extents}
+use Rattle.run_matches.specs.CoveredVariables.{has_extents}
 use Rattle.run_matches.specs.Upgrades.{Upgrade, is_flagged, is_unknown, type_of}
 use Rattle.run_statements.specs.Fitting.{FitsLine, FitsNode}
 use Rattle.upgrade_laws.proofs.Breaking.{each_whole}

@@ -19,7 +19,7 @@ use Rattle.bound_facts.proofs.Chains.{Chain-joined, Chain-turned}
 use Rattle.bound_facts.proofs.Ways.{ways_turned}
 use Rattle.array_bounds.specs.Facts.{IsSplit, IsTorn, two_ranks}
 use Rattle.written_trees.specs.Facts.{is_array_variable}
-use Rattle.run_matches.specs.Covered.{has_extents, has_rank}
+use Rattle.run_matches.specs.CoveredVariables.{has_extents, has_rank}
 use Rattle.upgrade_laws.proofs.Lists.{here, in_none, there}
 
 -- ---- what stands in lists

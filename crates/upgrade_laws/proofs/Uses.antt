@@ -7,7 +7,7 @@ use Rattle.bound_tree.specs.declared.body.Mention.{Mention}
 use Rattle.bound_tree.specs.declared.body.Mention.TheVariants as mention
 use Rattle.bound_tree.specs.Tree.{Line, typed, variable}
 use Rattle.bound_facts.specs.Nodes.{line_nodes}
-use Rattle.run_matches.specs.Covered.{is_mention_of}
+use Rattle.run_matches.specs.CoveredVariables.{is_mention_of}
 use Rattle.upgrade_laws.specs.Mentioned.{MentionsVariables}
 use Rattle.upgrade_laws.proofs.Tests.{first_any, later_any, same}
 use Rattle.upgrade_laws.proofs.Lists.{in_none}

@@ -22,7 +22,7 @@ ghost use Rattle.project_loader.specs.Held.{HeldProject, IsOfGrammar};
 ghost use Rattle.project_upgrade.specs.declared.upgrade.Upgraded.{Upgraded};
 ghost use Rattle.project_upgrade.specs.Upgrades.{AreFactsOf, IsUpgraded};
 ghost use Rattle.run_matches.specs.CleanLines.{IsCleanLine};
-ghost use Rattle.run_matches.specs.Covered.{is_mention_of};
+ghost use Rattle.run_matches.specs.CoveredVariables.{is_mention_of};
 ghost use Rattle.run_matches.specs.Sites.{Site, owns_of, site_of, variable_numbers};
 ghost use Rattle.run_statements.specs.Written.{HasBody, HasQuietForms, PartsStandTogether};
 ghost use Rattle.upgrade_laws.specs.Mentioned.{MentionsVariables};

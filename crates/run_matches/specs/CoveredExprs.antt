@@ -1,0 +1,368 @@
+-- Which expressions are covered, and what of them may be stored.
+use Rattle.std.specs.Prelude.{◌≡◌, ◌⊎◌, ℕ, Bool, true, false, cond, not, ◌&&◌, ◌||◌, Option, Some, None, List, [], ◌∷◌, slice_get}
+use Rattle.std.specs.List.{list_all, list_any, flat_map}
+use Rattle.vb_tree.specs.BoundTree as types
+use Rattle.vb_tree.specs.BoundTree.{Ty}
+use Rattle.vb_tree.specs.declared.bound.LibCall.{LibCall}
+use Rattle.vb_tree.specs.declared.bound.LibCall.TheVariants as lib
+use Rattle.vb_tree.specs.declared.declared.VarId.{VarId}
+use Rattle.vb_tree.specs.declared.expression.BinOp.{BinOp}
+use Rattle.vb_tree.specs.declared.expression.BinOp.TheVariants as b
+use Rattle.vb_tree.specs.declared.value.Value6.{Value6}
+use Rattle.bound_tree.specs.declared.body.Mention.{Mention}
+use Rattle.bound_tree.specs.declared.body.Mention.TheVariants as mention
+use Rattle.bound_tree.specs.Tree.{Variable, Program, Expr, typed, Term, constant, variable, field, element, call, library, unary, binary, convert, new_object, me, with_object, err_number, err_raise, err_clear, is_same, loose, Exprs, no_exprs, next_expr, Object, no_object, of_object, Argument, by_value, by_reference, Passed, no_passed, next_passed}
+use Rattle.bound_tree.specs.Tree as tree
+use Rattle.bound_facts.specs.CanRaise.{raises_by}
+use Rattle.bound_facts.specs.Calls.{count_variables}
+use Rattle.bound_facts.specs.Effects.{passes}
+use Rattle.bound_facts.specs.Items.{project_items}
+use Rattle.bound_facts.specs.Leading.{within}
+use Rattle.bound_facts.specs.Locks.{is_same_type}
+use Rattle.bound_facts.specs.Node.{type_at, called}
+use Rattle.bound_facts.specs.Nodes.{nodes, nodes_of_all}
+use Rattle.vb6_meaning.specs.Answers.{Answer}
+use Rattle.vb6_meaning.specs.Answers as answer
+use Rattle.vb6_meaning.specs.Values.{coerce}
+use Rattle.vb6_run.specs.Values.{is_typed}
+use Rattle.run_matches.specs.Inward.{grown, is_apart, is_inward_in}
+use Rattle.run_matches.specs.CoveredVariables.{covers_use, covers_array_use, covers_group_use, field_type_in, is_loud, covers_type}
+
+-- ---- operators and the library
+
+-- all operators on scalars; no comparison of objects
+abbrev pub covers_operator : BinOp → Bool
+covers_operator b.Pow = true
+covers_operator b.Mul = true
+covers_operator b.Div = true
+covers_operator b.IntDiv = true
+covers_operator b.Mod = true
+covers_operator b.Add = true
+covers_operator b.Sub = true
+covers_operator b.Concat = true
+covers_operator b.Equal = true
+covers_operator b.NotEqual = true
+covers_operator b.Less = true
+covers_operator b.Greater = true
+covers_operator b.LessEqual = true
+covers_operator b.GreaterEqual = true
+covers_operator b.Like = true
+covers_operator b.Is = false
+covers_operator b.And = true
+covers_operator b.Or = true
+covers_operator b.Xor = true
+covers_operator b.Eqv = true
+covers_operator b.Imp = true
+
+-- calls on texts and numbers, conversions, MsgBox and InputBox
+abbrev pub covers_library : LibCall → Bool
+covers_library lib.Len = true
+covers_library lib.Left = true
+covers_library lib.Right = true
+covers_library lib.Mid = true
+covers_library lib.Trim = true
+covers_library lib.LTrim = true
+covers_library lib.RTrim = true
+covers_library lib.UCase = true
+covers_library lib.LCase = true
+covers_library lib.Space = true
+covers_library lib.Chr = true
+covers_library lib.Asc = true
+covers_library lib.InStr = true
+covers_library lib.Abs = true
+covers_library lib.CBool = true
+covers_library lib.CByte = true
+covers_library lib.CInt = true
+covers_library lib.CLng = true
+covers_library lib.CCur = true
+covers_library lib.CStr = true
+covers_library lib.IsEmpty = false
+covers_library lib.UBound = false
+covers_library lib.LBound = false
+covers_library lib.MsgBox = true
+covers_library lib.InputBox = true
+
+-- ---- expressions
+
+-- which variables are covered: as scalars, as arrays of elements of a type, and as of user types, with the types of the fields that these
+-- may be asked for; and which are no quiet parameters
+pub record Uses : Type 0 where
+  pub scalar : VarId → Bool
+  pub array : VarId → (element : Ty) → Bool
+  pub group : VarId → (user_type : ℕ) → Bool
+  pub field_type : (user_type field : ℕ) → Option Ty
+  -- variables that are declared with a type
+  pub is_of : VarId → Ty → Bool
+  -- procedures that are seen to be inward
+  pub inward : (procedure : ℕ) → Bool
+  pub exact : VarId → Bool
+  -- variables that are bound to no element, since a line that stores one may rely on them
+  pub relied : VarId → Bool
+
+abbrev pub IsUsed : Uses → VarId → Type 0
+IsUsed uses v =
+    (uses.scalar v ≡ true) ⊎ (((element : Ty) × (uses.array v element ≡ true)) ⊎ ((user_type : ℕ) × (uses.group v user_type ≡ true)))
+
+abbrev pub is_declared_as : Ty → Option Variable → Bool
+is_declared_as ty None = false
+is_declared_as ty (Some x) = is_same_type ty x.ty
+
+abbrev pub is_element_term : Term → Bool
+is_element_term (element a indexes) = true
+is_element_term t = false
+
+abbrev pub stores_element : List Expr → Bool
+stores_element [] = false
+stores_element (typed ty t ∷ es) = is_element_term t
+
+abbrev pub mentioned_variable : Mention → List ℕ
+mentioned_variable (mention.Var u) = u.0 ∷ []
+mentioned_variable m = []
+
+abbrev pub relied_items : (procedure : ℕ) → tree.Line → List ℕ
+relied_items i l = cond (stores_element l.bindings.exprs) (flat_map mentioned_variable l.bindings.mentions) []
+
+-- those that lines mention that store an element
+abbrev pub relied : Program → List ℕ
+relied P = project_items relied_items P.bodies
+
+-- A line that stores an element mentions the variable, or a parameter to which it is passed on: indexes or value may have to be what it holds,
+-- whatever is evaluated before. So it is bound to no element, which the source may not find.
+abbrev pub is_relied_on : Program → (variable : ℕ) → Bool
+is_relied_on P v =
+    not (is_apart (within (count_variables P) (passes P)) (grown (count_variables P) (within (count_variables P) (passes P)) (relied P)) v)
+
+-- those that a line of a procedure uses and mentions
+abbrev pub uses_in : Program → (procedure : ℕ) → List Mention → Uses
+uses_in P p mentions = record {
+  scalar = covers_use P p mentions;
+  array = covers_array_use P p mentions;
+  group = covers_group_use P p mentions;
+  field_type = field_type_in P.declarations mentions;
+  is_of = λ v ty. is_declared_as ty (slice_get P.declarations.vars v.0);
+  inward = is_inward_in P;
+  exact = λ v. is_loud P v.0 (slice_get P.declarations.vars v.0);
+  relied = λ v. is_relied_on P v.0;
+}
+
+abbrev pub is_without_object : Object → Bool
+is_without_object no_object = true
+is_without_object (of_object e) = false
+
+abbrev pub is_variable_in : Term → Bool
+is_variable_in (variable v qualified) = true
+is_variable_in t = false
+
+abbrev pub is_variable : Expr → Bool
+is_variable (typed ty t) = is_variable_in t
+
+abbrev mutual
+  pub is_changeable_in : Uses → Term → Bool
+  is_changeable_in uses (variable v qualified) = uses.exact v
+  is_changeable_in uses (field e k) = is_changeable uses e
+  is_changeable_in uses _ = false
+
+  -- a variable that is changed, and so is no quiet parameter, or a field of one
+  pub is_changeable : Uses → Expr → Bool
+  is_changeable uses (typed ty t) = is_changeable_in uses t
+
+abbrev pub is_passable_in : Uses → Term → Bool
+is_passable_in uses (variable v qualified) = uses.exact v
+is_passable_in uses t = true
+
+-- nor is a variable that is given by reference
+abbrev pub is_passable : Uses → Expr → Bool
+is_passable uses (typed ty t) = is_passable_in uses t
+
+abbrev pub covers_array_term : Uses → (element : Ty) → Term → Bool
+covers_array_term uses e (variable v qualified) = uses.array v e
+covers_array_term uses e t = false
+
+abbrev pub covers_array_as : Uses → Ty → Term → Bool
+covers_array_as uses (types.array e rank) t = covers_array_term uses e t
+covers_array_as uses ty t = false
+
+-- an array variable
+abbrev pub covers_array : Uses → Expr → Bool
+covers_array uses (typed ty t) = covers_array_as uses ty t
+
+-- ---- fields
+
+-- a type that some field has
+abbrev pub is_type : Ty → Option Ty → Bool
+is_type ty None = false
+is_type ty (Some f) = is_same_type ty f
+
+-- a field of a user type has a type
+abbrev pub has_field : Uses → (of : Ty) → (field : ℕ) → Ty → Bool
+has_field uses (types.user t) k ty = is_type ty (uses.field_type t k)
+has_field uses of k ty = false
+
+-- a user type has a field that is of a user type
+abbrev pub has_inner : Uses → (of : Ty) → (field : ℕ) → Ty → Bool
+has_inner uses of k (types.user t) = has_field uses of k (types.user t)
+has_inner uses of k ty = false
+
+abbrev pub is_group : Uses → VarId → Ty → Bool
+is_group uses v (types.user t) = uses.group v t
+is_group uses v ty = false
+
+abbrev mutual
+  -- a variable of a user type, or a field of such a place that is of a user type itself
+  pub covers_place : Uses → Expr → Bool
+  covers_place uses (typed ty t) = covers_place_term uses ty t
+
+  pub covers_place_term : Uses → Ty → Term → Bool
+  covers_place_term uses ty (variable v qualified) = is_group uses v ty
+  covers_place_term uses ty (field e k) = has_inner uses (type_at e) k ty && covers_place uses e
+  covers_place_term uses ty _ = false
+
+abbrev pub is_scalar_type : Option Ty → Bool
+is_scalar_type None = false
+is_scalar_type (Some ty) = covers_type ty
+
+-- a field of a user type is a scalar
+abbrev pub has_scalar : Uses → (of : Ty) → (field : ℕ) → Bool
+has_scalar uses (types.user t) k = is_scalar_type (uses.field_type t k)
+has_scalar uses _ k = false
+
+-- ---- bounds of arrays
+
+abbrev pub is_bound : LibCall → Bool
+is_bound lib.UBound = true
+is_bound lib.LBound = true
+is_bound _ = false
+
+abbrev pub is_constant_in : Term → Bool
+is_constant_in (constant x origin) = true
+is_constant_in t = false
+
+abbrev pub is_constant : Expr → Bool
+is_constant (typed ty t) = is_constant_in t
+
+-- a dimension that is named by a constant, or none
+abbrev pub covers_dimension : Exprs → Bool
+covers_dimension no_exprs = true
+covers_dimension (next_expr e no_exprs) = is_constant e
+covers_dimension (next_expr e (next_expr d rest)) = false
+
+-- an array variable and perhaps a dimension
+abbrev pub covers_bounded : Uses → Exprs → Bool
+covers_bounded uses no_exprs = false
+covers_bounded uses (next_expr a rest) = covers_array uses a && covers_dimension rest
+
+-- literals and uses of constants, variables, elements, fields, operators, conversions, calls of the library, bounds of arrays, Err.Number, and calls
+-- without an object
+abbrev mutual
+  pub covers_expr : Uses → Expr → Bool
+  covers_expr uses (typed ty t) = covers_type ty && covers_term uses t
+
+  pub covers_term : Uses → Term → Bool
+  covers_term uses (constant x origin) = true
+  covers_term uses (variable v qualified) = uses.scalar v
+  covers_term uses (field e k) = has_scalar uses (type_at e) k && covers_place uses e
+  covers_term uses (element e indexes) = covers_array uses e && covers_exprs uses indexes
+  covers_term uses (call p qualified of args) = is_without_object of && covers_passed uses args
+  covers_term uses (library f args) = (covers_library f && covers_exprs uses args) || (is_bound f && covers_bounded uses args)
+  covers_term uses (unary op e) = covers_expr uses e
+  covers_term uses (binary op d e) = covers_operator op && (covers_expr uses d && covers_expr uses e)
+  covers_term uses (convert to e) = covers_type to && covers_expr uses e
+  covers_term uses (new_object c) = false
+  covers_term uses me = false
+  covers_term uses (with_object root) = false
+  covers_term uses err_number = true
+  covers_term uses (err_raise e) = false
+  covers_term uses err_clear = false
+  covers_term uses (is_same d e) = false
+  covers_term uses (loose e rules) = false
+
+  pub covers_exprs : Uses → Exprs → Bool
+  covers_exprs uses no_exprs = true
+  covers_exprs uses (next_expr e rest) = covers_expr uses e && covers_exprs uses rest
+
+  pub covers_passed : Uses → Passed → Bool
+  covers_passed uses no_passed = true
+  covers_passed uses (next_passed a rest) = covers_argument uses a && covers_passed uses rest
+
+  -- arguments by value and by reference
+  pub covers_argument : Uses → Argument → Bool
+  covers_argument uses (by_value e) = covers_expr uses e || covers_place uses e
+  covers_argument uses (by_reference e) = (is_passable uses e && covers_expr uses e) || (covers_array uses e || covers_place uses e)
+
+-- an expression of a type
+abbrev pub covers_value : Uses → Ty → Expr → Bool
+covers_value uses ty e = is_same_type ty (type_at e) && covers_expr uses e
+
+-- ---- the order of an element's indexes and the value that is stored there
+
+abbrev pub is_raising : Expr → Bool
+is_raising (typed ty t) = raises_by t
+
+-- where both can raise, what is written evaluates the value first, by a Put function
+abbrev pub both_raise : (indexes : Exprs) → (value : Expr) → Bool
+both_raise indexes e = list_any is_raising (nodes_of_all indexes) && list_any is_raising (nodes e)
+
+abbrev pub gives_typed : Ty → Answer Value6 → Bool
+gives_typed ty (answer.gives x) = is_typed ty x
+gives_typed ty (answer.raises number) = false
+gives_typed ty answer.outside = false
+
+abbrev pub converts_constant_in : (to : Ty) → Term → Bool
+converts_constant_in to (constant x origin) = gives_typed to (coerce x to)
+converts_constant_in to t = false
+
+abbrev pub converts_constant : (to : Ty) → Expr → Bool
+converts_constant to (typed ty t) = converts_constant_in to t
+
+-- a constant, or the conversion of one
+abbrev pub is_literal_term : Ty → Term → Bool
+is_literal_term ty (constant x origin) = true
+is_literal_term ty (convert to e) = is_same_type to ty && converts_constant to e
+is_literal_term ty t = false
+
+abbrev pub is_literal_value : Expr → Bool
+is_literal_value (typed ty t) = is_literal_term ty t
+
+-- a conversion that has a value for each value of its first type
+abbrev pub widens : (from to : Ty) → Bool
+widens types.boolean types.byte = true
+widens types.boolean types.integer = true
+widens types.boolean types.long = true
+widens types.boolean types.currency = true
+widens types.byte types.integer = true
+widens types.byte types.long = true
+widens types.byte types.currency = true
+widens types.integer types.long = true
+widens types.integer types.currency = true
+widens types.long types.currency = true
+widens from to = false
+
+-- what always has a value, and does nothing: constants, variables of their types, and conversions of such
+abbrev mutual
+  pub is_calm : Uses → Expr → Bool
+  is_calm uses (typed ty t) = is_calm_term uses ty t
+
+  pub is_calm_term : Uses → Ty → Term → Bool
+  is_calm_term uses ty (constant x origin) = true
+  is_calm_term uses ty (variable v qualified) = uses.scalar v && (uses.exact v && (uses.is_of v ty && uses.relied v))
+  is_calm_term uses ty (convert to e) = is_same_type to ty && (widens (type_at e) to && is_calm uses e)
+  is_calm_term uses ty t = false
+
+abbrev pub are_calm : Uses → Exprs → Bool
+are_calm uses no_exprs = true
+are_calm uses (next_expr e rest) = is_calm uses e && are_calm uses rest
+
+abbrev pub is_seen_inward : Uses → Option ℕ → Bool
+is_seen_inward uses None = true
+is_seen_inward uses (Some q) = uses.inward q
+
+-- calls of inward procedures alone
+abbrev pub are_still : Uses → List Expr → Bool
+are_still uses es = list_all (λ d. is_seen_inward uses (called d)) es
+
+-- Both can raise, or the value is constant, or one is calm and the other still. What breaks no rule on the order of effects is mostly so;
+-- what reads an element, or has an operator, isn't calm, and a fixed array isn't told from others.
+abbrev pub keeps_order : Uses → (indexes : Exprs) → (value : Expr) → Bool
+keeps_order uses indexes e =
+    both_raise indexes e
+    || (is_literal_value e || ((are_calm uses indexes && are_still uses (nodes e)) || (is_calm uses e && are_still uses (nodes_of_all indexes))))
