@@ -37,6 +37,7 @@ module _ (U : Upgrade) (w : World) (e d : ℕ) (i j : List (List ℕ)) (n k : �
     net_unmade = h.net_unmade;
     errors = same;
     kinds = h.kinds;
+    fields = h.fields;
   }
 
   pub match_beside : d ≡ e → j ≡ i → k ≡ n → MemoryMatch U w → MemoryMatch U (beside w e d i j n k)
@@ -59,6 +60,7 @@ module _ (U : Upgrade) (w : World) (e d : ℕ) (i j : List (List ℕ)) (n k : �
     grows = l.grows;
     net_grows = l.net_grows;
     arrays_grow = l.arrays_grow;
+    same_classes = l.same_classes;
     same_kinds = l.same_kinds;
     same_values = l.same_values;
     same_cells = l.same_cells;
@@ -98,6 +100,7 @@ module _ (U : Upgrade) where
         grows = below_self (mark w.src);
         net_grows = below_self (net_mark w.net);
         arrays_grow = up_self w.net.next_array;
+        same_classes = λ o lt. refl;
         same_kinds = λ q. keeps_self (w.src.held q);
         same_values = λ q l y. refl;
         same_cells = λ q m l y. refl;

@@ -8,6 +8,7 @@ pub mod Machines
 pub mod Frames
 pub mod Scalars
 pub mod Moves
+pub mod OwnObjects
 pub mod Fields
 pub mod UserShapes
 pub mod SoundParts

@@ -47,6 +47,7 @@ use Rattle.row_laws.proofs.Composing.{after_nil, then_assoc, then_gives}
 use Rattle.agreeing_laws.specs.Promises.{Weaker}
 use Rattle.agreeing_laws.proofs.Agreeing.{agrees_gives, agrees_outside, agrees_promised, left_alone, right_alone, then_agrees}
 use Rattle.agreeing_laws.proofs.Made.{below_self}
+use Rattle.agreeing_laws.proofs.OwnObjects.{no_own_object}
 use Rattle.agreeing_laws.proofs.Moves.{address_later, locks_promised}
 use Rattle.expression_laws.specs.Calls.{ArgumentsMatch, GivenMatch, Stands, next_address}
 use Rattle.expression_laws.proofs.Arguments.{arguments_ok, callee_is_weaker, stands_later}
@@ -154,6 +155,7 @@ module _ (U : Upgrade) (K : Pledge) (p : ℕ) (f : SourceFrame) (g : NetFrame) (
       (agrees_promised U K L w (ResultMatch U) (oracle (enters q f.me f.env xs) w.src) (net_oracle (enters can.number g.me tt ys) w.net) start weaker
       (subst (λ m. Agrees U L w (ResultMatch U) (oracle (enters q f.me f.env xs) w.src) (net_oracle (enters can.number m tt ys) w.net)) (sym stands.me)
       (agree q can.number f.me (mark w.src) f.env xs ys w can.passes can.is_number (below_self (mark w.src)) stands.object
+      (no_own_object U w q f.me can.standard)
       (locks_promised U K L w w f.env weaker stands.locks) (arguments_ok U K L w q xs ys weaker h) start)))
       (λ x r v m later. agrees_gives U K v (GivenMatch U) (result_parts x) (result_address shaped r) later.match
       (record { given = x; net_given = r; shape = shaped; is_given = refl; is_net_given = refl; match = m }))

@@ -609,7 +609,7 @@ module _ (U : Upgrade) (p : ℕ) (f : SourceFrame) (g : NetFrame) (oracle : Sour
 pub expressions_agree_by : (U : Upgrade) (K : Pledge) → FormedExpressionsAgreeBy U K
 expressions_agree_by U K w p f g oracle net_oracle l k c T uses e start frames declarations opened readable placed agree can covers formed =
     expression_agrees U p f g oracle net_oracle l k c T uses declarations opened readable placed.leads agree K e w start
-    (images_now U K w p f g (scope_of U.written c g k) refl T declarations frames uses start readable placed) (stands_now U K w p f g frames) can covers formed
+    (images_now U K w p f g (scope_of U.written c g k) refl refl T declarations frames uses start readable placed) (stands_now U K w p f g frames) can covers formed
 
 pub scalars_agree_by : (U : Upgrade) (K : Pledge) → FormedScalarsAgreeBy U K
 scalars_agree_by U K w p f g oracle net_oracle l k c T uses e start frames declarations opened readable placed agree can covers formed =
@@ -623,7 +623,7 @@ indexes_agree_by U K w p f g oracle net_oracle l k c T uses ty a indexes start f
     let rest = both_true (are_longs (types_of indexes)) (are_formed indexes) forms.1 in
     let longs = all_long (types_of indexes) rest.0 in
     let have : HaveImages U K w f (scope_of U.written c g k) T uses =
-    images_now U K w p f g (scope_of U.written c g k) refl T declarations frames uses start readable placed in
+    images_now U K w p f g (scope_of U.written c g k) refl refl T declarations frames uses start readable placed in
     indexed_by U p f g oracle net_oracle l k c T uses declarations opened readable placed.leads agree K ty a indexes w start have covers_array forms.0 can.0
     (indexes_agree U p f g oracle net_oracle l k c T uses declarations opened readable placed.leads agree K a 0 indexes w
     (from_none (types_of indexes) longs.1) longs.0 start have (stands_now U K w p f g frames) can.1 covers_indexes rest.1)
@@ -639,7 +639,7 @@ elements_agree_by U K w p f g oracle net_oracle l k c T uses ty a indexes start 
 pub arrays_agree_by : (U : Upgrade) (K : Pledge) → ArraysAgreeBy U K
 arrays_agree_by U K w p f g oracle net_oracle l k c T uses d rank (variable v qualified) start frames declarations readable placed covers =
     array_agrees U K p f g oracle net_oracle l k c T declarations d rank v qualified (readable.arrays v d covers) w start
-    (λ a at. images_now U K w p f g (scope_of U.written c g k) refl T declarations frames uses start readable placed v a (inr (inl (d, covers))) at)
+    (λ a at. images_now U K w p f g (scope_of U.written c g k) refl refl T declarations frames uses start readable placed v a (inr (inl (d, covers))) at)
 arrays_agree_by U K w p f g oracle net_oracle l k c T uses d rank _ start frames declarations readable placed covers = absurd (cc covers)
 
 pub indexes_agree_all : (U : Upgrade) → VariablesAreRead U → IndexesAgree U
@@ -670,7 +670,7 @@ calls_are_made U reads K w p f g oracle net_oracle l k c T uses ty q qualified a
     (passings_at U.written (Some can.0.number)) w
     (from_first U p f g oracle net_oracle l k c T uses declarations opened readable placed.leads agree K can.0) can.0.suits can.0.hands start
     (images_giving U K (given_types args) w start f S T uses
-    (images_now U K w p f g (scope_of U.written c g k) refl T declarations frames uses start readable placed))
+    (images_now U K w p f g (scope_of U.written c g k) refl refl T declarations frames uses start readable placed))
     (stands_giving U K (given_types args) w start f g stands) (called_giving_for U K S T (given_types args) args can.0.inside can.1) covers formed can.0.ranks
     (λ t o. inr o)))
 

@@ -1,8 +1,8 @@
 -- Variables that are used are images of each other, and stay so.
-use Rattle.std.proofs.Common.{◌≡◌, refl, sym, ap, subst, ◌∙◌, inl, inr, ℕ, ℤ, Bool, true, false, cond, not, ◌&&◌, nat_eq, List, [], ◌∷◌, Some, Option, None, true≢false}
+use Rattle.std.proofs.Common.{◌≡◌, refl, sym, ap, subst, ◌∙◌, inl, inr, ℕ, ℤ, Bool, true, false, cond, not, ◌&&◌, nat_eq, List, [], ◌∷◌, Some, Option, None, option_map, true≢false}
 use Rattle.std.specs.Prelude.{slice_get, is_some}
 use Rattle.std.specs.Map.{lookup}
-use Rattle.std.proofs.lemmas.Bool.{eqb-true}
+use Rattle.std.proofs.lemmas.Bool.{eqb-true, eq-eqb}
 use Rattle.vb_tree.specs.BoundTree.{Ty}
 use Rattle.vb_tree.specs.declared.declared.Owner.{Owner}
 use Rattle.vb_tree.specs.declared.declared.Owner.TheVariants as owner
@@ -13,7 +13,7 @@ use Rattle.bound_facts.specs.SelfMade.{module_of}
 use Rattle.bound_facts.specs.Facts.{is_quiet}
 use Rattle.bound_facts.specs.Node.{auto_class, class_in}
 use Rattle.net_meaning.specs.declared.value.ValueN.TheVariants as n
-use Rattle.run_base.specs.Positions.{Key, Position, made, shared, whole}
+use Rattle.run_base.specs.Positions.{Key, Position, Root, field, made, shared, whole}
 use Rattle.written_trees.specs.Names.{Scope, alone, owner_path, variable_path, variable_path_of, variable_name_of}
 use Rattle.vb6_run.specs.Runnables.{is_class_file, owned_address, declared_address, variable_address, object_root, root_address, static_root}
 use Rattle.vb6_run.specs.Programs.{is_module_variable, is_static_of}
@@ -22,22 +22,22 @@ use Rattle.vb6_run.specs.Store.{Address, root, Held, table, SourceFrame}
 use Rattle.vb6_run.specs.Values.{Dimension, Values}
 use Rattle.net_run.specs.Lines.{NetFrame}
 use Rattle.net_run.specs.Names as net_names
-use Rattle.net_run.specs.Names.{path_start, starts, at_place, frame_start, var_in}
+use Rattle.net_run.specs.Names.{path_start, starts, at_place, frame_start, own_field, var_in}
 use Rattle.net_run.specs.Shapes as net_shapes
 use Rattle.net_run.specs.Store as net
 use Rattle.run_matches.specs.Addresses.{AllMatched, AllRanked, Same, same_root, Bound, images, mirrored, IsPlain, position_of, same_item, IsScalarAt, is_element}
 use Rattle.run_matches.specs.CoveredVariables.{covers_owner, covers_type, covers_variable}
 use Rattle.run_matches.specs.CoveredExprs.{Uses, IsUsed}
 use Rattle.run_matches.specs.Covered.{is_reference_in, is_reference_owner_of}
-use Rattle.run_matches.specs.Frames.{StandsAs, FrameMatch, SameVariable, SameStatic, HasPlace, is_own_of, is_static_in, static_of, GivenAddress, is_reference_of}
+use Rattle.run_matches.specs.Frames.{StandsAs, FrameMatch, SameVariable, SameStatic, HasPlace, is_own_of, is_static_in, static_of, GivenAddress, OwnObject, is_reference_of}
 use Rattle.run_matches.specs.Kinds.{IsKind, AreKinds}
 use Rattle.run_matches.specs.Likeness.{SameShape, same_scalar, same_class, same_group, same_array}
-use Rattle.run_matches.specs.Maps.{World, IsMade, IsMatched, is_auto_root, is_auto_variable, key_or_none, mark, moved_at}
-use Rattle.run_matches.specs.Match.{HasRank, HeldAs, Holds, holds_blank, holds_single, holds_table, holds_parts, MemoryMatch, StoreMatch}
+use Rattle.run_matches.specs.Maps.{World, IsMade, IsMatched, is_auto_root, is_auto_variable, is_fixed_variable, is_sound_part, key_or_none, mark, moved_at, root_variable}
+use Rattle.run_matches.specs.Match.{HasRank, HeldAs, is_class_variable, Holds, holds_blank, holds_single, holds_table, holds_parts, MemoryMatch, StoreMatch}
 use Rattle.run_matches.specs.Pledges.{Pledge, Later, type_of_shape}
 use Rattle.run_matches.specs.SoundShapes.{IsSoundShape}
-use Rattle.run_matches.specs.Upgrades.{Upgrade, has_bounds, is_auto, is_fixed, type_of, type_of_some, variable_key}
-use Rattle.run_statements.specs.Frames.{HasRankOf, IsArray, IsGroup, IsKnown, IsReadable, IsOwnStatic, IsShared, IsGiven, IsPlaced, ArePlaced, AreReadable}
+use Rattle.run_matches.specs.Upgrades.{Upgrade, has_bounds, is_auto, is_fixed, is_that, type_of, type_of_some, variable_key}
+use Rattle.run_statements.specs.Frames.{HasRankOf, IsArray, IsGroup, IsKnown, IsReadable, IsOwnField, IsOwnStatic, IsShared, IsGiven, IsPlaced, ArePlaced, AreReadable}
 use Rattle.agreeing_laws.proofs.Made.{same_variable}
 use Rattle.agreeing_laws.proofs.Lasting.{later_then}
 use Rattle.agreeing_laws.proofs.Moves.{address_later, matched_whole}
@@ -143,8 +143,19 @@ shared_address D f v x file is of standard =
 abbrev at_key : ℕ → Position
 at_key v = whole (shared (v ∷ []))
 
+abbrev at_field : (object variable : ℕ) → Position
+at_field o v = whole (field o (v ∷ []))
+
 some_is : {A : Type 0} (x y : A) → Some x ≡ Some y → x ≡ y
 some_is x y e = cc e
+
+-- the variable of the class of the procedure is one of its object
+field_address : (D : Declarations) (f : SourceFrame) (v : ℕ) (x : Variable) (file object : ℕ) → slice_get D.vars v ≡ Some x
+    → x.owner ≡ owner.Module file → is_class_file D file ≡ true → f.me ≡ Some object
+    → variable_address D f v ≡ Some (root (variable_shape D v) (at_field object v))
+field_address D f v x file object is of class me =
+    ap (declared_address D f v) is ∙ ap (owned_address D f v) of
+    ∙ (ap (λ b. root_address D v (cond b (object_root f.me v) (Some (shared (v ∷ []))))) class ∙ ap (λ m. root_address D v (object_root m v)) me)
 
 shared_matched : (U : Upgrade) (w : World) (v : ℕ) (x : IsKnown U v) → variable_key U v ≡ Some (key_or_none (variable_key U v)) → IsMatched U w (at_key v)
 shared_matched U w v x e = record {
@@ -212,11 +223,13 @@ shape_used U T uses readable v (inr (inl h)) =
     let x : Variable = r.known.variable in
     subst (λ s. UsedShape U v.0 s) (sym (array_shape_is U v.0 h.0 r)) (used_array h.0 x.bounds (fixed_bounds U v.0 x r.known.is_variable))
 
-shared_all : (U : Upgrade) (w : World) (v : ℕ) (s : Shape) → UsedShape U v s → IsMatched U w (at_key v) → AreKinds s (at_key v) w.src.held
-    → AllMatched U w s (at_key v)
-shared_all U w v _ (used_scalar ty) m kind = (m, kind)
-shared_all U w v _ (used_array ty bounds fixed) m kind = (m, kind, fixed)
-shared_all U w v _ (used_group s c of) m kind = all_matched_made U w (shared (v ∷ [])) v m.is_made m.counterpart refl s [] c of m.sound kind
+-- what is declared by the variable
+module _ (U : Upgrade) (w : World) (r : Root) (v : ℕ) (declares : root_variable w.map r ≡ Some v) where
+  declared_all : (s : Shape) → UsedShape U v s → IsMatched U w (whole r) → AreKinds s (whole r) w.src.held → AllMatched U w s (whole r)
+  declared_all _ (used_scalar ty) m kind = (m, kind)
+  declared_all _ (used_array ty bounds fixed) m kind = (m, kind, λ e. fixed (sym (ap (is_fixed_variable U) declares) ∙ e))
+  declared_all _ (used_group s c of) m kind =
+      all_matched_made U w r v m.is_made m.counterpart declares s [] c of (sym (ap (λ o. is_sound_part U o []) declares) ∙ m.sound) kind
 
 -- where the source has an array, a number of one stands in the cell
 array_number : (U : Upgrade) (w : World) (h : Held) (c : net.Cell) (e : Shape) (dims : List Dimension) (xs : Values) → Holds U w h c → h ≡ table e dims xs
@@ -226,21 +239,22 @@ array_number U w _ _ e dims xs (holds_single ty x y m) is = absurd (cc is)
 array_number U w _ _ e dims xs (holds_table f others ys k like) is = (k, refl)
 array_number U w _ _ e dims xs holds_parts is = absurd (cc is)
 
--- an array of a standard module has the rank of its declaration
-shared_ranked : (U : Upgrade) (w : World) → StoreMatch U w → (v : ℕ) (s : Shape) → UsedShape U v s → (d : net_shapes.Shape) → SameShape U s d
-    → HasRankOf U v d → IsMatched U w (at_key v) → AreKinds s (at_key v) w.src.held → AllRanked U w s d (at_key v)
-shared_ranked U w h v _ (used_scalar ty) d same ranked m kind = tt
-shared_ranked U w h v _ (used_array ty bounds fixed) (net_shapes.array d rank) same ranked m kind =
-    let there = array_number U w (w.src.held (at_key v)) (w.net.cell (moved_at U w.map (at_key v))) (simple ty) kind.0 kind.1 (h.values (at_key v) m) kind.2 in
-    (there.0, there.1, h.ranks (at_key v) v v there.0 m refl refl there.1 ∙ sym ranked)
-shared_ranked U w h v _ (used_array ty bounds fixed) _ same ranked m kind = tt
-shared_ranked U w h v _ (used_group s c of) d same ranked m kind = all_ranked_sound U w s d (at_key v) c
+-- an array has the rank of its declaration
+module _ (U : Upgrade) (w : World) (h : StoreMatch U w) (r : Root) (v : ℕ) (declares : root_variable w.map r ≡ Some v) where
+  declared_ranked : (s : Shape) → UsedShape U v s → (d : net_shapes.Shape) → SameShape U s d → HasRankOf U v d → IsMatched U w (whole r)
+      → AreKinds s (whole r) w.src.held → AllRanked U w s d (whole r)
+  declared_ranked _ (used_scalar ty) d same ranked m kind = tt
+  declared_ranked _ (used_array ty bounds fixed) (net_shapes.array d rank) same ranked m kind =
+      let there = array_number U w (w.src.held (whole r)) (w.net.cell (moved_at U w.map (whole r))) (simple ty) kind.0 kind.1 (h.values (whole r) m) kind.2 in
+      (there.0, there.1, h.ranks (whole r) v v there.0 m declares refl there.1 ∙ sym ranked)
+  declared_ranked _ (used_array ty bounds fixed) _ same ranked m kind = tt
+  declared_ranked _ (used_group s c of) d same ranked m kind = all_ranked_sound U w s d (whole r) c
 
-not_blank : (D : Declarations) (v file : ℕ) (o : Owner) (h : Position → Held) → o ≡ owner.Module file → is_class_file D file ≡ false → HeldAs D v o h
-    → AreKinds (variable_shape D v) (at_key v) h
-not_blank D v file o h is standard (inl b) =
-    absurd (true≢false (sym (ap (is_module_variable D) is ∙ ap not standard) ∙ b.1))
-not_blank D v file o h is standard (inr kind) = kind
+-- what is laid holds what it declares
+is_laid : (D : Declarations) (v : ℕ) (laid : Bool) (r : Root) (h : Position → Held) → laid ≡ true → HeldAs D v laid r h
+    → AreKinds (variable_shape D v) (whole r) h
+is_laid D v laid r h is (inl b) = absurd (true≢false (sym is ∙ b.1))
+is_laid D v laid r h is (inr kind) = kind
 
 module _ (U : Upgrade) (K : Pledge) (w : World) (start : StoreMatch U w) (f : SourceFrame) (S : net_names.Scope) (T : Scope) (v : ℕ) (r : IsKnown U v)
     (used : UsedShape U v (variable_shape U.program.declarations v)) (s : IsShared U S T v) where
@@ -260,9 +274,10 @@ module _ (U : Upgrade) (K : Pledge) (w : World) (start : StoreMatch U w) (f : So
   shared_same =
       let m : IsMatched U w (at_key v) = shared_matched U w v r key_there in
       let kind : AreKinds (variable_shape D v) (at_key v) w.src.held =
-      not_blank D v s.file s.variable.owner w.src.held s.is_owner s.standard (start.kinds v s.variable s.is_variable r.sound) in
-      same_root (variable_shape D v) s.written (at_key v) s.same (shared_all U w v (variable_shape D v) used m kind)
-      (shared_ranked U w start v (variable_shape D v) used s.written s.same s.ranked m kind)
+      is_laid D v (is_module_variable D s.variable.owner) (shared (v ∷ [])) w.src.held (ap (is_module_variable D) s.is_owner ∙ ap not s.standard)
+      (start.kinds v s.variable s.is_variable r.sound) in
+      same_root (variable_shape D v) s.written (at_key v) s.same (declared_all U w (shared (v ∷ [])) v refl (variable_shape D v) used m kind)
+      (declared_ranked U w start (shared (v ∷ [])) v refl (variable_shape D v) used s.written s.same s.ranked m kind)
 
   pub shared_image : (a : Address) → variable_address D f v ≡ Some a → HasImage U K w S T v a
   shared_image a is =
@@ -278,7 +293,7 @@ module _ (U : Upgrade) (K : Pledge) (w : World) (start : StoreMatch U w) (f : So
         image = λ exact. record {
           same = same;
           target =
-              inl (inr (record {
+              inl (inr (inl (record {
                 variable = v;
                 key = s.key;
                 of_shape = variable_shape D v;
@@ -286,11 +301,79 @@ module _ (U : Upgrade) (K : Pledge) (w : World) (start : StoreMatch U w) (f : So
                 stands = stands;
                 is_key = s.is_key;
                 differs = s.differs;
-              }));
+              })));
           plain = λ q e.
               subst (λ (z : Position). is_auto_root U w.map z.root ≡ false) (some_is (at_key v) q (sym (ap position_of stands) ∙ e)) (not_auto U v r);
           position = at_key v;
           stands = stands_as (variable_shape D v) a (at_key v) stands;
+          ranked = λ e rank is. subst (λ d. HasRankOf U v d) is s.ranked;
+        };
+      }
+
+-- ---- those of the class of the procedure
+
+module _ (U : Upgrade) (K : Pledge) (w : World) (start : StoreMatch U w) (p : ℕ) (f : SourceFrame) (S : net_names.Scope) (T : Scope) (v : ℕ)
+    (r : IsKnown U v) (used : UsedShape U v (variable_shape U.program.declarations v)) (s : IsOwnField U p S T v)
+    (x : OwnObject U w s.file f.me) (me : S.me ≡ option_map w.map.objects f.me) where
+  abbrev here : Position
+  here = at_field x.object v
+
+  abbrev field_there : net.Address
+  field_there = net.root s.written (moved_at U w.map here)
+
+  stands_field : field_there ≡ net.root s.written (whole (field (w.map.objects x.object) s.key))
+  stands_field = ap (λ o. net.root s.written (whole (field (w.map.objects x.object) (key_or_none o)))) s.is_key
+
+  net_me : S.me ≡ Some (w.map.objects x.object)
+  net_me = me ∙ ap (option_map w.map.objects) x.is_me
+
+  field_matched : IsMatched U w here
+  field_matched = record { is_made = x.is_made; counterpart = ap is_some s.is_key; sound = ap not r.sound }
+
+  field_kind : AreKinds (variable_shape U.program.declarations v) here w.src.held
+  field_kind =
+      is_laid U.program.declarations v (is_class_variable U.program.declarations x.class s.variable.owner) (field x.object (v ∷ [])) w.src.held
+      (ap (is_class_variable U.program.declarations x.class) s.is_owner ∙ (ap (is_that s.file) x.is_file ∙ eq-eqb s.file s.file refl))
+      (start.fields x.object x.class v s.variable x.is_made x.is_class s.is_variable r.sound)
+
+  field_same : Same U K w (root (variable_shape U.program.declarations v) here) field_there
+  field_same =
+      same_root (variable_shape U.program.declarations v) s.written here s.same
+      (declared_all U w (field x.object (v ∷ [])) v refl (variable_shape U.program.declarations v) used field_matched field_kind)
+      (declared_ranked U w start (field x.object (v ∷ [])) v refl (variable_shape U.program.declarations v) used s.written s.same s.ranked field_matched field_kind)
+
+  pub field_leads : (qualified : Bool) → path_start S false (variable_path T qualified v) ≡ starts (at_place field_there) []
+  field_leads q =
+      s.leads q ∙ (ap (λ m. starts (own_field s.written s.key m) []) net_me ∙ ap (λ b. starts (at_place b) []) (sym stands_field))
+
+  pub field_image : (a : Address) → variable_address U.program.declarations f v ≡ Some a → HasImage U K w S T v a
+  field_image a is =
+      let stands : a ≡ root (variable_shape U.program.declarations v) here =
+      some_is a (root (variable_shape U.program.declarations v) here) (sym is ∙ field_address U.program.declarations f v s.variable s.file x.object s.is_variable s.is_owner s.is_class x.is_me) in
+      let same : Same U K w a field_there = subst (λ z. Same U K w z field_there) (sym stands) field_same in
+      record {
+        address = field_there;
+        found = field_leads;
+        bound = exactly U K w v a field_there same;
+        of_scalars = inl (ap is_element stands);
+        whole = λ relied. ap is_element stands;
+        image = λ exact. record {
+          same = same;
+          target =
+              inl (inr (inr (record {
+                object = x.object;
+                variable = v;
+                key = s.key;
+                of_shape = variable_shape U.program.declarations v;
+                path = [];
+                stands = stands;
+                is_key = s.is_key;
+                differs = s.differs;
+              })));
+          plain = λ q e.
+              subst (λ (z : Position). is_auto_root U w.map z.root ≡ false) (some_is here q (sym (ap position_of stands) ∙ e)) (not_auto U v r);
+          position = here;
+          stands = stands_as (variable_shape U.program.declarations v) a here stands;
           ranked = λ e rank is. subst (λ d. HasRankOf U v d) is s.ranked;
         };
       }
@@ -334,7 +417,7 @@ outer_root D me v file o e outer = ap (static_root D me v) e ∙ ap (λ b. cond 
 
 -- ---- now and later
 
-module _ (U : Upgrade) (K : Pledge) (w : World) (p : ℕ) (f : SourceFrame) (g : NetFrame) (S : net_names.Scope) (vars : S.vars ≡ g.vars) (T : Scope)
+module _ (U : Upgrade) (K : Pledge) (w : World) (p : ℕ) (f : SourceFrame) (g : NetFrame) (S : net_names.Scope) (vars : S.vars ≡ g.vars) (same_me : S.me ≡ g.me) (T : Scope)
     (same_declarations : T.declarations ≡ U.program.declarations) (h : FrameMatch U K w p f g) where
   own_image : (v : ℕ) → IsKnown U v → is_own_of U p v ≡ true → (a : Address) → variable_address U.program.declarations f v ≡ Some a → HasImage U K w S T v a
   own_image v r own a is =
@@ -399,7 +482,7 @@ module _ (U : Upgrade) (K : Pledge) (w : World) (p : ℕ) (f : SourceFrame) (g :
         image = λ exact. record {
           same = same;
           target =
-              inl (inr (record {
+              inl (inr (inl (record {
                 variable = v;
                 key = key_or_none (variable_key U v);
                 of_shape = variable_shape U.program.declarations v;
@@ -409,7 +492,7 @@ module _ (U : Upgrade) (K : Pledge) (w : World) (p : ℕ) (f : SourceFrame) (g :
                 differs =
                     λ u e. s.differs (key_or_none (variable_key U v)) u
                     (key_present (variable_key U v) (matched_whole U w (variable_shape U.program.declarations v) (at_key v) x.is_matched).counterpart) e;
-              }));
+              })));
           plain = λ q e.
               subst (λ (z : Position). is_auto_root U w.map z.root ≡ false) (some_is (at_key v) q (sym (ap position_of stands) ∙ e)) (not_auto U v r);
           position = at_key v;
@@ -456,7 +539,9 @@ module _ (U : Upgrade) (K : Pledge) (w : World) (p : ℕ) (f : SourceFrame) (g :
       by r (inl own) = own_image v.0 r own a is
       by r (inr (inl s)) = static_image start.stores v.0 (shape_used U T uses readable v used) r s a is
       by r (inr (inr (inl s))) = shared_image U K w start.stores f S T v.0 r (shape_used U T uses readable v used) s a is
-      by r (inr (inr (inr x))) = given_image v.0 r x a is
+      by r (inr (inr (inr (inl x)))) = given_image v.0 r x a is
+      by r (inr (inr (inr (inr s)))) =
+          field_image U K w start.stores p f S T v.0 r (shape_used U T uses readable v used) s (h.own_object s.file s.own s.is_class) (same_me ∙ h.me) a is
 
 address_made : (U : Upgrade) (K : Pledge) (w : World) (a : Address) (b : net.Address) → Same U K w a b → (q : Position) → position_of a ≡ Some q
     → IsMade (mark w.src) q.root

@@ -312,7 +312,7 @@ pub places_agree : (U : Upgrade) → PlacesAgree U
 places_agree U K w p f g oracle net_oracle l k c T uses t tm start frames declarations readable stands covers =
     by (source.parts_of (context_of U oracle p f l) (typed (types.user t) tm) w.src)
     (place_is U K p f g oracle net_oracle l k c T uses declarations readable w start
-    (images_now U K w p f g (scope_of U.written c g k) refl T declarations frames uses start readable stands) t tm covers)
+    (images_now U K w p f g (scope_of U.written c g k) refl refl T declarations frames uses start readable stands) t tm covers)
   where
     by : (r : Outcome Memory Parts) → PlaceIs U K p f g oracle net_oracle l k c T uses declarations readable w t (typed (types.user t) tm) r
         → Agrees U K w (PlaceMatch U K t) (then r source.finished) (target.address_of (scope_of U.written c g k) net_oracle (exp_of T (typed (types.user t) tm)) w.net)

@@ -1,7 +1,10 @@
 -- The memories match under the map, so that Main may be called.
-use Rattle.std.proofs.Common.{◌≡◌, inl, inr, refl, sym, ap, subst, ◌∙◌, ℕ, zero, suc, ◌+◌, ◌<◌, ◌≤◌, ◌^◌, pos, Bool, true, false, List, [], ◌∷◌, length, Some, None, arith}
+use Rattle.std.proofs.Common.{◌≡◌, inl, inr, refl, sym, ap, subst, ◌∙◌, ℕ, zero, suc, ◌+◌, ◌<◌, ◌≤◌, ◌^◌, pos, Bool, true, false, List, [], ◌∷◌, length, Some, None, arith, true≢false}
 use Rattle.std.proofs.lemmas.Bool.{eqb-true, true≢false}
-use Rattle.std.specs.Prelude.{nat_eq, slice_get}
+use Rattle.std.specs.Prelude.{nat_eq, Option, slice_get}
+use Rattle.bound_facts.specs.SelfMade.{module_of}
+use Rattle.vb6_run.specs.Runnables.{is_class_file}
+use Rattle.vb6_run.specs.Programs.{is_module_variable}
 use Rattle.vb_tree.specs.BoundTree.{long}
 use Rattle.vb_tree.specs.declared.value.Value6.TheVariants as v
 use Rattle.bound_tree.specs.RuleSets.{has, none, both}
@@ -17,6 +20,7 @@ use Rattle.net_run.specs.Store as net
 use Rattle.run_matches.specs.Addresses.{no_args}
 use Rattle.run_matches.specs.Likeness.{same_scalar, same_counts, like_scalar, no_items, next_item, same_elements}
 use Rattle.run_matches.specs.Maps.{IsMatched, has_key, mark, net_mark, IsUnmade, moved_at}
+use Rattle.run_matches.specs.Pledges.{stands_in_class}
 use Rattle.run_matches.specs.Match.{HeldAs, Holds, holds_blank, holds_single, holds_table, StoreMatch}
 use Rattle.run_matches.specs.Runs.{Start}
 use Rattle.run_laws.proofs.Covered.{not_none}
@@ -157,7 +161,7 @@ not_module x y e f = subst (λ z. is_module_variable program.declarations z.owne
     from_some x y e = cc
 
 kinds_at : (x : ℕ) (y : Variable) → slice_get program.declarations.vars x ≡ Some y
-    → HeldAs program.declarations x y.owner (held_at (shared (x ∷ [])) [])
+    → HeldAs program.declarations x (is_module_variable program.declarations y.owner) (shared (x ∷ [])) (λ q. held_at q.root q.path)
 kinds_at zero y e = inr (three ∷ [], items, refl)
 kinds_at (suc zero) y e = inl (refl, not_module _ y e refl)
 kinds_at (suc (suc zero)) y e = inl (refl, not_module _ y e refl)
@@ -182,11 +186,16 @@ stores_match = record {
   net_unmade = λ q u. net_unmade_at q.root q.path u;
   errors = refl;
   kinds = λ x y e f. kinds_at x y e;
+  fields = λ o c x y lt of e f. below_zero o lt;
 }
+
+no_class : (file : ℕ) → module_of (slice_get program.declarations.procs 0) ≡ Some file → is_class_file program.declarations file ≡ true → ⊥
+no_class file of class = true≢false (sym class ∙ subst (λ o. stands_in_class sample o ≡ false) of refl)
 
 pub may_start : Start sample sample_world 0 None [] []
 may_start = record {
   stores = stores_match;
   object = tt;
+  own_object = λ file of class. absurd (no_class file of class);
   args = record { match = no_args 0; loose = λ k c. below_zero c.0 c.1; once = λ i j d lt more. below_zero j more };
 }

@@ -134,7 +134,7 @@ module _ (U : Upgrade) (K : Pledge) (w : World) (p : ℕ) (f : SourceFrame) (g :
   settled (inl own) = own_settled own
   settled (inr (inl s)) = static_settled s
   settled (inr (inr (inl s))) = by_path _ (s.leads qualified)
-  settled (inr (inr (inr y))) = given_settled y.reference
+  settled (inr (inr (inr (inl y)))) = given_settled y.reference
 
 -- ---- what is written
 

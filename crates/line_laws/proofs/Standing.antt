@@ -141,7 +141,7 @@ known_there U K w p f g F S T v k (inl own) =
 known_there U K w p f g F S T v k (inr (inl s)) = (_, static_there U p f v s)
 known_there U K w p f g F S T v k (inr (inr (inl s))) =
     (_, shared_address U.program.declarations f v s.variable s.file s.is_variable s.is_owner s.standard)
-known_there U K w p f g F S T v k (inr (inr (inr x))) =
+known_there U K w p f g F S T v k (inr (inr (inr (inl x)))) =
     let y = given_there U K w p f g F v x.reference in (y.0, given_at U p f v k x.reference ∙ y.1)
 
 at_number : (U : Upgrade) (w : World) (v : ℕ) (d : Shape) (a : Address) → is_auto U v ≡ false → a ≡ root d (at_key v) → IsPlain U w a
@@ -159,7 +159,7 @@ known_plain U K w p f g F S T v k (inr (inr (inl s))) a e =
     at_number U w v (variable_shape U.program.declarations v) a (ap is_some (known_auto U v k))
     (some_is a (root (variable_shape U.program.declarations v) (at_key v))
     (sym e ∙ shared_address U.program.declarations f v s.variable s.file s.is_variable s.is_owner s.standard))
-known_plain U K w p f g F S T v k (inr (inr (inr x))) a e =
+known_plain U K w p f g F S T v k (inr (inr (inr (inl x)))) a e =
     (F.vars v a (sym (given_at U p f v k x.reference) ∙ e) k.sound).plain (ap is_some (known_auto U v k))
 
 -- ---- scalars
@@ -223,7 +223,7 @@ module _ (U : Upgrade) (K : Pledge) (w : World) (h : MemoryMatch U w) (p : ℕ) 
   standing (inl own) = of_own own
   standing (inr (inl s)) = of_static s
   standing (inr (inr (inl s))) = of_shared s
-  standing (inr (inr (inr x))) = of_given x
+  standing (inr (inr (inr (inl x)))) = of_given x
 
 -- ---- the types of indexes
 

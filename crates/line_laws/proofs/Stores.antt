@@ -275,7 +275,7 @@ module _ (U : Upgrade) (expressions : ExpressionsAgree U) (scalars : ScalarsAreW
     placed_by (inl own) = own_by own (lookup (nat_eq v.0) f.vars) refl
     placed_by (inr (inl s)) = static_by s
     placed_by (inr (inr (inl s))) = shared_by s
-    placed_by (inr (inr (inr x))) = given_by x (lookup (nat_eq v.0) f.vars) refl
+    placed_by (inr (inr (inr (inl x)))) = given_by x (lookup (nat_eq v.0) f.vars) refl
 
     pub assignment_agrees : Goal
     assignment_agrees = placed_by (placed.places v (inl use_v))

@@ -93,6 +93,7 @@ module _ (U : Upgrade) (w : World) (c : net.Cell) where
           ∙ h.stores.net_unmade q (unmade_before (net_mark w.net) (net_mark (with_fresh w c).net) net_fresh_grows q.root u);
       errors = h.stores.errors;
       kinds = h.stores.kinds;
+      fields = h.stores.fields;
     }
 
     pub fresh_later : (K : Pledge) → Later U K w (with_fresh w c)
@@ -102,6 +103,7 @@ module _ (U : Upgrade) (w : World) (c : net.Cell) where
       grows = below_self (mark w.src);
       net_grows = net_fresh_grows;
       arrays_grow = up_self w.net.next_array;
+      same_classes = λ o lt. refl;
       same_kinds = λ q. keeps_self (w.src.held q);
       same_values = λ q l i. refl;
       same_cells = λ q m l i. same_cell q m;

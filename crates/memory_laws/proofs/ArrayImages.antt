@@ -3,7 +3,7 @@ use Rattle.std.proofs.Common.{◌≡◌, refl, sym, ap, subst, ◌∙◌, inl, i
 use Rattle.vb_tree.specs.BoundTree.{Ty}
 use Rattle.net_tree.specs.Types.{TypeName}
 use Rattle.net_meaning.specs.declared.value.ValueN.TheVariants as n
-use Rattle.run_base.specs.Positions.{Position, made, shared}
+use Rattle.run_base.specs.Positions.{Position, made, shared, field}
 use Rattle.vb6_run.specs.Shapes.{Shape, simple, array}
 use Rattle.vb6_run.specs.Store.{Address, root, Locked, table, contains, item}
 use Rattle.vb6_run.specs.Values.{Dimension, Values}
@@ -19,7 +19,7 @@ use Rattle.run_matches.specs.CoveredVariables.{covers_type}
 use Rattle.run_statements.specs.Frames.{ArrayMatch}
 use Rattle.run_statements.specs.Memory.{MayResize}
 use Rattle.memory_laws.specs.Changes.{GoesAlone}
-use Rattle.memory_laws.proofs.Moved.{place_goes_alone, part_goes_alone}
+use Rattle.memory_laws.proofs.Moved.{field_goes_alone, part_goes_alone, place_goes_alone}
 use Rattle.memory_laws.proofs.Positions.{at, other_position}
 
 -- ---- an array variable on both sides
@@ -97,10 +97,15 @@ module _ (U : Upgrade) (K : Pledge) (w : World) (ty : Ty) (rank : ℕ) (c : cove
       let s : i.position ≡ at (made p.place) p.path =
       root_position (array (simple ty) i.bounds) p.shape i.position (at (made p.place) p.path) (sym i.at_source ∙ p.stands) in
       subst (λ x. GoesAlone U w x) (sym s) (place_goes_alone U w h.stores p.place p.path (subst (λ x. IsMatched U w x) s i.is_matched))
-  array_alone a b h i (inl (inr k)) =
+  array_alone a b h i (inl (inr (inl k))) =
       let q : Position = at (shared (k.variable ∷ [])) k.path in
       let s : i.position ≡ q = root_position (array (simple ty) i.bounds) k.of_shape i.position q (sym i.at_source ∙ k.stands) in
       subst (λ x. GoesAlone U w x) (sym s) (part_goes_alone U w k.variable k.key k.is_key k.differs k.path)
+  array_alone a b h i (inl (inr (inr k))) =
+      let q : Position = at (field k.object (k.variable ∷ [])) k.path in
+      let s : i.position ≡ q = root_position (array (simple ty) i.bounds) k.of_shape i.position q (sym i.at_source ∙ k.stands) in
+      let m : IsMatched U w q = subst (λ x. IsMatched U w x) s i.is_matched in
+      subst (λ x. GoesAlone U w x) (sym s) (field_goes_alone U w h.stores k.object k.variable k.key k.is_key k.differs m.is_made k.path)
   array_alone a b h i (inr x) = absurd (no_item x.ty x.array i.position x.index (array (simple ty) i.bounds) (sym x.stands ∙ i.at_source))
     where
       no_item : (t : Ty) (q p : Position) (j : ℕ) (s : Shape) → item (simple t) q j [] ≡ root s p → ⊥

@@ -204,8 +204,8 @@ module _ (U : Upgrade) (v : ℕ) (ty : Ty) (r : IsArray U v ty) (t : TypeName) (
     suits : w.src.held at ≡ blank → IsSuited U w at (table (simple ty) dims values)
     suits e = record {
       kept = blank_keeps (w.src.held at) (table (simple ty) dims values) e;
-      laid = λ u f b.
-          subst (λ z. AreKinds (variable_shape U.program.declarations z) at (updated w.src.held at (table (simple ty) dims values))) (same_variable_place v u f)
+      laid = λ root u of f b.
+          subst (λ z. AreKinds (variable_shape U.program.declarations z) at (updated w.src.held at (table (simple ty) dims values))) (same_variable_place v u root of f)
           (subst (λ s. AreKinds s at (updated w.src.held at (table (simple ty) dims values))) (sym shape_is)
           (dims, values, updated_here w.src.held at (table (simple ty) dims values)));
     }

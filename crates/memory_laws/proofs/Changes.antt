@@ -12,7 +12,7 @@ use Rattle.agreeing_laws.proofs.Made.{below_self, up_self}
 use Rattle.memory_laws.specs.Changes.{changed, IsNoTable, IsNoArray, IsSuited, GoesAlone}
 use Rattle.memory_laws.proofs.Moved.{not_both_made, moved_is_made}
 use Rattle.memory_laws.proofs.Positions.{either_position, updated_here, updated_other, updated_cases}
-use Rattle.memory_laws.proofs.Suited.{kinds_suited, same_kinds_suited}
+use Rattle.memory_laws.proofs.Suited.{fields_suited, kinds_suited, same_kinds_suited}
 
 pub none_between : (a b : ℕ) → a ≤ b → b < a → ⊥
 none_between a b le lt = omega arith
@@ -75,6 +75,7 @@ module _ (U : Upgrade) (w : World) (q : Position) (x : Held) (c : net.Cell) wher
           ∙ h.stores.net_unmade p u;
       errors = h.stores.errors;
       kinds = kinds_suited U w q x suits h.stores;
+      fields = fields_suited U w q x suits h.stores;
     }
 
     -- what lasts may change where nothing stood yet
@@ -85,6 +86,7 @@ module _ (U : Upgrade) (w : World) (q : Position) (x : Held) (c : net.Cell) wher
       grows = below_self (mark w.src);
       net_grows = below_self (net_mark w.net);
       arrays_grow = up_self w.net.next_array;
+      same_classes = λ o lt. refl;
       same_kinds = same_kinds_suited U w q x suits;
       same_values = λ p l i.
           updated_other w.src.held q x p (λ s. free (subst (λ z. IsLasting U K w z) (sym s) l) (subst (λ z. IsHeld w z) (sym s) i));

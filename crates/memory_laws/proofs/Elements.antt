@@ -77,7 +77,7 @@ module _ (U : Upgrade) (K : Pledge) (w : World) (ty : Ty) (z : Value6) (y : Valu
     suits : IsSuited U w q held
     suits = record {
       kept = subst (λ g. KeepsKind g held) (sym has.held) (has.dims, with_value_at has.values j x, refl);
-      laid = λ u at b. absurd (table_not_blank (simple ty) has.dims has.values (sym has.held ∙ b));
+      laid = λ r u key at b. absurd (table_not_blank (simple ty) has.dims has.values (sym has.held ∙ b));
     }
 
     like_new : HeldLike U (numbers_of after) held (w.net.cell (moved_at U w.map q))

@@ -5,9 +5,9 @@ use Rattle.vb_tree.specs.declared.value.Value6.{Value6}
 use Rattle.net_meaning.specs.declared.value.ValueN.{ValueN}
 use Rattle.net_meaning.specs.ValueMatch.{Matches}
 use Rattle.run_base.specs.Outcomes.{outside, some_of, then}
-use Rattle.run_base.specs.Positions.{Root, Position, inner, made, shared}
+use Rattle.run_base.specs.Positions.{Root, Position, inner, made, shared, field}
 use Rattle.vb6_run.specs.Shapes.{Shape, simple, group, array, endless, Shapes, no_shapes, next_shape}
-use Rattle.vb6_run.specs.Store.{root, Locked, provided, is_fixed_array, store, store_all, write}
+use Rattle.vb6_run.specs.Store.{root, item, Locked, provided, is_fixed_array, store, store_all, write}
 use Rattle.vb6_run.specs.Values.{Value, scalar, fields, Values, no_values, next_value, kept_as}
 use Rattle.net_run.specs.Shapes as shape
 use Rattle.net_run.specs.Store as net
@@ -30,7 +30,7 @@ use Rattle.agreeing_laws.proofs.Moves.{fields_matched_later, matched_whole}
 use Rattle.memory_laws.specs.Changes.{GoesAlone}
 use Rattle.memory_laws.proofs.GroupValues.{value_kept, value_suits, values_later}
 use Rattle.memory_laws.proofs.Groups.{field_sound, unflagged}
-use Rattle.memory_laws.proofs.Moved.{part_goes_alone, place_goes_alone}
+use Rattle.memory_laws.proofs.Moved.{field_goes_alone, part_goes_alone, place_goes_alone}
 use Rattle.memory_laws.proofs.Positions.{at}
 use Rattle.memory_laws.proofs.Writing.{put_agrees}
 
@@ -45,11 +45,18 @@ same_root_of s t q p e = ap (λ (z : Position). z.root) (same_place s t q p e)
     same_place s t q p e = cc
 
 pub target_stands_alone : (U : Upgrade) (s : Shape) (q : Position) → IsTarget U (root s q) → StandsAlone U q.root
-target_stands_alone U s q (inl p) =
+target_stands_alone U s q (inl (inl p)) =
     subst (λ r. StandsAlone U r) (sym (same_root_of s p.shape q (at (made p.place) p.path) p.stands)) (λ w h path m. place_goes_alone U w h p.place path m)
-target_stands_alone U s q (inr k) =
+target_stands_alone U s q (inl (inr (inl k))) =
     subst (λ r. StandsAlone U r) (sym (same_root_of s k.of_shape q (at (shared (k.variable ∷ [])) k.path) k.stands))
     (λ w h path m. part_goes_alone U w k.variable k.key k.is_key k.differs path)
+target_stands_alone U s q (inl (inr (inr k))) =
+    subst (λ r. StandsAlone U r) (sym (same_root_of s k.of_shape q (at (field k.object (k.variable ∷ [])) k.path) k.stands))
+    (λ w h path m. field_goes_alone U w h k.object k.variable k.key k.is_key k.differs m.is_made path)
+target_stands_alone U s q (inr x) = absurd (no_item x.ty x.array x.index s q (sym x.stands))
+  where
+    no_item : (t : Ty) (p : Position) (j : ℕ) (s : Shape) (q : Position) → item (simple t) p j [] ≡ root s q → ⊥
+    no_item t p j s q f = cc
 
 module _ (U : Upgrade) (K : Pledge) (locked : Locked) where
   scalar_stored : (w : World) (ty s : Ty) (z : Value6) (y : ValueN) (q : Position) → MemoryMatch U w → covers_type ty ≡ true → s ≡ ty → IsMatched U w q

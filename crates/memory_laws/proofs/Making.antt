@@ -53,7 +53,7 @@ blank_keeps h k e = subst (λ z. KeepsKind z k) (sym e) tt
 pub place_suits : (U : Upgrade) (w : World) (d : Option ℕ) → MemoryMatch U w → (x : Held) → IsSuited U (with_place w d) (whole (made w.src.next)) x
 place_suits U w d h x = record {
   kept = blank_keeps (w.src.held (whole (made w.src.next))) x (place_is_blank U w d h);
-  laid = λ v at b. absurd (no_variable_place w.src.next v at);
+  laid = λ r v of at b. absurd (no_variable_place w.src.next v r of at);
 }
 
 module _ (U : Upgrade) (K : Pledge) (w : World) (d : Option ℕ) (ty : Ty) (z : Value6) (y : ValueN) where

@@ -5,7 +5,7 @@ use Rattle.run_base.specs.Positions.{Key, Root, shared, made, field, Position}
 use Rattle.run_matches.specs.Upgrades.{Upgrade, variable_key, is_flagged, is_flagged_some, is_sound, part_variable}
 use Rattle.run_matches.specs.Maps.{World, Mark, mark, net_mark, IsMade, IsUnmade, IsMatched, moved, moved_key, key_or_none, has_key, has_counterpart, variable_in, is_sound_part}
 use Rattle.run_matches.specs.Match.{StoreMatch}
-use Rattle.memory_laws.specs.Changes.{GoesAlone}
+use Rattle.memory_laws.specs.Changes.{GoesAlone, root_key}
 use Rattle.memory_laws.specs.Statements.{KeysDiffer}
 use Rattle.memory_laws.proofs.Positions.{at}
 
@@ -64,11 +64,11 @@ abbrev first_of : Key → ℕ
 first_of [] = 0
 first_of (v ∷ more) = v
 
-pub no_variable_place : (n v : ℕ) → at (made n) [] ≡ at (shared (v ∷ [])) [] → ⊥
-no_variable_place n v e = true≢false (ap is_place e)
+pub no_variable_place : (n v : ℕ) (r : Root) → root_key r ≡ Some (v ∷ []) → at (made n) [] ≡ at r [] → ⊥
+no_variable_place n v r of e = absurd (cc (ap (λ (p : Position). root_key p.root) e ∙ of))
 
-pub same_variable_place : (v u : ℕ) → at (shared (v ∷ [])) [] ≡ at (shared (u ∷ [])) [] → v ≡ u
-same_variable_place v u e = ap (λ p. first_of (key_of p)) e
+pub same_variable_place : (v u : ℕ) (r : Root) → root_key r ≡ Some (u ∷ []) → at (shared (v ∷ [])) [] ≡ at r [] → v ≡ u
+same_variable_place v u r of e = cc (ap (λ (p : Position). root_key p.root) e ∙ of)
 
 -- ---- places
 
@@ -113,6 +113,29 @@ module _ (U : Upgrade) (w : World) (v : ℕ) (key : Key) (is : variable_key U v 
 
   pub key_goes_alone : GoesAlone U w (at (shared (v ∷ [])) [])
   key_goes_alone = part_goes_alone []
+
+-- ---- variables of objects
+
+module _ (U : Upgrade) (w : World) (h : StoreMatch U w) (o v : ℕ) (key : Key) (is : variable_key U v ≡ Some key)
+    (differs : (u : ℕ) → variable_key U u ≡ Some key → v ≡ u) (made_object : o < w.src.next_object) where
+  from_fields : (path : List ℕ) (p : ℕ) (k : Key) (rest : List ℕ) → IsMatched U w (at (field p k) rest)
+      → at (field (w.map.objects o) (moved_key U (v ∷ []))) path ≡ at (field (w.map.objects p) (moved_key U k)) rest
+      → at (field o (v ∷ [])) path ≡ at (field p k) rest
+  from_fields path p (u ∷ []) rest x e =
+      ap (λ z. at (field z (v ∷ [])) path) (h.objects_one_to_one o p made_object x.is_made (ap number_of e))
+      ∙ (ap (λ z. at (field p (z ∷ [])) path) (same_variable U w v key is differs u x.counterpart (ap key_of e))
+      ∙ ap (λ z. at (field p (u ∷ [])) z) (ap path_of e))
+  from_fields path p [] rest x e = absurd (true≢false (sym x.counterpart))
+  from_fields path p (u ∷ t ∷ more) rest x e = absurd (true≢false (sym x.counterpart))
+
+  from_field : (path : List ℕ) (r : Root) (rest : List ℕ) → IsMatched U w (at r rest)
+      → at (field (w.map.objects o) (moved_key U (v ∷ []))) path ≡ at (moved U w.map r) rest → at (field o (v ∷ [])) path ≡ at r rest
+  from_field path (field p k) rest x e = from_fields path p k rest x e
+  from_field path (made n) rest x e = absurd (true≢false (ap is_field e))
+  from_field path (shared k) rest x e = absurd (true≢false (ap is_field e))
+
+  pub field_goes_alone : (path : List ℕ) → GoesAlone U w (at (field o (v ∷ [])) path)
+  field_goes_alone path p x e = from_field path p.root p.path x e
 
 -- ---- where the keys of variables differ, all positions
 

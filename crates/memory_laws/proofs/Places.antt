@@ -170,6 +170,7 @@ module _ (U : Upgrade) (w : World) (d : Option ℕ) where
       net_unmade = λ q u. h.stores.net_unmade q (unmade_before (net_mark w.net) (net_mark (with_place w d).net) net_place_grows q.root u);
       errors = h.stores.errors;
       kinds = h.stores.kinds;
+      fields = h.stores.fields;
     }
 
     pub place_later : (K : Pledge) → Later U K w (with_place w d)
@@ -179,6 +180,7 @@ module _ (U : Upgrade) (w : World) (d : Option ℕ) where
       grows = place_grows;
       net_grows = net_place_grows;
       arrays_grow = up_self w.net.next_array;
+      same_classes = λ o lt. refl;
       same_kinds = λ q. keeps_self (w.src.held q);
       same_values = λ q l i. refl;
       same_cells = λ q m l i. refl;

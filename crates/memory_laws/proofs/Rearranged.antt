@@ -16,7 +16,7 @@ use Rattle.memory_laws.proofs.Changes.{holds_as, none_between}
 use Rattle.memory_laws.proofs.Moved.{not_both_made}
 use Rattle.memory_laws.proofs.Positions.{either_position, updated_here, updated_other}
 use Rattle.memory_laws.proofs.Flat.{held_more}
-use Rattle.memory_laws.proofs.Suited.{kinds_suited, same_kinds_suited}
+use Rattle.memory_laws.proofs.Suited.{fields_suited, kinds_suited, same_kinds_suited}
 
 module _ (U : Upgrade) (w : World) (q : Position) (x : Held) (cells : Position → net.Cell) (arrays : ℕ → net.Array) (next : ℕ) where
   abbrev after : World
@@ -84,6 +84,7 @@ module _ (U : Upgrade) (w : World) (q : Position) (x : Held) (cells : Position �
       net_unmade = g.unmade;
       errors = h.stores.errors;
       kinds = kinds_suited U w q x g.suits h.stores;
+      fields = fields_suited U w q x g.suits h.stores;
     }
 
     -- ---- what lasts
@@ -119,6 +120,7 @@ module _ (U : Upgrade) (w : World) (q : Position) (x : Held) (cells : Position �
         grows = below_self (mark w.src);
         net_grows = below_self (net_mark w.net);
         arrays_grow = g.grows;
+        same_classes = λ o lt. refl;
         same_kinds = same_kinds_suited U w q x g.suits;
         same_values = λ p l i. updated_other w.src.held q x p (not_here p l i);
         same_cells = λ p j l i. g.others p j (not_here p l i);

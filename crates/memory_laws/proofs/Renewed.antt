@@ -108,7 +108,7 @@ module _ (U : Upgrade) (w : World) (q : Position) (e : Shape) (dims new : List D
   anew : IsSuited U w q (table e new ys)
   anew = record {
     kept = subst (λ g. KeepsKind g (table e new ys)) (sym held) (new, ys, refl);
-    laid = λ v at b. absurd (table_not_blank e dims xs (sym held ∙ b));
+    laid = λ r v key at b. absurd (table_not_blank e dims xs (sym held ∙ b));
   }
 
   as_before : (rank : ℕ) → HasRank U w q rank → length a.counts ≡ rank

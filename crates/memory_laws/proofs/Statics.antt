@@ -51,8 +51,8 @@ module _ (U : Upgrade) (K : Pledge) (w : World) (v : ℕ) (r : IsReadable U v) (
   laid_suits : w.src.held q ≡ blank → IsSuited U w q (single ty (first_scalar ty))
   laid_suits e = record {
     kept = blank_keeps (w.src.held q) (single ty (first_scalar ty)) e;
-    laid = λ u at b.
-        subst (λ z. AreKinds (variable_shape U.program.declarations z) q (updated w.src.held q (single ty (first_scalar ty)))) (same_variable_place v u at)
+    laid = λ root u of at b.
+        subst (λ z. AreKinds (variable_shape U.program.declarations z) q (updated w.src.held q (single ty (first_scalar ty)))) (same_variable_place v u root of at)
         (subst (λ s. AreKinds s q (updated w.src.held q (single ty (first_scalar ty)))) (sym (readable_shape U v r))
         (first_scalar ty, updated_here w.src.held q (single ty (first_scalar ty))));
   }

@@ -1,20 +1,18 @@
 -- What is put at a position suits what the position holds, and what its variable declares.
-use Rattle.std.proofs.Common.{◌≡◌, inl, inr, ⊎_elim, sym, ap, subst, ◌∙◌, ℕ, false, Some, [], ◌∷◌}
+use Rattle.std.proofs.Common.{◌≡◌, inl, inr, ⊎_elim, refl, sym, ap, subst, ◌∙◌, ℕ, ◌<◌, Bool, false, Some, [], ◌∷◌}
 use Rattle.std.specs.Prelude.{slice_get}
 use Rattle.bound_tree.specs.Tree.{Variable}
-use Rattle.run_base.specs.Positions.{Position, shared, whole, updated}
+use Rattle.run_base.specs.Positions.{Position, Root, field, shared, whole, updated}
+use Rattle.vb6_run.specs.Programs.{is_module_variable}
 use Rattle.vb6_run.specs.Shapes.{variable_shape}
 use Rattle.vb6_run.specs.Store.{Held}
 use Rattle.run_matches.specs.Kinds.{AreKinds, KeepsKind}
 use Rattle.run_matches.specs.Maps.{World}
-use Rattle.run_matches.specs.Match.{HeldAs, StoreMatch}
+use Rattle.run_matches.specs.Match.{HeldAs, StoreMatch, is_class_variable}
 use Rattle.run_matches.specs.Upgrades.{Upgrade, is_flagged}
 use Rattle.agreeing_laws.proofs.SameKinds.{keeps_as, kinds_kept}
-use Rattle.memory_laws.specs.Changes.{IsSuited}
+use Rattle.memory_laws.specs.Changes.{IsSuited, root_key}
 use Rattle.memory_laws.proofs.Positions.{either_position, updated_here, updated_other}
-
-abbrev at_variable : ℕ → Position
-at_variable v = whole (shared (v ∷ []))
 
 module _ (U : Upgrade) (w : World) (q : Position) (x : Held) (suits : IsSuited U w q x) where
   pub same_kinds_suited : (p : Position) → KeepsKind (w.src.held p) (updated w.src.held q x p)
@@ -24,13 +22,23 @@ module _ (U : Upgrade) (w : World) (q : Position) (x : Held) (suits : IsSuited U
       (subst (λ z. KeepsKind (w.src.held q) z) (sym (updated_here w.src.held q x)) suits.kept))
       (λ o. keeps_as (w.src.held p) (updated w.src.held q x p) (updated_other w.src.held q x p o)) (either_position q p)
 
-  pub kinds_suited : StoreMatch U w → (v : ℕ) (y : Variable) → slice_get U.program.declarations.vars v ≡ Some y → is_flagged U v ≡ false
-      → HeldAs U.program.declarations v y.owner (updated w.src.held q x)
-  kinds_suited h v y is sound =
+  held_suited : (r : Root) (v : ℕ) → root_key r ≡ Some (v ∷ []) → (laid : Bool) → HeldAs U.program.declarations v laid r w.src.held
+      → HeldAs U.program.declarations v laid r (updated w.src.held q x)
+  held_suited r v key laid h =
       ⊎_elim
       (λ b. ⊎_elim
       (λ s. inr (subst (λ z. AreKinds (variable_shape U.program.declarations v) z (updated w.src.held q x)) s
-      (suits.laid v s (ap w.src.held s ∙ b.0))))
-      (λ o. inl (updated_other w.src.held q x (at_variable v) o ∙ b.0, b.1)) (either_position q (at_variable v)))
-      (λ k. inr (kinds_kept (variable_shape U.program.declarations v) (at_variable v) w.src.held (updated w.src.held q x) same_kinds_suited k))
-      (h.kinds v y is sound)
+      (suits.laid r v key s (ap w.src.held s ∙ b.0))))
+      (λ o. inl (updated_other w.src.held q x (whole r) o ∙ b.0, b.1)) (either_position q (whole r)))
+      (λ k. inr (kinds_kept (variable_shape U.program.declarations v) (whole r) w.src.held (updated w.src.held q x) same_kinds_suited k)) h
+
+  pub kinds_suited : StoreMatch U w → (v : ℕ) (y : Variable) → slice_get U.program.declarations.vars v ≡ Some y → is_flagged U v ≡ false
+      → HeldAs U.program.declarations v (is_module_variable U.program.declarations y.owner) (shared (v ∷ [])) (updated w.src.held q x)
+  kinds_suited h v y is sound =
+      held_suited (shared (v ∷ [])) v refl (is_module_variable U.program.declarations y.owner) (h.kinds v y is sound)
+
+  pub fields_suited : StoreMatch U w → (o c v : ℕ) (y : Variable) → o < w.src.next_object → w.src.class_of o ≡ Some c
+      → slice_get U.program.declarations.vars v ≡ Some y → is_flagged U v ≡ false
+      → HeldAs U.program.declarations v (is_class_variable U.program.declarations c y.owner) (field o (v ∷ [])) (updated w.src.held q x)
+  fields_suited h o c v y lt of is sound =
+      held_suited (field o (v ∷ [])) v refl (is_class_variable U.program.declarations c y.owner) (h.fields o c v y lt of is sound)

@@ -10,7 +10,7 @@ use Rattle.net_tree.specs.Types.{TypeName}
 use Rattle.net_meaning.specs.declared.value.ValueN.{ValueN}
 use Rattle.net_meaning.specs.declared.value.ValueN.TheVariants as n
 use Rattle.run_base.specs.Outcomes.{gives, outside, some_of}
-use Rattle.run_base.specs.Positions.{Position, made, shared}
+use Rattle.run_base.specs.Positions.{Position, made, shared, field}
 use Rattle.vb6_run.specs.Shapes.{Shape, simple, variable_shape, endless, part_shape}
 use Rattle.vb6_run.specs.Store.{Address, root, Locked, Held, blank, single, table, provided, with_held, put_single, store, write, item, constant}
 use Rattle.vb6_run.specs.Values.{scalar}
@@ -31,7 +31,7 @@ use Rattle.agreeing_laws.proofs.Agreeing.{agrees_outside}
 use Rattle.memory_laws.specs.Changes.{changed, IsNoTable, IsSuited, GoesAlone}
 use Rattle.memory_laws.specs.Statements.{ScalarsAreWrittenInPlaces}
 use Rattle.memory_laws.proofs.Changes.{changed_later}
-use Rattle.memory_laws.proofs.Moved.{place_goes_alone, part_goes_alone}
+use Rattle.memory_laws.proofs.Moved.{field_goes_alone, part_goes_alone, place_goes_alone}
 use Rattle.memory_laws.proofs.Positions.{at}
 use Rattle.memory_laws.proofs.Reading.{ScalarImage, scalar_image, HasWord, word_of_shape}
 use Rattle.memory_laws.proofs.Scalars.{scalar_is_no_array, kept_scalar, scalar_of_word, covered_same}
@@ -53,7 +53,7 @@ module _ (U : Upgrade) (K : Pledge) (w : World) (ty : Ty) (z : Value6) (y : Valu
   single_suits : (t : Ty) (old : Value6) → w.src.held q ≡ single t old → IsSuited U w q (single t z)
   single_suits t old is = record {
     kept = subst (λ k. KeepsKind k (single t z)) (sym is) (z, refl);
-    laid = λ v at b. absurd (not_blank t old (w.src.held q) is b);
+    laid = λ r v key at b. absurd (not_blank t old (w.src.held q) is b);
   }
 
   written_later : (t : Ty) (old : Value6) (before : ValueN) → t ≡ ty → w.src.held q ≡ single t old → w.net.cell (moved_at U w.map q) ≡ net.holds before
@@ -123,10 +123,15 @@ module _ (U : Upgrade) where
   target_alone w ty a b h i (inl p) =
       let s : i.position ≡ at (made p.place) p.path = same_in (simple ty) p.shape i.position (at (made p.place) p.path) (sym i.at_source ∙ p.stands) in
       subst (λ x. GoesAlone U w x) (sym s) (place_goes_alone U w h.stores p.place p.path (subst (λ x. IsMatched U w x) s i.is_matched))
-  target_alone w ty a b h i (inr k) =
+  target_alone w ty a b h i (inr (inl k)) =
       let q : Position = at (shared (k.variable ∷ [])) k.path in
       let s : i.position ≡ q = same_in (simple ty) k.of_shape i.position q (sym i.at_source ∙ k.stands) in
       subst (λ x. GoesAlone U w x) (sym s) (part_goes_alone U w k.variable k.key k.is_key k.differs k.path)
+  target_alone w ty a b h i (inr (inr k)) =
+      let q : Position = at (field k.object (k.variable ∷ [])) k.path in
+      let s : i.position ≡ q = same_in (simple ty) k.of_shape i.position q (sym i.at_source ∙ k.stands) in
+      let m : IsMatched U w q = subst (λ x. IsMatched U w x) s i.is_matched in
+      subst (λ x. GoesAlone U w x) (sym s) (field_goes_alone U w h.stores k.object k.variable k.key k.is_key k.differs m.is_made k.path)
 
   -- a root is no element
   root_is_variable : (ty : Ty) (q : Position) (a : Address) → a ≡ root (simple ty) q → IsTarget U a → IsVariable U a

@@ -1,7 +1,7 @@
 -- Two memories in which one position has changed, or a place was made.
-use Rattle.std.specs.Prelude.{◌≡◌, ℕ, suc, false, Option, List, [], ◌∷◌}
+use Rattle.std.specs.Prelude.{◌≡◌, ℕ, suc, false, Option, Some, None, List, [], ◌∷◌}
 use Rattle.net_meaning.specs.declared.value.ValueN.TheVariants as n
-use Rattle.run_base.specs.Positions.{Position, shared, updated, updated_at, whole}
+use Rattle.run_base.specs.Positions.{Key, Position, Root, field, made, shared, updated, updated_at, whole}
 use Rattle.vb6_run.specs.Shapes.{Shape, variable_shape}
 use Rattle.vb6_run.specs.Store.{Held, blank, table, with_held}
 use Rattle.vb6_run.specs.Values.{Dimension, Values}
@@ -36,9 +36,15 @@ IsNoArray c = (k : ℕ) → c ≡ net.holds (n.Array k) → ⊥
 abbrev pub GoesAlone : Upgrade → World → Position → Type 0
 GoesAlone U w q = (p : Position) → IsMatched U w p → moved_at U w.map q ≡ moved_at U w.map p → q ≡ p
 
+-- the key of a variable of a module or of an object, and of a Static
+abbrev pub root_key : Root → Option Key
+root_key (shared k) = Some k
+root_key (made n) = None
+root_key (field o k) = Some k
+
 -- What is put at a position is of the kind of what stood there, and what its variable declares where nothing stood there yet.
 pub record IsSuited (U : Upgrade) (w : World) (q : Position) (x : Held) : Type 0 where
   pub kept : KeepsKind (w.src.held q) x
   pub laid :
-      (v : ℕ) → q ≡ whole (shared (v ∷ [])) → w.src.held q ≡ blank
+      (r : Root) (v : ℕ) → root_key r ≡ Some (v ∷ []) → q ≡ whole r → w.src.held q ≡ blank
       → AreKinds (variable_shape U.program.declarations v) q (updated w.src.held q x)

@@ -92,7 +92,7 @@ module _ (U : Upgrade) (I : IsWritten U) (p : ℕ) (s : Site) (x : Procedure) (i
       inl (ap (is_own_variable p) is_variable ∙ ap (is_own_owner p) e ∙ own_number p q.0 h)
   by_owner v y is_variable given shared (owner.Reference q) e h =
       let reference : is_reference_of U p v ≡ true = ap (is_reference_in p) is_variable ∙ ap (is_reference_owner_of p) e ∙ h in
-      inr (inr (inr (record { reference = reference; stands = given reference })))
+      inr (inr (inr (inl (record { reference = reference; stands = given reference }))))
   by_owner v y is_variable given shared (owner.Answer q) e h =
       inl (ap (is_own_variable p) is_variable ∙ ap (is_own_owner p) e ∙ own_number p q.0 h)
   by_owner v y is_variable given shared (owner.Field t) e h = absurd (cc h)

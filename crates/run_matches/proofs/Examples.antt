@@ -5,7 +5,9 @@ use Rattle.std.proofs.lemmas.Bool.{true≢false}
 use Rattle.vb_tree.specs.BoundTree.{long}
 use Rattle.vb_tree.specs.declared.value.Value6.TheVariants as v
 use Rattle.std.specs.Fmt.{digits}
-use Rattle.std.specs.Prelude.{slice_get}
+use Rattle.std.specs.Prelude.{Option, slice_get}
+use Rattle.bound_facts.specs.SelfMade.{module_of}
+use Rattle.vb6_run.specs.Runnables.{is_class_file}
 use Rattle.bound_facts.specs.Calls.{Reaches}
 use Rattle.bound_tree.specs.RuleSets.{has, none, both}
 use Rattle.bound_tree.specs.Tree.{Variable}
@@ -21,7 +23,7 @@ use Rattle.run_matches.specs.Upgrades.{Upgrade, written_number, class_home, vari
 use Rattle.run_matches.specs.Maps.{World, Mark, Below, IsMatched, mark, net_mark, IsUnmade, moved_at}
 use Rattle.run_matches.specs.Match.{MemoryMatch, HeldAs, Holds, holds_blank, holds_single, StoreMatch}
 use Rattle.run_matches.specs.Addresses.{no_args}
-use Rattle.run_matches.specs.Pledges.{Pledge, Later}
+use Rattle.run_matches.specs.Pledges.{Pledge, Later, stands_in_class}
 use Rattle.run_matches.specs.Runs.{Start}
 use Rattle.net_meaning.specs.ValueMatch.{longs}
 use Rattle.run_matches.specs.Covered.{covers_procedure, IsCovered}
@@ -148,7 +150,7 @@ not_module x y e f = subst (λ z. is_module_variable program.declarations z.owne
     from_some x y e = cc
 
 kinds_at : (x : ℕ) (y : Variable) → slice_get program.declarations.vars x ≡ Some y
-    → HeldAs program.declarations x y.owner start.held
+    → HeldAs program.declarations x (is_module_variable program.declarations y.owner) (shared (x ∷ [])) start.held
 kinds_at zero y e = inr (v.Long (pos 0), refl)
 kinds_at (suc zero) y e = inl (refl, not_module _ y e refl)
 kinds_at (suc (suc zero)) y e = inl (refl, not_module _ y e refl)
@@ -174,13 +176,18 @@ stores_match = record {
   net_unmade = λ q u. nothing_net_unmade q.root q.path u;
   errors = refl;
   kinds = λ x y e f. kinds_at x y e;
+  fields = λ o c x y lt of e f. below_zero o lt;
 }
+
+no_class : (file : ℕ) → module_of (slice_get program.declarations.procs 2) ≡ Some file → is_class_file program.declarations file ≡ true → ⊥
+no_class file of class = true≢false (sym class ∙ subst (λ o. stands_in_class upgrade o ≡ false) of refl)
 
 -- so do arguments, of which there are none
 may_start : Start upgrade world 2 None [] []
 may_start = record {
   stores = stores_match;
   object = tt;
+  own_object = λ file of class. absurd (no_class file of class);
   args = record { match = no_args 0; loose = λ k c. below_zero c.0 c.1; once = λ i j d lt more. below_zero j more };
 }
 
@@ -206,6 +213,7 @@ lasts U K w h = record {
   grows = below_itself (mark w.src);
   net_grows = below_itself (net_mark w.net);
   arrays_grow = omega arith;
+  same_classes = λ o lt. refl;
   same_kinds = λ q. keeps_self (w.src.held q);
   same_values = λ q l i. refl;
   same_cells = λ q m l i. refl;

@@ -165,6 +165,7 @@ then_later U K w0 w1 w2 low h a b =
       grows = below_then (mark w0.src) (mark w1.src) (mark w2.src) ga gb;
       net_grows = below_then (net_mark w0.net) (net_mark w1.net) (net_mark w2.net) na nb;
       arrays_grow = omega arith;
+      same_classes = λ o lt. b.same_classes o (more_number o w0.src.next_object w1.src.next_object ga.objects lt) ∙ a.same_classes o lt;
       same_kinds = λ q. keeps_then (w0.src.held q) (w1.src.held q) (w2.src.held q) (a.same_kinds q) (b.same_kinds q);
       same_values = λ q l i. b.same_values q (go q l) (λ z. i (sym (a.same_values q l i) ∙ z)) ∙ a.same_values q l i;
       same_cells = λ q m l i.
@@ -222,6 +223,7 @@ stores_dropped U w0 w h = record {
   net_unmade = h.net_unmade;
   errors = h.errors;
   kinds = h.kinds;
+  fields = h.fields;
 }
 
 kept_alone : (b a c : Bool) → b ≡ true → a ≡ c → cond b a true ≡ c
@@ -245,6 +247,7 @@ drops U K w0 w l = record {
   grows = l.grows;
   net_grows = l.net_grows;
   arrays_grow = l.arrays_grow;
+  same_classes = l.same_classes;
   same_kinds = l.same_kinds;
   same_values = l.same_values;
   same_cells = l.same_cells;

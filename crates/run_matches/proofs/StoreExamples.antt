@@ -19,7 +19,7 @@ use Rattle.net_run.specs.Store as net
 use Rattle.net_run.specs.Values as net_value
 use Rattle.run_matches.specs.Maps.{World, IsMatched, mark, net_mark, IsUnmade, root_variable, moved_at}
 use Rattle.run_matches.specs.Likeness.{same_scalar, same_counts, like_scalar, no_items, next_item, same_elements}
-use Rattle.run_matches.specs.Match.{HeldAs, Holds, holds_blank, holds_single, holds_table, SameClass, StoreMatch}
+use Rattle.run_matches.specs.Match.{HeldAs, is_class_variable, Holds, holds_blank, holds_single, holds_table, SameClass, StoreMatch}
 use Rattle.run_matches.proofs.Samples.{program, upgrade}
 
 -- ---- the source: n is 7, the object 0 of Node has 3 in k, the place 0 is c with 1.1, and the place 1 an array from 1 to 2 with 5 and 6
@@ -253,7 +253,7 @@ not_module x y e f = subst (λ z. is_module_variable program.declarations z.owne
     from_some x y e = cc
 
 kinds_at : (x : ℕ) (y : Variable) → slice_get program.declarations.vars x ≡ Some y
-    → HeldAs program.declarations x y.owner (λ q. held_at q.root q.path)
+    → HeldAs program.declarations x (is_module_variable program.declarations y.owner) (shared (x ∷ [])) (λ q. held_at q.root q.path)
 kinds_at zero y e = inr (v.Long (pos 7), refl)
 kinds_at (suc zero) y e = inl (refl, not_module _ y e refl)
 kinds_at (suc (suc zero)) y e = inl (refl, not_module _ y e refl)
@@ -261,6 +261,34 @@ kinds_at (suc (suc (suc zero))) y e = inl (refl, not_module _ y e refl)
 kinds_at (suc (suc (suc (suc zero)))) y e = inl (refl, not_module _ y e refl)
 kinds_at (suc (suc (suc (suc (suc zero))))) y e = inl (refl, not_module _ y e refl)
 kinds_at (suc (suc (suc (suc (suc (suc x)))))) y e = cc
+
+-- the field of the object holds a Long, and its class has no other
+not_class : (x y : Variable) → Some x ≡ Some y → is_class_variable program.declarations 0 x.owner ≡ false
+    → is_class_variable program.declarations 0 y.owner ≡ false
+not_class x y e f = subst (λ z. is_class_variable program.declarations 0 z.owner ≡ false) (from_some x y e) f
+  where
+    from_some : (x y : Variable) → Some x ≡ Some y → x ≡ y
+    from_some x y e = cc
+
+fields_at : (x : ℕ) (y : Variable) → slice_get program.declarations.vars x ≡ Some y
+    → HeldAs program.declarations x (is_class_variable program.declarations 0 y.owner) (field 0 (x ∷ [])) (λ q. held_at q.root q.path)
+fields_at zero y e = inl (refl, not_class _ y e refl)
+fields_at (suc zero) y e = inl (refl, not_class _ y e refl)
+fields_at (suc (suc zero)) y e = inl (refl, not_class _ y e refl)
+fields_at (suc (suc (suc zero))) y e = inl (refl, not_class _ y e refl)
+fields_at (suc (suc (suc (suc zero)))) y e = inr (v.Long (pos 3), refl)
+fields_at (suc (suc (suc (suc (suc zero))))) y e = inl (refl, not_class _ y e refl)
+fields_at (suc (suc (suc (suc (suc (suc x)))))) y e = cc
+
+fields_of : (o c x : ℕ) (y : Variable) → o < 1 → classes_at o ≡ Some c → slice_get program.declarations.vars x ≡ Some y
+    → HeldAs program.declarations x (is_class_variable program.declarations c y.owner) (field o (x ∷ [])) (λ q. held_at q.root q.path)
+fields_of zero c x y lt of e =
+    subst (λ d. HeldAs program.declarations x (is_class_variable program.declarations d y.owner) (field 0 (x ∷ [])) (λ q. held_at q.root q.path)) (only c of)
+    (fields_at x y e)
+  where
+    only : (c : ℕ) → Some 0 ≡ Some c → 0 ≡ c
+    only c e = cc
+fields_of (suc o) c x y lt of e = absurd (omega arith)
 
 stores_match : StoreMatch upgrade world
 stores_match = record {
@@ -278,4 +306,5 @@ stores_match = record {
   net_unmade = λ q u. net_unmade_at q.root q.path u;
   errors = refl;
   kinds = λ x y e f. kinds_at x y e;
+  fields = λ o c x y lt of e f. fields_of o c x y lt of e;
 }

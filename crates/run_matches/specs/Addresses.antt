@@ -5,7 +5,7 @@ use Rattle.vb_tree.specs.BoundTree.{Ty, class}
 use Rattle.vb_tree.specs.declared.value.Value6.{Value6}
 use Rattle.net_meaning.specs.declared.value.ValueN.TheVariants as n
 use Rattle.run_base.specs.Frames.{by_value, by_address, Kept, keeps_nothing, keeps_limit, keeps_value, keeps_address}
-use Rattle.run_base.specs.Positions.{Key, Position, inner, made, shared}
+use Rattle.run_base.specs.Positions.{Key, Position, field, inner, made, shared}
 use Rattle.vb6_run.specs.Expressions as source
 use Rattle.vb6_run.specs.Shapes.{Shape, simple, group, array, endless, Shapes, no_shapes, next_shape, part_shape, user_shapes}
 use Rattle.vb6_run.specs.Store.{Address, root, item, constant, Locked, SourceGiven, held_at}
@@ -104,6 +104,17 @@ pub record HasOwnKey (U : Upgrade) (a : Address) : Type 0 where
   pub is_key : variable_key U variable ≡ Some key
   pub differs : (u : ℕ) → variable_key U u ≡ Some key → variable ≡ u
 
+-- so is the address of a variable that an object has, or of a field in it
+pub record HasFieldKey (U : Upgrade) (a : Address) : Type 0 where
+  pub object : ℕ
+  pub variable : ℕ
+  pub key : Key
+  pub of_shape : Shape
+  pub path : List ℕ
+  pub stands : a ≡ root of_shape (record { root = field object (variable ∷ []); path = path })
+  pub is_key : variable_key U variable ≡ Some key
+  pub differs : (u : ℕ) → variable_key U u ≡ Some key → variable ≡ u
+
 abbrev pub is_element : Address → Bool
 is_element (root s q) = false
 is_element (item e q j path) = true
@@ -120,9 +131,9 @@ pub record IsElement (a : Address) : Type 0 where
   pub index : ℕ
   pub stands : a ≡ item (simple ty) array index []
 
--- a variable that can be written: in a place, or one of a standard module
+-- a variable that can be written: in a place, or one of a standard module or of an object
 abbrev pub IsVariable : Upgrade → Address → Type 0
-IsVariable U a = IsInPlace a ⊎ HasOwnKey U a
+IsVariable U a = IsInPlace a ⊎ (HasOwnKey U a ⊎ HasFieldKey U a)
 
 -- where a scalar can be written
 abbrev pub IsTarget : Upgrade → Address → Type 0

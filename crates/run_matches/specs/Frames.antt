@@ -12,6 +12,7 @@ use Rattle.bound_tree.specs.declared.expression.Root as expression
 use Rattle.bound_tree.specs.declared.expression.Root.TheVariants as at
 use Rattle.bound_facts.specs.Effects.{is_own_variable, is_outside}
 use Rattle.bound_facts.specs.Facts.{is_quiet}
+use Rattle.bound_facts.specs.Members.{class_files}
 use Rattle.bound_facts.specs.Node as node
 use Rattle.bound_facts.specs.SelfMade.{module_of}
 use Rattle.net_tree.specs.Tree as net_tree
@@ -19,7 +20,7 @@ use Rattle.net_tree.specs.Types.{TypeName}
 use Rattle.run_base.specs.Frames.{Kept, keeps_nothing, keeps_limit, keeps_value, keeps_address}
 use Rattle.run_base.specs.Positions.{Root, Position, shared, made, field, whole}
 use Rattle.vb6_run.specs.Programs.{is_static_of}
-use Rattle.vb6_run.specs.Runnables.{static_root}
+use Rattle.vb6_run.specs.Runnables.{is_class_file, static_root}
 use Rattle.run_base.specs.Machines.{nth_line}
 use Rattle.vb6_run.specs.Shapes.{Shape, simple, group, array, endless, variable_shape}
 use Rattle.vb6_run.specs.Store.{Address, root, item, constant, SourceFrame}
@@ -137,6 +138,23 @@ pub record HasPlace (U : Upgrade) (w : World) (v : ℕ) (a : Address) : Type 0 w
   pub is_made : place < w.src.next
   pub declared : w.map.declares place ≡ Some v
 
+-- ---- the object of a frame
+
+-- an object that was made, of the class of a file
+pub record OwnObject (U : Upgrade) (w : World) (file : ℕ) (me : Option ℕ) : Type 0 where
+  pub object : ℕ
+  pub is_me : me ≡ Some object
+  pub is_made : object < w.src.next_object
+  pub class : ℕ
+  pub is_class : w.src.class_of object ≡ Some class
+  pub is_file : slice_get (class_files U.program.declarations.project) class ≡ Some file
+
+-- A procedure of a class is called for an object of that class; one of a standard module goes on with the object of its caller.
+abbrev pub HasOwnObject : Upgrade → World → (procedure : ℕ) → (me : Option ℕ) → Type 0
+HasOwnObject U w p me =
+    (file : ℕ) → module_of (slice_get U.program.declarations.procs p) ≡ Some file → is_class_file U.program.declarations file ≡ true
+    → OwnObject U w file me
+
 -- ---- what the heads of blocks keep, where they are covered
 
 -- the counter is a variable of the frame, and limit and step have its type
@@ -191,6 +209,7 @@ pub record FrameMatch (U : Upgrade) (K : Pledge) (w : World) (p : ℕ) (f : Sour
   pub resume : g.resume ≡ f.resume
   pub me : g.me ≡ option_map w.map.objects f.me
   pub me_made : (o : ℕ) → f.me ≡ Some o → o < w.src.next_object
+  pub own_object : HasOwnObject U w p f.me
   pub names : HasNames (code_of U p) g
   pub vars : (v : ℕ) (a : Address) → lookup (nat_eq v) f.vars ≡ Some a → is_flagged U v ≡ false → SameVariable U K w v a g
   pub statics : (v : ℕ) (r : Root) → static_of U p f.me v ≡ Some r → is_flagged U v ≡ false → SameStatic U w v r g

@@ -1,21 +1,22 @@
 -- When stores of the written program stand for those of the source.
-use Rattle.std.specs.Prelude.{◌≡◌, ◌⊎◌, ℕ, ◌<◌, ◌^◌, false, Option, Some, None, List, [], ◌∷◌, length, slice_get}
+use Rattle.std.specs.Prelude.{◌≡◌, ◌⊎◌, ℕ, ◌<◌, ◌^◌, Bool, false, Option, Some, None, List, [], ◌∷◌, length, slice_get}
 use Rattle.vb_tree.specs.BoundTree.{Ty}
 use Rattle.vb_tree.specs.declared.declared.Owner.{Owner}
+use Rattle.vb_tree.specs.declared.declared.Owner.TheVariants as owner
 use Rattle.vb_tree.specs.declared.value.Value6.{Value6}
 use Rattle.bound_tree.specs.Tree.{Variable, Declarations}
-use Rattle.bound_facts.specs.Members.{terminator}
+use Rattle.bound_facts.specs.Members.{class_files, terminator}
 use Rattle.net_meaning.specs.declared.value.ValueN.{ValueN}
 use Rattle.net_meaning.specs.declared.value.ValueN.TheVariants as n
 use Rattle.net_meaning.specs.ValueMatch.{Matches}
-use Rattle.run_base.specs.Positions.{Position, shared, whole}
+use Rattle.run_base.specs.Positions.{Position, Root, field, shared, whole}
 use Rattle.vb6_run.specs.Programs.{is_module_variable}
 use Rattle.vb6_run.specs.Shapes.{Shape, variable_shape}
 use Rattle.vb6_run.specs.Store.{Held, blank, single, table, parts}
 use Rattle.vb6_run.specs.Values.{Dimension, Values}
 use Rattle.net_run.specs.Store as net
 use Rattle.run_matches.specs.Kinds.{AreKinds}
-use Rattle.run_matches.specs.Upgrades.{Upgrade, class_home, is_flagged, part_variable}
+use Rattle.run_matches.specs.Upgrades.{Upgrade, class_home, is_flagged, is_that, part_variable}
 use Rattle.run_matches.specs.Maps.{World, moved_at, mark, net_mark, IsUnmade, IsMatched, root_variable}
 use Rattle.run_matches.specs.Likeness.{Numbers, numbers_of, ArrayLike}
 
@@ -37,9 +38,19 @@ SameClass U None (Some home) = ⊥
 SameClass U (Some c) None = ⊥
 SameClass U (Some c) (Some home) = (class_home U c ≡ Some home) × (terminator U.program.declarations c ≡ None)
 
-abbrev pub HeldAs : Declarations → (variable : ℕ) → Owner → (Position → Held) → Type 0
-HeldAs D v of h =
-    ((h (whole (shared (v ∷ []))) ≡ blank) × (is_module_variable D of ≡ false)) ⊎ AreKinds (variable_shape D v) (whole (shared (v ∷ []))) h
+-- a variable holds what its declaration says, or isn't there yet
+abbrev pub HeldAs : Declarations → (variable : ℕ) → (laid : Bool) → Root → (Position → Held) → Type 0
+HeldAs D v laid r h = ((h (whole r) ≡ blank) × (laid ≡ false)) ⊎ AreKinds (variable_shape D v) (whole r) h
+
+-- a variable of the class of a number, of which each object has its own
+abbrev pub is_class_variable : Declarations → (class : ℕ) → Owner → Bool
+is_class_variable D c (owner.Module file) = is_that file (slice_get (class_files D.project) c)
+is_class_variable D c (owner.Local p) = false
+is_class_variable D c (owner.Static p) = false
+is_class_variable D c (owner.Value p) = false
+is_class_variable D c (owner.Reference p) = false
+is_class_variable D c (owner.Answer p) = false
+is_class_variable D c (owner.Field t) = false
 
 -- The target's store stands for the source's under the map: it maps what was made to what was made, one to one, and objects to objects of
 -- their class; what is compared matches, and no two positions share an array. Nothing stands where nothing was made.
@@ -66,7 +77,12 @@ pub record StoreMatch (U : Upgrade) (w : World) : Type 0 where
   -- a variable of a standard module holds what its declaration says, and so does a Static that was made
   pub kinds :
       (v : ℕ) (x : Variable) → slice_get U.program.declarations.vars v ≡ Some x → is_flagged U v ≡ false
-      → HeldAs U.program.declarations v x.owner w.src.held
+      → HeldAs U.program.declarations v (is_module_variable U.program.declarations x.owner) (shared (v ∷ [])) w.src.held
+  -- and so does each object of the variables of its class, and of Statics there that were made
+  pub fields :
+      (o c v : ℕ) (x : Variable) → o < w.src.next_object → w.src.class_of o ≡ Some c → slice_get U.program.declarations.vars v ≡ Some x
+      → is_flagged U v ≡ false
+      → HeldAs U.program.declarations v (is_class_variable U.program.declarations c x.owner) (field o (v ∷ [])) w.src.held
 
 -- the stores match, as many steps are left, and the same inputs are to come
 pub record MemoryMatch (U : Upgrade) (w : World) : Type 0 where

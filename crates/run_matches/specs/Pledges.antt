@@ -136,7 +136,8 @@ pub record Later (U : Upgrade) (K : Pledge) (w0 w : World) : Type 0 where
   pub grows : Below (mark w0.src) (mark w.src)
   pub net_grows : Below (net_mark w0.net) (net_mark w.net)
   pub arrays_grow : w0.net.next_array ≤ w.net.next_array
-  -- a position goes on to hold a thing of its kind
+  -- an object goes on to be of its class, and a position to hold a thing of its kind
+  pub same_classes : (o : ℕ) → o < w0.src.next_object → w.src.class_of o ≡ w0.src.class_of o
   pub same_kinds : (q : Position) → KeepsKind (w0.src.held q) (w.src.held q)
   pub same_values : (q : Position) → IsLasting U K w0 q → IsHeld w0 q → w.src.held q ≡ w0.src.held q
   pub same_cells :

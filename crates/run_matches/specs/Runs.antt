@@ -19,7 +19,7 @@ use Rattle.run_matches.specs.Match.{StoreMatch, MemoryMatch}
 use Rattle.run_matches.specs.Pledges.{Own, Pledge, pledge, own_object, no_places, taken_by, NetGiven}
 use Rattle.run_matches.specs.Addresses.{ArgsOk, AllLocked}
 use Rattle.run_matches.specs.Agreeing.{Agrees, ResultMatch}
-use Rattle.run_matches.specs.Frames.{FrameMatch, GivenStand, NextMatch, frame_pledge}
+use Rattle.run_matches.specs.Frames.{FrameMatch, GivenStand, HasOwnObject, NextMatch, frame_pledge}
 
 -- ---- calls
 
@@ -39,6 +39,7 @@ call_pledge U p base me xs ys = pledge U p base (own_in_call U p me) (λ k. Cont
 pub record Start (U : Upgrade) (w : World) (p : ℕ) (me : Option ℕ) (xs : List SourceGiven) (ys : List NetGiven) : Type 0 where
   pub stores : StoreMatch U w
   pub object : IsObject w me
+  pub own_object : HasOwnObject U w p me
   pub args : ArgsOk U (call_pledge U p (mark w.src) me xs ys) w p xs ys
 
 abbrev pub with_inputs : List (List ℕ) → net.Memory → net.Memory
@@ -91,7 +92,7 @@ pub record LineDoesTheSame (U : Upgrade) (p number : ℕ) : Type 0 where
 abbrev pub CallsAgree : Upgrade → (passes : ℕ → Type 0) → SourceCalls → Jobs → Type 0
 CallsAgree U passes oracle net_oracle =
     (p q : ℕ) (me : Option ℕ) (base : Mark) (locked : Locked) (xs : List SourceGiven) (ys : List NetGiven) (w : World)
-    → passes p → written_number U p ≡ Some q → Below base (mark w.src) → IsObject w me → AllLocked U (call_pledge U p base me xs ys) w locked
+    → passes p → written_number U p ≡ Some q → Below base (mark w.src) → IsObject w me → HasOwnObject U w p me → AllLocked U (call_pledge U p base me xs ys) w locked
     → ArgsOk U (call_pledge U p base me xs ys) w p xs ys → MemoryMatch U w
     → Agrees U (call_pledge U p base me xs ys) w (ResultMatch U) (oracle (enters p me locked xs) w.src)
     (net_oracle (enters q (option_map w.map.objects me) tt ys) w.net)

@@ -53,7 +53,7 @@ use Rattle.run_matches.specs.Frames.{FrameMatch, GivenAddress, HasPlace, IsOwnAd
 use Rattle.run_matches.specs.Likeness.{LikeV, SameShape, scalar_word}
 use Rattle.run_matches.specs.Maps.{IsMatched, World, is_auto_root}
 use Rattle.run_matches.specs.Match.{HasArray, MemoryMatch}
-use Rattle.run_matches.specs.Pledges.{Pledge, Later, is_inward}
+use Rattle.run_matches.specs.Pledges.{Pledge, Later, is_inward, stands_in_class}
 use Rattle.run_matches.specs.Upgrades.{Upgrade, runnable_of, is_flagged, variable_key, written_number}
 use Rattle.row_laws.specs.Uncaptured.{IsUncaptured, IsTextUncaptured, IsMathUncaptured}
 use Rattle.run_matches.specs.Runs.{CallsAgree}
@@ -152,9 +152,27 @@ pub record IsGiven (U : Upgrade) (p : ℕ) (f : SourceFrame) (v : ℕ) : Type 0 
   pub reference : is_reference_of U p v ≡ true
   pub stands : (a : Address) → lookup (nat_eq v) f.vars ≡ Some a → GivenAddress U v a
 
--- the procedure's own, a Static of it, one of a standard module, or one that is given by reference
+-- A variable of the procedure's class, of which each object has its own, is written as a member of the class, to which its name leads, and
+-- no other variable is written as that member.
+pub record IsOwnField (U : Upgrade) (p : ℕ) (S : net_names.Scope) (T : Scope) (v : ℕ) : Type 0 where
+  pub variable : Variable
+  pub is_variable : slice_get U.program.declarations.vars v ≡ Some variable
+  pub file : ℕ
+  pub is_owner : variable.owner ≡ owner.Module file
+  pub is_class : is_class_file U.program.declarations file ≡ true
+  pub own : module_of (slice_get U.program.declarations.procs p) ≡ Some file
+  pub key : Key
+  pub is_key : variable_key U v ≡ Some key
+  pub written : shape.Shape
+  pub same : SameShape U (variable_shape U.program.declarations v) written
+  pub ranked : HasRankOf U v written
+  pub leads :
+      (qualified : Bool) → net_names.path_start S false (variable_path T qualified v) ≡ net_names.starts (net_names.own_field written key S.me) []
+  pub differs : (u : ℕ) → variable_key U u ≡ Some key → v ≡ u
+
+-- the procedure's own, a Static of it, one of a standard module, one that is given by reference, or one of its class
 abbrev pub IsPlaced : Upgrade → (procedure : ℕ) → SourceFrame → net_names.Scope → Scope → (variable : ℕ) → Type 0
-IsPlaced U p f S T v = (is_own_of U p v ≡ true) ⊎ (IsOwnStatic U p v ⊎ (IsShared U S T v ⊎ IsGiven U p f v))
+IsPlaced U p f S T v = (is_own_of U p v ≡ true) ⊎ (IsOwnStatic U p v ⊎ (IsShared U S T v ⊎ (IsGiven U p f v ⊎ IsOwnField U p S T v)))
 
 -- what is written for an array leads to it before indexes too: it isn't the name of a Function in its own lines
 abbrev pub LeadsBefore : net_names.Scope → Scope → (variable : ℕ) → Type 0
@@ -304,6 +322,7 @@ pub record CanCall (U : Upgrade) (K : Pledge) (S : net_names.Scope) (T : Scope) 
   pub number : ℕ
   pub is_number : written_number U q ≡ Some number
   pub plain : is_property U.program.declarations q ≡ false
+  pub standard : stands_in_class U (module_of (slice_get U.program.declarations.procs q)) ≡ false
   pub suits : suits_passed U.program.declarations q 0 args ≡ true
   pub hands : hands_passed U.program q 0 args ≡ true
   pub given : KeepsEach U q (given_types args)
