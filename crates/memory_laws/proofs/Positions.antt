@@ -47,6 +47,11 @@ pub either_position : (p q : Position) → (p ≡ q) ⊎ (p ≡ q → ⊥)
 either_position p q =
     by_test (is_same_position p q) (λ b. (p ≡ q) ⊎ (p ≡ q → ⊥)) (λ y. inl (same_position p q y)) (λ n. inr (position_other p q n))
 
+pub either_root : (r s : Root) → (r ≡ s) ⊎ (r ≡ s → ⊥)
+either_root r s =
+    by_test (is_same_root r s) (λ b. (r ≡ s) ⊎ (r ≡ s → ⊥)) (λ y. inl (same_root r s y))
+    (λ n. inr (λ e. true≢false (sym (subst (λ x. is_same_root r x ≡ true) e (root_self r)) ∙ n)))
+
 pub other_position : (p q : Position) → (p ≡ q → ⊥) → is_same_position p q ≡ false
 other_position p q h = by_test (is_same_position p q) (λ b. b ≡ false) (λ y. absurd (h (same_position p q y))) (λ n. refl)
 
