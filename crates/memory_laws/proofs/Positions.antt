@@ -32,7 +32,7 @@ root_self (field a k) = and_true (nat_eq a a) (is_same_path k k) (eq-eqb a a ref
 abbrev pub at : Root → List ℕ → Position
 at r path = record { root = r; path = path }
 
-same_position : (p q : Position) → is_same_position p q ≡ true → p ≡ q
+pub same_position : (p q : Position) → is_same_position p q ≡ true → p ≡ q
 same_position p q e =
     let h : (is_same_root p.root q.root ≡ true) × (is_same_path p.path q.path ≡ true) = both_true (is_same_root p.root q.root) (is_same_path p.path q.path) e in
     ap (λ x. at x p.path) (same_root p.root q.root h.0) ∙ ap (λ x. at q.root x) (same_path p.path q.path h.1)
