@@ -1,4 +1,9 @@
 pub mod Lists
+pub mod Depths
+pub mod CoveredTypes
+pub mod WrittenTypes
+pub mod Structures
+pub mod TypeShapes
 pub mod Names
 pub mod Counting
 pub mod Codes
