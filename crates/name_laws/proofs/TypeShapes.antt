@@ -41,7 +41,7 @@ use Rattle.name_laws.proofs.WrittenTypes.{count_structures}
 
 -- ---- shapes without an array
 
-abbrev is_array_shape : Shape → Bool
+abbrev pub is_array_shape : Shape → Bool
 is_array_shape (source_shape.array e bounds) = true
 is_array_shape s = false
 
