@@ -30,7 +30,7 @@ use Rattle.memory_laws.proofs.Filling.{filled_later, fills_none}
 use Rattle.memory_laws.proofs.GroupFills.{FirstValue, first_value_matches, value_fills}
 use Rattle.memory_laws.proofs.GroupValues.{value_kept, value_later, value_suits}
 use Rattle.memory_laws.proofs.GroupWriting.{not_fixed}
-use Rattle.memory_laws.proofs.LaidValues.{kinds_laid, laid_is, net_laid_is}
+use Rattle.memory_laws.proofs.LaidValues.{kinds_laid, laid_is, net_laid_is, sound_end}
 use Rattle.memory_laws.proofs.Moved.{no_variable_place, place_goes_alone}
 use Rattle.memory_laws.proofs.Overwritten.{stored_over}
 use Rattle.memory_laws.proofs.Places.{declared_here, place_here, place_is_matched, place_later}
@@ -79,7 +79,7 @@ module _ (U : Upgrade) (s : Shape) (c : IsSoundShape U s) (w : Memory) where
   make_is : make s w ≡ gives [] (root s q) (with_value (first_value s))
   make_is =
       ap (λ b. then (provided b (λ v. gives [] tt (laid s q v)) (record w { next = suc w.next })) (λ u v. gives [] (root s q) v)) (sound_makeable U s c)
-      ∙ ap (λ m. gives [] (root s q) m) (laid_is U s q (record w { next = suc w.next }) c)
+      ∙ ap (λ m. gives [] (root s q) m) (laid_is s q (record w { next = suc w.next }) (sound_end U s c))
 
   make_with_is : (K : World) (x : Value) (y : net_value.Value) → IsValueOf s x → LikeV U K x y
       → make_with s x w ≡ gives [] (root s q) (with_value x)

@@ -2,34 +2,44 @@
 use Rattle.std.proofs.Common.{◌≡◌, refl, sym, ap, subst, ◌∙◌, ℕ, suc, Bool, true, false, cond, List, [], ◌∷◌, ◌++◌, append_assoc}
 use Rattle.run_base.specs.Positions.{Position, inner, is_same_position, updated}
 use Rattle.vb6_run.specs.Shapes.{Shape, simple, group, array, endless, Shapes, no_shapes, next_shape}
-use Rattle.vb6_run.specs.Store.{Held, Memory, single, table, parts, laid, all_laid}
+use Rattle.vb6_run.specs.Store.{Held, Memory, blank, single, table, parts, laid, all_laid}
 use Rattle.vb6_run.specs.Values.{Value, scalar, fields, elements, Values, no_values, next_value, first_value, first_values}
 use Rattle.net_run.specs.Store as net
 use Rattle.net_run.specs.Values as net_value
 use Rattle.run_matches.specs.Kinds.{IsKind, AreKinds, AreFieldKinds, IsValueOf, AreValuesOf}
 use Rattle.run_matches.specs.SoundShapes.{IsSoundShape, AreSoundShapes}
 use Rattle.run_matches.specs.Upgrades.{Upgrade}
-use Rattle.memory_laws.specs.Laying.{held_with, all_held_with, cells_with, all_cells_with}
-use Rattle.memory_laws.proofs.Parts.{Apart, ApartFrom, all_held_apart, apart_all, apart_later, field_apart, here, part, whole_apart}
+use Rattle.memory_laws.specs.Laying.{HasEnd, HaveEnds, held_with, all_held_with, cells_with, all_cells_with}
+use Rattle.memory_laws.proofs.Parts.{Apart, ApartFrom, all_held_apart, apart_all, apart_later, field_apart, here, part, root_apart, whole_apart}
 use Rattle.memory_laws.proofs.Positions.{at, same_position, updated_here}
 
 -- ---- memories
 
-module _ (U : Upgrade) where
-  mutual
-    -- a variable begins with its first value
-    pub laid_is : (s : Shape) (q : Position) (w : Memory) → IsSoundShape U s → laid s q w ≡ record w { held = held_with (first_value s) q w.held }
-    laid_is (simple ty) q w c = refl
-    laid_is (group t fs) q w c = all_laid_is t 0 fs q 0 (record w { held = updated w.held q parts }) c
-    laid_is (array e bounds) q w c = absurd c
-    laid_is endless q w c = absurd c
+mutual
+  pub sound_end : (U : Upgrade) (s : Shape) → IsSoundShape U s → HasEnd s
+  sound_end U (simple ty) c = tt
+  sound_end U (group t fs) c = sound_ends U t 0 fs c
+  sound_end U (array e bounds) c = tt
+  sound_end U endless c = c
 
-    all_laid_is : (t i : ℕ) (fs : Shapes) (q : Position) (k : ℕ) (w : Memory) → AreSoundShapes U t i fs
-        → all_laid fs q k w ≡ record w { held = all_held_with (first_values fs) q k w.held }
-    all_laid_is t i no_shapes q k w c = refl
-    all_laid_is t i (next_shape s rest) q k w c =
-        ap (λ v. all_laid rest q (suc k) v) (laid_is s (inner q k) w c.1)
-        ∙ all_laid_is t (suc i) rest q (suc k) (record w { held = held_with (first_value s) (inner q k) w.held }) c.2
+  sound_ends : (U : Upgrade) (t k : ℕ) (fs : Shapes) → AreSoundShapes U t k fs → HaveEnds fs
+  sound_ends U t k no_shapes c = tt
+  sound_ends U t k (next_shape s rest) c = (sound_end U s c.1, sound_ends U t (suc k) rest c.2)
+
+mutual
+  -- a variable begins with its first value
+  pub laid_is : (s : Shape) (q : Position) (w : Memory) → HasEnd s → laid s q w ≡ record w { held = held_with (first_value s) q w.held }
+  laid_is (simple ty) q w c = refl
+  laid_is (group t fs) q w c = all_laid_is fs q 0 (record w { held = updated w.held q parts }) c
+  laid_is (array e bounds) q w c = refl
+  laid_is endless q w c = absurd c
+
+  all_laid_is : (fs : Shapes) (q : Position) (k : ℕ) (w : Memory) → HaveEnds fs
+      → all_laid fs q k w ≡ record w { held = all_held_with (first_values fs) q k w.held }
+  all_laid_is no_shapes q k w c = refl
+  all_laid_is (next_shape s rest) q k w c =
+      ap (λ v. all_laid rest q (suc k) v) (laid_is s (inner q k) w c.0)
+      ∙ all_laid_is rest q (suc k) (record w { held = held_with (first_value s) (inner q k) w.held }) c.1
 
 mutual
   pub net_laid_is : (y : net_value.Value) (q : Position) (w : net.Memory) → net.laid y q w ≡ record w { cell = cells_with y q w.cell }
@@ -43,6 +53,13 @@ mutual
   all_net_laid_is (net_value.next_value y ys) q k w =
       ap (λ v. net.all_laid ys q (suc k) v) (net_laid_is y (inner q k) w)
       ∙ all_net_laid_is ys q (suc k) (record w { cell = cells_with y (inner q k) w.cell })
+
+-- something stands where a value was laid
+pub stands_laid : (x : Value) (q : Position) (h : Position → Held) → held_with x q h q ≡ blank → ⊥
+stands_laid (scalar ty z) q h e = cc (sym (updated_here h q (single ty z)) ∙ e)
+stands_laid (fields t xs) q h e =
+    cc (sym (all_held_apart xs q 0 (updated h q parts) q (whole_apart q 0) ∙ updated_here h q parts) ∙ e)
+stands_laid (elements f dims xs) q h e = cc (sym (updated_here h q (table f dims xs)) ∙ e)
 
 -- ---- kinds
 
@@ -145,3 +162,12 @@ mutual
 pub field_swapped : (x : Value) (ys : Values) (q : Position) (k : ℕ) (h : Position → Held)
     → held_with x (inner q k) (all_held_with ys q (suc k) h) ≡ all_held_with ys q (suc k) (held_with x (inner q k) h)
 field_swapped x ys q k h = value_swapped x (inner q k) ys q (suc k) h (field_apart q k)
+
+-- so it is with variables that have different roots
+pub roots_swapped : (x : Value) (p : Position) (y : Value) (q : Position) (h : Position → Held) → (p.root ≡ q.root → ⊥)
+    → held_with x p (held_with y q h) ≡ held_with y q (held_with x p h)
+roots_swapped x p (scalar ty z) q h o = sym (one_swapped x p h q (single ty z) (root_apart p q o))
+roots_swapped x p (fields t ys) q h o =
+    value_swapped x p ys q 0 (updated h q parts) (λ path. apart_all q (part p path) 0 (root_apart q (part p path) (λ e. o (sym e))))
+    ∙ ap (all_held_with ys q 0) (sym (one_swapped x p h q parts (root_apart p q o)))
+roots_swapped x p (elements e dims xs) q h o = sym (one_swapped x p h q (table e dims xs) (root_apart p q o))

@@ -26,8 +26,8 @@ pub mod Parameters
 pub mod ByPledges
 pub mod Statics
 pub mod Filling
-mod Parts
-mod LaidValues
+pub mod Parts
+pub mod LaidValues
 mod Overwritten
 mod Laid
 mod FirstArrays

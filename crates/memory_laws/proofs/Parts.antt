@@ -77,6 +77,10 @@ pub field_apart : (q : Position) (k : ℕ) (path : List ℕ) → ApartFrom q (su
 field_apart q k path j le rest e =
     not_same k j le (same_field rest path q.path j k (path_of (part (inner q j) rest) (part (inner q k) path) e))
 
+-- nor is one of another root
+pub root_apart : (q p : Position) → (q.root ≡ p.root → ⊥) → Apart q p
+root_apart q p o path e = o (ap (λ (z : Position). z.root) e)
+
 -- ---- what is laid elsewhere
 
 mutual

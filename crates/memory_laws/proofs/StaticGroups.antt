@@ -29,7 +29,7 @@ use Rattle.memory_laws.proofs.Filling.{filled_later, fills_none}
 use Rattle.memory_laws.proofs.GroupFills.{FirstValue, first_value_matches, value_fills}
 use Rattle.memory_laws.proofs.GroupValues.{value_suits}
 use Rattle.memory_laws.proofs.GroupsMade.{group_shape, group_sound, group_type, sound_makeable}
-use Rattle.memory_laws.proofs.LaidValues.{kinds_laid, laid_is, net_laid_is}
+use Rattle.memory_laws.proofs.LaidValues.{kinds_laid, laid_is, net_laid_is, sound_end}
 use Rattle.memory_laws.proofs.Moved.{part_goes_alone}
 use Rattle.memory_laws.proofs.Positions.{at}
 use Rattle.memory_laws.proofs.Suited.{key_laid}
@@ -91,7 +91,7 @@ module _ (U : Upgrade) (K : Pledge) (w : World) (v t : ℕ) (r : IsGroup U v t) 
   source_is : lay_if_blank there place blank w.src ≡ gives [] tt (record w.src { held = held })
   source_is =
       ap (λ b. provided b (λ m. gives [] tt (laid there q m)) w.src) (sound_makeable U there sound)
-      ∙ ap (λ m. gives [] tt m) (laid_is U there q w.src sound)
+      ∙ ap (λ m. gives [] tt m) (laid_is there q w.src (sound_end U there sound))
 
   target_is : made_once U.written home to d net.blank w.net ≡ gives [] tt (record w.net { cell = cells })
   target_is =

@@ -2,6 +2,7 @@
 use Rattle.std.specs.Prelude.{◌≡◌, ℕ, suc}
 use Rattle.net_meaning.specs.declared.value.ValueN.TheVariants as n
 use Rattle.run_base.specs.Positions.{Position, Root, inner, updated}
+use Rattle.vb6_run.specs.Shapes.{Shape, simple, group, array, endless, Shapes, no_shapes, next_shape}
 use Rattle.vb6_run.specs.Store.{Held, single, table, parts}
 use Rattle.vb6_run.specs.Values.{Value, scalar, fields, elements, Values, no_values, next_value}
 use Rattle.net_run.specs.Store as net
@@ -12,6 +13,18 @@ use Rattle.run_matches.specs.Upgrades.{Upgrade}
 use Rattle.memory_laws.specs.Changes.{GoesAlone, IsNoArray}
 
 -- ---- values that are laid
+
+abbrev mutual
+  -- no part of a variable of a shape is of a type that holds itself
+  pub HasEnd : Shape → Type 0
+  HasEnd (simple ty) = Unit {0}
+  HasEnd (group t fs) = HaveEnds fs
+  HasEnd (array e bounds) = Unit {0}
+  HasEnd endless = ⊥
+
+  pub HaveEnds : Shapes → Type 0
+  HaveEnds no_shapes = Unit {0}
+  HaveEnds (next_shape s rest) = HasEnd s × HaveEnds rest
 
 abbrev mutual
   -- what positions hold once a value stands at one of them

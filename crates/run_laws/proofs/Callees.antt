@@ -1,6 +1,7 @@
 -- A procedure that passes can be called from the lines of another.
 use Rattle.vb_tree.specs.BoundTree.{Ty}
 use Rattle.name_laws.proofs.Keeping.{seen_to_keep}
+use Rattle.bound_facts.specs.SelfMade.{module_of}
 use Rattle.bound_facts.specs.Nodes.{nodes_of_passed}
 use Rattle.run_matches.specs.Keeping.{given_types, keeps_callee, keeps_each, keeps_given, keeps_seen}
 use Rattle.std.proofs.Common.{◌≡◌, sym, ap, subst, ◌∙◌, ℕ, true, false, Option, Some, ◌++◌, map, ◌&&◌, None, List, [], ◌∷◌, inl, inr}
@@ -21,6 +22,7 @@ use Rattle.written_trees.specs.Arguments.{is_property_at, is_property_kind, para
 use Rattle.run_matches.specs.Callees.{is_found}
 use Rattle.run_matches.specs.CleanLines.{IsCleanLine, line_points, lines_at, result_points}
 use Rattle.run_matches.specs.Covered.{covers_callee, covers_calls, suits, suits_callee, suits_passed, hands, hands_callee, hands_passed}
+use Rattle.run_matches.specs.Pledges.{stands_in_class}
 use Rattle.run_matches.specs.Sites.{Site, site_of}
 use Rattle.run_matches.specs.Upgrades.{Upgrade}
 use Rattle.run_statements.specs.Fitting.{FitsNode, FitsPassed}
@@ -151,6 +153,7 @@ module _ (U : Upgrade) (known : AreFacts U.program U.known) (procedures : Proced
         number = V.number;
         is_number = V.is_number;
         plain = ap is_property_at c.is_procedure ∙ no_property c.procedure.kind c.kind;
+        standard = ap (λ o. stands_in_class U (module_of o)) c.is_procedure ∙ c.outer;
         suits = fit;
         hands = both.0;
         given = seen_each U q ts keeping.0;

@@ -23,8 +23,9 @@ use Rattle.vb6_run.specs.Runnables.{is_class_file}
 use Rattle.written_trees.specs.Arguments.{is_property_kind}
 use Rattle.written_trees.specs.Types.{element_type}
 use Rattle.run_matches.specs.Formed.{is_formed}
-use Rattle.run_matches.specs.CoveredVariables.{belongs_to, covers_variable, covers_array_owner, covers_array_variable, covers_bounds, covers_declared, has_extents, is_array_of, are_different, covers_owner, covers_type}
+use Rattle.run_matches.specs.CoveredVariables.{belongs_to, covers_variable, covers_array_owner, covers_array_variable, covers_bounds, covers_declared, covers_group_owner, covers_group_variable, covers_user, has_extents, is_array_of, are_different, covers_owner, covers_type}
 use Rattle.run_matches.specs.CoveredExprs.{Uses, uses_in}
+use Rattle.run_matches.specs.UserTypes.{is_user_of}
 use Rattle.run_matches.specs.CoveredLines.{covers_form, covers_in_block, covers_label, covers_line, has_sound_label, has_sound_label_in, jump_of}
 use Rattle.run_matches.specs.Covered.{covers_body, covers_head, covers_kind, covers_names, covers_owns, covers_procedure, covers_site, covers_variables, is_plain, is_plain_kind, keeps_blocks, keeps_blocks_in, covers_own, covers_all_calls, covers_calls, covers_parameter, covers_result, has_result, is_answer_of, is_value_of, is_parameter_of}
 use Rattle.run_matches.specs.Callees.{frame_owns}
@@ -228,29 +229,37 @@ pub plain_parts : (o : Option Procedure) → is_plain o ≡ true → PlainProced
 plain_parts None h = absurd (true≢false (sym h))
 plain_parts (Some x) h = record { procedure = x; is_procedure = refl; kind = plain_kind x.kind h }
 
-abbrev own_covered : (p : ℕ) → Variable → Bool
-own_covered p x = cond (belongs_to p x.owner) (covers_declared x) true
+abbrev own_covered : Declarations → (p : ℕ) → Variable → Bool
+own_covered D p x = cond (belongs_to p x.owner) (covers_declared D x) true
 
 -- what the procedure owns is covered
 pub own_covered_at : (P : Program) (p v : ℕ) (x : Variable) → covers_variables P p ≡ true → slice_get P.declarations.vars v ≡ Some x
-    → belongs_to p x.owner ≡ true → covers_declared x ≡ true
+    → belongs_to p x.owner ≡ true → covers_declared P.declarations x ≡ true
 own_covered_at P p v x h e owned =
-    sym (ap (λ b. cond b (covers_declared x) true) owned)
-    ∙ all_at (own_covered p) P.declarations.vars v x (both_true (list_all (own_covered p) P.declarations.vars) (has_extents P) h).0 e
+    sym (ap (λ b. cond b (covers_declared P.declarations x) true) owned)
+    ∙ all_at (own_covered P.declarations p) P.declarations.vars v x
+    (both_true (list_all (own_covered P.declarations p) P.declarations.vars) (has_extents P) h).0 e
 
 pub extents_given : (P : Program) (p : ℕ) → covers_variables P p ≡ true → has_extents P ≡ true
-extents_given P p h = (both_true (list_all (own_covered p) P.declarations.vars) (has_extents P) h).1
+extents_given P p h = (both_true (list_all (own_covered P.declarations p) P.declarations.vars) (has_extents P) h).1
 
--- no array, where there can be none
-pub scalar_declared : (x : Variable) → covers_array_owner x.owner ≡ false → covers_declared x ≡ true → covers_variable x ≡ true
-scalar_declared x none h = by (covers_variable x) refl h
+-- neither an array nor a user type, where there can be none
+pub scalar_declared : (D : Declarations) (x : Variable) → covers_array_owner x.owner ≡ false → covers_group_owner x.owner ≡ false
+    → covers_declared D x ≡ true → covers_variable x ≡ true
+scalar_declared D x none neither h = by (covers_variable x) h
   where
     rest : Bool
     rest = covers_type (element_type x.ty) && (is_array_of (element_type x.ty) x.ty && (covers_bounds x.ty x.bounds && not x.auto))
 
-    by : (b : Bool) → covers_variable x ≡ b → (b || covers_array_variable (element_type x.ty) x) ≡ true → b ≡ true
-    by true e k = refl
-    by false e k = absurd (true≢false (sym (sym (ap (λ c. c && rest) none) ∙ k)))
+    users : Bool
+    users = is_user_of (covers_user D) x.ty && not x.auto
+
+    others : covers_array_variable (element_type x.ty) x || covers_group_variable D x ≡ false
+    others = ap (λ c. (c && rest) || covers_group_variable D x) none ∙ ap (λ c. c && users) neither
+
+    by : (b : Bool) → (b || (covers_array_variable (element_type x.ty) x || covers_group_variable D x)) ≡ true → b ≡ true
+    by true k = refl
+    by false k = absurd (true≢false (sym (sym others ∙ k)))
 
 -- ---- lines
 

@@ -61,7 +61,7 @@ word_of _ h = absurd (true≢false (sym h))
 
 -- ---- variables
 
-abbrev plain_variable : List ℕ → TypeName → net_tree.Variable
+abbrev pub plain_variable : List ℕ → TypeName → net_tree.Variable
 plain_variable name t = record { name = name; ty = t; value = None }
 
 static_dim_by : (b c : Bool) (x y : net_tree.Variable) → b ≡ true → c ≡ false

@@ -1,6 +1,7 @@
 pub mod Covered
 pub mod Keeping
 pub mod Dims
+pub mod GroupDims
 pub mod Usable
 pub mod StaticOrder
 pub mod StaticKeys

@@ -64,6 +64,7 @@ module _ (U : Upgrade) (K L : Pledge) (w : World) (h : MemoryMatch U w) (weaker 
         resume = m.resume;
         me = m.me;
         me_made = m.me_made;
+        own_object = m.own_object;
         names = m.names;
         vars = λ v a e flag. variable v a e flag;
         statics = m.statics;

@@ -1,17 +1,22 @@
 -- What the laws on runs need of declarations, names, memories and lines.
-use Rattle.std.specs.Prelude.{◌≡◌, ℕ, suc, true, Option, Some, slice_get, List}
+use Rattle.std.specs.Prelude.{◌≡◌, ℕ, suc, Bool, true, false, Option, Some, None, slice_get, List, [], ◌∷◌}
 use Rattle.std.specs.List.{Contains}
+use Rattle.vb_tree.specs.BoundTree.{user}
 use Rattle.bound_tree.specs.Tree.{Expr, Line, Procedure, Variable}
 use Rattle.bound_facts.specs.Clean.{IsClean}
 use Rattle.run_base.specs.Machines.{nth_line, go}
 use Rattle.bound_facts.specs.Facts.{AreFacts}
 use Rattle.bound_facts.specs.Parts.{line_uses}
+use Rattle.net_tree.specs.Tree as net_tree
 use Rattle.net_tree.specs.Types.{TypeName}
+use Rattle.run_base.specs.Positions.{Key, shared, whole}
 use Rattle.vb6_run.specs.Shapes.{variable_shape}
 use Rattle.vb6_run.specs.Store.{make, SourceGiven, make_with}
 use Rattle.vb6_run.specs.Values.{Value}
 use Rattle.vb6_run.specs.Programs as source
+use Rattle.vb6_run.specs.Programs.{lay_if_blank}
 use Rattle.net_run.specs.Program as target
+use Rattle.net_run.specs.Program.{made_once}
 use Rattle.net_run.specs.Shapes as shape
 use Rattle.net_run.specs.Store as net
 use Rattle.net_run.specs.Values as net_value
@@ -19,20 +24,22 @@ use Rattle.run_matches.specs.Agreeing.{Agrees}
 use Rattle.run_matches.specs.CleanLines.{IsCleanLine, lines_at}
 use Rattle.written_trees.specs.Bodies.{inside_procedure}
 use Rattle.written_trees.specs.Facts.{is_array_variable}
-use Rattle.run_matches.specs.CoveredVariables.{belongs_to, covers_declared, covers_variable, has_extents}
+use Rattle.written_trees.specs.Types.{type_with}
+use Rattle.run_matches.specs.CoveredVariables.{belongs_to, covers_declared, covers_user, covers_variable, has_extents}
 use Rattle.run_matches.specs.CoveredExprs.{uses_in}
 use Rattle.run_matches.specs.CoveredLines.{covers_line}
 use Rattle.run_matches.specs.Covered.{IsCoveredLine, covers_procedure, is_scalar_or_loud}
-use Rattle.run_matches.specs.Likeness.{scalar_word, LikeV}
+use Rattle.run_matches.specs.Likeness.{scalar_word, LikeV, SameShape}
 use Rattle.run_matches.specs.Maps.{Mark, World}
 use Rattle.run_matches.specs.Match.{MemoryMatch}
 use Rattle.run_matches.specs.Pledges.{Later, NetGiven, Pledge}
 use Rattle.run_matches.specs.Runs.{CallsAgree, call_pledge}
 use Rattle.run_matches.specs.Sites.{Site, site_of}
-use Rattle.run_matches.specs.Upgrades.{Upgrade, runnable_of}
+use Rattle.run_matches.specs.Upgrades.{Upgrade, home_of, runnable_of, variable_key}
 use Rattle.run_statements.specs.Fitting.{FitsLine, FitsNode}
 use Rattle.run_statements.specs.Arrays.{ArraysAreMadeBy, StaticArraysAreLaidBy}
-use Rattle.run_statements.specs.Frames.{AreReadable, IsReadable, IsUsable, MadeMatch}
+use Rattle.run_statements.specs.Frames.{AnyUnits, AreReadable, IsGroup, IsReadable, IsUsable, MadeMatch}
+use Rattle.run_statements.specs.Groups.{GroupMade, ValueMatch}
 use Rattle.run_statements.specs.Kept.{IsUnreplaced, LabelsAreFound, LinesAgree, LinesAreWritten, NamesAreOpen, OwnsAreKept, NoFurtherLines, StoresAreOwn, UsesArePlaced, CalleesAreFound}
 use Rattle.run_statements.specs.Written.{ProceduresAreWritten, WrittenProcedure, Passes, site_scope}
 use Rattle.expression_laws.specs.Statements.{VariablesAreReadBy}
@@ -74,7 +81,7 @@ CoveredStoresAreOwn U =
 abbrev pub OwnedAreUsable : Upgrade → Type 0
 OwnedAreUsable U =
     (p v : ℕ) (x : Variable) → IsClean U.program U.facts.marks p → slice_get U.program.declarations.vars v ≡ Some x → belongs_to p x.owner ≡ true
-    → covers_declared x ≡ true → is_scalar_or_loud U.program v x ≡ true → IsUsable U v
+    → covers_declared U.program.declarations x ≡ true → is_scalar_or_loud U.program v x ≡ true → IsUsable U v
 
 -- a scalar can be read
 abbrev pub OwnedAreReadable : Upgrade → Type 0
@@ -82,26 +89,13 @@ OwnedAreReadable U =
     (p v : ℕ) (x : Variable) → IsClean U.program U.facts.marks p → slice_get U.program.declarations.vars v ≡ Some x → belongs_to p x.owner ≡ true
     → covers_variable x ≡ true → is_scalar_or_loud U.program v x ≡ true → IsReadable U v
 
--- a local variable is made on both sides, under a pledge and under those of calls
+-- a local variable is made on both sides, under a pledge
 abbrev pub LocalsAreMadeBy : Upgrade → Pledge → Type 0
 LocalsAreMadeBy U K =
     (w : World) (v : ℕ) (r : IsReadable U v) (t : TypeName) → scalar_word r.variable.ty ≡ Some t → MemoryMatch U w
     → Agrees U K w (MadeMatch U K v r.variable.ty t)
     (make (variable_shape U.program.declarations v) w.src)
     (net.made_with (shape.scalar t) (shape.default_of (shape.scalar t)) w.net)
-
-abbrev pub LocalsAreMadeInCalls : Upgrade → Type 0
-LocalsAreMadeInCalls U =
-    (p : ℕ) (base : Mark) (me : Option ℕ) (xs : List SourceGiven) (ys : List NetGiven) → LocalsAreMadeBy U (call_pledge U p base me xs ys)
-
--- so is a local array, and a Static one where none is there yet
-abbrev pub ArraysAreMadeInCalls : Upgrade → Type 0
-ArraysAreMadeInCalls U =
-    (p : ℕ) (base : Mark) (me : Option ℕ) (xs : List SourceGiven) (ys : List NetGiven) → ArraysAreMadeBy U (call_pledge U p base me xs ys)
-
-abbrev pub StaticArraysAreLaidInCalls : Upgrade → Type 0
-StaticArraysAreLaidInCalls U =
-    (p : ℕ) (base : Mark) (me : Option ℕ) (xs : List SourceGiven) (ys : List NetGiven) → StaticArraysAreLaidBy U (call_pledge U p base me xs ys)
 
 -- an array has a dimension
 abbrev pub ArraysHaveRanks : Upgrade → Type 0
@@ -116,9 +110,54 @@ ValuesAreMadeBy U K =
     (make_with (variable_shape U.program.declarations v) x w.src)
     (net.made_with (shape.scalar t) y w.net)
 
-abbrev pub ValuesAreMadeInCalls : Upgrade → Type 0
-ValuesAreMadeInCalls U =
-    (p : ℕ) (base : Mark) (me : Option ℕ) (xs : List SourceGiven) (ys : List NetGiven) → ValuesAreMadeBy U (call_pledge U p base me xs ys)
+-- so are variables of user types, and a Static one where none is there yet
+abbrev pub GroupsAreMadeBy : Upgrade → Pledge → Type 0
+GroupsAreMadeBy U K =
+    (w : World) (v user_type : ℕ) (r : IsGroup U v user_type) (d : shape.Shape) → SameShape U (variable_shape U.program.declarations v) d → MemoryMatch U w
+    → Agrees U K w (GroupMade U K v d)
+    (make (variable_shape U.program.declarations v) w.src)
+    (net.made_with d (shape.default_of d) w.net)
+
+abbrev pub GroupsAreGivenBy : Upgrade → Pledge → Type 0
+GroupsAreGivenBy U K =
+    (w0 w : World) (v user_type : ℕ) (r : IsGroup U v user_type) (d : shape.Shape) (x : Value) (y : net_value.Value)
+    → SameShape U (variable_shape U.program.declarations v) d → Later U K w0 w → ValueMatch U (variable_shape U.program.declarations v) w0 x y
+    → Agrees U K w (GroupMade U K v d)
+    (make_with (variable_shape U.program.declarations v) x w.src)
+    (net.made_with d y w.net)
+
+abbrev pub StaticGroupsAreLaidBy : Upgrade → Pledge → Type 0
+StaticGroupsAreLaidBy U K =
+    (w : World) (v user_type : ℕ) (r : IsGroup U v user_type) (home : ℕ) (key : Key) (d : net_tree.Variable) → MemoryMatch U w
+    → variable_key U v ≡ Some key → ((u : ℕ) → variable_key U u ≡ Some key → v ≡ u) → d.value ≡ None
+    → SameShape U (variable_shape U.program.declarations v) (shape.shape_of U.written home d.ty)
+    → Agrees U K w AnyUnits
+    (lay_if_blank (variable_shape U.program.declarations v) (shared (v ∷ [])) (w.src.held (whole (shared (v ∷ [])))) w.src)
+    (made_once U.written home (shared key) d (w.net.cell (whole (shared key))) w.net)
+
+-- what is made on both sides under a pledge, and under those of calls
+pub record MakesAlike (U : Upgrade) (K : Pledge) : Type 0 where
+  pub scalars : LocalsAreMadeBy U K
+  pub arrays : ArraysAreMadeBy U K
+  pub groups : GroupsAreMadeBy U K
+  pub static_arrays : StaticArraysAreLaidBy U K
+  pub static_groups : StaticGroupsAreLaidBy U K
+  pub scalars_given : ValuesAreMadeBy U K
+  pub groups_given : GroupsAreGivenBy U K
+
+abbrev pub CallsMakeAlike : Upgrade → Type 0
+CallsMakeAlike U =
+    (p : ℕ) (base : Mark) (me : Option ℕ) (xs : List SourceGiven) (ys : List NetGiven) → MakesAlike U (call_pledge U p base me xs ys)
+
+-- what is written for a variable of a user type has its shape, and nothing for it to begin with
+pub record GroupsAreWritten (U : Upgrade) : Type 0 where
+  pub shaped :
+      (v user_type : ℕ) → IsGroup U v user_type → (home file rank : ℕ) (qualified : Bool) → home_of U file ≡ Some home
+      → SameShape U (variable_shape U.program.declarations v)
+      (shape.shape_of U.written home (type_with U.program.declarations file qualified rank (user user_type)))
+  pub unmade : (user_type : ℕ) → covers_user U.program.declarations user_type ≡ true → U.facts.is_made user_type ≡ false
+  -- the module of a procedure is the one of its file
+  pub homes : (p : ℕ) (s : Site) → site_of U.program.declarations p ≡ Some s → home_of U s.source_module.file ≡ Some s.home
 
 -- a result variable is read on both sides
 abbrev pub ResultsAreRead : Upgrade → Type 0
@@ -194,9 +233,7 @@ pub record RunPremises (U : Upgrade) : Type 0 where
   pub owned_scalars : OwnedAreReadable U
   pub known : AreFacts U.program U.known
   pub found : CalleesAreFound U
-  pub made : LocalsAreMadeInCalls U
+  pub makes : CallsMakeAlike U
   pub ranked : has_extents U.program ≡ true → ArraysHaveRanks U
-  pub made_arrays : ArraysAreMadeInCalls U
-  pub laid_arrays : StaticArraysAreLaidInCalls U
-  pub made_with : ValuesAreMadeInCalls U
+  pub groups : GroupsAreWritten U
   pub read : ResultsAreRead U

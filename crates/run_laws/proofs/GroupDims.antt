@@ -1,0 +1,119 @@
+-- What the declarations make that are written for variables of user types.
+use Rattle.std.proofs.Common.{◌≡◌, refl, sym, ap, subst, ◌∙◌, ℕ, Bool, true, false, cond, Option, Some, None, List, []}
+use Rattle.up_base.proofs.Tests.{neither}
+use Rattle.vb_tree.specs.BoundTree.{Ty, user}
+use Rattle.bound_tree.specs.Tree.{Declarations, Variable}
+use Rattle.net_tree.specs.Tree as net_tree
+use Rattle.net_tree.specs.Types.{TypeName}
+use Rattle.run_base.specs.Outcomes.{gives, some_of, then}
+use Rattle.run_base.specs.Positions.{shared, whole}
+use Rattle.vb6_run.specs.Shapes.{variable_shape}
+use Rattle.net_run.specs.Members.{Code}
+use Rattle.net_run.specs.Names.{is_class}
+use Rattle.net_run.specs.Program.{dim_made, made_once, object_static, static_at, static_key}
+use Rattle.net_run.specs.Shapes as shape
+use Rattle.net_run.specs.Store as net
+use Rattle.written_trees.specs.Facts.{Facts, is_flagged_variable}
+use Rattle.written_trees.specs.Names.{Scope}
+use Rattle.written_trees.specs.Prologues.{initial, is_static, made_user, object_variable, typed_variable, variable_dim, written_variable}
+use Rattle.written_trees.specs.Types.{type_with}
+use Rattle.agreeing_laws.proofs.Outputs.{after_nothing}
+use Rattle.run_matches.specs.Likeness.{SameShape}
+use Rattle.run_matches.specs.Sites.{own_variable}
+use Rattle.run_matches.specs.Upgrades.{Upgrade, home_of, is_unknown, type_of}
+use Rattle.run_statements.specs.Frames.{IsGroup}
+use Rattle.run_statements.specs.Kept.{own_dim}
+use Rattle.run_laws.specs.Premises.{GroupsAreWritten}
+use Rattle.run_laws.proofs.Dims.{plain_variable}
+
+-- what is written for the declaration of a variable of a user type
+pub record GroupWritten (U : Upgrade) (S : Scope) (home v t : ℕ) (r : IsGroup U v t) : Type 0 where
+  pub word : TypeName
+  pub same : SameShape U (variable_shape U.program.declarations v) (shape.shape_of U.written home word)
+  pub is_written : written_variable S (v, r.known.variable) ≡ plain_variable r.known.variable.name word
+
+module _ (U : Upgrade) (written : GroupsAreWritten U) (S : Scope) (facts : S.facts ≡ U.facts) (declared : S.declarations ≡ U.program.declarations)
+    (home : ℕ) (here : home_of U S.file ≡ Some home) where
+  -- the name of the type leads to the structure
+  pub type_shaped : (v t : ℕ) (r : IsGroup U v t) (rank : ℕ) (qualified : Bool)
+      → SameShape U (variable_shape U.program.declarations v) (shape.shape_of U.written home (type_with S.declarations S.file qualified rank (user t)))
+  type_shaped v t r rank qualified =
+      subst
+      (λ E. SameShape U (variable_shape U.program.declarations v) (shape.shape_of U.written home (type_with E S.file qualified rank (user t))))
+      (sym declared) (written.shaped v t r home S.file rank qualified here)
+
+  pub group_written : (v t : ℕ) (r : IsGroup U v t) → GroupWritten U S home v t r
+  group_written v t r =
+      let x : Variable = r.known.variable in
+      let word = λ (ty : Ty). type_with S.declarations S.file x.qualified (S.facts.rank v) ty in
+      let unflagged : is_flagged_variable S.facts v ≡ false =
+      ap (λ F. is_flagged_variable F v) facts ∙ (neither (is_flagged_variable U.facts v) (is_unknown (type_of U v)) r.known.sound).0 in
+      let none : made_user (S.facts.is_made t) t ≡ None =
+      ap (λ (F : Facts). made_user (F.is_made t) t) facts ∙ ap (λ b. made_user b t) (written.unmade t r.covers) in
+      record {
+        word = word (user t);
+        same = type_shaped v t r (S.facts.rank v) x.qualified;
+        is_written =
+            ap (λ b. cond b (object_variable x.name) (typed_variable S v x)) unflagged
+            ∙ (ap (λ ty. written_as x.name (word ty) (initial S v x ty)) r.is_user ∙ ap (λ o. written_as x.name (word (user t)) o) none);
+      }
+    where
+      written_as : List ℕ → TypeName → Option net_tree.Exp → net_tree.Variable
+      written_as name ty value = record { name = name; ty = ty; value = value }
+
+-- The declaration of a local variable makes one of the structure, under its name.
+pub record GroupDim (U : Upgrade) (S : Scope) (c : Code) (v t : ℕ) (r : IsGroup U v t) : Type 0 where
+  pub written : shape.Shape
+  pub same : SameShape U (variable_shape U.program.declarations v) written
+  pub is_made :
+      (me : Option ℕ) (i : ℕ) (w : net.Memory)
+      → dim_made U.written c me i (own_dim S (own_variable v r.known.variable)) w
+      ≡ then (net.made_with written (shape.default_of written) w) (λ b t. gives [] (r.known.variable.name, b) t)
+
+-- The declaration of a Static makes one at its key, where none is there.
+pub record GroupStatic (U : Upgrade) (S : Scope) (c : Code) (v t : ℕ) (r : IsGroup U v t) : Type 0 where
+  pub made : net_tree.Variable
+  pub plain : made.value ≡ None
+  pub same : SameShape U (variable_shape U.program.declarations v) (shape.shape_of U.written c.home made.ty)
+  pub is_made :
+      (me : Option ℕ) (i : ℕ) (w : net.Memory)
+      → dim_made U.written c me i (own_dim S (own_variable v r.known.variable)) w
+      ≡ then (made_once U.written c.home (shared (static_key c i)) made (w.cell (whole (shared (static_key c i)))) w)
+      (λ u t. gives [] (r.known.variable.name, net.root (shape.shape_of U.written c.home made.ty) (whole (shared (static_key c i)))) t)
+
+module _ (U : Upgrade) (written : GroupsAreWritten U) (S : Scope) (facts : S.facts ≡ U.facts) (declared : S.declarations ≡ U.program.declarations)
+    (c : Code) (here : home_of U S.file ≡ Some c.home) (v t : ℕ) (r : IsGroup U v t) where
+  abbrev x : Variable
+  x = r.known.variable
+
+  abbrev m : GroupWritten U S c.home v t r
+  m = group_written U written S facts declared c.home here v t r
+
+  pub group_made : is_static r.known.variable.owner ≡ false → GroupDim U S c v t r
+  group_made local =
+      let d : shape.Shape = shape.shape_of U.written c.home m.word in
+      let dim : variable_dim S (v, x) ≡ net_tree.local (plain_variable x.name m.word) =
+      ap (λ b. cond b (net_tree.static_local (written_variable S (v, x))) (net_tree.local (written_variable S (v, x)))) local
+      ∙ ap (λ y. net_tree.local y) m.is_written in
+      record {
+        written = d;
+        same = m.same;
+        is_made = λ me i w.
+            ap (λ e. dim_made U.written c me i e w) dim
+            ∙ after_nothing (then (net.made_with d (shape.default_of d) w) (λ b t. gives [] (x.name, b) t));
+      }
+
+  pub group_static_made : is_class U.written c.home ≡ false → is_static r.known.variable.owner ≡ true → GroupStatic U S c v t r
+  group_static_made outer static =
+      let d : net_tree.Variable = plain_variable x.name m.word in
+      let dim : variable_dim S (v, x) ≡ net_tree.static_local d =
+      ap (λ b. cond b (net_tree.static_local (written_variable S (v, x))) (net_tree.local (written_variable S (v, x)))) static
+      ∙ ap (λ y. net_tree.static_local y) m.is_written in
+      record {
+        made = d;
+        plain = refl;
+        same = m.same;
+        is_made = λ me i w.
+            ap (λ e. dim_made U.written c me i e w) dim
+            ∙ ap (λ b. some_of (cond b (object_static (static_key c i) me) (Some (shared (static_key c i)))) (static_at U.written c.home d) w) outer;
+      }
