@@ -51,7 +51,7 @@ use Rattle.agreeing_laws.proofs.OwnObjects.{no_own_object}
 use Rattle.agreeing_laws.proofs.Moves.{address_later, locks_promised}
 use Rattle.expression_laws.specs.Calls.{ArgumentsMatch, GivenMatch, Stands, next_address}
 use Rattle.expression_laws.proofs.Arguments.{arguments_ok, callee_is_weaker, stands_later}
-use Rattle.expression_laws.proofs.Images.{plain_later}
+use Rattle.expression_laws.proofs.LastingImages.{plain_later}
 use Rattle.expression_laws.proofs.Checks.{value_checked}
 
 -- ---- what is written for an argument

@@ -80,7 +80,8 @@ use Rattle.expression_laws.proofs.Arguments.{stands_now, stands_later}
 use Rattle.expression_laws.proofs.Calls.{call_agrees, call_value_agrees, callee_is}
 use Rattle.expression_laws.proofs.Handed.{taken_agrees}
 use Rattle.expression_laws.proofs.Handled.{Handles}
-use Rattle.expression_laws.proofs.Images.{images_now, images_later}
+use Rattle.expression_laws.proofs.Images.{images_now}
+use Rattle.expression_laws.proofs.LastingImages.{images_later}
 use Rattle.expression_laws.proofs.Library.{by_either, library_agrees}
 use Rattle.expression_laws.proofs.IndexRows.{index_is_row}
 use Rattle.expression_laws.proofs.Elements.{IndexesLike, array_agrees, index_agrees, indexed_agrees, next_agrees, sound_array}

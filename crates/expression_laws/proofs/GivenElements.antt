@@ -37,7 +37,7 @@ use Rattle.agreeing_laws.proofs.Indexes.{as_answer, place_agrees}
 use Rattle.agreeing_laws.proofs.Moves.{address_later}
 use Rattle.expression_laws.specs.Calls.{ArgumentsMatch, next_address}
 use Rattle.expression_laws.proofs.ElementValues.{element_like, sizes_of}
-use Rattle.expression_laws.proofs.Images.{plain_later}
+use Rattle.expression_laws.proofs.LastingImages.{plain_later}
 use Rattle.expression_laws.proofs.References.{or_true, plain_shape}
 
 -- addresses of an element on both sides

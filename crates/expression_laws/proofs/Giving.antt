@@ -97,6 +97,7 @@ module _ (U : Upgrade) (K : Pledge) (S : net_names.Scope) (T : Scope) (ts : List
     number = c.number;
     is_number = c.is_number;
     plain = c.plain;
+    standard = c.standard;
     suits = c.suits;
     hands = c.hands;
     given = c.given;

@@ -3,7 +3,10 @@ pub mod Checks
 pub mod Variables
 pub mod RowsAgree
 pub mod Conversions
+pub mod UsedShapes
+pub mod ModuleImages
 pub mod Images
+pub mod LastingImages
 mod FieldPaths
 pub mod Places
 mod LibraryArguments

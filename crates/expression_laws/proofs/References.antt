@@ -17,7 +17,7 @@ use Rattle.vb6_run.specs.Expressions as source
 use Rattle.vb6_run.specs.Expressions.{Context, at_address}
 use Rattle.vb6_run.specs.Forms.{SourceLine}
 use Rattle.vb6_run.specs.Runnables.{variable_address}
-use Rattle.vb6_run.specs.Shapes.{Shape, simple, array, variable_shape, endless, part_shape, group}
+use Rattle.vb6_run.specs.Shapes.{Shape, simple, array, endless, part_shape}
 use Rattle.vb6_run.specs.Store.{Address, Memory, SourceCalls, SourceFrame, SourceGiven, held_at, root, item, constant}
 use Rattle.vb6_run.specs.Values.{Value}
 use Rattle.net_run.specs.Calls.{Arguments}
@@ -44,15 +44,14 @@ use Rattle.run_matches.specs.Match.{MemoryMatch}
 use Rattle.run_matches.specs.Pledges.{Pledge}
 use Rattle.run_matches.specs.Upgrades.{Upgrade, takes_array}
 use Rattle.run_statements.specs.Fitting.{FitsArgument}
-use Rattle.run_matches.specs.SoundShapes.{IsSoundShape}
-use Rattle.run_statements.specs.Frames.{AreReadable, IsGroup, IsKnown, IsReadable, context_of}
+use Rattle.run_statements.specs.Frames.{AreReadable, IsKnown, IsReadable, context_of}
 use Rattle.row_laws.proofs.Composing.{after_nil}
 use Rattle.agreeing_laws.proofs.Agreeing.{agrees_outside}
 use Rattle.expression_laws.specs.Calls.{ArgumentsMatch}
 use Rattle.expression_laws.specs.Images.{HasImage, HaveImages, IsImage}
 use Rattle.expression_laws.proofs.Calls.{address_agrees}
 use Rattle.expression_laws.proofs.Elements.{ArrayThere, array_there, sound_array}
-use Rattle.expression_laws.proofs.Images.{array_stands, group_shape_is, known_used, scalar_stands}
+use Rattle.expression_laws.proofs.UsedShapes.{array_stands, known_used, scalar_stands}
 use Rattle.expression_laws.proofs.Types.{both_true}
 use Rattle.expression_laws.proofs.Variables.{known_exp, known_none}
 
@@ -184,25 +183,6 @@ parameter_ranked U K w T uses readable q i ty v qualified (inr h) fits suits a b
     (x.ranked there.element there.rank (ap net.shape_at there.stands)
     ∙ fits (sound_array U v used.0 ty qualified (readable.arrays v used.0 used.1) (array_typed uses ty v qualified h))
     (suited (is_array_type ty) (takes_array U.program.declarations q i) (array_typed uses ty v qualified h) suits))
-
--- what has no array stands as it is declared
-pub sound_stands : (U : Upgrade) (s : Shape) (a : Address) (p : Position) → IsSoundShape U s → StandsAs s a p → a ≡ root s p
-sound_stands U (simple ty) a p c h = h
-sound_stands U (group t fs) a p c h = h
-sound_stands U (array e bounds) a p c h = absurd c
-sound_stands U endless a p c h = absurd c
-
--- where it stands
-stands_at : (U : Upgrade) (T : Scope) (uses : Uses) → AreReadable U T uses → (v : VarId) → IsUsed uses v → (a : Address) (p : Position)
-    → StandsAs (variable_shape U.program.declarations v.0) a p → (s : Shape) × (a ≡ root s p)
-stands_at U T uses readable v (inl h) a p stands =
-    let r : IsReadable U v.0 = readable.scalars v h in (simple r.variable.ty, scalar_stands U v.0 r a p stands)
-stands_at U T uses readable v (inr (inr h)) a p stands =
-    let r : IsGroup U v.0 h.0 = readable.groups v h.0 h.1 in
-    let c : IsSoundShape U (variable_shape U.program.declarations v.0) = subst (λ s. IsSoundShape U s) (sym (group_shape_is U v.0 h.0 r)) r.fields in
-    (variable_shape U.program.declarations v.0, sound_stands U (variable_shape U.program.declarations v.0) a p c stands)
-stands_at U T uses readable v (inr (inl h)) a p stands =
-    let r = array_stands U v.0 h.0 (readable.arrays v h.0 h.1) a p stands in (array (simple h.0) r.0, r.1)
 
 -- ---- the target
 

@@ -1,6 +1,6 @@
 -- The statements: expressions that are covered and well formed do the same as what is written for them.
 use Rattle.std.specs.Prelude.{◌≡◌, ℕ, true, false, []}
-use Rattle.vb_tree.specs.BoundTree.{Ty, array}
+use Rattle.vb_tree.specs.BoundTree.{Ty, array, user}
 use Rattle.bound_tree.specs.Tree.{Expr, typed, element, Exprs, Term}
 use Rattle.bound_facts.specs.Node.{type_at}
 use Rattle.run_base.specs.Outcomes.{gives, then}
@@ -21,7 +21,7 @@ use Rattle.written_trees.specs.Names.{Scope}
 use Rattle.run_matches.specs.Addresses.{Same}
 use Rattle.run_matches.specs.Agreeing.{Agrees}
 use Rattle.run_matches.specs.CoveredVariables.{covers_type}
-use Rattle.run_matches.specs.CoveredExprs.{Uses, covers_array, covers_expr, covers_exprs}
+use Rattle.run_matches.specs.CoveredExprs.{Uses, covers_array, covers_expr, covers_exprs, covers_place}
 use Rattle.run_matches.specs.Frames.{FrameMatch}
 use Rattle.run_matches.specs.Maps.{World}
 use Rattle.run_matches.specs.Match.{MemoryMatch}
@@ -29,6 +29,7 @@ use Rattle.run_matches.specs.Pledges.{Pledge}
 use Rattle.run_matches.specs.Upgrades.{Upgrade}
 use Rattle.run_statements.specs.Elements.{IndexedMatch}
 use Rattle.run_statements.specs.Fitting.{rank_of}
+use Rattle.run_statements.specs.Groups.{PlaceMatch}
 use Rattle.run_statements.specs.Frames.{ArrayMatch, ElementMatch, ScalarMatch, PlainMatch, IsOpen, context_of, ArePlaced, AreReadable, AllCalled, demands}
 use Rattle.run_matches.specs.Runs.{CallsAgree}
 use Rattle.run_statements.specs.Written.{Passes}
@@ -98,6 +99,16 @@ ArraysAgreeBy U K =
     → Agrees U K w (ArrayMatch U K d (rank_of U (typed (array d rank) t)))
     (source.address_of (context_of U oracle p f l) (typed (array d rank) t) w.src)
     (target.address_of (scope_of U.written c g k) net_oracle (exp_of T (typed (array d rank) t)) w.net)
+
+-- the address of a covered place of a user type
+abbrev pub PlacesAgreeBy : Upgrade → Pledge → Type 0
+PlacesAgreeBy U K =
+    (w : World) (p : ℕ) (f : SourceFrame) (g : NetFrame) (oracle : SourceCalls) (net_oracle : Jobs) (l : SourceLine) (k : NetLine) (c : Code)
+    (T : Scope) (uses : Uses) (t : ℕ) (tm : Term) → MemoryMatch U w → FrameMatch U K w p f g → T.declarations ≡ U.program.declarations
+    → AreReadable U T uses → ArePlaced U p f (scope_of U.written c g k) T uses → covers_place uses (typed (user t) tm) ≡ true
+    → Agrees U K w (PlaceMatch U K t)
+    (source.address_of (context_of U oracle p f l) (typed (user t) tm) w.src)
+    (target.address_of (scope_of U.written c g k) net_oracle (exp_of T (typed (user t) tm)) w.net)
 
 -- ---- under any pledge
 
