@@ -44,15 +44,15 @@ use Rattle.net_run.specs.Members.{Code}
 use Rattle.net_run.specs.Names as net_names
 use Rattle.net_run.specs.Store as net
 use Rattle.net_run.specs.Values as net_value
-use Rattle.written_trees.specs.Arguments.{argument_exp, has_address, is_conversion, is_property, kept, takes_reference, temporary_exp}
+use Rattle.written_trees.specs.Arguments.{argument_exp, has_address, is_conversion, is_copied, is_property, kept, takes_reference, temporary_exp}
 use Rattle.written_trees.specs.Exprs.{exp_of, index_at, indexes_of, passed_of}
 use Rattle.written_trees.specs.Library.{low_at}
 use Rattle.written_trees.specs.Names.{Scope, procedure_path}
 use Rattle.written_trees.specs.Operators.{binary_exp, unary_exp}
 use Rattle.run_matches.specs.Agreeing.{Agrees}
 use Rattle.run_matches.specs.CoveredVariables.{covers_type}
-use Rattle.run_matches.specs.CoveredExprs.{Uses, covers_array, covers_bounded, covers_dimension, covers_exprs, covers_library, is_bound, covers_term, covers_operator, covers_expr, covers_passed, is_passable, is_variable}
-use Rattle.run_matches.specs.Covered.{is_referred, suits_array, suits_passed, hands_argument, hands_passed, is_item}
+use Rattle.run_matches.specs.CoveredExprs.{Uses, covers_array, covers_bounded, covers_dimension, covers_exprs, covers_library, is_bound, covers_term, covers_operator, covers_expr, covers_passed, covers_place, has_scalar, is_passable, is_variable}
+use Rattle.run_matches.specs.Covered.{is_referred, suits_array, suits_group, suits_passed, hands_argument, hands_passed, is_item}
 use Rattle.run_matches.specs.Frames.{frame_pledge}
 use Rattle.run_matches.specs.Likeness.{are_same}
 use Rattle.run_matches.specs.Maps.{World}
@@ -77,8 +77,10 @@ use Rattle.expression_laws.proofs.Types.{both_true, either_true, same_as, same_o
 use Rattle.expression_laws.proofs.Checks.{TermMatch, term_agrees, plain_agrees}
 use Rattle.expression_laws.proofs.Conversions.{IsConstant, formed_constant, constant_agrees, conversion_agrees}
 use Rattle.expression_laws.proofs.Arguments.{stands_now, stands_later}
-use Rattle.expression_laws.proofs.Calls.{call_agrees, call_value_agrees, callee_is}
-use Rattle.expression_laws.proofs.Handed.{taken_agrees}
+use Rattle.expression_laws.proofs.Calls.{call_agrees, call_value_agrees, callee_is, no_copy}
+use Rattle.expression_laws.proofs.FieldValues.{scalar_field_agrees}
+use Rattle.expression_laws.proofs.GroupArguments.{place_given}
+use Rattle.expression_laws.proofs.Handed.{scalar_lasts, taken_agrees}
 use Rattle.expression_laws.proofs.Handled.{Handles}
 use Rattle.expression_laws.proofs.Images.{images_now}
 use Rattle.expression_laws.proofs.LastingImages.{images_later}
@@ -88,7 +90,7 @@ use Rattle.expression_laws.proofs.Elements.{IndexesLike, array_agrees, index_agr
 use Rattle.expression_laws.proofs.ElementValues.{element_agrees, element_value}
 use Rattle.expression_laws.proofs.Bounds.{bounds_agree, long_bound}
 use Rattle.expression_laws.proofs.ErrNumbers.{err_number_agrees}
-use Rattle.expression_laws.proofs.References.{IsPassed, first, further, here, reference_agrees, scalar_passed, or_true}
+use Rattle.expression_laws.proofs.References.{IsPassed, first, further, here, passed_by, reference_agrees, scalar_passed, or_true}
 use Rattle.expression_laws.proofs.Temporaries.{conversion_given, conversion_goes, value_goes}
 use Rattle.expression_laws.proofs.Variables.{variable_agrees}
 use Rattle.expression_laws.proofs.WrittenValues.{exp_handles}
@@ -431,7 +433,10 @@ module _ (U : Upgrade) (p : ℕ) (f : SourceFrame) (g : NetFrame) (oracle : Sour
         term_agrees U K C ty to (convert to (typed from t)) w (written (typed ty (convert to (typed from t))) w) refl both.0 start
         (conversion_agrees U K S net_oracle opened C from to t (exp_of T (typed from t)) w (covered_type uses (typed from t) operand.1) forms.1 forms.0 start
         (plain_agrees U K C (typed from t) from w (written (typed from t) w) start (expression_agrees K (typed from t) w start have stands can operand.1 forms.1)))
-    expression_agrees K (typed ty (field e i)) w start have stands can covers formed = absurd (cc formed)
+    expression_agrees K (typed ty (field e i)) w start have stands can covers formed =
+        let both = both_true (covers_type ty) (has_scalar uses (type_at e) i && covers_place uses e) covers in
+        let inner = both_true (has_scalar uses (type_at e) i) (covers_place uses e) both.1 in
+        scalar_field_agrees U K p f g oracle net_oracle l k c T uses same_declarations readable w have start ty e i both.0 inner.0 inner.1
     expression_agrees K (typed ty (element e indexes)) w start have stands can covers formed =
         let both = both_true (covers_type ty) (covers_array uses e && covers_exprs uses indexes) covers in
         let inner = both_true (covers_array uses e) (covers_exprs uses indexes) both.1 in
@@ -539,12 +544,13 @@ module _ (U : Upgrade) (p : ℕ) (f : SourceFrame) (g : NetFrame) (oracle : Sour
     passed_agree K q i no_passed modes w takes suits hands start have stands can covers formed fits kept = agrees_gives U K w (ArgumentsMatch U K q i) [] [] start (no_arguments i w)
     passed_agree K q i (next_passed (by_reference e) rest) modes w takes suits hands start have stands can covers formed fits kept =
         let D = U.program.declarations in
-        let both = both_true ((is_passable uses e && covers_expr uses e) || covers_array uses e) (covers_passed uses rest) covers in
-        let passed : IsPassed uses e = either_true (is_passable uses e && covers_expr uses e) (covers_array uses e) both.0 in
-        let fit = both_true (takes_reference D q i && (is_referred e && suits_array D q i e)) (suits_passed D q (suc i) rest) suits in
+        let both = both_true ((is_passable uses e && covers_expr uses e) || (covers_array uses e || covers_place uses e)) (covers_passed uses rest) covers in
+        let passed : IsPassed uses e = passed_by uses e both.0 in
+        let fit = both_true (takes_reference D q i && (is_referred e && (suits_array D q i e && suits_group D q i e))) (suits_passed D q (suc i) rest) suits in
         let hand = both_true (hands_argument U.program q i (by_reference e)) (hands_passed U.program q (suc i) rest) hands in
-        let one = both_true (takes_reference D q i) (is_referred e && suits_array D q i e) fit.0 in
-        let referred = both_true (is_referred e) (suits_array D q i e) one.1 in
+        let one = both_true (takes_reference D q i) (is_referred e && (suits_array D q i e && suits_group D q i e)) fit.0 in
+        let referred = both_true (is_referred e) (suits_array D q i e && suits_group D q i e) one.1 in
+        let types = both_true (suits_array D q i e) (suits_group D q i e) referred.1 in
         let forms = both_true (is_formed e) (passed_are_formed rest) formed in
         let next = λ (n : ℕ). takes (suc n) ∙ ap (λ m. passing_by (takes_reference D q m)) (further i n) in
         let keep = λ (t : Ty) (o : IsOne (given_types rest) t). kept t (one_right (given_by (by_reference e)) (given_types rest) t o) in
@@ -556,22 +562,23 @@ module _ (U : Upgrade) (p : ℕ) (f : SourceFrame) (g : NetFrame) (oracle : Sour
         (λ yes is h.
         reference_agrees U K p f g oracle net_oracle l k c T uses same_declarations readable q i w ((runnable_of U).quiet q i) (target.first_passing modes)
         (takes_reference T.declarations q i) e (source.args_of C q (suc i) rest) (target.args_of S net_oracle (target.rest_passings modes) (passed_of T q (suc i) rest))
-        mode is passed fits.0 referred.1 hand.0 start have
+        mode is passed fits.0 types.0 hand.0 start have
         (passed_agree K q (suc i) rest (target.rest_passings modes) w next fit.1 hand.1 start have stands can.1 both.1 forms.1 fits.1 keep))
         (λ no is h.
-        let scalar : covers_expr uses e ≡ true = scalar_passed uses e passed is in
+        let scalar : covers_expr uses e ≡ true = scalar_passed uses e passed is h in
         let covered : covers_type (type_at e) ≡ true = covered_type uses e scalar in
         by_test (is_conversion e) (λ b. is_conversion e ≡ b → (b || is_item e) ≡ true
         → Agrees U K w (ArgumentsMatch U K q i) (source.args_of C q i (next_passed (by_reference e) rest) w.src)
         (target.args_of S net_oracle modes (passed_of T q i (next_passed (by_reference e) rest)) w.net))
         (λ converts is_one any.
-        taken_agrees U K q i w (type_at e) (source.value_of C e w.src) (target.value_of S net_oracle (exp_of T e) w.net)
+        taken_agrees U K q i (ScalarMatch U (type_at e)) (scalar_lasts U K q i (type_at e)) w (source.value_of C e w.src) (target.value_of S net_oracle (exp_of T e) w.net)
         (source.argument_of C ((runnable_of U).quiet q i) (by_reference e) w.src)
         (target.given S net_oracle (target.first_passing modes)
         (target.reach S net_oracle false (argument_exp T (takes_reference T.declarations q i) (by_reference e) (exp_of T e)) w.net))
         (source.args_of C q (suc i) rest) (target.args_of S net_oracle (target.rest_passings modes) (passed_of T q (suc i) rest))
         (conversion_given C ((runnable_of U).quiet q i) e w.src covered is_one)
-        (conversion_goes S net_oracle T e covered w.net (handles K e can.0 scalar forms.0) (target.first_passing modes) (takes_reference T.declarations q i) mode is_one)
+        (conversion_goes S net_oracle T e (no_copy T.facts (type_at e) (is_copied e) covered) w.net (handles K e can.0 scalar forms.0) (target.first_passing modes)
+        (takes_reference T.declarations q i) covered mode is_one)
         start
         (expression_agrees K e w start have stands can.0 scalar forms.0)
         (λ v later.
@@ -586,24 +593,29 @@ module _ (U : Upgrade) (p : ℕ) (f : SourceFrame) (g : NetFrame) (oracle : Sour
         (stands_later U K w v f g later stands) can.1 both.1 forms.1 fits.1 keep)) refl h) refl referred.0
     passed_agree K q i (next_passed (by_value e) rest) modes w takes suits hands start have stands can covers formed fits kept =
         let D = U.program.declarations in
-        let both = both_true (covers_expr uses e) (covers_passed uses rest) covers in
+        let both = both_true (covers_expr uses e || covers_place uses e) (covers_passed uses rest) covers in
         let forms = both_true (is_formed e) (passed_are_formed rest) formed in
-        let fit = both_true true (suits_passed D q (suc i) rest) suits in
+        let fit = both_true (suits_group D q i e) (suits_passed D q (suc i) rest) suits in
         let hand = both_true true (hands_passed U.program q (suc i) rest) hands in
         let keep = λ (t : Ty) (o : IsOne (given_types rest) t). kept t (one_right (given_by (by_value e)) (given_types rest) t o) in
         let next = λ (n : ℕ). takes (suc n) ∙ ap (λ m. passing_by (takes_reference D q m)) (further i n) in
-        taken_agrees U K q i w (type_at e) (source.value_of C e w.src) (target.value_of S net_oracle (exp_of T e) w.net)
+        let mode : target.first_passing modes ≡ passing_by (takes_reference D q i) = takes 0 ∙ ap (λ n. passing_by (takes_reference D q n)) (here i) in
+        let more = λ (v : World) (later : Later U K w v).
+        passed_agree K q (suc i) rest (target.rest_passings modes) v next fit.1 hand.1 later.match (images_later U K w v f S T uses start later have)
+        (stands_later U K w v f g later stands) can.1 both.1 forms.1 fits.1 keep in
+        by_either (covers_expr uses e) (covers_place uses e) both.0
+        (λ scalar.
+        taken_agrees U K q i (ScalarMatch U (type_at e)) (scalar_lasts U K q i (type_at e)) w (source.value_of C e w.src) (target.value_of S net_oracle (exp_of T e) w.net)
         (source.argument_of C ((runnable_of U).quiet q i) (by_value e) w.src)
         (target.given S net_oracle (target.first_passing modes)
         (target.reach S net_oracle false (argument_exp T (takes_reference T.declarations q i) (by_value e) (exp_of T e)) w.net))
         (source.args_of C q (suc i) rest) (target.args_of S net_oracle (target.rest_passings modes) (passed_of T q (suc i) rest)) refl
-        (value_goes S net_oracle T e (covered_type uses e both.0) w.net (handles K e can.0 both.0 forms.0) (takes_reference D q i) (target.first_passing modes)
-        (takes_reference T.declarations q i) (takes 0 ∙ ap (λ n. passing_by (takes_reference D q n)) (here i)) (ap (λ E. takes_reference E q i) same_declarations))
-        start
-        (expression_agrees K e w start have stands can.0 both.0 forms.0)
-        (λ v later.
-        passed_agree K q (suc i) rest (target.rest_passings modes) v next fit.1 hand.1 later.match (images_later U K w v f S T uses start later have)
-        (stands_later U K w v f g later stands) can.1 both.1 forms.1 fits.1 keep)
+        (value_goes S net_oracle T e (no_copy T.facts (type_at e) (is_copied e) (covered_type uses e scalar)) w.net (handles K e can.0 scalar forms.0)
+        (takes_reference D q i) (target.first_passing modes) (takes_reference T.declarations q i) mode (ap (λ E. takes_reference E q i) same_declarations))
+        start (expression_agrees K e w start have stands can.0 scalar forms.0) more)
+        (λ place.
+        place_given U K p f g oracle net_oracle l k c T uses same_declarations readable w start have q i ((runnable_of U).quiet q i) (target.first_passing modes) e
+        (source.args_of C q (suc i) rest) (target.args_of S net_oracle (target.rest_passings modes) (passed_of T q (suc i) rest)) mode place more)
 
 -- ---- the laws
 

@@ -9,6 +9,7 @@ pub mod Images
 pub mod LastingImages
 mod FieldPaths
 pub mod Places
+pub mod FieldValues
 mod LibraryArguments
 mod Inputs
 pub mod Library
@@ -18,6 +19,7 @@ pub mod References
 pub mod Giving
 pub mod GivenElements
 pub mod Temporaries
+pub mod GroupArguments
 pub mod NoPlaces
 pub mod IndexRows
 pub mod Elements

@@ -16,7 +16,7 @@ use Rattle.vb6_run.specs.Expressions as source
 use Rattle.vb6_run.specs.Expressions.{Context, Parts, at_address}
 use Rattle.vb6_run.specs.Forms.{SourceLine}
 use Rattle.vb6_run.specs.Runnables.{variable_address}
-use Rattle.vb6_run.specs.Shapes.{Shape, simple, group, array, endless, Shapes, no_shapes, next_shape, shape_at, shape_by, user_shapes}
+use Rattle.vb6_run.specs.Shapes.{Shape, simple, group, Shapes, no_shapes, next_shape, shape_at, shape_by, user_shapes}
 use Rattle.vb6_run.specs.Store.{Address, root, item, Memory, SourceCalls, SourceFrame, field_address}
 use Rattle.net_run.specs.Expressions as target
 use Rattle.net_run.specs.Lines.{NetFrame, NetLine, scope_of}
@@ -30,12 +30,11 @@ use Rattle.written_trees.specs.Exprs.{exp_of, made_if, member_of}
 use Rattle.written_trees.specs.Names.{Scope, variable_name, variable_path}
 use Rattle.run_matches.specs.Addresses.{AllMatched, AllRanked, IsPlain, IsTarget, Same, same_item, same_root, position_of}
 use Rattle.run_matches.specs.Agreeing.{Agrees}
-use Rattle.run_matches.specs.CoveredVariables.{covers_field_type, covers_type, covers_user}
+use Rattle.run_matches.specs.CoveredVariables.{covers_field_type, covers_user}
 use Rattle.run_matches.specs.CoveredExprs.{Uses, covers_place, is_type}
 use Rattle.run_matches.specs.Maps.{World, is_auto_root, moved_at}
 use Rattle.run_matches.specs.Likeness.{SameShape}
-use Rattle.run_matches.specs.Frames.{StandsAs}
-use Rattle.run_matches.specs.Pledges.{Pledge, type_of_shape}
+use Rattle.run_matches.specs.Pledges.{Pledge}
 use Rattle.run_matches.specs.SoundShapes.{IsField, IsSoundShape, AreSoundShapes}
 use Rattle.run_matches.specs.Upgrades.{Upgrade, field_name, is_flagged_some, type_of_some}
 use Rattle.run_statements.specs.Frames.{AreReadable, IsGroup, context_of}
@@ -43,12 +42,12 @@ use Rattle.run_statements.specs.Groups.{PlaceMatch}
 use Rattle.agreeing_laws.proofs.Agreeing.{agrees_gives, agrees_outside}
 use Rattle.agreeing_laws.proofs.FieldNames.{is_first_named, name_itself}
 use Rattle.agreeing_laws.proofs.Fields.{GroupImage, SameField, group_parts, same_of_field}
-use Rattle.agreeing_laws.proofs.UserShapes.{FieldShape, covered_type_of, field_shape_is}
+use Rattle.agreeing_laws.proofs.UserShapes.{FieldShape, field_shape_is}
 use Rattle.expression_laws.specs.Images.{HasImage, HaveImages, IsImage}
 use Rattle.expression_laws.specs.Statements.{PlacesAgreeBy}
 use Rattle.expression_laws.proofs.FieldPaths.{path_more}
 use Rattle.expression_laws.proofs.Images.{images_now}
-use Rattle.expression_laws.proofs.UsedShapes.{group_shape_is}
+use Rattle.expression_laws.proofs.UsedShapes.{group_stands}
 use Rattle.expression_laws.proofs.Types.{both_true}
 use Rattle.expression_laws.proofs.Variables.{known_exp, known_none}
 
@@ -123,14 +122,6 @@ field_target U s t q j (inr x) = absurd (no_item x.stands)
     no_item : {ty : Ty} {p : Position} {i : ℕ} → root s q ≡ item (simple ty) p i [] → ⊥
     no_item e = cc
 
--- a variable of a user type stands as it is declared
-group_stands : (U : Upgrade) (s : Shape) (t : ℕ) (a : Address) (q : Position) → IsSoundShape U s → type_of_shape s ≡ types.user t → StandsAs s a q
-    → a ≡ root s q
-group_stands U (simple ty) t a q c of h = absurd (true≢false (sym c ∙ ap covers_type of))
-group_stands U (group u fs) t a q c of h = h
-group_stands U (array e bounds) t a q c of h = absurd c
-group_stands U endless t a q c of h = absurd c
-
 -- a field of a type that is no class makes no object
 no_object : (ty : Ty) (o : Option Variable) → type_of_some o ≡ Some ty → class_in ty ≡ None → auto_class o ≡ None
 no_object ty None e none = cc
@@ -151,6 +142,28 @@ field_declared : (U : Upgrade) (T : Scope) (uses : Uses) → AreReadable U T use
     → is_type (types.user t) o ≡ true → IsField U s j (types.user t)
 field_declared U T uses readable s t j None is e = absurd (true≢false (sym e))
 field_declared U T uses readable s t j (Some ty) is e = subst (λ z. IsField U s j z) (same_user t ty e) (readable.fields s j ty is)
+
+-- a covered place is of a covered user type, none of whose declarations carries an issue
+pub record IsSoundPlace (U : Upgrade) (t : ℕ) : Type 0 where
+  pub covers : covers_user U.program.declarations t ≡ true
+  pub sound : IsSoundShape U (user_shapes U.program.declarations t)
+
+pub place_sound : (U : Upgrade) (T : Scope) (uses : Uses) → AreReadable U T uses → (t : ℕ) (tm : Term) → covers_place uses (typed (types.user t) tm) ≡ true
+    → IsSoundPlace U t
+place_sound U T uses readable t (variable v qualified) covers =
+    let r : IsGroup U v.0 t = readable.groups v t covers in
+    record { covers = r.covers; sound = r.fields }
+place_sound U T uses readable t (field (typed (types.user s) tm) j) covers =
+    let both = both_true (is_type (types.user t) (uses.field_type s j)) (covers_place uses (typed (types.user s) tm)) covers in
+    let i : IsField U s j (types.user t) = field_declared U T uses readable s t j (uses.field_type s j) refl both.0 in
+    let x : IsSoundPlace U s = place_sound U T uses readable s tm both.1 in
+    let shaped : FieldShape U.program.declarations s j (types.user t) = field_shape_is U.program.declarations s j i.variable (types.user t) x.covers i.declares i.is_type in
+    record {
+      covers = shaped.covers;
+      sound = sound_field U s 0 j shaped.shapes (user_shapes U.program.declarations t) (subst (λ z. IsSoundShape U z) shaped.is_group x.sound) shaped.is_shape;
+    }
+place_sound U T uses readable t (field (typed _ tm) j) covers = absurd (true≢false (sym covers))
+place_sound U T uses readable t _ covers = absurd (true≢false (sym covers))
 
 module _ (U : Upgrade) (K : Pledge) (p : ℕ) (f : SourceFrame) (g : NetFrame) (oracle : SourceCalls) (net_oracle : Jobs) (l : SourceLine) (k : NetLine)
     (c : Code) (T : Scope) (uses : Uses) (same_declarations : T.declarations ≡ U.program.declarations) (readable : AreReadable U T uses) where
@@ -207,8 +220,7 @@ module _ (U : Upgrade) (K : Pledge) (p : ℕ) (f : SourceFrame) (g : NetFrame) (
           let x : HasImage U K w S T v.0 a = have v a (inr (inr (t, used))) at in
           let i : IsImage U K w v.0 a x.address = x.image r.exact in
           let stands : a ≡ root (user_shapes D t) i.position =
-          group_stands U (user_shapes D t) t a i.position r.fields (covered_type_of D t r.covers)
-          (subst (λ s. StandsAs s a i.position) (group_shape_is U v.0 t r) i.stands) in
+          group_stands U v.0 t r a i.position i.stands in
           let b : StandsAt x.address = image_stands U K w (user_shapes D t) i.position a x.address stands i.same in
           record {
             position = i.position;

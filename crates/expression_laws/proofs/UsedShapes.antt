@@ -2,6 +2,7 @@
 use Rattle.std.proofs.Common.{◌≡◌, refl, sym, ap, subst, ◌∙◌, inl, inr, ℕ, ℤ, Bool, true, false, cond, not, ◌&&◌, List, [], ◌∷◌, Some, None, true≢false}
 use Rattle.std.specs.Prelude.{slice_get, is_some}
 use Rattle.vb_tree.specs.BoundTree.{Ty}
+use Rattle.vb_tree.specs.BoundTree as types
 use Rattle.vb_tree.specs.declared.declared.Owner.TheVariants as owner
 use Rattle.vb_tree.specs.declared.declared.VarId.{VarId}
 use Rattle.bound_tree.specs.Tree.{Variable, Declarations}
@@ -98,6 +99,19 @@ group_shape_is U v t r =
     let x : Variable = r.known.variable in
     let users : ℕ → Shape = user_shapes U.program.declarations in
     ap (declared_shape users) r.known.is_variable ∙ ap (shape_by users x.bounds) r.is_user
+
+-- what is a user type without arrays stands as it is declared
+sound_stands : (U : Upgrade) (s : Shape) (t : ℕ) (a : Address) (q : Position) → IsSoundShape U s → type_of_shape s ≡ types.user t → StandsAs s a q → a ≡ root s q
+sound_stands U (simple ty) t a q c of h = absurd (true≢false (sym c ∙ ap covers_type of))
+sound_stands U (group u fs) t a q c of h = h
+sound_stands U (array e bounds) t a q c of h = absurd c
+sound_stands U endless t a q c of h = absurd c
+
+pub group_stands : (U : Upgrade) (v t : ℕ) (r : IsGroup U v t) (a : Address) (q : Position) → StandsAs (variable_shape U.program.declarations v) a q
+    → a ≡ root (user_shapes U.program.declarations t) q
+group_stands U v t r a q h =
+    sound_stands U (user_shapes U.program.declarations t) t a q r.fields (covered_type_of U.program.declarations t r.covers)
+    (subst (λ s. StandsAs s a q) (group_shape_is U v t r) h)
 
 pub shape_used : (U : Upgrade) (T : Scope) (uses : Uses) → AreReadable U T uses → (v : VarId) → IsUsed uses v
     → UsedShape U v.0 (variable_shape U.program.declarations v.0)
