@@ -1,17 +1,15 @@
 -- Places of user types that are given by value.
 use Rattle.std.proofs.Common.{◌≡◌, refl, sym, ap, subst, ◌∙◌, ℕ, suc, Bool, true, false, ◌&&◌, List, [], ◌∷◌, ◌++◌, true≢false}
-use Rattle.vb_tree.specs.BoundTree.{Ty}
 use Rattle.vb_tree.specs.BoundTree as types
 use Rattle.bound_tree.specs.Tree.{Declarations, Expr, typed, Term, variable, field}
 use Rattle.bound_tree.specs.Tree as tree
-use Rattle.bound_facts.specs.Node.{type_at}
 use Rattle.net_tree.specs.declared.declaration.NetPassing.{NetPassing}
 use Rattle.run_base.specs.Outcomes.{Outcome, gives, then}
 use Rattle.vb6_run.specs.Expressions as source
 use Rattle.vb6_run.specs.Forms.{SourceLine}
 use Rattle.vb6_run.specs.Shapes.{Shape, simple, group, array, endless, Shapes, no_shapes, next_shape, user_shapes}
 use Rattle.vb6_run.specs.Store.{Memory, SourceCalls, SourceFrame, SourceGiven}
-use Rattle.vb6_run.specs.Values.{Value, scalar, fields, elements, Values, no_values, next_value}
+use Rattle.vb6_run.specs.Values.{Value, scalar, fields, Values}
 use Rattle.net_run.specs.Calls.{Arguments}
 use Rattle.net_run.specs.Expressions as target
 use Rattle.net_run.specs.Lines.{NetFrame, NetLine, scope_of}

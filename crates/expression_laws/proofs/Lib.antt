@@ -29,5 +29,10 @@ mod ErrNumbers
 pub mod Handed
 pub mod Handled
 pub mod WrittenValues
+pub mod Operators
+pub mod ArrayUses
+pub mod ItemArguments
+pub mod CallsGiven
 pub mod Expressions
+pub mod Agreements
 mod Examples
