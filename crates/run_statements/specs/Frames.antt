@@ -113,8 +113,6 @@ pub record AreReadable (U : Upgrade) (T : Scope) (uses : Uses) : Type 0 where
   pub types : (v : VarId) (ty : Ty) → uses.is_of v ty ≡ true → is_declared_as ty (slice_get U.program.declarations.vars v.0) ≡ true
   pub inward : (q : ℕ) → uses.inward q ≡ true → is_inward U q ≡ true
   pub relied : (v : VarId) → uses.relied v ≡ true → is_relied_on U.program v.0 ≡ true
-  -- a covered user type holds no array, so that no copy is written of it
-  pub uncopied : (user_type : ℕ) → covers_user U.program.declarations user_type ≡ true → U.facts.holds_array user_type ≡ false
 
 -- an array has the rank of its declaration
 abbrev pub HasRankOf : Upgrade → (variable : ℕ) → shape.Shape → Type 0

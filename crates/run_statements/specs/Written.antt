@@ -26,7 +26,7 @@ use Rattle.run_base.specs.Machines.{line_at, nth_line}
 use Rattle.net_run.specs.Lines.{NetLine}
 use Rattle.net_run.specs.Members.{Code, code_at}
 use Rattle.net_run.specs.Program as net_program
-use Rattle.run_matches.specs.CoveredVariables.{covers_user, has_extents}
+use Rattle.run_matches.specs.CoveredVariables.{has_extents}
 use Rattle.run_matches.specs.Covered.{IsCovered, IsCoveredLine}
 use Rattle.run_matches.specs.CleanLines.{IsCleanLine, lines_at}
 use Rattle.run_matches.specs.Runs.{RunsTheSame, LineDoesTheSame}
@@ -74,8 +74,6 @@ pub record IsWritten (U : Upgrade) : Type 0 where
   -- where each ReDim gives a dimension, each array has one
   pub dimensions :
       has_extents U.program ≡ true → (v : ℕ) → is_array_variable (slice_get U.program.declarations.vars v) ≡ true → U.facts.rank v ≡ 0 → ⊥
-  -- a covered user type holds no array
-  pub uncopied : (user_type : ℕ) → covers_user U.program.declarations user_type ≡ true → U.facts.holds_array user_type ≡ false
 
 -- ---- procedures
 
