@@ -130,7 +130,7 @@ module _ (U : Upgrade) (K : Pledge) (p : ℕ) (f : SourceFrame) (g : NetFrame) (
       let e : Expr = typed (types.user t) tm in
       let of : IsSoundPlace U t = place_sound U T uses readable t tm covers in
       let uncopied : needs_copy T.facts e ≡ false =
-      ap (λ (F : Facts). F.holds_array t && is_copied e) readable.facts ∙ ap (λ b. b && is_copied e) (readable.uncopied t of.covers) in
+      ap (λ (F : Facts). F.holds_array t && is_copied e) readable.facts ∙ ap (λ b. b && is_copied e) (readable.flat t of.covers) in
       taken_agrees U K q i (ValueMatch U (user_shapes U.program.declarations t)) (group_lasts U K q i t of) w (source.value_of C e w.src)
       (target.value_of S net_oracle (exp_of T e) w.net) (source.argument_of C quiet (tree.by_value e) w.src)
       (target.given S net_oracle mode

@@ -7,7 +7,6 @@ pub mod UsedShapes
 pub mod ModuleImages
 pub mod Images
 pub mod LastingImages
-mod FieldPaths
 pub mod Places
 pub mod FieldValues
 mod LibraryArguments
