@@ -1,19 +1,10 @@
 -- The laws, under any pledge and under that of a frame.
 use Rattle.run_matches.specs.Keeping.{given_types}
-use Rattle.expression_laws.proofs.GivenElements as given_elements
 use Rattle.expression_laws.proofs.Giving.{called_giving_for, giving, images_giving, stands_giving}
-use Rattle.std.proofs.Common.{inr, refl, ℕ, arith, false, ◌&&◌, Some, inl}
-use Rattle.vb_tree.specs.BoundTree as types
-use Rattle.vb_tree.specs.declared.bound.Op6.TheVariants as op6
-use Rattle.vb_tree.specs.declared.expression.BinOp.TheVariants as bin
-use Rattle.vb_tree.specs.declared.expression.UnOp.TheVariants as un
+use Rattle.std.proofs.Common.{inr, refl, ℕ, false, ◌&&◌, Some, inl}
 use Rattle.bound_tree.specs.Tree.{typed, variable, element, call, no_object}
 use Rattle.bound_facts.specs.Node.{type_at}
-use Rattle.net_tree.specs.declared.declaration.NetPassing.TheVariants as passing
 use Rattle.net_tree.specs.Tree.{call_of, path}
-use Rattle.net_meaning.specs.declared.value.ValueN.TheVariants as net_scalar
-use Rattle.net_meaning.specs.SameValues as values
-use Rattle.meaning_laws.proofs.SameRows as same
 use Rattle.vb6_run.specs.Expressions as source
 use Rattle.vb6_run.specs.Expressions.{Context}
 use Rattle.vb6_run.specs.Store.{SourceFrame}
@@ -21,10 +12,8 @@ use Rattle.net_run.specs.Calls.{passings_at}
 use Rattle.net_run.specs.Expressions as target
 use Rattle.net_run.specs.Lines.{scope_of}
 use Rattle.net_run.specs.Names as net_names
-use Rattle.net_run.specs.Store as net
-use Rattle.net_run.specs.Values as net_value
 use Rattle.written_trees.specs.Exprs.{exp_of, passed_of}
-use Rattle.written_trees.specs.Names.{Scope, procedure_path}
+use Rattle.written_trees.specs.Names.{procedure_path}
 use Rattle.run_matches.specs.CoveredExprs.{covers_array}
 use Rattle.run_matches.specs.Frames.{frame_pledge}
 use Rattle.run_matches.specs.Maps.{World}
@@ -33,7 +22,6 @@ use Rattle.run_matches.specs.Upgrades.{Upgrade}
 use Rattle.run_statements.specs.Elements.{IndexesAgree}
 use Rattle.run_statements.specs.Groups.{PlacesAgree}
 use Rattle.run_statements.specs.Frames.{ArraysAgree, ElementsAgree, AnyParts, CallsAreMade, context_of, ExpressionsAgree}
-use Rattle.row_laws.proofs.Stated as rows
 use Rattle.run_matches.specs.Formed.{are_formed, are_longs, has_elements, types_of}
 use Rattle.agreeing_laws.proofs.Agreeing.{agrees_weaker}
 use Rattle.expression_laws.specs.Calls.{GivenMatch, Stands}

@@ -1,25 +1,17 @@
 -- Uses of covered arrays: their elements, and their bounds.
-use Rattle.expression_laws.proofs.GivenElements as given_elements
 use Rattle.std.proofs.Common.{◌≡◌, inr, refl, sym, subst, ℕ, suc, ◌+◌, ◌≤◌, ◌<◌, length, arith, Bool, true, false, ◌&&◌, List, [], ◌∷◌, inl}
 use Rattle.vb_tree.specs.BoundTree as types
 use Rattle.vb_tree.specs.BoundTree.{Ty, long}
 use Rattle.vb_tree.specs.declared.bound.LibCall.{LibCall}
 use Rattle.vb_tree.specs.declared.declared.VarId.{VarId}
-use Rattle.vb_tree.specs.declared.bound.Op6.TheVariants as op6
-use Rattle.vb_tree.specs.declared.expression.BinOp.TheVariants as bin
-use Rattle.vb_tree.specs.declared.expression.UnOp.TheVariants as un
 use Rattle.bound_tree.specs.Tree.{Expr, typed, variable, element, library, Exprs, no_exprs, next_expr}
 use Rattle.bound_facts.specs.Locks.{is_same_type}
 use Rattle.bound_facts.specs.Node.{type_at}
-use Rattle.net_tree.specs.declared.declaration.NetPassing.TheVariants as passing
-use Rattle.net_meaning.specs.declared.value.ValueN.TheVariants as net_scalar
-use Rattle.net_meaning.specs.SameValues as values
-use Rattle.meaning_laws.proofs.SameRows as same
 use Rattle.run_base.specs.Outcomes.{Outcome, gives, then}
 use Rattle.vb6_run.specs.Expressions as source
 use Rattle.vb6_run.specs.Expressions.{Context, lows_at}
 use Rattle.vb6_run.specs.Forms.{SourceLine}
-use Rattle.vb6_run.specs.Store.{Memory, SourceCalls, SourceFrame}
+use Rattle.vb6_run.specs.Store.{SourceCalls, SourceFrame}
 use Rattle.net_run.specs.Expressions as target
 use Rattle.net_run.specs.Lines.{NetFrame, NetLine, scope_of}
 use Rattle.net_run.specs.Making.{Jobs}
@@ -39,7 +31,6 @@ use Rattle.run_matches.specs.Upgrades.{Upgrade}
 use Rattle.run_statements.specs.Elements.{IndexedMatch}
 use Rattle.run_statements.specs.Fitting.{FitsRank}
 use Rattle.run_statements.specs.Frames.{IsArray, LeadsBefore, ScalarMatch, IsOpen, context_of, AreReadable}
-use Rattle.row_laws.proofs.Stated as rows
 use Rattle.run_matches.specs.Formed.{are_formed, are_longs, has_elements, is_row_of_call, types_of, is_formed}
 use Rattle.expression_laws.specs.Images.{HaveImages}
 use Rattle.expression_laws.proofs.Types.{both_true, same_of}

@@ -1,25 +1,16 @@
 -- Calls while the arrays of the elements that they are given are kept.
 use Rattle.vb_tree.specs.declared.declared.ProcId.{ProcId}
 use Rattle.run_matches.specs.Keeping.{given_types}
-use Rattle.expression_laws.proofs.GivenElements as given_elements
 use Rattle.expression_laws.proofs.Giving.{can_giving, giving, giving_more, stands_giving}
-use Rattle.std.proofs.Common.{◌≡◌, ◌∙◌, ap, ℕ, ◌+◌, arith, Bool, Some}
-use Rattle.vb_tree.specs.BoundTree as types
+use Rattle.std.proofs.Common.{◌≡◌, ◌∙◌, ap, ℕ, ◌+◌, Bool, Some}
 use Rattle.vb_tree.specs.BoundTree.{Ty}
-use Rattle.vb_tree.specs.declared.bound.Op6.TheVariants as op6
-use Rattle.vb_tree.specs.declared.expression.BinOp.TheVariants as bin
-use Rattle.vb_tree.specs.declared.expression.UnOp.TheVariants as un
 use Rattle.bound_tree.specs.Tree.{Expr, call, no_object, Passed}
-use Rattle.net_tree.specs.declared.declaration.NetPassing.TheVariants as passing
 use Rattle.net_tree.specs.Tree.{call_of, path}
-use Rattle.net_meaning.specs.declared.value.ValueN.TheVariants as net_scalar
-use Rattle.net_meaning.specs.SameValues as values
-use Rattle.meaning_laws.proofs.SameRows as same
 use Rattle.run_base.specs.Outcomes.{Outcome}
 use Rattle.vb6_run.specs.Expressions as source
 use Rattle.vb6_run.specs.Expressions.{Context}
 use Rattle.vb6_run.specs.Forms.{SourceLine}
-use Rattle.vb6_run.specs.Store.{Memory, SourceCalls, SourceFrame}
+use Rattle.vb6_run.specs.Store.{SourceCalls, SourceFrame}
 use Rattle.net_run.specs.Calls.{passings_at}
 use Rattle.net_run.specs.Expressions as target
 use Rattle.net_run.specs.Lines.{NetFrame, NetLine, scope_of}
@@ -28,7 +19,7 @@ use Rattle.net_run.specs.Members.{Code}
 use Rattle.net_run.specs.Names as net_names
 use Rattle.net_run.specs.Store as net
 use Rattle.net_run.specs.Values as net_value
-use Rattle.written_trees.specs.Arguments.{kept, takes_reference}
+use Rattle.written_trees.specs.Arguments.{takes_reference}
 use Rattle.written_trees.specs.Exprs.{exp_of, passed_of}
 use Rattle.written_trees.specs.Names.{Scope, procedure_path}
 use Rattle.run_matches.specs.Agreeing.{Agrees}
@@ -39,7 +30,6 @@ use Rattle.run_matches.specs.Upgrades.{Upgrade}
 use Rattle.run_matches.specs.Runs.{CallsAgree}
 use Rattle.run_statements.specs.Frames.{CanCall, Demands, demands, context_of, passing_at, passing_by}
 use Rattle.run_statements.specs.Written.{Passes}
-use Rattle.row_laws.proofs.Stated as rows
 use Rattle.agreeing_laws.proofs.Agreeing.{agrees_promised}
 use Rattle.expression_laws.specs.Calls.{ArgumentsMatch, GivenMatch, Stands}
 use Rattle.expression_laws.proofs.Calls.{call_agrees}

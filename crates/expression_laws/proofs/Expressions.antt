@@ -1,14 +1,9 @@
 -- Covered expressions do the same as what is written for them.
 use Rattle.run_matches.specs.Keeping.{given_types, given_by}
-use Rattle.expression_laws.proofs.GivenElements as given_elements
 use Rattle.expression_laws.proofs.Giving.{called_giving_for, giving, images_giving, stands_giving}
-use Rattle.std.proofs.Common.{◌≡◌, inr, ◌∙◌, refl, sym, ap, subst, ℕ, suc, ◌+◌, ◌≤◌, length, arith, true, false, ◌&&◌, ◌||◌, List, [], ◌∷◌, Some, inl, ◌++◌}
+use Rattle.std.proofs.Common.{◌≡◌, inr, ◌∙◌, refl, sym, ap, subst, ℕ, suc, ◌+◌, ◌≤◌, length, true, false, ◌&&◌, ◌||◌, List, [], ◌∷◌, Some, inl, ◌++◌}
 use Rattle.std.specs.Prelude.{is_some}
-use Rattle.vb_tree.specs.BoundTree as types
 use Rattle.vb_tree.specs.BoundTree.{Ty}
-use Rattle.vb_tree.specs.declared.bound.Op6.TheVariants as op6
-use Rattle.vb_tree.specs.declared.expression.BinOp.TheVariants as bin
-use Rattle.vb_tree.specs.declared.expression.UnOp.TheVariants as un
 use Rattle.vb6_meaning.specs.Values.{operate}
 use Rattle.bound_tree.specs.Tree.{Expr, typed, constant, variable, field, element, call, library, unary, binary, convert, new_object, me, with_object, err_number, err_raise, err_clear, is_same, loose, Exprs, no_exprs, next_expr, no_object, of_object, by_value, by_reference, Passed, no_passed, next_passed}
 use Rattle.bound_facts.specs.Node.{type_at}
@@ -17,14 +12,12 @@ use Rattle.net_tree.specs.declared.declaration.NetPassing.{NetPassing}
 use Rattle.net_tree.specs.declared.declaration.NetPassing.TheVariants as passing
 use Rattle.net_tree.specs.Tree.{call_of, path}
 use Rattle.net_meaning.specs.declared.value.ValueN.TheVariants as net_scalar
-use Rattle.net_meaning.specs.SameValues as values
 use Rattle.net_meaning.specs.WrittenRows.{write_operator, write_unary, write_conversion}
-use Rattle.meaning_laws.proofs.SameRows as same
 use Rattle.run_base.specs.Outcomes.{Outcome, then, answered}
 use Rattle.vb6_run.specs.Expressions as source
 use Rattle.vb6_run.specs.Expressions.{Context}
 use Rattle.vb6_run.specs.Forms.{SourceLine}
-use Rattle.vb6_run.specs.Store.{Memory, SourceCalls, SourceFrame}
+use Rattle.vb6_run.specs.Store.{SourceCalls, SourceFrame}
 use Rattle.net_run.specs.Calls.{passings_at}
 use Rattle.net_run.specs.Expressions as target
 use Rattle.net_run.specs.Lines.{NetFrame, NetLine, scope_of}

@@ -1,5 +1,5 @@
 -- The values of scalar fields of places of user types, and of the places as a whole.
-use Rattle.std.proofs.Common.{◌≡◌, refl, sym, subst, inl, true, false, Option, Some, None, [], ℕ, true≢false}
+use Rattle.std.proofs.Common.{◌≡◌, refl, sym, subst, inl, true, Option, Some, None, [], ℕ, true≢false}
 use Rattle.vb_tree.specs.BoundTree.{Ty}
 use Rattle.vb_tree.specs.BoundTree as types
 use Rattle.bound_tree.specs.Tree.{Declarations, Expr, typed, Term, field}
@@ -79,9 +79,11 @@ module _ (U : Upgrade) (K : Pledge) (p : ℕ) (f : SourceFrame) (g : NetFrame) (
       → (x : ScalarField U s j)
       × PlaceIs U K p f g oracle net_oracle l k c T uses same_declarations readable w x.ty (typed ty (field (typed (types.user s) tm) j))
   scalar_is ty s tm j scalar place =
-      let x : ScalarField U s j = scalar_declared U T uses readable s j (uses.field_type s j) refl scalar in
-      (x, field_is U K p f g oracle net_oracle l k c T uses same_declarations readable w s j tm x.ty ty x.declared (no_class x.ty x.covers)
-      (place_is U K p f g oracle net_oracle l k c T uses same_declarations readable w have s tm place))
+      let x : ScalarField U s j = scalar_declared U T uses readable s j (uses.field_type s j) refl scalar in (
+        x,
+        field_is U K p f g oracle net_oracle l k c T uses same_declarations readable w s j tm x.ty ty x.declared (no_class x.ty x.covers)
+            (place_is U K p f g oracle net_oracle l k c T uses same_declarations readable w have s tm place),
+      )
 
   abbrev read_as : Ty → Value → Memory → Outcome Memory Value
   read_as ty x v = provided (is_of_shape (type_shape (declared C) ty) x) (λ v. gives [] x v) v

@@ -4,8 +4,6 @@ use Rattle.vb_tree.specs.BoundTree.{Ty}
 use Rattle.vb6_meaning.specs.Answers.{Answer}
 use Rattle.bound_tree.specs.Tree.{Expr, typed, element, Exprs, by_reference}
 use Rattle.bound_facts.specs.Node.{is_array_type}
-use Rattle.net_meaning.specs.declared.value.ValueN.TheVariants as n
-use Rattle.net_tree.specs.declared.declaration.NetPassing.TheVariants as passing
 use Rattle.run_base.specs.Frames.{by_address}
 use Rattle.run_base.specs.Outcomes.{Outcome, after, answered, found, gives, raises, then}
 use Rattle.run_base.specs.Positions.{Position}
@@ -22,7 +20,6 @@ use Rattle.net_run.specs.Names as net_names
 use Rattle.net_run.specs.Names.{Reached}
 use Rattle.net_run.specs.Shapes as shape
 use Rattle.net_run.specs.Store as net
-use Rattle.net_run.specs.Values as net_value
 use Rattle.row_laws.proofs.Composing.{after_nil, then_assoc}
 use Rattle.run_matches.specs.Addresses.{GivesWhole, HasParameterRank, IsPlain, IsTarget, Same, same_item}
 use Rattle.run_matches.specs.Agreeing.{Agrees}

@@ -4,7 +4,6 @@ use Rattle.vb_tree.specs.BoundTree.{Ty}
 use Rattle.bound_tree.specs.Tree.{Expr, typed, constant, variable, field, element, call, library, unary, binary, convert, new_object, me, with_object, err_number, err_raise, err_clear, is_same, loose, Exprs, no_exprs, next_expr, Passed, no_passed, next_passed, by_value, by_reference}
 use Rattle.bound_facts.specs.Facts.{is_quiet}
 use Rattle.bound_facts.specs.Locks.{Keeps}
-use Rattle.bound_facts.specs.Node.{called}
 use Rattle.bound_facts.specs.Nodes.{nodes, nodes_of_all, nodes_of_object, nodes_of_passed}
 use Rattle.written_trees.specs.Names.{Scope}
 use Rattle.vb6_run.specs.Store.{Address, SourceFrame}

@@ -9,7 +9,6 @@ use Rattle.bound_tree.specs.Tree.{Variable, Declarations}
 use Rattle.bound_facts.specs.Effects.{is_own_owner, is_own_variable}
 use Rattle.bound_facts.specs.SelfMade.{module_of}
 use Rattle.bound_facts.specs.Facts.{is_quiet}
-use Rattle.net_meaning.specs.declared.value.ValueN.TheVariants as n
 use Rattle.run_base.specs.Positions.{Key, Position, made, shared, whole}
 use Rattle.written_trees.specs.Names.{Scope, alone, owner_path, variable_path, variable_path_of, variable_name_of}
 use Rattle.vb6_run.specs.Runnables.{is_class_file, owned_address, declared_address, variable_address, object_root, root_address, static_root}
@@ -19,7 +18,6 @@ use Rattle.vb6_run.specs.Store.{Address, root, SourceFrame}
 use Rattle.net_run.specs.Lines.{NetFrame}
 use Rattle.net_run.specs.Names as net_names
 use Rattle.net_run.specs.Names.{path_start, starts, at_place, frame_start, var_in}
-use Rattle.net_run.specs.Shapes as net_shapes
 use Rattle.net_run.specs.Store as net
 use Rattle.run_matches.specs.Addresses.{Same, same_root, Bound, images, mirrored, position_of, is_element}
 use Rattle.run_matches.specs.CoveredExprs.{Uses}
@@ -43,6 +41,7 @@ exact_same U K w _ _ _ e (mirrored a b m) = absurd (cc e)
 changeable_same : (U : Upgrade) (K : Pledge) (w : World) (v : ℕ) (a : Address) (b : net.Address) → Bound U K w (not (is_quiet U.program.declarations U.known v)) a b
     → is_quiet U.program.declarations U.known v ≡ false → Same U K w a b
 changeable_same U K w v a b bound e = exact_same U K w (not (is_quiet U.program.declarations U.known v)) a b (ap not e) bound
+
 -- ---- the procedure's own
 
 own_address : (D : Declarations) (f : SourceFrame) (p v : ℕ) (o : Owner) → is_own_owner p o ≡ true → owned_address D f v o ≡ lookup (nat_eq v) f.vars
@@ -83,6 +82,7 @@ given_path T qualified name p _ h = absurd (cc h)
 given_is : (U : Upgrade) (p v : ℕ) (x : Variable) → slice_get U.program.declarations.vars v ≡ Some x → is_reference_of U p v ≡ true
     → is_reference_owner_of p x.owner ≡ true
 given_is U p v x e h = sym (ap (is_reference_in p) e) ∙ h
+
 -- ---- Statics of the procedure
 
 key_present : (o : Option Key) → is_some o ≡ true → o ≡ Some (key_or_none o)

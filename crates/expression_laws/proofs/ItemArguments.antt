@@ -1,20 +1,13 @@
 -- Elements that are given by reference, as arguments.
 use Rattle.run_matches.specs.Keeping.{given_by}
 use Rattle.expression_laws.proofs.GivenElements as given_elements
-use Rattle.std.proofs.Common.{◌≡◌, ◌∙◌, refl, ap, ℕ, suc, arith, Bool, true, false, cond, List, [], ◌∷◌, inl}
-use Rattle.vb_tree.specs.BoundTree as types
+use Rattle.std.proofs.Common.{◌≡◌, ◌∙◌, refl, ap, ℕ, suc, Bool, true, false, cond, List, [], ◌∷◌, inl}
 use Rattle.vb_tree.specs.BoundTree.{Ty}
-use Rattle.vb_tree.specs.declared.bound.Op6.TheVariants as op6
-use Rattle.vb_tree.specs.declared.expression.BinOp.TheVariants as bin
-use Rattle.vb_tree.specs.declared.expression.UnOp.TheVariants as un
 use Rattle.bound_tree.specs.Tree.{Expr, typed, element, Exprs, by_reference}
 use Rattle.bound_facts.specs.Node.{is_array_type}
 use Rattle.net_tree.specs.declared.declaration.NetPassing.{NetPassing}
 use Rattle.net_tree.specs.declared.declaration.NetPassing.TheVariants as passing
 use Rattle.net_tree.specs.Tree.{Exp}
-use Rattle.net_meaning.specs.declared.value.ValueN.TheVariants as net_scalar
-use Rattle.net_meaning.specs.SameValues as values
-use Rattle.meaning_laws.proofs.SameRows as same
 use Rattle.run_base.specs.Outcomes.{Outcome, gives, then}
 use Rattle.vb6_run.specs.Expressions as source
 use Rattle.vb6_run.specs.Expressions.{Context}
@@ -24,7 +17,6 @@ use Rattle.net_run.specs.Expressions as target
 use Rattle.net_run.specs.Making.{Jobs}
 use Rattle.net_run.specs.Names as net_names
 use Rattle.net_run.specs.Store as net
-use Rattle.net_run.specs.Values as net_value
 use Rattle.written_trees.specs.Arguments.{argument_exp, kept, temporary_exp}
 use Rattle.written_trees.specs.Exprs.{exp_of}
 use Rattle.written_trees.specs.Names.{Scope}
@@ -35,9 +27,7 @@ use Rattle.run_matches.specs.Match.{MemoryMatch}
 use Rattle.run_matches.specs.Pledges.{Pledge, Later}
 use Rattle.run_matches.specs.Upgrades.{Upgrade}
 use Rattle.run_statements.specs.Frames.{ElementMatch, IsOne}
-use Rattle.row_laws.proofs.Stated as rows
 use Rattle.expression_laws.specs.Calls.{ArgumentsMatch}
-use Rattle.expression_laws.proofs.ElementValues.{element_agrees}
 use Rattle.expression_laws.proofs.References.{first, or_true}
 
 -- an element is written as it stands

@@ -1,13 +1,10 @@
 -- Variables that are used stay images of each other.
 use Rattle.std.proofs.Common.{◌≡◌, sym, subst, ℕ, Bool, false, not, Some}
-use Rattle.vb_tree.specs.declared.declared.Owner.TheVariants as owner
 use Rattle.bound_facts.specs.Facts.{is_quiet}
-use Rattle.net_meaning.specs.declared.value.ValueN.TheVariants as n
-use Rattle.run_base.specs.Positions.{Position, whole}
+use Rattle.run_base.specs.Positions.{Position}
 use Rattle.written_trees.specs.Names.{Scope}
-use Rattle.vb6_run.specs.Store.{Address, root, SourceFrame}
+use Rattle.vb6_run.specs.Store.{Address, SourceFrame}
 use Rattle.net_run.specs.Names as net_names
-use Rattle.net_run.specs.Shapes as net_shapes
 use Rattle.net_run.specs.Store as net
 use Rattle.run_matches.specs.Addresses.{Same, same_root, Bound, images, mirrored, IsPlain, position_of, same_item}
 use Rattle.run_matches.specs.CoveredExprs.{Uses}

@@ -5,7 +5,6 @@ use Rattle.std.proofs.lemmas.Bool.{eq-eqb}
 use Rattle.vb_tree.specs.declared.declared.Owner.TheVariants as owner
 use Rattle.bound_tree.specs.Tree.{Variable, Declarations}
 use Rattle.bound_facts.specs.Facts.{is_quiet}
-use Rattle.net_meaning.specs.declared.value.ValueN.TheVariants as n
 use Rattle.run_base.specs.Positions.{Position, field, shared, whole}
 use Rattle.written_trees.specs.Names.{Scope, variable_path}
 use Rattle.vb6_run.specs.Runnables.{is_class_file, owned_address, declared_address, variable_address, object_root, root_address}
@@ -14,7 +13,6 @@ use Rattle.vb6_run.specs.Shapes.{variable_shape}
 use Rattle.vb6_run.specs.Store.{Address, root, SourceFrame}
 use Rattle.net_run.specs.Names as net_names
 use Rattle.net_run.specs.Names.{path_start, starts, at_place, own_field}
-use Rattle.net_run.specs.Shapes as net_shapes
 use Rattle.net_run.specs.Store as net
 use Rattle.run_matches.specs.Addresses.{Same, same_root, Bound, images, position_of, is_element}
 use Rattle.run_matches.specs.Frames.{OwnObject}
@@ -30,6 +28,7 @@ use Rattle.expression_laws.proofs.UsedShapes.{UsedShape, declared_all, declared_
 pub exactly : (U : Upgrade) (K : Pledge) (w : World) (v : ℕ) (a : Address) (b : net.Address) → Same U K w a b
     → Bound U K w (not (is_quiet U.program.declarations U.known v)) a b
 exactly U K w v a b same = images (not (is_quiet U.program.declarations U.known v)) a b same
+
 -- ---- those of standard modules
 
 shared_address : (D : Declarations) (f : SourceFrame) (v : ℕ) (x : Variable) (file : ℕ) → slice_get D.vars v ≡ Some x → x.owner ≡ owner.Module file
@@ -61,6 +60,7 @@ shared_matched U w v x e = record {
   counterpart = ap is_some e;
   sound = ap not x.sound;
 }
+
 module _ (U : Upgrade) (K : Pledge) (w : World) (start : StoreMatch U w) (f : SourceFrame) (S : net_names.Scope) (T : Scope) (v : ℕ) (r : IsKnown U v)
     (used : UsedShape U v (variable_shape U.program.declarations v)) (s : IsShared U S T v) where
   abbrev D : Declarations

@@ -1,6 +1,5 @@
 -- Operators on operands that agree.
-use Rattle.expression_laws.proofs.GivenElements as given_elements
-use Rattle.std.proofs.Common.{◌≡◌, ◌∙◌, refl, ap, subst, ℕ, arith, Bool, true, false, cond, ◌||◌, [], Option, Some, None, IfSome}
+use Rattle.std.proofs.Common.{◌≡◌, ◌∙◌, refl, ap, subst, ℕ, Bool, true, false, cond, ◌||◌, [], Option, Some, None, IfSome}
 use Rattle.vb_tree.specs.BoundTree as types
 use Rattle.vb_tree.specs.BoundTree.{Ty}
 use Rattle.vb_tree.specs.declared.bound.Op6.TheVariants as op6
@@ -14,7 +13,6 @@ use Rattle.bound_tree.specs.Tree.{Expr, typed, constant, variable, field, elemen
 use Rattle.bound_facts.specs.Folded.{binary_row, unary_row}
 use Rattle.bound_facts.specs.Locks.{is_same_type}
 use Rattle.bound_facts.specs.Node.{type_at, is_variant}
-use Rattle.net_tree.specs.declared.declaration.NetPassing.TheVariants as passing
 use Rattle.net_tree.specs.Tree.{Exp}
 use Rattle.net_meaning.specs.declared.value.ValueN.{ValueN}
 use Rattle.net_meaning.specs.declared.value.ValueN.TheVariants as net_scalar
@@ -29,9 +27,6 @@ use Rattle.vb6_run.specs.Store.{Memory}
 use Rattle.net_run.specs.Expressions as target
 use Rattle.net_run.specs.Making.{Jobs}
 use Rattle.net_run.specs.Names as net_names
-use Rattle.net_run.specs.Store as net
-use Rattle.net_run.specs.Values as net_value
-use Rattle.written_trees.specs.Names.{Scope}
 use Rattle.written_trees.specs.Operators.{binary_exp, unary_exp}
 use Rattle.run_matches.specs.Agreeing.{Agrees}
 use Rattle.run_matches.specs.CoveredVariables.{covers_type}
@@ -45,7 +40,6 @@ use Rattle.run_statements.specs.Frames.{PlainMatch}
 use Rattle.row_laws.specs.Constants.{IsHeld}
 use Rattle.row_laws.specs.Follows.{Any, RowOfOne, RowOfTwo}
 use Rattle.row_laws.specs.Rows.{IsOf, Fits, operand_of, is_direct, is_ready}
-use Rattle.row_laws.proofs.Stated as rows
 use Rattle.run_matches.specs.Formed.{is_row_of_one, is_row_of_two, is_formed}
 use Rattle.expression_laws.proofs.Types.{both_true, same_as}
 use Rattle.expression_laws.proofs.Checks.{TermMatch}

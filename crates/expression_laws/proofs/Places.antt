@@ -13,7 +13,7 @@ use Rattle.vb6_run.specs.Expressions as source
 use Rattle.vb6_run.specs.Expressions.{Context, at_address}
 use Rattle.vb6_run.specs.Forms.{SourceLine}
 use Rattle.vb6_run.specs.Runnables.{variable_address}
-use Rattle.vb6_run.specs.Shapes.{Shape, group, user_shapes}
+use Rattle.vb6_run.specs.Shapes.{Shape, user_shapes}
 use Rattle.vb6_run.specs.Store.{Address, root, Memory, SourceCalls, SourceFrame}
 use Rattle.net_run.specs.Expressions as target
 use Rattle.net_run.specs.Lines.{NetFrame, NetLine, scope_of}

@@ -17,7 +17,7 @@ use Rattle.vb6_run.specs.Expressions as source
 use Rattle.vb6_run.specs.Expressions.{Context, at_address}
 use Rattle.vb6_run.specs.Forms.{SourceLine}
 use Rattle.vb6_run.specs.Runnables.{variable_address}
-use Rattle.vb6_run.specs.Shapes.{Shape, simple, array, endless, part_shape, user_shapes}
+use Rattle.vb6_run.specs.Shapes.{Shape, simple, endless, part_shape, user_shapes}
 use Rattle.vb6_run.specs.Store.{Address, Memory, SourceCalls, SourceFrame, SourceGiven, held_at, root, item, constant}
 use Rattle.vb6_run.specs.Values.{Value}
 use Rattle.net_run.specs.Calls.{Arguments}

@@ -3,7 +3,6 @@ use Rattle.std.proofs.Common.{◌≡◌, refl, sym, ap, subst, ◌∙◌, inl, i
 use Rattle.std.specs.Prelude.{slice_get, is_some}
 use Rattle.vb_tree.specs.BoundTree.{Ty}
 use Rattle.vb_tree.specs.BoundTree as types
-use Rattle.vb_tree.specs.declared.declared.Owner.TheVariants as owner
 use Rattle.vb_tree.specs.declared.declared.VarId.{VarId}
 use Rattle.bound_tree.specs.Tree.{Variable, Declarations}
 use Rattle.bound_facts.specs.Node.{auto_class, class_in}
@@ -13,7 +12,6 @@ use Rattle.written_trees.specs.Names.{Scope}
 use Rattle.vb6_run.specs.Shapes.{Shape, simple, group, array, endless, shape_by, variable_shape, declared_shape, user_shapes}
 use Rattle.vb6_run.specs.Store.{Address, root, Held, table}
 use Rattle.vb6_run.specs.Values.{Dimension, Values}
-use Rattle.net_run.specs.Names as net_names
 use Rattle.net_run.specs.Shapes as net_shapes
 use Rattle.net_run.specs.Store as net
 use Rattle.run_matches.specs.Addresses.{AllMatched, AllRanked, IsScalarAt}
@@ -60,6 +58,7 @@ known_used U T uses readable v (inr (inr h)) = (readable.groups v h.0 h.1).known
 -- it is no As New one
 pub not_auto : (U : Upgrade) (v : ℕ) → IsKnown U v → is_auto U v ≡ false
 not_auto U v r = ap (λ o. is_some (auto_class o)) r.is_variable ∙ ap (λ b. is_some (cond b (class_in r.variable.ty) None)) r.plain
+
 -- the shape of a variable that is used: that of a scalar, of an array of scalars, which has bounds where it is fixed, or of a user type
 pub data UsedShape (U : Upgrade) (v : ℕ) : Shape → Type 0 where
   used_scalar : (ty : Ty) → UsedShape U v (simple ty)
@@ -164,6 +163,7 @@ pub is_laid : (D : Declarations) (v : ℕ) (laid : Bool) (r : Root) (h : Positio
     → AreKinds (variable_shape D v) (whole r) h
 is_laid D v laid r h is (inl b) = absurd (true≢false (sym is ∙ b.1))
 is_laid D v laid r h is (inr kind) = kind
+
 -- what has no array is written as none
 sound_no_array : (U : Upgrade) (s : Shape) (d : net_shapes.Shape) → SameShape U s d → IsSoundShape U s → (e : net_shapes.Shape) (rank : ℕ)
     → d ≡ net_shapes.array e rank → ⊥
