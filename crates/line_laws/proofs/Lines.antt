@@ -61,9 +61,11 @@ use Rattle.run_statements.specs.Elements.{IndexesAgree}
 use Rattle.run_statements.specs.Memory.{ArraysAreErased, ArraysAreResized, ElementsAreWritten}
 use Rattle.run_statements.specs.Frames.{ArraysAgree, ElementsAgree, ExpressionsAgree, ScalarsAreRead, ScalarsAreWritten, IsOpen, AnyUnits, context_of, ArePlaced, AllCalled, AnyParts, CallsAreMade, CanCall, demands, AreReadable}
 use Rattle.run_statements.specs.Fitting.{FitsNode}
+use Rattle.run_statements.specs.Groups.{GroupsAreRead, GroupsAreWritten}
 use Rattle.run_statements.specs.Kept.{AllSameWays, LinesAgree}
 use Rattle.run_statements.specs.Written.{Passes, site_scope}
 use Rattle.agreeing_laws.specs.Beside.{with_steps}
+use Rattle.agreeing_laws.specs.Types.{TypesHoldNoArray}
 use Rattle.agreeing_laws.proofs.Agreeing.{agrees_gives, agrees_weaker, then_agrees}
 use Rattle.agreeing_laws.proofs.Lasting.{later_now}
 use Rattle.agreeing_laws.proofs.Machines.{stepped_agrees, handled_agrees}
@@ -85,8 +87,7 @@ use Rattle.line_laws.proofs.Prints.{AnyAddress, print_agrees}
 use Rattle.line_laws.proofs.Resizes.{MayStore, erase_agrees, redim_agrees}
 use Rattle.line_laws.proofs.Rounds.{next_agrees}
 use Rattle.line_laws.proofs.Unkept.{resizing_not_kept}
-use Rattle.line_laws.proofs.ElementLines.{element_stored, not_outside}
-use Rattle.line_laws.proofs.Stores.{assignment_agrees, line_is, same_type}
+use Rattle.line_laws.proofs.Assignments.{stored}
 use Rattle.line_laws.proofs.Uses.{all_good, good, good_parts, is_good}
 
 -- ---- forms
@@ -103,7 +104,7 @@ call_is U T declared ty q qualified args h =
     (ap (λ D. is_property D q.0) declared ∙ h)
 
 module _ (U : Upgrade) (expressions : ExpressionsAgree U) (calls : CallsAreMade U) (reads : ScalarsAreRead U) (scalars : ScalarsAreWritten U) (elements : ElementsAgree U) (indexed : IndexesAgree U)
-    (writes : ElementsAreWritten U) (arrays : ArraysAgree U) (resizing : ArraysAreResized U) (erasing : ArraysAreErased U) (K : Pledge) (p q : ℕ) (f : SourceFrame) (g : NetFrame) (l : SourceLine) (k : NetLine) (c : Code) (T : Scope)
+    (writes : ElementsAreWritten U) (reads_groups : GroupsAreRead U) (writes_groups : GroupsAreWritten U) (none_held : TypesHoldNoArray U) (arrays : ArraysAgree U) (resizing : ArraysAreResized U) (erasing : ArraysAreErased U) (K : Pledge) (p q : ℕ) (f : SourceFrame) (g : NetFrame) (l : SourceLine) (k : NetLine) (c : Code) (T : Scope)
     (declared : T.declarations ≡ U.program.declarations) (oracle : SourceCalls) (net_oracle : Jobs)
     (is_open : IsOpen (scope_of U.written c g k)) (uses : Uses) (readable : AreReadable U T uses)
     (placed : ArePlaced U p f (scope_of U.written c g k) T uses) (agree : CallsAgree U (Passes U) oracle net_oracle)
@@ -174,49 +175,17 @@ module _ (U : Upgrade) (expressions : ExpressionsAgree U) (calls : CallsAreMade 
   abbrev IsOwnTarget : Expr → Type 0
   IsOwnTarget e = K.steady → is_outside U.program.declarations.vars p (root e) ≡ false
 
-  first_of_two : (b : Bool) → (b || false) ≡ true → b ≡ true
-  first_of_two true h = refl
-  first_of_two false h = h
-
-  -- to a variable
-  stored_variable : (ty : Ty) (v : VarId) (qualified : Bool) (e : Expr) → Can e → uses.exact v ≡ true → covers_expr uses (typed ty (variable v qualified)) ≡ true → is_good uses e ≡ true
-      → IsOwnTarget (typed ty (variable v qualified))
-      → Agrees U K w R (then (then (source.value_of C e w.src) (let_to C (typed ty (variable v qualified)))) (λ x s. goes_on C s))
-      (does (assign_line T (typed ty (variable v qualified) ∷ e ∷ [])))
-  stored_variable ty v qualified e can exact to_covers covers own =
-      let parts : (covers_type ty ≡ true) × (uses.scalar v ≡ true) = both_true (covers_type ty) (uses.scalar v) to_covers in
-      subst (λ x. Agrees U K w R (then (then (source.value_of C e w.src) (let_to C (typed ty (variable v qualified)))) (λ x s. goes_on C s)) (does x))
-      (sym (line_is U T declared ty v qualified (readable.scalars v parts.1) e parts.0))
-      (goes AnyUnits (then (source.value_of C e w.src) (let_to C (typed ty (variable v qualified))))
-      (assignment S net_oracle (net.path (variable_path T qualified v.0)) (exp_of T e) w.net)
-      (assignment_agrees U expressions scalars K p f g l k c T declared oracle net_oracle is_open uses readable placed agree F.shapes w h
-      (F.match w (later_now U K w h)) owns ty v qualified parts.1 (readable.exact v exact) (λ steady. not_outside (is_own_of U p v.0) (own steady)) e can covers))
-
-  stored : (ty : Ty) (t : Term) (e : Expr) → Can (typed ty t) → Can e → (is_changeable_in uses t || is_ordered_in uses ty t e) ≡ true → covers_expr uses (typed ty t) ≡ true
-      → is_formed (typed ty t) ≡ true → is_good uses e ≡ true → IsOwnTarget (typed ty t)
-      → Agrees U K w R (then (then (source.value_of C e w.src) (let_to C (typed ty t))) (λ x s. goes_on C s)) (does (assign_line T (typed ty t ∷ e ∷ [])))
-  stored ty (variable v qualified) e can_to can is to_covers to_formed covers own = stored_variable ty v qualified e can (first_of_two (uses.exact v) is) to_covers covers own
-  stored ty (element a indexes) e can_to can is to_covers to_formed covers own =
-      let both = both_true (is_same_type ty (type_at e)) (keeps_order uses indexes e) is in
-      let of_type = (both_true (covers_type ty) (covers_array uses a && covers_exprs uses indexes) to_covers).0 in
-      let good = good_parts uses e covers in
-      let stores : Outcome Memory Unit = then (source.value_of C e w.src) (let_to C (typed ty (element a indexes))) in
-      element_stored U expressions elements indexed writes K p f g l k c T declared oracle net_oracle is_open uses readable placed agree w h F.match owns ty a indexes e
-      can_to can to_covers to_formed good.0 good.1 own (same_type ty (type_at e) of_type both.0) (λ x. Agrees U K w R (then stores (λ x s. goes_on C s)) (does x))
-      (λ x. goes AnyUnits stores (assignment S net_oracle (exp_of T (typed ty (element a indexes))) (exp_of T e) w.net) x)
-      (λ name x.
-      goes AnyUnits stores
-      (then (target.address_of S net_oracle (support_call (codes "Put" ++ name) (two (exp_of T e) (exp_of T (typed ty (element a indexes))))) w.net) (λ a t. gives [] tt t)) x)
-      both.1
-  stored ty _ e can_to can is to_covers to_formed covers own = absurd (true≢false (sym is))
-
   assigned : (target value : Expr) → Can target → Can value → covers_store uses (target ∷ value ∷ []) ≡ true → is_formed target ≡ true → is_formed value ≡ true
       → IsOwnTarget target
       → Agrees U K w R (then (then (source.value_of C value w.src) (let_to C target)) (λ x s. goes_on C s)) (does (assign_line T (target ∷ value ∷ [])))
-  assigned (typed ty t) e can_to can covers to_formed formed own =
-      let first = both_true (is_changeable_in uses t || is_ordered_in uses ty t e) (covers_expr uses (typed ty t) && covers_expr uses e) covers in
-      let second : (covers_expr uses (typed ty t) ≡ true) × (covers_expr uses e ≡ true) = both_true (covers_expr uses (typed ty t)) (covers_expr uses e) first.1 in
-      stored ty t e can_to can first.0 second.0 to_formed (good uses e second.1 formed) own
+  assigned to e can_to can covers to_formed formed own =
+      let stores : Outcome Memory Unit = then (source.value_of C e w.src) (let_to C to) in
+      stored U expressions scalars elements indexed writes reads_groups writes_groups none_held K p f g l k c T declared oracle net_oracle is_open uses readable placed
+      agree w h F.match owns (λ x. Agrees U K w R (then stores (λ x s. goes_on C s)) (does x)) to e can_to can covers to_formed formed own
+      (λ x. goes AnyUnits stores (assignment S net_oracle (exp_of T to) (exp_of T e) w.net) x)
+      (λ name x.
+      goes AnyUnits stores
+      (then (target.address_of S net_oracle (support_call (codes "Put" ++ name) (two (exp_of T e) (exp_of T to))) w.net) (λ a t. gives [] tt t)) x)
 
   -- a call whose value is let go of
   shown : (r : Outcome Memory source.Parts) (e : net.Exp) → AgreesAsCall U K w S net_oracle r e → Agrees U K w R (then r (λ x s. goes_on C s)) (does (as_call e))
@@ -376,8 +345,8 @@ node_has U K S T (typed ty (loose e rules)) can fits = tt
 
 -- A covered line does the same as what is written for it, in frames that go on to match.
 pub steady_lines_agree : (U : Upgrade) → ExpressionsAgree U → CallsAreMade U → ScalarsAreRead U → ScalarsAreWritten U → ElementsAgree U → IndexesAgree U → ElementsAreWritten U
-    → ArraysAgree U → ArraysAreResized U → ArraysAreErased U → SteadyLinesAgree U
-steady_lines_agree U expressions calls reads scalars elements indexed writes arrays resizing erasing p s written number turns l c L code opens readable placed own agree can fits remade covers stands w f g at h F given =
+    → GroupsAreRead U → GroupsAreWritten U → TypesHoldNoArray U → ArraysAgree U → ArraysAreResized U → ArraysAreErased U → SteadyLinesAgree U
+steady_lines_agree U expressions calls reads scalars elements indexed writes reads_groups writes_groups none_held arrays resizing erasing p s written number turns l c L code opens readable placed own agree can fits remade covers stands w f g at h F given =
     let K : Pledge = frame_pledge U p w f in
     let owns : OwnsAll U K p f = owns_now U p f K w w g (F.match w (later_now U K w h)) in
     let R : World → SourceFrame → NetFrame → Type 0 = SteadyNext U K p f.me in
@@ -411,7 +380,7 @@ steady_lines_agree U expressions calls reads scalars elements indexed writes arr
     (target_lines.line_in U.written (target_program.frames_of U.written) net_oracle written g L.line o w1.net)) (sym code)
     (subst (λ x. Agrees U K w1 R (source_program.line_does (runnable_of U) oracle p f l w1.src)
     (target_lines.form_does (target_program.frames_of U.written) net_oracle written c (scope_of U.written c g L.line) g L.line x w1.net)) (sym L.form)
-    (form_agrees U expressions calls reads scalars elements indexed writes arrays resizing erasing K p written f g l L.line c T refl oracle net_oracle (opens g L.line now.names)
+    (form_agrees U expressions calls reads scalars elements indexed writes reads_groups writes_groups none_held arrays resizing erasing K p written f g l L.line c T refl oracle net_oracle (opens g L.line now.names)
     (uses_in U.program p l.form.bindings.mentions) readable (placed f g L.line now.names given) agree R w1 later.match F1 owns L.aims next
     (λ n m i j t u d e c w2 more. placed_at U K p f g w1 later.match F1 owns w2 more n m i j t u d e c)
     (labels (site_lines s)) l.form.source.form l.form.bindings.exprs
@@ -434,13 +403,13 @@ steady_now U K w p f g h F = record {
 }
 
 pub lines_agree : (U : Upgrade) → ExpressionsAgree U → CallsAreMade U → ScalarsAreRead U → ScalarsAreWritten U → ElementsAgree U → IndexesAgree U → ElementsAreWritten U
-    → ArraysAgree U → ArraysAreResized U → ArraysAreErased U → LinesAgree U
-lines_agree U expressions calls reads scalars elements indexed writes arrays resizing erasing p s written number turns l c L code opens readable placed own agree can fits remade covers stands w f g at h F given =
+    → GroupsAreRead U → GroupsAreWritten U → TypesHoldNoArray U → ArraysAgree U → ArraysAreResized U → ArraysAreErased U → LinesAgree U
+lines_agree U expressions calls reads scalars elements indexed writes reads_groups writes_groups none_held arrays resizing erasing p s written number turns l c L code opens readable placed own agree can fits remade covers stands w f g at h F given =
     let K : Pledge = frame_pledge U p w f in
     agrees_weaker U K w (SteadyNext U K p f.me) (NextMatch U K p f.me)
     (line_result (source_program.machine_of (runnable_of U)) turns p f l w.src)
     (line_result (target_program.machine_of U.written) turns written g L.line w.net)
     (λ w1 f1 g1 later x.
     record { same_object = x.same_object; frames = x.frames.match w1 (later_now U K w1 later.match); owns = x.owns })
-    (steady_lines_agree U expressions calls reads scalars elements indexed writes arrays resizing erasing p s written number turns l c L code opens readable placed own agree can fits remade covers stands w f g at h
+    (steady_lines_agree U expressions calls reads scalars elements indexed writes reads_groups writes_groups none_held arrays resizing erasing p s written number turns l c L code opens readable placed own agree can fits remade covers stands w f g at h
     (steady_now U K w p f g h F) given)
