@@ -164,9 +164,11 @@ module _ (D : Declarations) where
   one_step : (t : ℕ) (d : TypeDecl) → slice_get D.types t ≡ Some d
       → Each (λ u. Step (t, u)) (flat_map (λ ty. option_to_list (user_in ty)) (field_types D d))
   one_step t d is u m covered =
-      let x = inside t d is covered in
-      (x.0, all_each (covers_user_within D x.0) (flat_map (λ ty. option_to_list (user_in ty)) (field_types D d))
-      (users_covered D (covers_user_within D x.0) (field_types D d) x.1) u m)
+      let x = inside t d is covered in (
+        x.0,
+        all_each (covers_user_within D x.0) (flat_map (λ ty. option_to_list (user_in ty)) (field_types D d))
+            (users_covered D (covers_user_within D x.0) (field_types D d) x.1) u m,
+      )
 
   steps : (t : ℕ) (ds : List TypeDecl) → AreFrom t ds → Each Step (pairs_from D t ds)
   steps t [] h = each_none Step

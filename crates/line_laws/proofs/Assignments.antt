@@ -1,5 +1,5 @@
 -- An assignment to a variable, a field or an element, or of a user type, does the same as what is written for it.
-use Rattle.std.proofs.Common.{◌≡◌, ◌∙◌, refl, sym, ap, subst, ⊎_elim, ℕ, Bool, true, false, ◌&&◌, ◌||◌, List, [], ◌∷◌, ◌++◌, codes, true≢false}
+use Rattle.std.proofs.Common.{◌≡◌, refl, sym, subst, ⊎_elim, ℕ, Bool, true, false, ◌&&◌, ◌||◌, List, [], ◌∷◌, ◌++◌, codes, true≢false}
 use Rattle.vb_tree.specs.BoundTree.{Ty}
 use Rattle.bound_tree.specs.Tree.{Expr, typed, Term, variable, field, element}
 use Rattle.bound_facts.proofs.Chains.{both_true}
@@ -11,7 +11,7 @@ use Rattle.run_base.specs.Outcomes.{gives, then}
 use Rattle.written_trees.specs.Conversions.{support_call, two}
 use Rattle.written_trees.specs.Exprs.{exp_of}
 use Rattle.written_trees.specs.Names.{Scope}
-use Rattle.written_trees.specs.Puts.{order_shows, put_line, store_line}
+use Rattle.written_trees.specs.Puts.{put_line, store_line}
 use Rattle.vb6_run.specs.Expressions as source
 use Rattle.vb6_run.specs.Forms.{SourceLine}
 use Rattle.vb6_run.specs.Lines.{let_to}

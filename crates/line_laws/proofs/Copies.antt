@@ -1,12 +1,12 @@
 -- An assignment of a user type as a whole does the same as what is written for it.
-use Rattle.std.proofs.Common.{◌≡◌, ◌∙◌, refl, sym, ap, subst, ℕ, Bool, true, false, cond, ◌&&◌, nat_eq, [], true≢false, eq-eqb}
+use Rattle.std.proofs.Common.{◌≡◌, ◌∙◌, refl, sym, ap, subst, ℕ, true, false, ◌&&◌, [], true≢false, eq-eqb}
 use Rattle.vb_tree.specs.BoundTree as types
 use Rattle.vb_tree.specs.BoundTree.{Ty}
 use Rattle.bound_tree.specs.Tree.{Expr, typed, Term, variable, field}
 use Rattle.bound_facts.proofs.Chains.{both_true}
 use Rattle.bound_facts.specs.Effects.{is_outside}
 use Rattle.bound_facts.specs.Locks.{is_same_type}
-use Rattle.bound_facts.specs.Node.{root, type_at}
+use Rattle.bound_facts.specs.Node.{root}
 use Rattle.net_tree.specs.Tree as net
 use Rattle.run_base.specs.Outcomes.{Outcome, gives, after, then}
 use Rattle.written_trees.specs.Exprs.{exp_of}

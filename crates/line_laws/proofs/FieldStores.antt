@@ -1,5 +1,5 @@
 -- An assignment of a scalar to a field of a user type does the same as what is written for it.
-use Rattle.std.proofs.Common.{◌≡◌, refl, ap, inl, Bool, true, false, ◌&&◌, List, [], sym, true≢false}
+use Rattle.std.proofs.Common.{◌≡◌, refl, ap, inl, ℕ, true, false, ◌&&◌, List, [], sym, true≢false}
 use Rattle.std.specs.List.{list_any}
 use Rattle.vb_tree.specs.BoundTree as types
 use Rattle.vb_tree.specs.BoundTree.{Ty}
@@ -11,7 +11,7 @@ use Rattle.bound_facts.specs.Node.{root, type_at}
 use Rattle.written_trees.specs.Names.{Scope}
 use Rattle.written_trees.specs.Puts.{before_store, order_shows}
 use Rattle.vb6_run.specs.Forms.{SourceLine}
-use Rattle.vb6_run.specs.Shapes.{shape_by, user_shapes}
+use Rattle.vb6_run.specs.Shapes.{user_shapes}
 use Rattle.vb6_run.specs.Store as source_store
 use Rattle.vb6_run.specs.Store.{SourceCalls, SourceFrame}
 use Rattle.net_run.specs.Lines.{NetFrame, NetLine, scope_of}
@@ -42,7 +42,7 @@ nothing_before uses (types.user t) (field (typed _ tm) j) covers = absurd (true�
 nothing_before uses _ (field (typed _ tm) j) covers = absurd (true≢false (sym covers))
 nothing_before uses _ _ covers = absurd (true≢false (sym covers))
 
-pub order_is_hidden : (D : Declarations) (uses : Uses) (ty : Ty) (d : Expr) (j : _) (e : Expr) → (has_scalar uses (type_at d) j && covers_place uses d) ≡ true
+pub order_is_hidden : (D : Declarations) (uses : Uses) (ty : Ty) (d : Expr) (j : ℕ) (e : Expr) → (has_scalar uses (type_at d) j && covers_place uses d) ≡ true
     → order_shows D (typed ty (field d j)) e ≡ false
 order_is_hidden D uses ty (typed (types.user s) tm) j e covers =
     ap (λ (xs : List Expr). list_any (raises D) xs && can_raise D e)
@@ -51,11 +51,11 @@ order_is_hidden D uses ty (typed _ tm) j e covers = absurd (true≢false (sym co
 
 -- ---- the assignment
 
-pub field_stored : (U : Upgrade) → ExpressionsAgree U → ScalarsAreWritten U → (K : Pledge) (p : _) (f : SourceFrame) (g : NetFrame) (l : SourceLine) (k : NetLine)
+pub field_stored : (U : Upgrade) → ExpressionsAgree U → ScalarsAreWritten U → (K : Pledge) (p : ℕ) (f : SourceFrame) (g : NetFrame) (l : SourceLine) (k : NetLine)
     (c : Code) (T : Scope) → T.declarations ≡ U.program.declarations → (oracle : SourceCalls) (net_oracle : Jobs) → IsOpen (scope_of U.written c g k)
     → (uses : Uses) → AreReadable U T uses → ArePlaced U p f (scope_of U.written c g k) T uses → CallsAgree U (Passes U) oracle net_oracle
     → (w : World) → MemoryMatch U w → FrameMatch U K w p f g → (e : Expr) → AllCalled (demands U K (scope_of U.written c g k) T) e → is_good uses e ≡ true
-    → OwnsAll U K p f → (ty : Ty) (d : Expr) (j : _) → (has_scalar uses (type_at d) j && covers_place uses d) ≡ true
+    → OwnsAll U K p f → (ty : Ty) (d : Expr) (j : ℕ) → (has_scalar uses (type_at d) j && covers_place uses d) ≡ true
     → (K.steady → is_outside U.program.declarations.vars p (root (typed ty (field d j))) ≡ false)
     → SameStore U K w (context_of U oracle p f l) (scope_of U.written c g k) T net_oracle (typed ty (field d j)) e
 field_stored U expressions scalars K p f g l k c T declared oracle net_oracle is_open uses readable placed agree w h F e can well owns ty d j covers own =

@@ -1,9 +1,8 @@
 -- Variables that hold no array: scalars, and user types of scalars.
-use Rattle.std.proofs.Common.{◌≡◌, ◌∙◌, sym, ap, subst, ℕ, ℤ, Bool, true, false, not, ◌&&◌, List, true≢false, slice_get, Some, inl}
-use Rattle.vb_tree.specs.BoundTree.{Ty, user}
+use Rattle.std.proofs.Common.{◌≡◌, ◌∙◌, sym, ap, subst, ℕ, not, ◌&&◌, true≢false, Some, inl}
+use Rattle.vb_tree.specs.BoundTree.{user}
 use Rattle.bound_tree.specs.Tree.{Variable}
 use Rattle.bound_facts.proofs.Chains.{both_true}
-use Rattle.bound_facts.specs.Facts.{is_quiet}
 use Rattle.run_base.specs.Positions.{Position}
 use Rattle.vb6_run.specs.Shapes.{Shape, simple, group, array, endless, declared_shape, shape_by, user_shapes, variable_shape}
 use Rattle.vb6_run.specs.Store.{Address, root}

@@ -7,13 +7,13 @@ use Rattle.vb_tree.specs.declared.declared.Owner.{Owner}
 use Rattle.vb_tree.specs.declared.declared.Owner.TheVariants as owner
 use Rattle.bound_tree.specs.Tree.{Variable, Declarations}
 use Rattle.bound_facts.specs.Effects.{is_own_owner, is_own_variable}
-use Rattle.bound_facts.specs.Facts.{is_quiet, is_quiet_variable}
+use Rattle.bound_facts.specs.Facts.{is_quiet}
 use Rattle.bound_facts.specs.SelfMade.{module_of}
 use Rattle.run_base.specs.Positions.{Key, Position, Root, field, made, shared, whole}
 use Rattle.written_trees.specs.Names.{Scope, alone, owner_path, variable_path, variable_path_of, variable_name_of}
 use Rattle.vb6_run.specs.Programs.{is_local_of, is_module_variable, is_static_of}
-use Rattle.vb6_run.specs.Runnables.{declared_address, is_class_file, object_root, owned_address, root_address, static_root, variable_address}
-use Rattle.vb6_run.specs.Shapes.{Shape, variable_shape}
+use Rattle.vb6_run.specs.Runnables.{declared_address, object_root, owned_address, root_address, static_root, variable_address}
+use Rattle.vb6_run.specs.Shapes.{variable_shape}
 use Rattle.vb6_run.specs.Store.{Address, root, Held, SourceFrame}
 use Rattle.net_run.specs.Lines.{NetFrame, NetLine, scope_of}
 use Rattle.net_run.specs.Members.{Code}
@@ -21,14 +21,14 @@ use Rattle.net_run.specs.Names as net_names
 use Rattle.net_run.specs.Names.{at_place, frame_start, own_field, path_start, starts, var_in}
 use Rattle.net_run.specs.Shapes as shape
 use Rattle.net_run.specs.Store as net
-use Rattle.run_matches.specs.Addresses.{IsPlain, IsTarget, IsVariable, IsWhole, Same, is_element, same_root, position_of}
+use Rattle.run_matches.specs.Addresses.{IsPlain, IsTarget, IsVariable, IsWhole, Same, is_element, same_root}
 use Rattle.run_matches.specs.CoveredExprs.{is_relied_on}
 use Rattle.run_matches.specs.CoveredLines.{is_local_in, is_passing_in, is_passing_of}
 use Rattle.run_matches.specs.Covered.{is_reference_in, is_reference_owner_of}
-use Rattle.run_matches.specs.Frames.{FrameMatch, GivenPlace, HasPlace, OwnObject, OwnsAll, SameStatic, SameVariable, StandsAs, is_own_of, is_reference_of, is_static_in, name_of, static_of}
+use Rattle.run_matches.specs.Frames.{FrameMatch, GivenPlace, HasPlace, OwnObject, OwnsAll, SameStatic, SameVariable, StandsAs, is_own_of, is_static_in, name_of, static_of}
 use Rattle.run_matches.specs.Kinds.{AreKinds}
 use Rattle.run_matches.specs.Likeness.{SameShape}
-use Rattle.run_matches.specs.Maps.{World, IsMade, has_key, is_auto_root, is_auto_variable, key_or_none, mark, moved_at, root_variable, has_counterpart}
+use Rattle.run_matches.specs.Maps.{World, IsMade, is_auto_root, is_auto_variable, key_or_none, mark, moved_at, root_variable, has_counterpart}
 use Rattle.run_matches.specs.Match.{HeldAs, MemoryMatch, is_class_variable}
 use Rattle.run_matches.specs.Pledges.{Pledge}
 use Rattle.run_matches.specs.Upgrades.{Upgrade, is_auto, is_that, variable_key}

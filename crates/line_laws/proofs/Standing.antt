@@ -1,35 +1,28 @@
 -- Variables that a frame always has, and the calm expressions of them.
-use Rattle.std.proofs.Common.{◌≡◌, ◌∙◌, ◌⊎◌, inl, inr, ⊎_elim, refl, sym, ap, subst, ℕ, ℤ, Bool, true, false, cond, not, ◌&&◌, nat_eq, Option, Some, None, List, [], ◌∷◌, slice_get, true≢false}
+use Rattle.std.proofs.Common.{◌≡◌, ◌∙◌, inl, inr, refl, sym, ap, subst, ℕ, ℤ, Bool, true, false, ◌&&◌, Some, List, [], ◌∷◌, true≢false}
 use Rattle.std.specs.Prelude.{is_some}
-use Rattle.std.proofs.lemmas.Bool.{eq-eqb, eqb-true}
-use Rattle.std.specs.Map.{lookup}
 use Rattle.vb_tree.specs.BoundTree as types
 use Rattle.vb_tree.specs.BoundTree.{Ty}
-use Rattle.vb_tree.specs.declared.declared.Owner.{Owner}
-use Rattle.vb_tree.specs.declared.declared.Owner.TheVariants as owner
 use Rattle.vb_tree.specs.declared.declared.VarId.{VarId}
 use Rattle.vb_tree.specs.declared.value.Value6.{Value6}
 use Rattle.vb_tree.specs.declared.value.Value6.TheVariants as v
-use Rattle.bound_tree.specs.Tree.{Expr, typed, constant, variable, convert, Exprs, no_exprs, next_expr, Variable}
+use Rattle.bound_tree.specs.Tree.{Expr, typed, constant, variable, convert, Exprs, no_exprs, next_expr}
 use Rattle.bound_facts.proofs.Chains.{both_true}
-use Rattle.bound_facts.specs.Effects.{is_own_owner, is_own_variable}
 use Rattle.bound_facts.specs.Facts.{is_quiet}
 use Rattle.bound_facts.specs.Locks.{is_same_type}
 use Rattle.bound_facts.specs.Node.{type_at}
-use Rattle.bound_facts.specs.SelfMade.{module_of}
 use Rattle.net_meaning.specs.declared.value.ValueN.{ValueN}
 use Rattle.net_meaning.specs.ValueMatch.{Matches, longs}
 use Rattle.net_meaning.specs.WrittenRows.{write_conversion}
 use Rattle.run_base.specs.Outcomes.{gives, after, then, found, some_of}
-use Rattle.run_base.specs.Positions.{Position, shared, whole, made}
+use Rattle.run_base.specs.Positions.{Position}
 use Rattle.written_trees.specs.Exprs.{exp_of}
 use Rattle.written_trees.specs.Names.{Scope}
 use Rattle.vb6_run.specs.Expressions as source
 use Rattle.vb6_run.specs.Expressions.{at_address, indexes_of, value_in}
 use Rattle.vb6_run.specs.Forms.{SourceLine}
-use Rattle.vb6_run.specs.Programs.{is_local_of}
-use Rattle.vb6_run.specs.Runnables.{declared_address, object_root, root_address, static_root, variable_address}
-use Rattle.vb6_run.specs.Shapes.{Shape, simple, variable_shape}
+use Rattle.vb6_run.specs.Runnables.{variable_address}
+use Rattle.vb6_run.specs.Shapes.{simple}
 use Rattle.vb6_run.specs.Store.{Address, root, Held, blank, single, Memory, SourceCalls, SourceFrame, read, single_in, value_if}
 use Rattle.vb6_run.specs.Values.{scalar}
 use Rattle.net_run.specs.Expressions as target
@@ -41,17 +34,15 @@ use Rattle.net_run.specs.Store as net
 use Rattle.run_matches.specs.Addresses.{AllMatched, IsPlain, Same, same_item, same_root, IsScalarAt, IsWhole, is_element, position_of}
 use Rattle.run_matches.specs.CoveredVariables.{covers_type}
 use Rattle.run_matches.specs.CoveredExprs.{Uses, are_calm, covers_expr, covers_exprs, is_calm, is_declared_as, widens, is_relied_on}
-use Rattle.run_matches.specs.CoveredLines.{is_local_in, is_passing_in, is_passing_of}
-use Rattle.run_matches.specs.Covered.{is_reference_in, is_reference_owner_of}
 use Rattle.run_matches.specs.Formed.{are_formed, are_longs, is_formed, types_of}
-use Rattle.run_matches.specs.Frames.{FrameMatch, GivenPlace, HasPlace, StandsAs, SameVariable, is_own_of, is_reference_of, GivenAddress}
+use Rattle.run_matches.specs.Frames.{FrameMatch, StandsAs}
 use Rattle.run_matches.specs.Maps.{World, IsMade, is_auto_root, mark, moved_at}
 use Rattle.run_matches.specs.Agreeing.{Agrees}
 use Rattle.run_matches.specs.Match.{Holds, MemoryMatch, holds_single}
 use Rattle.run_matches.specs.Pledges.{IsHeld, Pledge}
 use Rattle.run_matches.specs.Runs.{CallsAgree}
-use Rattle.run_matches.specs.Upgrades.{Upgrade, is_auto}
-use Rattle.run_statements.specs.Frames.{AllCalled, AllCalledAll, AreReadable, ArePlaced, ExpressionsAgree, IsGiven, IsKnown, IsOpen, IsOwnStatic, IsPlaced, IsReadable, IsShared, ScalarMatch, context_of, demands}
+use Rattle.run_matches.specs.Upgrades.{Upgrade}
+use Rattle.run_statements.specs.Frames.{AllCalled, AllCalledAll, AreReadable, ArePlaced, ExpressionsAgree, IsKnown, IsOpen, IsPlaced, IsReadable, ScalarMatch, context_of, demands}
 use Rattle.run_statements.specs.Written.{Passes}
 use Rattle.line_laws.proofs.Bounds.{some_is}
 use Rattle.line_laws.proofs.Calm.{Gives, IsFit, Widened, as_long, constant_gives, converted_gives, fit_of, formed_constant, fit_typed, same_self, value_read, widened_value}

@@ -1,6 +1,5 @@
 -- An assignment of a scalar to a variable does the same as what is written for it.
-use Rattle.std.proofs.Common.{◌≡◌, ◌∙◌, refl, sym, ap, subst, ℕ, Bool, true, false, not, ◌&&◌, nat_eq, Option, Some, None, List, [], true≢false, inl, inr}
-use Rattle.std.specs.Map.{lookup}
+use Rattle.std.proofs.Common.{◌≡◌, ◌∙◌, refl, sym, ap, subst, ℕ, Bool, true, false, ◌&&◌, Option, Some, None, List, [], true≢false, inl, inr}
 use Rattle.vb_tree.specs.BoundTree as types
 use Rattle.vb_tree.specs.BoundTree.{Ty}
 use Rattle.vb_tree.specs.declared.declared.VarId.{VarId}
@@ -10,41 +9,38 @@ use Rattle.bound_facts.specs.Facts.{is_quiet}
 use Rattle.bound_facts.specs.Locks.{is_same_type}
 use Rattle.bound_facts.specs.Node.{type_at}
 use Rattle.net_tree.specs.Tree as net
-use Rattle.run_base.specs.Outcomes.{Outcome, gives, outside, then, some_of}
-use Rattle.run_base.specs.Positions.{Position, whole, made}
+use Rattle.run_base.specs.Outcomes.{gives, outside, some_of}
+use Rattle.run_base.specs.Positions.{Position}
 use Rattle.written_trees.specs.Exprs.{exp_of}
 use Rattle.written_trees.specs.Names.{Scope, variable_path}
 use Rattle.written_trees.specs.Puts.{formed, order_shows, target_rank, put_type, store_by, store_line}
 use Rattle.vb6_run.specs.Expressions as source
 use Rattle.vb6_run.specs.Forms.{SourceLine}
-use Rattle.vb6_run.specs.Lines.{keeps_lows, let_to}
-use Rattle.vb6_run.specs.Runnables.{variable_address}
-use Rattle.vb6_run.specs.Shapes.{simple, variable_shape}
+use Rattle.vb6_run.specs.Lines.{keeps_lows}
+use Rattle.vb6_run.specs.Shapes.{simple}
 use Rattle.vb6_run.specs.Store.{Address, root, Locked, Memory, SourceCalls, SourceFrame, store, write, item, put_item}
 use Rattle.vb6_run.specs.Values.{scalar, is_typed, if_of_shape, kept_as}
 use Rattle.net_run.specs.Expressions as target
-use Rattle.net_run.specs.Lines.{NetFrame, NetLine, scope_of, assigned, assignment}
+use Rattle.net_run.specs.Lines.{NetFrame, NetLine, scope_of}
 use Rattle.net_run.specs.Making.{Jobs}
 use Rattle.net_run.specs.Members.{Code}
 use Rattle.net_run.specs.Names as net_names
-use Rattle.net_run.specs.Names.{Reached, at_place}
 use Rattle.net_run.specs.Store as net_store
 use Rattle.net_run.specs.Values as net_value
 use Rattle.run_matches.specs.Upgrades.{Upgrade}
 use Rattle.run_matches.specs.Maps.{World}
 use Rattle.run_matches.specs.Likeness.{LikeV}
 use Rattle.run_matches.specs.Match.{MemoryMatch}
-use Rattle.run_matches.specs.Pledges.{Pledge, Later}
+use Rattle.run_matches.specs.Pledges.{Pledge}
 use Rattle.run_matches.specs.Addresses.{Same, IsTarget, IsScalarAt}
 use Rattle.run_matches.specs.Agreeing.{Agrees}
 use Rattle.run_matches.specs.CoveredVariables.{covers_type}
-use Rattle.run_matches.specs.CoveredExprs.{Uses, covers_expr}
-use Rattle.run_matches.specs.Frames.{StandsAs, FrameMatch, OwnsAll, SameVariable, is_own_of, GivenPlace}
-use Rattle.run_statements.specs.Frames.{ExpressionsAgree, ScalarsAreWritten, IsKnown, IsOpen, IsReadable, IsShared, IsPlaced, ArePlaced, MayChange, ScalarMatch, AnyUnits, context_of, AllCalled, IsOwnStatic, IsGiven, demands, AreReadable}
+use Rattle.run_matches.specs.CoveredExprs.{Uses}
+use Rattle.run_matches.specs.Frames.{StandsAs, FrameMatch, OwnsAll, is_own_of}
+use Rattle.run_statements.specs.Frames.{ExpressionsAgree, ScalarsAreWritten, IsKnown, IsOpen, IsReadable, ArePlaced, MayChange, ScalarMatch, AnyUnits, context_of, AllCalled, demands, AreReadable}
 use Rattle.run_matches.specs.Runs.{CallsAgree}
 use Rattle.run_statements.specs.Written.{Passes}
-use Rattle.agreeing_laws.proofs.Agreeing.{agrees_outside, left_alone, right_alone, then_agrees}
-use Rattle.agreeing_laws.proofs.Moves.{address_later}
+use Rattle.agreeing_laws.proofs.Agreeing.{agrees_outside}
 use Rattle.line_laws.proofs.Flat.{flat_scalar, known_scalar}
 use Rattle.line_laws.proofs.Placed.{FlatImages, PlacedVariable, own_change, placed_variable}
 use Rattle.line_laws.proofs.Targets.{SameStore, Target, target_stored}

@@ -1,7 +1,6 @@
 -- A value is evaluated and then stored at a place. The source looks for the place behind the value, what is written before it.
-use Rattle.std.proofs.Common.{◌≡◌, ◌∙◌, sym, ap, subst, Bool, true, false, []}
+use Rattle.std.proofs.Common.{◌≡◌, ◌∙◌, sym, ap, subst, true, false, []}
 use Rattle.bound_tree.specs.Tree.{Expr}
-use Rattle.net_tree.specs.Tree as net
 use Rattle.run_base.specs.Outcomes.{Outcome, gives, after, then}
 use Rattle.written_trees.specs.Exprs.{exp_of}
 use Rattle.written_trees.specs.Names.{Scope}
@@ -45,7 +44,7 @@ module _ (U : Upgrade) (K : Pledge) (w : World) (h : MemoryMatch U w) (C : sourc
     (values : Agrees U K w R (source.value_of C e w.src) (target.value_of S oracle (exp_of T e) w.net))
     (keeps : (w1 : World) (x : Value) (y : net_value.Value) → R w1 x y → keeps_lows C to x ≡ true)
     (writes : (w1 : World) (x : Value) (y : net_value.Value) → MemoryMatch U w1 → Same U K w1 a b → R w1 x y
-        → Agrees U K w1 AnyUnits (write C.frame.env x a w1.src) (net_store.written b y w1.net)) where
+    → Agrees U K w1 AnyUnits (write C.frame.env x a w1.src) (net_store.written b y w1.net)) where
   behind_value : (x : Value) (y : net_value.Value) (w1 : World) → R w1 x y → Later U K w w1
       → Agrees U K w1 AnyUnits (let_to C to x w1.src) (assigned S oracle (at_place b) y w1.net)
   behind_value x y w1 m later =
