@@ -80,7 +80,7 @@ module _ (D : Declarations) (test other : ℕ → Bool) (weaker : (u : ℕ) → 
       and_true (covers_field other (slice_get D.vars v.0)) (list_all (λ (u : VarId). covers_field other (slice_get D.vars u.0)) vs)
       (declared_more (slice_get D.vars v.0) both.0) (fields_more vs both.1)
 
-  group_more : (t : ℕ) (d : Option TypeDecl) → covers_user_by D test t d ≡ true → covers_user_by D other t d ≡ true
+  pub group_more : (t : ℕ) (d : Option TypeDecl) → covers_user_by D test t d ≡ true → covers_user_by D other t d ≡ true
   group_more t None c = absurd (true≢false (sym c))
   group_more t (Some d) c =
       let outer = both_true (type_leads D t d) (are_different (field_names D d) && list_all (λ (v : VarId). covers_field test (slice_get D.vars v.0)) d.fields) c in

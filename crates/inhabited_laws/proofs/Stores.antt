@@ -163,11 +163,11 @@ not_module x y e f = subst (λ z. is_module_variable program.declarations z.owne
 kinds_at : (x : ℕ) (y : Variable) → slice_get program.declarations.vars x ≡ Some y
     → HeldAs program.declarations x (is_module_variable program.declarations y.owner) (shared (x ∷ [])) (λ q. held_at q.root q.path)
 kinds_at zero y e = inr (three ∷ [], items, refl)
-kinds_at (suc zero) y e = inl (refl, not_module _ y e refl)
-kinds_at (suc (suc zero)) y e = inl (refl, not_module _ y e refl)
-kinds_at (suc (suc (suc zero))) y e = inl (refl, not_module _ y e refl)
-kinds_at (suc (suc (suc (suc zero)))) y e = inl (refl, not_module _ y e refl)
-kinds_at (suc (suc (suc (suc (suc zero))))) y e = inl (refl, not_module _ y e refl)
+kinds_at (suc zero) y e = inl (λ path. refl, not_module _ y e refl)
+kinds_at (suc (suc zero)) y e = inl (λ path. refl, not_module _ y e refl)
+kinds_at (suc (suc (suc zero))) y e = inl (λ path. refl, not_module _ y e refl)
+kinds_at (suc (suc (suc (suc zero)))) y e = inl (λ path. refl, not_module _ y e refl)
+kinds_at (suc (suc (suc (suc (suc zero))))) y e = inl (λ path. refl, not_module _ y e refl)
 kinds_at (suc (suc (suc (suc (suc (suc x)))))) y e = absurd (not_none e)
 
 stores_match : StoreMatch sample sample_world

@@ -37,7 +37,6 @@ use Rattle.run_statements.specs.Frames.{AllCalled, AnyUnits, AreReadable, ArePla
 use Rattle.run_statements.specs.Groups.{GroupsAreRead, GroupsAreWritten}
 use Rattle.run_statements.specs.Memory.{ElementsAreWritten}
 use Rattle.run_statements.specs.Written.{Passes}
-use Rattle.agreeing_laws.specs.Types.{TypesHoldNoArray}
 use Rattle.agreeing_laws.proofs.Lasting.{later_now}
 use Rattle.line_laws.specs.Lasting.{GoOnMatching}
 use Rattle.line_laws.proofs.Copies.{copy_stored}
@@ -53,7 +52,7 @@ first_of_two true h = refl
 first_of_two false h = h
 
 module _ (U : Upgrade) (expressions : ExpressionsAgree U) (scalars : ScalarsAreWritten U) (elements : ElementsAgree U) (indexed : IndexesAgree U)
-    (writes : ElementsAreWritten U) (reads_groups : GroupsAreRead U) (writes_groups : GroupsAreWritten U) (none : TypesHoldNoArray U) (K : Pledge) (p : ℕ)
+    (writes : ElementsAreWritten U) (reads_groups : GroupsAreRead U) (writes_groups : GroupsAreWritten U) (K : Pledge) (p : ℕ)
     (f : SourceFrame) (g : NetFrame) (l : SourceLine) (k : NetLine) (c : Code) (T : Scope) (declared : T.declarations ≡ U.program.declarations)
     (oracle : SourceCalls) (net_oracle : Jobs) (is_open : IsOpen (scope_of U.written c g k)) (uses : Uses) (readable : AreReadable U T uses)
     (placed : ArePlaced U p f (scope_of U.written c g k) T uses) (agree : CallsAgree U (Passes U) oracle net_oracle) (w : World) (h : MemoryMatch U w)
@@ -119,6 +118,6 @@ module _ (U : Upgrade) (expressions : ExpressionsAgree U) (scalars : ScalarsAreW
         let second : (covers_expr uses (typed ty t) ≡ true) × (covers_expr uses e ≡ true) = both_true (covers_expr uses (typed ty t)) (covers_expr uses e) first.1 in
         value_stored ty t e can_to can first.0 second.0 to_formed second.1 formed own assigns puts)
         (λ x.
-        copy_stored U reads_groups writes_groups none K p f g l k c T declared oracle net_oracle uses readable placed w h (G w (later_now U K w h)) owns P (typed ty t)
+        copy_stored U reads_groups writes_groups K p f g l k c T declared oracle net_oracle uses readable placed w h (G w (later_now U K w h)) owns P (typed ty t)
         e x own assigns)
         (either_true (places && values) (covers_copy uses (typed ty t) e) covers)

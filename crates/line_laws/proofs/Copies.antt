@@ -40,7 +40,6 @@ use Rattle.run_matches.specs.SoundShapes.{IsSoundShape}
 use Rattle.run_matches.specs.Upgrades.{Upgrade}
 use Rattle.run_statements.specs.Frames.{AreReadable, ArePlaced, context_of}
 use Rattle.run_statements.specs.Groups.{GroupsAreRead, GroupsAreWritten, ValueMatch}
-use Rattle.agreeing_laws.specs.Types.{TypesHoldNoArray}
 use Rattle.agreeing_laws.proofs.Agreeing.{agrees_gives, left_alone, then_agrees}
 use Rattle.agreeing_laws.proofs.FieldPlaces.{place_reached}
 use Rattle.agreeing_laws.proofs.UserShapes.{covered_type_of}
@@ -69,15 +68,15 @@ place_type uses _ _ covers = absurd (true≢false (sym covers))
 -- ---- what is written
 
 -- no copy is made, since no array is shared
-pub copy_is : (U : Upgrade) → TypesHoldNoArray U → (T : Scope) → T.facts ≡ U.facts → (t : ℕ) → U.facts.holds_array t ≡ false → (tm : Term) (e : Expr)
+pub copy_is : (U : Upgrade) (T : Scope) → T.facts ≡ U.facts → (t : ℕ) → U.facts.holds_array t ≡ false → (tm : Term) (e : Expr)
     → store_line T (typed (types.user t) tm) e ≡ net.assign (exp_of T (typed (types.user t) tm)) (exp_of T e)
-copy_is U none T facts t holds tm e =
+copy_is U T facts t holds tm e =
     ap (λ (F : Facts). net.assign (exp_of T (typed (types.user t) tm)) (user_copy (F.holds_array t) t (exp_of T e))) facts
     ∙ ap (λ b. net.assign (exp_of T (typed (types.user t) tm)) (user_copy b t (exp_of T e))) holds
 
 -- ---- the assignment
 
-module _ (U : Upgrade) (reads : GroupsAreRead U) (writes : GroupsAreWritten U) (none : TypesHoldNoArray U) (K : Pledge) (p : ℕ) (f : SourceFrame)
+module _ (U : Upgrade) (reads : GroupsAreRead U) (writes : GroupsAreWritten U) (K : Pledge) (p : ℕ) (f : SourceFrame)
     (g : NetFrame) (l : SourceLine) (k : NetLine) (c : Code) (T : Scope) (declared : T.declarations ≡ U.program.declarations) (oracle : SourceCalls)
     (net_oracle : Jobs) (uses : Uses) (readable : AreReadable U T uses) (placed : ArePlaced U p f (scope_of U.written c g k) T uses) (w : World)
     (h : MemoryMatch U w) (F : FrameMatch U K w p f g) (owns : OwnsAll U K p f) where
@@ -140,7 +139,7 @@ module _ (U : Upgrade) (reads : GroupsAreRead U) (writes : GroupsAreWritten U) (
       → store_line T (typed (types.user t) to) e ≡ net.assign (exp_of T (typed (types.user t) to)) (exp_of T e)
   copied_line t to e covers =
       let x : PlaceAt t to = place_is U K p f g l k c T declared oracle net_oracle uses readable placed w h F owns t to covers in
-      copy_is U none T readable.facts t (none t x.place.covers) to e
+      copy_is U T readable.facts t (readable.flat t x.place.covers) to e
 
   -- what holds of a line that assigns so
   module _ (P : net.Line → Type 0) where

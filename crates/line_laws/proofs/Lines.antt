@@ -62,7 +62,6 @@ use Rattle.run_statements.specs.Groups.{GroupsAreRead, GroupsAreWritten}
 use Rattle.run_statements.specs.Kept.{AllSameWays, LinesAgree}
 use Rattle.run_statements.specs.Written.{Passes, site_scope}
 use Rattle.agreeing_laws.specs.Beside.{with_steps}
-use Rattle.agreeing_laws.specs.Types.{TypesHoldNoArray}
 use Rattle.agreeing_laws.proofs.Agreeing.{agrees_gives, agrees_weaker, then_agrees}
 use Rattle.agreeing_laws.proofs.Lasting.{later_now}
 use Rattle.agreeing_laws.proofs.Machines.{stepped_agrees, handled_agrees}
@@ -101,7 +100,7 @@ call_is U T declared ty q qualified args h =
     (ap (λ D. is_property D q.0) declared ∙ h)
 
 module _ (U : Upgrade) (expressions : ExpressionsAgree U) (calls : CallsAreMade U) (reads : ScalarsAreRead U) (scalars : ScalarsAreWritten U) (elements : ElementsAgree U) (indexed : IndexesAgree U)
-    (writes : ElementsAreWritten U) (reads_groups : GroupsAreRead U) (writes_groups : GroupsAreWritten U) (none_held : TypesHoldNoArray U) (arrays : ArraysAgree U) (resizing : ArraysAreResized U) (erasing : ArraysAreErased U) (K : Pledge) (p q : ℕ) (f : SourceFrame) (g : NetFrame) (l : SourceLine) (k : NetLine) (c : Code) (T : Scope)
+    (writes : ElementsAreWritten U) (reads_groups : GroupsAreRead U) (writes_groups : GroupsAreWritten U) (arrays : ArraysAgree U) (resizing : ArraysAreResized U) (erasing : ArraysAreErased U) (K : Pledge) (p q : ℕ) (f : SourceFrame) (g : NetFrame) (l : SourceLine) (k : NetLine) (c : Code) (T : Scope)
     (declared : T.declarations ≡ U.program.declarations) (oracle : SourceCalls) (net_oracle : Jobs)
     (is_open : IsOpen (scope_of U.written c g k)) (uses : Uses) (readable : AreReadable U T uses)
     (placed : ArePlaced U p f (scope_of U.written c g k) T uses) (agree : CallsAgree U (Passes U) oracle net_oracle)
@@ -177,7 +176,7 @@ module _ (U : Upgrade) (expressions : ExpressionsAgree U) (calls : CallsAreMade 
       → Agrees U K w R (then (then (source.value_of C value w.src) (let_to C target)) (λ x s. goes_on C s)) (does (assign_line T (target ∷ value ∷ [])))
   assigned to e can_to can covers to_formed formed own =
       let stores : Outcome Memory Unit = then (source.value_of C e w.src) (let_to C to) in
-      stored U expressions scalars elements indexed writes reads_groups writes_groups none_held K p f g l k c T declared oracle net_oracle is_open uses readable placed
+      stored U expressions scalars elements indexed writes reads_groups writes_groups K p f g l k c T declared oracle net_oracle is_open uses readable placed
       agree w h F owns (λ x. Agrees U K w R (then stores (λ x s. goes_on C s)) (does x)) to e can_to can covers to_formed formed own
       (λ x. goes AnyUnits stores (assignment S net_oracle (exp_of T to) (exp_of T e) w.net) x)
       (λ name x.
@@ -342,8 +341,8 @@ node_has U K S T (typed ty (loose e rules)) can fits = tt
 
 -- A covered line does the same as what is written for it, in frames that go on to match.
 pub steady_lines_agree : (U : Upgrade) → ExpressionsAgree U → CallsAreMade U → ScalarsAreRead U → ScalarsAreWritten U → ElementsAgree U → IndexesAgree U → ElementsAreWritten U
-    → GroupsAreRead U → GroupsAreWritten U → TypesHoldNoArray U → ArraysAgree U → ArraysAreResized U → ArraysAreErased U → SteadyLinesAgree U
-steady_lines_agree U expressions calls reads scalars elements indexed writes reads_groups writes_groups none_held arrays resizing erasing p s written number turns l c L code opens readable placed own agree can fits remade covers stands w f g at h F given =
+    → GroupsAreRead U → GroupsAreWritten U → ArraysAgree U → ArraysAreResized U → ArraysAreErased U → SteadyLinesAgree U
+steady_lines_agree U expressions calls reads scalars elements indexed writes reads_groups writes_groups arrays resizing erasing p s written number turns l c L code opens readable placed own agree can fits remade covers stands w f g at h F given =
     let K : Pledge = frame_pledge U p w f in
     let owns : OwnsAll U K p f = owns_now U p f K w w g (F w (later_now U K w h)) in
     let R : World → SourceFrame → NetFrame → Type 0 = SteadyNext U K p f.me in
@@ -377,7 +376,7 @@ steady_lines_agree U expressions calls reads scalars elements indexed writes rea
     (target_lines.line_in U.written (target_program.frames_of U.written) net_oracle written g L.line o w1.net)) (sym code)
     (subst (λ x. Agrees U K w1 R (source_program.line_does (runnable_of U) oracle p f l w1.src)
     (target_lines.form_does (target_program.frames_of U.written) net_oracle written c (scope_of U.written c g L.line) g L.line x w1.net)) (sym L.form)
-    (form_agrees U expressions calls reads scalars elements indexed writes reads_groups writes_groups none_held arrays resizing erasing K p written f g l L.line c T refl oracle net_oracle (opens g L.line now.names)
+    (form_agrees U expressions calls reads scalars elements indexed writes reads_groups writes_groups arrays resizing erasing K p written f g l L.line c T refl oracle net_oracle (opens g L.line now.names)
     (uses_in U.program p l.form.bindings.mentions) readable (placed f g L.line now.names given) agree R w1 later.match F1 owns L.aims next
     (λ n m i j t u d e c w2 more. placed_at U K p f g w1 later.match F1 owns w2 more n m i j t u d e c)
     (labels (site_lines s)) l.form.source.form l.form.bindings.exprs
@@ -397,13 +396,13 @@ steady_now : (U : Upgrade) (K : Pledge) (w : World) (p : ℕ) (f : SourceFrame) 
 steady_now U K w p f g h F w1 l = frame_later U K w w1 p f g h l F
 
 pub lines_agree : (U : Upgrade) → ExpressionsAgree U → CallsAreMade U → ScalarsAreRead U → ScalarsAreWritten U → ElementsAgree U → IndexesAgree U → ElementsAreWritten U
-    → GroupsAreRead U → GroupsAreWritten U → TypesHoldNoArray U → ArraysAgree U → ArraysAreResized U → ArraysAreErased U → LinesAgree U
-lines_agree U expressions calls reads scalars elements indexed writes reads_groups writes_groups none_held arrays resizing erasing p s written number turns l c L code opens readable placed own agree can fits remade covers stands w f g at h F given =
+    → GroupsAreRead U → GroupsAreWritten U → ArraysAgree U → ArraysAreResized U → ArraysAreErased U → LinesAgree U
+lines_agree U expressions calls reads scalars elements indexed writes reads_groups writes_groups arrays resizing erasing p s written number turns l c L code opens readable placed own agree can fits remade covers stands w f g at h F given =
     let K : Pledge = frame_pledge U p w f in
     agrees_weaker U K w (SteadyNext U K p f.me) (NextMatch U K p f.me)
     (line_result (source_program.machine_of (runnable_of U)) turns p f l w.src)
     (line_result (target_program.machine_of U.written) turns written g L.line w.net)
     (λ w1 f1 g1 later x.
     record { same_object = x.same_object; frames = x.frames w1 (later_now U K w1 later.match); owns = x.owns })
-    (steady_lines_agree U expressions calls reads scalars elements indexed writes reads_groups writes_groups none_held arrays resizing erasing p s written number turns l c L code opens readable placed own agree can fits remade covers stands w f g at h
+    (steady_lines_agree U expressions calls reads scalars elements indexed writes reads_groups writes_groups arrays resizing erasing p s written number turns l c L code opens readable placed own agree can fits remade covers stands w f g at h
     (steady_now U K w p f g h F) given)

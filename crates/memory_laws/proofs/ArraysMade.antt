@@ -34,11 +34,12 @@ use Rattle.memory_laws.specs.Changes.{IsSuited, with_place}
 use Rattle.memory_laws.proofs.FirstArrays.{counted_first, first_counts, first_fits, first_like, first_short, written_counts}
 use Rattle.memory_laws.proofs.Laid.{laid_later}
 use Rattle.memory_laws.proofs.Making.{blank_keeps, covered_shape, place_suits}
-use Rattle.memory_laws.proofs.Moved.{key_goes_alone, place_goes_alone, same_variable_place}
+use Rattle.memory_laws.proofs.Moved.{key_goes_alone, place_goes_alone}
 use Rattle.memory_laws.proofs.Places.{declared_here, net_place_is_blank, place_here, place_is_blank, place_is_matched, place_later}
 use Rattle.memory_laws.proofs.Positions.{updated_here}
 use Rattle.memory_laws.proofs.Renewed.{array_here, cell_here, renewed}
 use Rattle.memory_laws.proofs.Scalars.{FirstMatch, first_match}
+use Rattle.memory_laws.proofs.Suited.{key_laid}
 
 from_some : (a b : ℕ) → Some a ≡ Some b → a ≡ b
 from_some a b e = cc
@@ -205,9 +206,9 @@ module _ (U : Upgrade) (v : ℕ) (ty : Ty) (r : IsArray U v ty) (t : TypeName) (
     suits e = record {
       kept = blank_keeps (w.src.held at) (table (simple ty) dims values) e;
       laid = λ root u of f b.
-          subst (λ z. AreKinds (variable_shape U.program.declarations z) at (updated w.src.held at (table (simple ty) dims values))) (same_variable_place v u root of f)
+          key_laid U v (updated w.src.held at (table (simple ty) dims values))
           (subst (λ s. AreKinds s at (updated w.src.held at (table (simple ty) dims values))) (sym shape_is)
-          (dims, values, updated_here w.src.held at (table (simple ty) dims values)));
+          (dims, values, updated_here w.src.held at (table (simple ty) dims values))) root u of f;
     }
 
     static_ranked : (x u : ℕ) → Some v ≡ Some x → part_variable U x [] ≡ Some u → length counts ≡ U.facts.rank u

@@ -99,7 +99,7 @@ module _ (U : Upgrade) (K : Pledge) (locked : Locked) where
     values_stored w t k (next_shape s rest) q _ _ h c there m alone free of (like_flagged _ _ x y xs ys flagged more) =
         absurd (true≢false (sym flagged ∙ field_sound U t k (type_of_shape s) c.0))
 
-not_fixed : (U : Upgrade) (s : Shape) → IsSoundShape U s → not (is_fixed_array s) ≡ true
+pub not_fixed : (U : Upgrade) (s : Shape) → IsSoundShape U s → not (is_fixed_array s) ≡ true
 not_fixed U (simple ty) c = refl
 not_fixed U (group t fs) c = refl
 not_fixed U (array e bounds) c = absurd c

@@ -17,11 +17,18 @@ pub mod Writing
 pub mod Groups
 pub mod GroupValues
 pub mod GroupWriting
+mod GroupFills
+pub mod GroupsMade
+pub mod StaticGroups
 pub mod Elements
 pub mod Making
 pub mod Parameters
 pub mod ByPledges
 pub mod Statics
+pub mod Filling
+mod Parts
+mod LaidValues
+mod Overwritten
 mod Laid
 mod FirstArrays
 pub mod Alone

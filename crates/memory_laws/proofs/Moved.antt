@@ -64,11 +64,11 @@ abbrev first_of : Key → ℕ
 first_of [] = 0
 first_of (v ∷ more) = v
 
-pub no_variable_place : (n v : ℕ) (r : Root) → root_key r ≡ Some (v ∷ []) → at (made n) [] ≡ at r [] → ⊥
-no_variable_place n v r of e = absurd (cc (ap (λ (p : Position). root_key p.root) e ∙ of))
+pub no_variable_place : (n v : ℕ) (r : Root) → root_key r ≡ Some (v ∷ []) → made n ≡ r → ⊥
+no_variable_place n v r of e = absurd (cc (ap root_key e ∙ of))
 
-pub same_variable_place : (v u : ℕ) (r : Root) → root_key r ≡ Some (u ∷ []) → at (shared (v ∷ [])) [] ≡ at r [] → v ≡ u
-same_variable_place v u r of e = cc (ap (λ (p : Position). root_key p.root) e ∙ of)
+pub same_variable_place : (v u : ℕ) (r : Root) → root_key r ≡ Some (u ∷ []) → shared (v ∷ []) ≡ r → v ≡ u
+same_variable_place v u r of e = cc (ap root_key e ∙ of)
 
 -- ---- places
 

@@ -32,7 +32,7 @@ root_self (field a k) = and_true (nat_eq a a) (is_same_path k k) (eq-eqb a a ref
 abbrev pub at : Root → List ℕ → Position
 at r path = record { root = r; path = path }
 
-same_position : (p q : Position) → is_same_position p q ≡ true → p ≡ q
+pub same_position : (p q : Position) → is_same_position p q ≡ true → p ≡ q
 same_position p q e =
     let h : (is_same_root p.root q.root ≡ true) × (is_same_path p.path q.path ≡ true) = both_true (is_same_root p.root q.root) (is_same_path p.path q.path) e in
     ap (λ x. at x p.path) (same_root p.root q.root h.0) ∙ ap (λ x. at q.root x) (same_path p.path q.path h.1)
@@ -46,6 +46,11 @@ position_other p q n s = true≢false (sym (subst (λ x. is_same_position p x �
 pub either_position : (p q : Position) → (p ≡ q) ⊎ (p ≡ q → ⊥)
 either_position p q =
     by_test (is_same_position p q) (λ b. (p ≡ q) ⊎ (p ≡ q → ⊥)) (λ y. inl (same_position p q y)) (λ n. inr (position_other p q n))
+
+pub either_root : (r s : Root) → (r ≡ s) ⊎ (r ≡ s → ⊥)
+either_root r s =
+    by_test (is_same_root r s) (λ b. (r ≡ s) ⊎ (r ≡ s → ⊥)) (λ y. inl (same_root r s y))
+    (λ n. inr (λ e. true≢false (sym (subst (λ x. is_same_root r x ≡ true) e (root_self r)) ∙ n)))
 
 pub other_position : (p q : Position) → (p ≡ q → ⊥) → is_same_position p q ≡ false
 other_position p q h = by_test (is_same_position p q) (λ b. b ≡ false) (λ y. absurd (h (same_position p q y))) (λ n. refl)

@@ -27,9 +27,10 @@ use Rattle.agreeing_laws.proofs.Agreeing.{agrees_gives}
 use Rattle.memory_laws.specs.Changes.{changed, IsSuited}
 use Rattle.memory_laws.proofs.Changes.{changed_later}
 use Rattle.memory_laws.proofs.Making.{blank_keeps, no_table_in, no_array_in, readable_type, readable_shape}
-use Rattle.memory_laws.proofs.Moved.{key_goes_alone, same_variable_place}
+use Rattle.memory_laws.proofs.Moved.{key_goes_alone}
 use Rattle.memory_laws.proofs.Positions.{updated_here}
 use Rattle.memory_laws.proofs.Scalars.{scalar_is_no_array, FirstMatch, first_match}
+use Rattle.memory_laws.proofs.Suited.{key_laid}
 
 abbrev at_key : ℕ → Position
 at_key v = whole (shared (v ∷ []))
@@ -52,9 +53,9 @@ module _ (U : Upgrade) (K : Pledge) (w : World) (v : ℕ) (r : IsReadable U v) (
   laid_suits e = record {
     kept = blank_keeps (w.src.held q) (single ty (first_scalar ty)) e;
     laid = λ root u of at b.
-        subst (λ z. AreKinds (variable_shape U.program.declarations z) q (updated w.src.held q (single ty (first_scalar ty)))) (same_variable_place v u root of at)
+        key_laid U v (updated w.src.held q (single ty (first_scalar ty)))
         (subst (λ s. AreKinds s q (updated w.src.held q (single ty (first_scalar ty)))) (sym (readable_shape U v r))
-        (first_scalar ty, updated_here w.src.held q (single ty (first_scalar ty))));
+        (first_scalar ty, updated_here w.src.held q (single ty (first_scalar ty)))) root u of at;
   }
 
   -- what is laid on both sides

@@ -12,7 +12,8 @@ use Rattle.run_matches.specs.Match.{HeldAs, StoreMatch, is_class_variable}
 use Rattle.run_matches.specs.Upgrades.{Upgrade, is_flagged}
 use Rattle.agreeing_laws.proofs.SameKinds.{keeps_as, kinds_kept}
 use Rattle.memory_laws.specs.Changes.{IsSuited, root_key}
-use Rattle.memory_laws.proofs.Positions.{either_position, updated_here, updated_other}
+use Rattle.memory_laws.proofs.Moved.{same_variable_place}
+use Rattle.memory_laws.proofs.Positions.{at, either_position, either_root, updated_here, updated_other}
 
 module _ (U : Upgrade) (w : World) (q : Position) (x : Held) (suits : IsSuited U w q x) where
   pub same_kinds_suited : (p : Position) → KeepsKind (w.src.held p) (updated w.src.held q x p)
@@ -26,10 +27,8 @@ module _ (U : Upgrade) (w : World) (q : Position) (x : Held) (suits : IsSuited U
       → HeldAs U.program.declarations v laid r (updated w.src.held q x)
   held_suited r v key laid h =
       ⊎_elim
-      (λ b. ⊎_elim
-      (λ s. inr (subst (λ z. AreKinds (variable_shape U.program.declarations v) z (updated w.src.held q x)) s
-      (suits.laid r v key s (ap w.src.held s ∙ b.0))))
-      (λ o. inl (updated_other w.src.held q x (whole r) o ∙ b.0, b.1)) (either_position q (whole r)))
+      (λ b. ⊎_elim (λ s. inr (suits.laid r v key s (ap (λ z. w.src.held (at z q.path)) s ∙ b.0 q.path)))
+      (λ o. inl (λ path. updated_other w.src.held q x (at r path) (λ e. o (ap (λ (p : Position). p.root) e)) ∙ b.0 path, b.1)) (either_root q.root r))
       (λ k. inr (kinds_kept (variable_shape U.program.declarations v) (whole r) w.src.held (updated w.src.held q x) same_kinds_suited k)) h
 
   pub kinds_suited : StoreMatch U w → (v : ℕ) (y : Variable) → slice_get U.program.declarations.vars v ≡ Some y → is_flagged U v ≡ false
@@ -42,3 +41,10 @@ module _ (U : Upgrade) (w : World) (q : Position) (x : Held) (suits : IsSuited U
       → HeldAs U.program.declarations v (is_class_variable U.program.declarations c y.owner) (field o (v ∷ [])) (updated w.src.held q x)
   fields_suited h o c v y lt of is sound =
       held_suited (field o (v ∷ [])) v refl (is_class_variable U.program.declarations c y.owner) (h.fields o c v y lt of is sound)
+
+-- what is laid at the key of a variable is what it declares, and what no other does
+pub key_laid : (U : Upgrade) (v : ℕ) (h : Position → Held) → AreKinds (variable_shape U.program.declarations v) (whole (shared (v ∷ []))) h → (r : Root) (u : ℕ)
+    → root_key r ≡ Some (u ∷ []) → shared (v ∷ []) ≡ r → AreKinds (variable_shape U.program.declarations u) (whole r) h
+key_laid U v h k r u of e =
+    subst (λ z. AreKinds (variable_shape U.program.declarations u) (whole z) h) e
+    (subst (λ z. AreKinds (variable_shape U.program.declarations z) (whole (shared (v ∷ []))) h) (same_variable_place v u r of e) k)

@@ -46,5 +46,5 @@ root_key (field o k) = Some k
 pub record IsSuited (U : Upgrade) (w : World) (q : Position) (x : Held) : Type 0 where
   pub kept : KeepsKind (w.src.held q) x
   pub laid :
-      (r : Root) (v : ℕ) → root_key r ≡ Some (v ∷ []) → q ≡ whole r → w.src.held q ≡ blank
-      → AreKinds (variable_shape U.program.declarations v) q (updated w.src.held q x)
+      (r : Root) (v : ℕ) → root_key r ≡ Some (v ∷ []) → q.root ≡ r → w.src.held q ≡ blank
+      → AreKinds (variable_shape U.program.declarations v) (whole r) (updated w.src.held q x)

@@ -1,3 +1,4 @@
 pub mod Changes
 pub mod Statements
 pub mod Rearranged
+pub mod Laying

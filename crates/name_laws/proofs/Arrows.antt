@@ -40,7 +40,7 @@ arrow_to b a = (a, b)
 own_arrow : (p : ℕ) (o : Owner) (b : Point) → belongs_to p o ≡ true → Among (map (arrow_to b) (owner_point o)) (arrow_to b (procedure p))
 own_arrow p o b h = map_among (arrow_to b) (owner_point o) (procedure p) (owner_is p o h)
 
-variable_arrow : (p k i : ℕ) (vs : List Variable) (x : Variable) → slice_get vs i ≡ Some x → belongs_to p x.owner ≡ true
+pub variable_arrow : (p k i : ℕ) (vs : List Variable) (x : Variable) → slice_get vs i ≡ Some x → belongs_to p x.owner ≡ true
     → Among (variable_arrows k vs) (procedure p, variable (k + i))
 variable_arrow p k i [] x e h = absurd (cc e)
 variable_arrow p k zero (v ∷ vs) x e h =
@@ -70,19 +70,19 @@ constant_arrow p k (suc i) (c ∷ cs) x e h =
 -- ---- among all arrows
 
 module _ (P : Program) where
-  abbrev before : List Arrow
+  abbrev pub before : List Arrow
   before = map call_arrow (calls P) ++ project_items (line_arrows P.declarations) P.bodies
 
-  abbrev owned : List Arrow
+  abbrev pub owned : List Arrow
   owned = before ++ variable_arrows 0 P.declarations.vars ++ constant_arrows 0 P.declarations.consts
 
-  owned_is_arrow : (a : Arrow) → Among owned a → Among (arrows P) a
+  pub owned_is_arrow : (a : Arrow) → Among owned a → Among (arrows P) a
   owned_is_arrow a h =
       let D = P.declarations in
       among_left (owned ++ type_arrows 0 D.types ++ procedure_arrows D.project.modules 0 D.procs) (captured_arrows D 0 D.procs) a
       (among_left (owned ++ type_arrows 0 D.types) (procedure_arrows D.project.modules 0 D.procs) a (among_left owned (type_arrows 0 D.types) a h))
 
-  variable_is_arrow : (a : Arrow) → Among (variable_arrows 0 P.declarations.vars) a → Among (arrows P) a
+  pub variable_is_arrow : (a : Arrow) → Among (variable_arrows 0 P.declarations.vars) a → Among (arrows P) a
   variable_is_arrow a h =
       owned_is_arrow a
       (among_left (before ++ variable_arrows 0 P.declarations.vars) (constant_arrows 0 P.declarations.consts) a
@@ -92,7 +92,7 @@ module _ (P : Program) where
   constant_is_arrow a h =
       owned_is_arrow a (among_right (before ++ variable_arrows 0 P.declarations.vars) (constant_arrows 0 P.declarations.consts) a h)
 
-  one_arrow : (a b : Point) → Among (arrows P) (a, b) → Path (arrows P) a b
+  pub one_arrow : (a b : Point) → Among (arrows P) (a, b) → Path (arrows P) a b
   one_arrow a b h = goes a a b (stays a) (contains (arrows P) (a, b) h)
 
   pub variable_unbroken : (M : Marks) (p v : ℕ) (x : Variable) → IsClean P M p → slice_get P.declarations.vars v ≡ Some x → belongs_to p x.owner ≡ true
@@ -218,18 +218,16 @@ mention_is_point D p l v m a h =
     (among_left (map (λ (a : Arrow). a.1) (line_arrows D p l)) (map (λ (c : ℕ × ℕ). procedure c.1) (line_calls D p l) ++ result_points D p l.source.form)
     (variable v.0) (map_among (λ (a : Arrow). a.1) (line_arrows D p l) (procedure p, variable v.0) (mention_arrow D p l v m a h)))
 
--- and what it leads to breaks no rule, where the procedure is clean
-pub mentioned_by_clean : (P : Program) (M : Marks) (p k : ℕ) (lines : List Line) (l : Line) (v : VarId) (m : Mention) → IsClean P M p
-    → slice_get P.bodies p ≡ Some lines → slice_get lines k ≡ Some l → Among l.bindings.mentions m → is_mention_of v m ≡ true
-    → point_broken P.declarations M (variable v.0) ≡ false
-mentioned_by_clean P M p k lines l v m clean e f a h =
+-- a chain leads from the procedure to it
+pub mentioned_path : (P : Program) (p k : ℕ) (lines : List Line) (l : Line) (v : VarId) (m : Mention) → slice_get P.bodies p ≡ Some lines
+    → slice_get lines k ≡ Some l → Among l.bindings.mentions m → is_mention_of v m ≡ true → Path (arrows P) (procedure p) (variable v.0)
+mentioned_path P p k lines l v m e f a h =
     let arrow : Arrow = (procedure p, variable v.0) in
     let first = map call_arrow (calls P) in
     let second = project_items (line_arrows P.declarations) P.bodies in
     let there : Among second arrow =
     project_items_there (line_arrows P.declarations) P.bodies p lines l arrow e (among_at lines k l f) (mention_arrow P.declarations p l v m a h) in
-    clean (variable v.0)
-    (one_arrow P (procedure p) (variable v.0)
+    one_arrow P (procedure p) (variable v.0)
     (owned_is_arrow P arrow
     (among_left (before P ++ variable_arrows 0 P.declarations.vars) (constant_arrows 0 P.declarations.consts) arrow
-    (among_left (before P) (variable_arrows 0 P.declarations.vars) arrow (among_right first second arrow there)))))
+    (among_left (before P) (variable_arrows 0 P.declarations.vars) arrow (among_right first second arrow there))))

@@ -1,4 +1,10 @@
 pub mod Lists
+pub mod Depths
+pub mod CoveredTypes
+pub mod WrittenTypes
+pub mod Structures
+pub mod TypeShapes
+pub mod GroupTypes
 pub mod Names
 pub mod Counting
 pub mod Codes
@@ -8,6 +14,7 @@ pub mod Declared
 pub mod Open
 pub mod Sets
 pub mod Arrows
+pub mod SoundPoints
 pub mod Owned
 pub mod Numbers
 pub mod Prologues

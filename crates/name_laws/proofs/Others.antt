@@ -42,7 +42,7 @@ all_flat_by p f q (x ∷ xs) h each =
     let b = both_true (q x) (list_all q xs) h in
     all_append p (f x) (flat_map f xs) (each x b.0) (all_flat_by p f q xs b.1 each)
 
-one_passes : {X : Type 0} (p : X → Bool) (b : Bool) (x y : X) → p x ≡ true → p y ≡ true → p (cond b x y) ≡ true
+pub one_passes : {X : Type 0} (p : X → Bool) (b : Bool) (x y : X) → p x ≡ true → p y ≡ true → p (cond b x y) ≡ true
 one_passes p true x y h e = h
 one_passes p false x y h e = e
 

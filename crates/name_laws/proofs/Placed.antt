@@ -29,7 +29,7 @@ use Rattle.run_matches.specs.Frames.{HasNames, GivenAddress, GivenStand, is_refe
 use Rattle.run_matches.specs.Shared.{names_lead, is_alone_static, is_outer, others_differ}
 use Rattle.run_matches.specs.Sites.{Site, site_of}
 use Rattle.run_matches.specs.Upgrades.{Upgrade, code_of, declared_key, owned_key}
-use Rattle.run_statements.specs.Frames.{AreReadable, IsArray, IsReadable, IsPlaced, IsShared, LeadsBefore}
+use Rattle.run_statements.specs.Frames.{AreReadable, IsArray, IsGroup, IsReadable, IsPlaced, IsShared, LeadsBefore}
 use Rattle.run_statements.specs.Kept.{UsesArePlaced}
 use Rattle.run_statements.specs.Written.{IsWritten, WrittenProcedure, site_scope}
 use Rattle.name_laws.proofs.Lists.{both_true, some_same, same_number}
@@ -38,7 +38,8 @@ use Rattle.name_laws.proofs.Keys.{StaticKey, static_parts, key_of_static}
 use Rattle.name_laws.proofs.Looked.{not_true}
 use Rattle.name_laws.proofs.Led.{Led, led, differing}
 use Rattle.name_laws.proofs.Shared.{shared_variable}
-use Rattle.name_laws.proofs.Uses.{ArrayUse, CoveredUse, array_parts, used_parts}
+use Rattle.name_laws.proofs.Uses.{ArrayUse, CoveredUse, GroupUse, array_parts, group_use, used_parts}
+use Rattle.name_laws.proofs.GroupTypes.{group_type}
 use Rattle.name_laws.proofs.Owns.{covered_type}
 use Rattle.name_laws.proofs.Words.{array_type, scalar_type}
 
@@ -102,7 +103,8 @@ module _ (U : Upgrade) (I : IsWritten U) (p : ℕ) (s : Site) (x : Procedure) (i
   placed v r given u =
       let same : u.used ≡ r.variable = some_same u.used r.variable (sym u.is_used ∙ r.is_variable) in
       by_owner v r.variable r.is_variable given
-      (λ file of lead. shared_variable U I p v r.variable r.is_variable r.sound (scalar_type U v r.variable (covered_type r.variable r.covers)) file of lead
+      (λ file of lead. shared_variable U I p v r.variable r.is_variable r.sound
+      (λ at home e. scalar_type U v r.variable at home (covered_type r.variable r.covers)) file of lead
       s x is_site is_procedure W g k names)
       r.variable.owner refl (subst (λ (z : Variable). is_reached D p v z.name z.owner ≡ true) same u.reached)
 
@@ -112,7 +114,19 @@ module _ (U : Upgrade) (I : IsWritten U) (p : ℕ) (s : Site) (x : Procedure) (i
       let y : Variable = r.known.variable in
       let same : u.used ≡ y = some_same u.used y (sym u.is_used ∙ r.known.is_variable) in
       by_owner v y r.known.is_variable given
-      (λ file of lead. shared_variable U I p v y r.known.is_variable r.known.sound (array_type U v y element r.rank r.is_array r.covers) file of lead
+      (λ file of lead. shared_variable U I p v y r.known.is_variable r.known.sound
+      (λ at home e. array_type U v y element r.rank at home r.is_array r.covers) file of lead
+      s x is_site is_procedure W g k names)
+      y.owner refl (subst (λ (z : Variable). is_reached D p v z.name z.owner ≡ true) same u.reached)
+
+  -- of a user type
+  group_placed : (v t : ℕ) (r : IsGroup U v t) → Given v → GroupUse U.program p v t → Goal v
+  group_placed v t r given u =
+      let y : Variable = r.known.variable in
+      let same : u.used ≡ y = some_same u.used y (sym u.is_used ∙ r.known.is_variable) in
+      by_owner v y r.known.is_variable given
+      (λ file of lead. shared_variable U I p v y r.known.is_variable r.known.sound
+      (λ at home e. group_type U I v y t at home r.is_user r.covers e) file of lead
       s x is_site is_procedure W g k names)
       y.owner refl (subst (λ (z : Variable). is_reached D p v z.name z.owner ≡ true) same u.reached)
 
@@ -170,9 +184,12 @@ used_placed : (U : Upgrade) → IsWritten U → (p : ℕ) (s : Site) (x : Proced
 used_placed U I p s x e is W l readable f g k names given v (inl h) =
     placed U I p s x e is W f g k (subst (λ o. HasNames o g) (code_is U p s x W) names) v.0 (readable.scalars v h) (λ r a at. given v a (inl h) r at)
     (used_parts U.program p l.bindings.mentions v h).1
-used_placed U I p s x e is W l readable f g k names given v (inr h) =
+used_placed U I p s x e is W l readable f g k names given v (inr (inl h)) =
     array_placed U I p s x e is W f g k (subst (λ o. HasNames o g) (code_is U p s x W) names) v.0 h.0 (readable.arrays v h.0 h.1)
-    (λ r a at. given v a (inr h) r at) (array_parts U.program p l.bindings.mentions v h.0 h.1).1
+    (λ r a at. given v a (inr (inl h)) r at) (array_parts U.program p l.bindings.mentions v h.0 h.1).1
+used_placed U I p s x e is W l readable f g k names given v (inr (inr h)) =
+    group_placed U I p s x e is W f g k (subst (λ o. HasNames o g) (code_is U p s x W) names) v.0 h.0 (readable.groups v h.0 h.1)
+    (λ r a at. given v a (inr (inr h)) r at) (group_use U.program p l.bindings.mentions v h.0 h.1).1
 
 pub uses_are_placed : (U : Upgrade) → IsWritten U → (p : ℕ) (s : Site) (x : Procedure) → site_of U.program.declarations p ≡ Some s
     → slice_get U.program.declarations.procs p ≡ Some x → (W : WrittenProcedure U p s x) (l : Line)

@@ -113,7 +113,8 @@ not_static U name (Some c) a b e = by (position (is_dim_named name) c.procedure.
 -- ---- the module of the variable
 
 module _ (U : Upgrade) (I : IsWritten U) (p v : ℕ) (y : Variable) (is_variable : slice_get U.program.declarations.vars v ≡ Some y) (sound : is_flagged U v ≡ false)
-    (type_is : VariableType U v y) (file : ℕ) (of : y.owner ≡ owner.Module file) (L : Led U.program.declarations p v y.name file) where
+    (types : (file home : ℕ) → home_of U file ≡ Some home → VariableType U v y file home) (file : ℕ) (of : y.owner ≡ owner.Module file)
+    (L : Led U.program.declarations p v y.name file) where
   abbrev D : Declarations
   D = U.program.declarations
 
@@ -158,6 +159,9 @@ module _ (U : Upgrade) (I : IsWritten U) (p v : ℕ) (y : Variable) (is_variable
   file_is : m.file ≡ file
   file_is = eqb-true m.file file at_file.0
 
+  abbrev type_is : VariableType U v y m.file L.home
+  type_is = types m.file L.home (ap (home_of U) file_is ∙ L.is_home)
+
   abbrev word : TypeName
   word = type_is.word
 
@@ -174,7 +178,7 @@ module _ (U : Upgrade) (I : IsWritten U) (p v : ℕ) (y : Variable) (is_variable
       let plain : is_flagged_variable U.facts u.0 ≡ false = ap (is_flagged_variable U.facts) (sym number) ∙ unflagged in
       ap (λ b. is_word_of (Some word) (cond b (object_variable u.1.name) (typed_variable S u.0 u.1)).ty) plain
       ∙ subst (λ (x : Variable). is_word_of (Some word) (typed_variable S u.0 x).ty ≡ true) same
-      (subst (λ k. is_written_as (type_with D m.file y.qualified (U.facts.rank k) y.ty) word ≡ true) number (type_is.is_written m.file))
+      (subst (λ k. is_written_as (type_with D m.file y.qualified (U.facts.rank k) y.ty) word ≡ true) number type_is.is_written)
 
   allowed : list_all (is_allowed name (Some word)) members ≡ true
   allowed =
@@ -278,7 +282,7 @@ module _ (U : Upgrade) (I : IsWritten U) (p v : ℕ) (y : Variable) (is_variable
         (ap (λ o. cond (is_class_at o) (own_field (shape_of N L.home there.made.ty) key E.me) (at_place (root (shape_of N L.home there.made.ty) (whole (shared key)))))
         stands_there
         ∙ ap (λ c. cond c (own_field (shape_of N L.home there.made.ty) key E.me) (at_place (root (shape_of N L.home there.made.ty) (whole (shared key))))) L.standard
-        ∙ ap (λ z. at_place (root z (whole (shared key)))) (type_is.shaped N L.home there.made.ty there.is_word))
+        ∙ ap (λ z. at_place (root z (whole (shared key)))) (type_is.shaped there.made.ty there.is_word))
 
     member_there : (h : ℕ) → L.home ≡ h → some_member E None h (member_named name (members_of (module_at N h))) ≡ place
     member_there h e =

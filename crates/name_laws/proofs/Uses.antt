@@ -1,31 +1,37 @@
 -- The variables that clean, covered lines use can be read.
-use Rattle.std.proofs.Common.{◌≡◌, refl, ap, sym, subst, ◌∙◌, ◌&&◌, ℕ, zero, suc, true, false, List, [], ◌∷◌, map, Option, Some, None, slice_get}
+use Rattle.std.proofs.Common.{◌≡◌, refl, ap, sym, subst, ◌∙◌, ◌&&◌, cond, not, ℕ, zero, suc, Bool, true, false, List, [], ◌∷◌, map, Option, Some, None, slice_get}
 use Rattle.std.specs.List.{Contains, list_any}
+use Rattle.std.proofs.lemmas.Bool.{eqb-true}
+use Rattle.vb_tree.specs.BoundTree as types
 use Rattle.vb_tree.specs.BoundTree.{Ty}
 use Rattle.vb_tree.specs.declared.declared.VarId.{VarId}
 use Rattle.bound_tree.specs.declared.marks.Marks.{Marks}
 use Rattle.bound_tree.specs.Targets.{Aims, aims_of, steps}
-use Rattle.bound_tree.specs.Tree.{Variable, Line, Program}
+use Rattle.bound_tree.specs.Tree.{Variable, Declarations, Line, Program}
 use Rattle.bound_tree.specs.declared.body.Mention.{Mention}
-use Rattle.bound_facts.specs.Clean.{variable, stays, point_broken, IsClean}
+use Rattle.bound_facts.specs.Clean.{variable, point_broken, IsClean}
+use Rattle.bound_facts.specs.Locks.{is_same_type}
 use Rattle.run_base.specs.Machines.{nth_line, line_in, line_at}
 use Rattle.vb6_run.specs.Forms.{SourceLine, with_aims, body_of}
 use Rattle.vb6_run.specs.Lines.{source_lines}
 use Rattle.vb6_run.specs.Programs.{machine_of}
-use Rattle.run_matches.specs.CleanLines.{IsCleanLine, lines_at, or_none, line_points}
-use Rattle.run_matches.specs.CoveredVariables.{covers_variable, is_reached, covers_some, is_loud, is_loud_owner, is_mention_of, covers_use, covers_array_use, covers_array_variable, covers_some_array, is_named_apart}
+use Rattle.run_matches.specs.CleanLines.{IsCleanLine, IsSoundPoint, lines_at, or_none, line_points}
+use Rattle.run_matches.specs.CoveredVariables.{covers_variable, is_reached, covers_some, is_loud, is_loud_owner, is_mention_of, covers_use, covers_array_use, covers_array_variable, covers_some_array, is_named_apart, covers_group_use, covers_group_variable, covers_some_group, field_type_in, field_type_of}
 use Rattle.run_matches.specs.CoveredExprs.{uses_in}
-use Rattle.run_matches.specs.Upgrades.{Upgrade, runnable_of}
+use Rattle.run_matches.specs.SoundShapes.{IsField}
+use Rattle.run_matches.specs.Upgrades.{Upgrade, field_variable, is_unknown, runnable_of, type_of_some}
 use Rattle.written_trees.specs.Names.{Scope}
 use Rattle.name_laws.proofs.Inward.{seen_inward}
-use Rattle.run_statements.specs.Frames.{AreReadable, IsArray, IsReadable}
+use Rattle.run_statements.specs.Frames.{AreReadable, IsArray, IsGroup, IsReadable}
 use Rattle.run_statements.specs.Written.{IsWritten}
 use Rattle.name_laws.proofs.Lists.{both_true, some_same, any_among}
 use Rattle.bound_tree.specs.RuleSets.{is_broken}
 use Rattle.written_trees.specs.Facts.{line_set}
-use Rattle.name_laws.proofs.Arrows.{lines_unbroken, mentioned_by_clean, mention_is_point}
+use Rattle.name_laws.proofs.Arrows.{lines_unbroken, mentioned_path, mention_is_point}
+use Rattle.name_laws.proofs.CoveredTypes.{holds_no_array}
+use Rattle.name_laws.proofs.SoundPoints.{clean_sound, is_unflagged, sound_unbroken}
 use Rattle.name_laws.proofs.Sets.{unbroken_line, unbroken_that}
-use Rattle.name_laws.proofs.Owns.{readable, usable_array, uses_exact}
+use Rattle.name_laws.proofs.Owns.{GroupParts, group_parts, readable, usable_array, usable_group, uses_exact}
 
 -- a covered use is of a variable that is reached
 pub record CoveredUse (P : Program) (p v : ℕ) : Type 0 where
@@ -94,81 +100,151 @@ has_line P p k l h = by (slice_get P.bodies p) refl h
     by None e f = absurd (cc f)
     by (Some lines) e f = record { lines = lines; are_lines = e; is_line = f }
 
--- in a clean procedure
-scalar_readable : (U : Upgrade) → IsWritten U → (p k : ℕ) (l : Line) → IsClean U.program U.facts.marks p
-    → nth_line (lines_at U.program p) (suc k) ≡ Some l → (v : VarId) → covers_use U.program p l.bindings.mentions v ≡ true → IsReadable U v.0
-scalar_readable U I p k l clean e v h =
-    let b = used_parts U.program p l.bindings.mentions v h in
-    let used : CoveredUse U.program p v.0 = b.1 in
-    let at : HasLine U.program p k l = has_line U.program p k l e in
-    let m = any_among (is_mention_of v) l.bindings.mentions b.0 in
-    readable U I.known v.0 used.used used.is_used used.covers
-    (mentioned_by_clean U.program U.facts.marks p k at.lines l v m.0 clean at.are_lines at.is_line m.1 m.2)
+-- ---- of user types
 
-array_readable : (U : Upgrade) → IsWritten U → (p k : ℕ) (l : Line) → IsClean U.program U.facts.marks p
-    → nth_line (lines_at U.program p) (suc k) ≡ Some l → (v : VarId) (element : Ty) → covers_array_use U.program p l.bindings.mentions v element ≡ true
-    → IsArray U v.0 element
-array_readable U I p k l clean e v element h =
-    let b = array_parts U.program p l.bindings.mentions v element h in
-    let used : ArrayUse U.program p v.0 element = b.1 in
-    let at : HasLine U.program p k l = has_line U.program p k l e in
-    let m = any_among (is_mention_of v) l.bindings.mentions b.0 in
-    usable_array U I v.0 used.used element used.is_used used.covers used.loud
-    (mentioned_by_clean U.program U.facts.marks p k at.lines l v m.0 clean at.are_lines at.is_line m.1 m.2)
+-- a covered use of a variable of a user type is of one that is reached
+pub record GroupUse (P : Program) (p v user_type : ℕ) : Type 0 where
+  pub used : Variable
+  pub is_used : slice_get P.declarations.vars v ≡ Some used
+  pub reached : is_reached P.declarations p v used.name used.owner ≡ true
+  pub is_user : used.ty ≡ types.user user_type
+  pub covers : covers_group_variable P.declarations used ≡ true
+  pub loud : is_loud_owner P v used.owner ≡ true
+
+same_user : (t : ℕ) (ty : Ty) → is_same_type (types.user t) ty ≡ true → ty ≡ types.user t
+same_user t (types.user u) h = ap types.user (sym (eqb-true t u h))
+same_user t _ h = absurd (cc h)
+
+group_use_of : (P : Program) (p v t : ℕ) → covers_some_group P.declarations p v t (slice_get P.declarations.vars v) ≡ true
+    → is_loud P v (slice_get P.declarations.vars v) ≡ true → GroupUse P p v t
+group_use_of P p v t h loud = by (slice_get P.declarations.vars v) refl h loud
+  where
+    by : (o : Option Variable) → slice_get P.declarations.vars v ≡ o → covers_some_group P.declarations p v t o ≡ true → is_loud P v o ≡ true
+        → GroupUse P p v t
+    by None e k l = absurd (cc k)
+    by (Some x) e k l =
+        let b = both_true (is_reached P.declarations p v x.name x.owner) (is_same_type (types.user t) x.ty && covers_group_variable P.declarations x) k in
+        let c = both_true (is_same_type (types.user t) x.ty) (covers_group_variable P.declarations x) b.1 in
+        record { used = x; is_used = e; reached = b.0; is_user = same_user t x.ty c.0; covers = c.1; loud = l }
+
+pub group_use : (P : Program) (p : ℕ) (mentions : List Mention) (v : VarId) (t : ℕ) → covers_group_use P p mentions v t ≡ true
+    → (list_any (is_mention_of v) mentions ≡ true) × GroupUse P p v.0 t
+group_use P p mentions v t h =
+    let covers = covers_some_group P.declarations p v.0 t (slice_get P.declarations.vars v.0) in
+    let loud = is_loud P v.0 (slice_get P.declarations.vars v.0) in
+    let b = both_true (list_any (is_mention_of v) mentions) (covers && loud) h in
+    let c = both_true covers loud b.1 in
+    (b.0, group_use_of P p v.0 t c.0 c.1)
+
+same_number_of : (a b : ℕ) → types.user a ≡ types.user b → a ≡ b
+same_number_of a b e = cc e
+
+-- ---- what can be read
+
+-- what is known of what a line mentions, where no chain from there leads to what breaks a rule
+module _ (U : Upgrade) (I : IsWritten U) (p : ℕ) (mentions : List Mention)
+    (sound : (v : VarId) → list_any (is_mention_of v) mentions ≡ true → IsSoundPoint U.program U.facts.marks (variable v.0)) where
+  abbrev D : Declarations
+  D = U.program.declarations
+
+  unbroken : (v : VarId) → list_any (is_mention_of v) mentions ≡ true → point_broken D U.facts.marks (variable v.0) ≡ false
+  unbroken v h = sound_unbroken U.program U.facts.marks (variable v.0) (sound v h)
+
+  scalar_readable : (v : VarId) → covers_use U.program p mentions v ≡ true → IsReadable U v.0
+  scalar_readable v h =
+      let b = used_parts U.program p mentions v h in
+      let used : CoveredUse U.program p v.0 = b.1 in
+      readable U I.known v.0 used.used used.is_used used.covers (unbroken v b.0)
+
+  array_readable : (v : VarId) (element : Ty) → covers_array_use U.program p mentions v element ≡ true → IsArray U v.0 element
+  array_readable v element h =
+      let b = array_parts U.program p mentions v element h in
+      let used : ArrayUse U.program p v.0 element = b.1 in
+      usable_array U I v.0 used.used element used.is_used used.covers used.loud (unbroken v b.0)
+
+  group_readable : (v : VarId) (t : ℕ) → covers_group_use U.program p mentions v t ≡ true → IsGroup U v.0 t
+  group_readable v t h =
+      let b = group_use U.program p mentions v t h in
+      let used : GroupUse U.program p v.0 t = b.1 in
+      let parts : GroupParts D used.used = group_parts D used.used used.covers in
+      subst (λ u. IsGroup U v.0 u) (same_number_of parts.user_type t (sym parts.is_user ∙ used.is_user))
+      (usable_group U I v.0 used.used used.is_used used.covers used.loud (sound v b.0))
+
+  -- a field that is mentioned
+  field_readable : (t k : ℕ) (ty : Ty) → field_type_in D mentions t k ≡ Some ty → IsField U t k ty
+  field_readable t k ty h = by (field_variable U t k) refl h
+    where
+      by_variable : (v : ℕ) → field_variable U t k ≡ Some v → list_any (is_mention_of (record { 0 = v })) mentions ≡ true → (o : Option Variable)
+          → slice_get D.vars v ≡ o → type_of_some o ≡ Some ty → is_unknown (type_of_some o) ≡ false → IsField U t k ty
+      by_variable v e m None is at known = absurd (cc at)
+      by_variable v e m (Some x) is at known = record {
+        variable = v;
+        declares = e;
+        is_type = ap type_of_some is ∙ at;
+        sound = is_unflagged U v x is known (unbroken (record { 0 = v }) m);
+      }
+
+      by_test : (v : ℕ) → field_variable U t k ≡ Some v → (a b : Bool) → list_any (is_mention_of (record { 0 = v })) mentions ≡ a
+          → is_unknown (type_of_some (slice_get D.vars v)) ≡ b → cond (a && not b) (type_of_some (slice_get D.vars v)) None ≡ Some ty → IsField U t k ty
+      by_test v e true false m known at = by_variable v e m (slice_get D.vars v) refl at known
+      by_test v e true true m known at = absurd (cc at)
+      by_test v e false b m known at = absurd (cc at)
+
+      by : (o : Option ℕ) → field_variable U t k ≡ o → field_type_of D mentions o ≡ Some ty → IsField U t k ty
+      by None e at = absurd (cc at)
+      by (Some v) e at =
+          by_test v e (list_any (is_mention_of (record { 0 = v })) mentions) (is_unknown (type_of_some (slice_get D.vars v))) refl refl at
+
+  mentioned_readable : (T : Scope) → T.facts ≡ U.facts → AreReadable U T (uses_in U.program p mentions)
+  mentioned_readable T same = record {
+    scalars = scalar_readable;
+    arrays = array_readable;
+    groups = group_readable;
+    fields = field_readable;
+    flat = holds_no_array U I;
+    exact = λ v h. uses_exact U I.known v.0 h;
+    facts = same;
+    types = λ v ty h. h;
+    inward = λ q h. seen_inward U.program U.known I.known q h;
+    relied = λ v h. h;
+  }
+
+-- in a clean procedure
+mention_sound : (P : Program) (M : Marks) (p k : ℕ) (l : Line) (v : VarId) → IsClean P M p → nth_line (lines_at P p) (suc k) ≡ Some l
+    → list_any (is_mention_of v) l.bindings.mentions ≡ true → IsSoundPoint P M (variable v.0)
+mention_sound P M p k l v clean e h =
+    let at : HasLine P p k l = has_line P p k l e in
+    let m = any_among (is_mention_of v) l.bindings.mentions h in
+    clean_sound P M p (variable v.0) clean (mentioned_path P p k at.lines l v m.0 at.are_lines at.is_line m.1 m.2)
 
 pub uses_are_readable : (U : Upgrade) → IsWritten U → (p k : ℕ) (l : Line) → IsClean U.program U.facts.marks p → nth_line (lines_at U.program p) (suc k) ≡ Some l
     → (T : Scope) → T.facts ≡ U.facts → AreReadable U T (uses_in U.program p l.bindings.mentions)
-uses_are_readable U I p k l clean e T same = record {
-  scalars = scalar_readable U I p k l clean e;
-  arrays = array_readable U I p k l clean e;
-  exact = λ v h. uses_exact U I.known v.0 h;
-  facts = same;
-  types = λ v ty h. h;
-  inward = λ q h. seen_inward U.program U.known I.known q h;
-  relied = λ v h. h;
-}
+uses_are_readable U I p k l clean e T same =
+    mentioned_readable U I p l.bindings.mentions (λ v h. mention_sound U.program U.facts.marks p k l v clean e h) T same
 
 -- the line that is clean by itself
 pub clean_line_is : (P : Program) (M : Marks) (p number : ℕ) (l : Line) (C : IsCleanLine P M p number) → nth_line (lines_at P p) number ≡ Some l → C.itself.line ≡ l
 clean_line_is P M p number l C e = some_same C.itself.line l (sym C.itself.is_line ∙ e)
 
--- what a clean line mentions breaks no rule
-pub mentioned_unbroken : (P : Program) (M : Marks) (p number : ℕ) (l : Line) (v : VarId) → IsCleanLine P M p number → nth_line (lines_at P p) number ≡ Some l
-    → list_any (is_mention_of v) l.bindings.mentions ≡ true → point_broken P.declarations M (variable v.0) ≡ false
-mentioned_unbroken P M p number l v C e h =
+-- what a clean line mentions leads to nothing that breaks a rule
+line_sound : (P : Program) (M : Marks) (p number : ℕ) (l : Line) (v : VarId) → IsCleanLine P M p number → nth_line (lines_at P p) number ≡ Some l
+    → list_any (is_mention_of v) l.bindings.mentions ≡ true → IsSoundPoint P M (variable v.0)
+line_sound P M p number l v C e h =
     let m = any_among (is_mention_of v) l.bindings.mentions h in
     C.itself.mentions (variable v.0)
     (subst (λ (k : Line). Contains (line_points P.declarations p k) (variable v.0)) (sym (clean_line_is P M p number l C e))
     (mention_is_point P.declarations p l v m.0 m.1 m.2))
-    (variable v.0) (stays (variable v.0))
+
+-- nor breaks it one
+pub mentioned_unbroken : (P : Program) (M : Marks) (p number : ℕ) (l : Line) (v : VarId) → IsCleanLine P M p number → nth_line (lines_at P p) number ≡ Some l
+    → list_any (is_mention_of v) l.bindings.mentions ≡ true → point_broken P.declarations M (variable v.0) ≡ false
+mentioned_unbroken P M p number l v C e h = sound_unbroken P M (variable v.0) (line_sound P M p number l v C e h)
 
 -- in a line that is clean by itself
-line_scalar_readable : (U : Upgrade) → IsWritten U → (p number : ℕ) (l : Line) → IsCleanLine U.program U.facts.marks p number
-    → nth_line (lines_at U.program p) number ≡ Some l → (v : VarId) → covers_use U.program p l.bindings.mentions v ≡ true → IsReadable U v.0
-line_scalar_readable U I p number l C e v h =
-    let b = used_parts U.program p l.bindings.mentions v h in
-    let used : CoveredUse U.program p v.0 = b.1 in
-    readable U I.known v.0 used.used used.is_used used.covers (mentioned_unbroken U.program U.facts.marks p number l v C e b.0)
-
-line_array_readable : (U : Upgrade) → IsWritten U → (p number : ℕ) (l : Line) → IsCleanLine U.program U.facts.marks p number
-    → nth_line (lines_at U.program p) number ≡ Some l → (v : VarId) (element : Ty) → covers_array_use U.program p l.bindings.mentions v element ≡ true
-    → IsArray U v.0 element
-line_array_readable U I p number l C e v element h =
-    let b = array_parts U.program p l.bindings.mentions v element h in
-    let used : ArrayUse U.program p v.0 element = b.1 in
-    usable_array U I v.0 used.used element used.is_used used.covers used.loud (mentioned_unbroken U.program U.facts.marks p number l v C e b.0)
-
 pub line_uses_are_readable : (U : Upgrade) → IsWritten U → (p number : ℕ) (l : Line) → IsCleanLine U.program U.facts.marks p number → nth_line (lines_at U.program p) number ≡ Some l
     → (T : Scope) → T.facts ≡ U.facts → AreReadable U T (uses_in U.program p l.bindings.mentions)
-line_uses_are_readable U I p number l C e T same = record {
-  scalars = line_scalar_readable U I p number l C e;
-  arrays = line_array_readable U I p number l C e;
-  exact = λ v h. uses_exact U I.known v.0 h;
-  facts = same;
-  types = λ v ty h. h;
-  inward = λ q h. seen_inward U.program U.known I.known q h;
-  relied = λ v h. h;
-}
+line_uses_are_readable U I p number l C e T same =
+    mentioned_readable U I p l.bindings.mentions (λ v h. line_sound U.program U.facts.marks p number l v C e h) T same
 
 -- ---- what lines break
 

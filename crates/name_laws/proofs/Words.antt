@@ -1,6 +1,7 @@
 -- The written words of covered types, and the shapes of the variables that are written with them.
 use Rattle.std.proofs.Common.{◌≡◌, refl, ap, sym, subst, ◌∙◌, ℕ, suc, ◌*◌, ℤ, Bool, true, ◌&&◌, nat_eq, List, [], Some, length}
 use Rattle.std.specs.Prelude.{filter, sum_by}
+use Rattle.std.specs.Cmp.Lexicographic.{pointwise}
 use Rattle.std.proofs.lemmas.Bool.{eqb-true}
 use Rattle.vb_tree.specs.BoundTree as types
 use Rattle.vb_tree.specs.BoundTree.{Ty}
@@ -18,9 +19,10 @@ use Rattle.run_matches.specs.Upgrades.{Upgrade}
 use Rattle.run_statements.specs.Frames.{HasRankOf}
 use Rattle.name_laws.proofs.Lists.{both_true, same_number}
 
--- one scalar type, or arrays of one of the same rank
+-- one scalar type, arrays of one of the same rank, or a type that one path names
 abbrev pub is_written_as : TypeName → TypeName → Bool
 is_written_as (words.array_of d n) (words.array_of e m) = is_same_word d e && nat_eq n m
+is_written_as (words.named path) (words.named other) = pointwise (pointwise nat_eq) path other
 is_written_as d e = is_same_word d e
 
 -- what is written for a scalar type, and its shape in a project
@@ -101,26 +103,26 @@ simple_type users bounds _ h = absurd (cc h)
 
 -- ---- the written types of variables
 
--- The type that is written for a variable, and its shape.
-pub record VariableType (U : Upgrade) (v : ℕ) (x : Variable) : Type 0 where
+-- The type that is written for a variable in the module of a file, which is written as the module of a number, and its shape there.
+pub record VariableType (U : Upgrade) (v : ℕ) (x : Variable) (file home : ℕ) : Type 0 where
   pub word : TypeName
   pub written : written_shape.Shape
-  pub is_written : (file : ℕ) → is_written_as (type_with U.program.declarations file x.qualified (U.facts.rank v) x.ty) word ≡ true
-  pub shaped : (N : Project) (home : ℕ) (t : TypeName) → is_written_as t word ≡ true → shape_of N home t ≡ written
+  pub is_written : is_written_as (type_with U.program.declarations file x.qualified (U.facts.rank v) x.ty) word ≡ true
+  pub shaped : (t : TypeName) → is_written_as t word ≡ true → shape_of U.written home t ≡ written
   pub same : SameShape U (shape_by (user_shapes U.program.declarations) x.bounds x.ty) written
   pub ranked : HasRankOf U v written
 
 abbrev depth_of : Project → ℕ
 depth_of N = 2 * sum_by (λ (m : Module). length (filter is_structure m.members)) N.modules
 
-pub scalar_type : (U : Upgrade) (v : ℕ) (x : Variable) → covers_type x.ty ≡ true → VariableType U v x
-scalar_type U v x h =
+pub scalar_type : (U : Upgrade) (v : ℕ) (x : Variable) (file home : ℕ) → covers_type x.ty ≡ true → VariableType U v x file home
+scalar_type U v x file home h =
     let m : WordOf x.ty = word_of x.ty h in
     record {
       word = m.word;
       written = scalar m.word;
-      is_written = λ file. m.is_type U.program.declarations file x.qualified (U.facts.rank v);
-      shaped = λ N home t e. m.shaped N (suc (depth_of N)) home t (m.typed t e);
+      is_written = m.is_type U.program.declarations file x.qualified (U.facts.rank v);
+      shaped = λ t e. m.shaped U.written (suc (depth_of U.written)) home t (m.typed t e);
       same =
           subst (λ s. SameShape U s (scalar m.word)) (sym (simple_type (user_shapes U.program.declarations) x.bounds x.ty h))
           (same_scalar x.ty m.word m.is_word);
@@ -136,18 +138,19 @@ array_shaped N home ty m rank (words.array_of d n) h =
     ap (λ s. written_shape.array s n) element ∙ ap (λ k. written_shape.array (scalar m.word) k) count
 array_shaped N home ty m rank _ h = absurd (cc h)
 
-pub array_type : (U : Upgrade) (v : ℕ) (x : Variable) (e : Ty) (r : ℕ) → x.ty ≡ types.array e r → covers_type e ≡ true → VariableType U v x
-array_type U v x e r is h =
+pub array_type : (U : Upgrade) (v : ℕ) (x : Variable) (e : Ty) (r file home : ℕ) → x.ty ≡ types.array e r → covers_type e ≡ true
+    → VariableType U v x file home
+array_type U v x e r file home is h =
     let D : Declarations = U.program.declarations in
     let m : WordOf e = word_of e h in
     let rank : ℕ = U.facts.rank v in
-    let written : (file : ℕ) → is_written_as (type_with D file x.qualified rank (types.array e r)) (words.array_of m.word rank) ≡ true =
-    λ file. ap (λ b. b && nat_eq rank rank) (m.is_written D file x.qualified rank) ∙ same_number rank rank refl in
+    let written : is_written_as (type_with D file x.qualified rank (types.array e r)) (words.array_of m.word rank) ≡ true =
+    ap (λ b. b && nat_eq rank rank) (m.is_written D file x.qualified rank) ∙ same_number rank rank refl in
     record {
       word = words.array_of m.word rank;
       written = written_shape.array (scalar m.word) rank;
-      is_written = λ file. subst (λ z. is_written_as (type_with D file x.qualified rank z) (words.array_of m.word rank) ≡ true) (sym is) (written file);
-      shaped = λ N home t k. array_shaped N home e m rank t k;
+      is_written = subst (λ z. is_written_as (type_with D file x.qualified rank z) (words.array_of m.word rank) ≡ true) (sym is) written;
+      shaped = λ t k. array_shaped U.written home e m rank t k;
       same =
           subst (λ z. SameShape U (shape_by (user_shapes D) x.bounds z) (written_shape.array (scalar m.word) rank)) (sym is)
           (subst (λ s. SameShape U (array s x.bounds) (written_shape.array (scalar m.word) rank)) (sym (simple_type (user_shapes D) [] e h))

@@ -152,11 +152,11 @@ not_module x y e f = subst (λ z. is_module_variable program.declarations z.owne
 kinds_at : (x : ℕ) (y : Variable) → slice_get program.declarations.vars x ≡ Some y
     → HeldAs program.declarations x (is_module_variable program.declarations y.owner) (shared (x ∷ [])) start.held
 kinds_at zero y e = inr (v.Long (pos 0), refl)
-kinds_at (suc zero) y e = inl (refl, not_module _ y e refl)
-kinds_at (suc (suc zero)) y e = inl (refl, not_module _ y e refl)
-kinds_at (suc (suc (suc zero))) y e = inl (refl, not_module _ y e refl)
-kinds_at (suc (suc (suc (suc zero)))) y e = inl (refl, not_module _ y e refl)
-kinds_at (suc (suc (suc (suc (suc zero))))) y e = inl (refl, not_module _ y e refl)
+kinds_at (suc zero) y e = inl (λ path. refl, not_module _ y e refl)
+kinds_at (suc (suc zero)) y e = inl (λ path. refl, not_module _ y e refl)
+kinds_at (suc (suc (suc zero))) y e = inl (λ path. refl, not_module _ y e refl)
+kinds_at (suc (suc (suc (suc zero)))) y e = inl (λ path. refl, not_module _ y e refl)
+kinds_at (suc (suc (suc (suc (suc zero))))) y e = inl (λ path. refl, not_module _ y e refl)
 kinds_at (suc (suc (suc (suc (suc (suc x)))))) y e = cc
 
 stores_match : StoreMatch upgrade world

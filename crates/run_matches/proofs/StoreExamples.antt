@@ -255,11 +255,11 @@ not_module x y e f = subst (λ z. is_module_variable program.declarations z.owne
 kinds_at : (x : ℕ) (y : Variable) → slice_get program.declarations.vars x ≡ Some y
     → HeldAs program.declarations x (is_module_variable program.declarations y.owner) (shared (x ∷ [])) (λ q. held_at q.root q.path)
 kinds_at zero y e = inr (v.Long (pos 7), refl)
-kinds_at (suc zero) y e = inl (refl, not_module _ y e refl)
-kinds_at (suc (suc zero)) y e = inl (refl, not_module _ y e refl)
-kinds_at (suc (suc (suc zero))) y e = inl (refl, not_module _ y e refl)
-kinds_at (suc (suc (suc (suc zero)))) y e = inl (refl, not_module _ y e refl)
-kinds_at (suc (suc (suc (suc (suc zero))))) y e = inl (refl, not_module _ y e refl)
+kinds_at (suc zero) y e = inl (λ path. refl, not_module _ y e refl)
+kinds_at (suc (suc zero)) y e = inl (λ path. refl, not_module _ y e refl)
+kinds_at (suc (suc (suc zero))) y e = inl (λ path. refl, not_module _ y e refl)
+kinds_at (suc (suc (suc (suc zero)))) y e = inl (λ path. refl, not_module _ y e refl)
+kinds_at (suc (suc (suc (suc (suc zero))))) y e = inl (λ path. refl, not_module _ y e refl)
 kinds_at (suc (suc (suc (suc (suc (suc x)))))) y e = cc
 
 -- the field of the object holds a Long, and its class has no other
@@ -272,12 +272,12 @@ not_class x y e f = subst (λ z. is_class_variable program.declarations 0 z.owne
 
 fields_at : (x : ℕ) (y : Variable) → slice_get program.declarations.vars x ≡ Some y
     → HeldAs program.declarations x (is_class_variable program.declarations 0 y.owner) (field 0 (x ∷ [])) (λ q. held_at q.root q.path)
-fields_at zero y e = inl (refl, not_class _ y e refl)
-fields_at (suc zero) y e = inl (refl, not_class _ y e refl)
-fields_at (suc (suc zero)) y e = inl (refl, not_class _ y e refl)
-fields_at (suc (suc (suc zero))) y e = inl (refl, not_class _ y e refl)
+fields_at zero y e = inl (λ path. refl, not_class _ y e refl)
+fields_at (suc zero) y e = inl (λ path. refl, not_class _ y e refl)
+fields_at (suc (suc zero)) y e = inl (λ path. refl, not_class _ y e refl)
+fields_at (suc (suc (suc zero))) y e = inl (λ path. refl, not_class _ y e refl)
 fields_at (suc (suc (suc (suc zero)))) y e = inr (v.Long (pos 3), refl)
-fields_at (suc (suc (suc (suc (suc zero))))) y e = inl (refl, not_class _ y e refl)
+fields_at (suc (suc (suc (suc (suc zero))))) y e = inl (λ path. refl, not_class _ y e refl)
 fields_at (suc (suc (suc (suc (suc (suc x)))))) y e = cc
 
 fields_of : (o c x : ℕ) (y : Variable) → o < 1 → classes_at o ≡ Some c → slice_get program.declarations.vars x ≡ Some y

@@ -23,7 +23,7 @@ use Rattle.bound_facts.specs.Members.{field_of}
 use Rattle.vb6_meaning.specs.Answers.{Answer}
 use Rattle.written_trees.specs.Types.{element_type}
 use Rattle.run_matches.specs.Shared.{names_lead, is_alone_static}
-use Rattle.run_matches.specs.Upgrades.{type_of_some}
+use Rattle.run_matches.specs.Upgrades.{is_unknown, type_of_some}
 use Rattle.run_matches.specs.UserTypes.{type_leads, field_names, is_user_of}
 
 -- ---- types
@@ -216,9 +216,10 @@ covers_group_use P p mentions v t =
 abbrev pub field_type_of : Declarations → List Mention → Option ℕ → Option Ty
 field_type_of D mentions None = None
 field_type_of D mentions (Some v) =
-    cond (list_any (is_mention_of (record { 0 = v })) mentions) (type_of_some (slice_get D.vars v)) None
+    cond (list_any (is_mention_of (record { 0 = v })) mentions && not (is_unknown (type_of_some (slice_get D.vars v))))
+    (type_of_some (slice_get D.vars v)) None
 
--- the type of a field of a user type that is mentioned
+-- the type of a field of a user type that is mentioned, but for Unknown
 abbrev pub field_type_in : Declarations → List Mention → (user_type field : ℕ) → Option Ty
 field_type_in D mentions t k = field_type_of D mentions (field_of D (types.user t) k)
 

@@ -38,9 +38,13 @@ SameClass U None (Some home) = ⊥
 SameClass U (Some c) None = ⊥
 SameClass U (Some c) (Some home) = (class_home U c ≡ Some home) × (terminator U.program.declarations c ≡ None)
 
+-- nothing stands at a root, nor in it
+abbrev pub IsBlank : Root → (Position → Held) → Type 0
+IsBlank r h = (path : List ℕ) → h (record { root = r; path = path }) ≡ blank
+
 -- a variable holds what its declaration says, or isn't there yet
 abbrev pub HeldAs : Declarations → (variable : ℕ) → (laid : Bool) → Root → (Position → Held) → Type 0
-HeldAs D v laid r h = ((h (whole r) ≡ blank) × (laid ≡ false)) ⊎ AreKinds (variable_shape D v) (whole r) h
+HeldAs D v laid r h = (IsBlank r h × (laid ≡ false)) ⊎ AreKinds (variable_shape D v) (whole r) h
 
 -- a variable of the class of a number, of which each object has its own
 abbrev pub is_class_variable : Declarations → (class : ℕ) → Owner → Bool

@@ -108,6 +108,8 @@ pub record AreReadable (U : Upgrade) (T : Scope) (uses : Uses) : Type 0 where
   pub arrays : (v : VarId) (element : Ty) → uses.array v element ≡ true → IsArray U v.0 element
   pub groups : (v : VarId) (user_type : ℕ) → uses.group v user_type ≡ true → IsGroup U v.0 user_type
   pub fields : (user_type field : ℕ) (ty : Ty) → uses.field_type user_type field ≡ Some ty → IsField U user_type field ty
+  -- a covered user type holds no array, so that what is written copies it with all that it holds
+  pub flat : (user_type : ℕ) → covers_user U.program.declarations user_type ≡ true → U.facts.holds_array user_type ≡ false
   pub exact : (v : VarId) → uses.exact v ≡ true → is_quiet U.program.declarations U.known v.0 ≡ false
   pub facts : T.facts ≡ U.facts
   pub types : (v : VarId) (ty : Ty) → uses.is_of v ty ≡ true → is_declared_as ty (slice_get U.program.declarations.vars v.0) ≡ true

@@ -1,7 +1,7 @@
 -- What is known of a bound program, and what is written for its procedures and their lines.
 use Rattle.std.specs.List.{Contains}
 use Rattle.std.specs.Prelude.{◌≡◌, ◌+◌, ℕ, suc, true, false, Some, None, List, map, slice_get}
-use Rattle.vb_tree.specs.BoundTree.{Ty, array}
+use Rattle.vb_tree.specs.BoundTree.{Ty, array, user}
 use Rattle.vb_tree.specs.Blocks.{is_code}
 use Rattle.vb_tree.specs.FlatLines.{code_lines}
 use Rattle.vb_tree.specs.Tree as source
@@ -14,6 +14,7 @@ use Rattle.bound_facts.specs.Parts.{line_uses}
 use Rattle.net_tree.specs.declared.declaration.NetClose.{NetClose}
 use Rattle.written_trees.specs.Arguments.{is_property_kind}
 use Rattle.written_trees.specs.Bodies.{procedure_with, inside_procedure}
+use Rattle.written_trees.specs.Facts as deciding
 use Rattle.written_trees.specs.Facts.{Facts, is_array_variable, line_set}
 use Rattle.written_trees.specs.Heads.{head_of}
 use Rattle.written_trees.specs.Lines.{line_of}
@@ -31,7 +32,7 @@ use Rattle.run_matches.specs.Covered.{IsCovered, IsCoveredLine}
 use Rattle.run_matches.specs.CleanLines.{IsCleanLine, lines_at}
 use Rattle.run_matches.specs.Runs.{RunsTheSame, LineDoesTheSame}
 use Rattle.run_matches.specs.Sites.{Site, site_of, site_lines, first_statement}
-use Rattle.run_matches.specs.Upgrades.{Upgrade, written_number, is_flagged}
+use Rattle.run_matches.specs.Upgrades.{Upgrade, home_of, written_number, is_flagged}
 use Rattle.run_statements.specs.Fitting.{FitsLine, FitsNode}
 
 -- ---- what a bound program keeps
@@ -74,6 +75,12 @@ pub record IsWritten (U : Upgrade) : Type 0 where
   -- where each ReDim gives a dimension, each array has one
   pub dimensions :
       has_extents U.program ≡ true → (v : ℕ) → is_array_variable (slice_get U.program.declarations.vars v) ≡ true → U.facts.rank v ≡ 0 → ⊥
+  -- what is written for user types is decided by what they hold
+  pub facts : deciding.AreFacts U.program U.facts
+  -- a variable of a user type has the type that its declaration names
+  pub named : (v : ℕ) (x : Variable) (t : ℕ) → slice_get U.program.declarations.vars v ≡ Some x → x.ty ≡ user t → x.named ≡ user t
+  -- the module of a procedure is the one of its file
+  pub homes : (p : ℕ) (s : Site) → site_of U.program.declarations p ≡ Some s → home_of U s.source_module.file ≡ Some s.home
 
 -- ---- procedures
 
