@@ -15,5 +15,4 @@ pub mod SoundParts
 pub mod FieldNames
 pub mod FieldPaths
 pub mod FieldPlaces
-pub mod TypeFacts
 pub mod Indexes
