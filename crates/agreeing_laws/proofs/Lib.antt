@@ -13,4 +13,6 @@ pub mod Fields
 pub mod UserShapes
 pub mod SoundParts
 pub mod FieldNames
+pub mod FieldPaths
+pub mod FieldPlaces
 pub mod Indexes

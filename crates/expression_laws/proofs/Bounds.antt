@@ -70,7 +70,7 @@ use Rattle.expression_laws.specs.Images.{HasImage}
 use Rattle.expression_laws.proofs.Checks.{TermMatch, term_agrees}
 use Rattle.expression_laws.proofs.ElementValues.{elements_of, sizes_of}
 use Rattle.expression_laws.proofs.Elements.{ArrayThere, address_source, array_there}
-use Rattle.expression_laws.proofs.Images.{array_stands}
+use Rattle.expression_laws.proofs.UsedShapes.{array_stands}
 use Rattle.expression_laws.proofs.IndexRows.{low_given, low_integer, low_value, most_is}
 use Rattle.expression_laws.proofs.Types.{both_true, same_of}
 use Rattle.expression_laws.proofs.Variables.{known_exp, known_none, path_read}

@@ -28,7 +28,7 @@ use Rattle.net_run.specs.Names.{Scope, called, named, path_start, starts, to_pro
 use Rattle.net_run.specs.Shapes as shape
 use Rattle.net_run.specs.Store as net
 use Rattle.net_run.specs.Values as net_value
-use Rattle.written_trees.specs.Arguments.{argument_exp, copy_by, is_copied, is_property, temporary_exp, value_exp}
+use Rattle.written_trees.specs.Arguments.{argument_exp, copy_by, is_property, needs_copy, temporary_exp, value_exp}
 use Rattle.written_trees.specs.Exprs.{exp_of, has_none, passed_of, reads_itself}
 use Rattle.written_trees.specs.Exprs as written
 use Rattle.written_trees.specs.Facts.{Facts, holds_array}
@@ -51,7 +51,7 @@ use Rattle.agreeing_laws.proofs.OwnObjects.{no_own_object}
 use Rattle.agreeing_laws.proofs.Moves.{address_later, locks_promised}
 use Rattle.expression_laws.specs.Calls.{ArgumentsMatch, GivenMatch, Stands, next_address}
 use Rattle.expression_laws.proofs.Arguments.{arguments_ok, callee_is_weaker, stands_later}
-use Rattle.expression_laws.proofs.Images.{plain_later}
+use Rattle.expression_laws.proofs.LastingImages.{plain_later}
 use Rattle.expression_laws.proofs.Checks.{value_checked}
 
 -- ---- what is written for an argument
@@ -60,12 +60,12 @@ pub no_copy : (F : Facts) (ty : Ty) (copied : Bool) → covers_type ty ≡ true 
 no_copy F (types.user t) copied h = absurd (cc h)
 no_copy F _ copied h = refl
 
--- an argument by value stands as it is written
-pub argument_is : (T : written_names.Scope) (referred : Bool) (e : Expr) → referred ≡ false → covers_type (type_at e) ≡ true
+-- an argument by value of which no copy is made stands as it is written
+pub argument_is : (T : written_names.Scope) (referred : Bool) (e : Expr) → referred ≡ false → needs_copy T.facts e ≡ false
     → argument_exp T referred (tree.by_value e) (exp_of T e) ≡ exp_of T e
-argument_is T referred e h covers =
+argument_is T referred e h uncopied =
     ap (λ b. cond b (temporary_exp T e (exp_of T e)) (value_exp T.facts e (exp_of T e))) h
-    ∙ ap (λ b. cond b (copy_by (type_at e) (exp_of T e)) (exp_of T e)) (no_copy T.facts (type_at e) (is_copied e) covers)
+    ∙ ap (λ b. cond b (copy_by (type_at e) (exp_of T e)) (exp_of T e)) uncopied
 
 -- a procedure that is no part of a property is called
 pub callee_is : (T : written_names.Scope) (ty : Ty) (q : ProcId) (qualified : Bool) (args : Passed) → is_property T.declarations q.0 ≡ false

@@ -17,7 +17,7 @@ use Rattle.vb6_run.specs.Values.{Dimension, Value, Values, is_of_shape, part_in,
 use Rattle.net_run.specs.Expressions as target
 use Rattle.net_run.specs.Making.{Jobs}
 use Rattle.net_run.specs.Names as net_names
-use Rattle.net_run.specs.Names.{Reached, found_at}
+use Rattle.net_run.specs.Names.{Reached}
 use Rattle.net_run.specs.Shapes as shape
 use Rattle.net_run.specs.Store as net
 use Rattle.net_run.specs.Values as net_value

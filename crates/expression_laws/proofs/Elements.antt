@@ -51,7 +51,8 @@ use Rattle.run_statements.specs.Frames.{ArrayMatch, IsArray, LeadsBefore, PlainM
 use Rattle.agreeing_laws.proofs.Agreeing.{agrees_gives, agrees_outside, left_alone, then_agrees}
 use Rattle.agreeing_laws.proofs.Moves.{address_later}
 use Rattle.expression_laws.specs.Images.{HasImage}
-use Rattle.expression_laws.proofs.Images.{array_stands, plain_later}
+use Rattle.expression_laws.proofs.UsedShapes.{array_stands}
+use Rattle.expression_laws.proofs.LastingImages.{plain_later}
 use Rattle.expression_laws.proofs.IndexRows.{IndexLike, IndexRow}
 use Rattle.expression_laws.proofs.Types.{both_true}
 use Rattle.expression_laws.proofs.Variables.{known_exp, known_none}

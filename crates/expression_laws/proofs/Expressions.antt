@@ -1,42 +1,24 @@
 -- Covered expressions do the same as what is written for them.
-use Rattle.vb_tree.specs.declared.declared.ProcId.{ProcId}
 use Rattle.run_matches.specs.Keeping.{given_types, given_by}
-use Rattle.expression_laws.proofs.GivenElements as given_elements
-use Rattle.expression_laws.proofs.Giving.{called_giving_for, can_giving, giving, giving_more, images_giving, stands_giving}
-use Rattle.std.proofs.Common.{◌≡◌, inr, ◌∙◌, refl, sym, ap, subst, ℕ, suc, ◌+◌, ◌≤◌, ◌<◌, length, arith, Bool, true, false, cond, ◌&&◌, ◌||◌, List, [], ◌∷◌, Option, Some, None, IfSome, inl, ◌++◌}
+use Rattle.expression_laws.proofs.Giving.{called_giving_for, giving, images_giving, stands_giving}
+use Rattle.std.proofs.Common.{◌≡◌, inr, ◌∙◌, refl, sym, ap, subst, ℕ, suc, ◌+◌, ◌≤◌, length, true, false, ◌&&◌, ◌||◌, List, [], ◌∷◌, Some, inl, ◌++◌}
 use Rattle.std.specs.Prelude.{is_some}
-use Rattle.vb_tree.specs.BoundTree as types
-use Rattle.vb_tree.specs.BoundTree.{Ty, long}
-use Rattle.vb_tree.specs.declared.bound.LibCall.{LibCall}
-use Rattle.vb_tree.specs.declared.declared.VarId.{VarId}
-use Rattle.vb_tree.specs.declared.bound.Op6.TheVariants as op6
-use Rattle.vb_tree.specs.declared.expression.BinOp.{BinOp}
-use Rattle.vb_tree.specs.declared.expression.BinOp.TheVariants as bin
-use Rattle.vb_tree.specs.declared.expression.UnOp.{UnOp}
-use Rattle.vb_tree.specs.declared.expression.UnOp.TheVariants as un
-use Rattle.vb_tree.specs.declared.value.Value6.{Value6}
+use Rattle.vb_tree.specs.BoundTree.{Ty}
 use Rattle.vb6_meaning.specs.Values.{operate}
 use Rattle.bound_tree.specs.Tree.{Expr, typed, constant, variable, field, element, call, library, unary, binary, convert, new_object, me, with_object, err_number, err_raise, err_clear, is_same, loose, Exprs, no_exprs, next_expr, no_object, of_object, by_value, by_reference, Passed, no_passed, next_passed}
-use Rattle.bound_facts.specs.Folded.{binary_row, unary_row}
-use Rattle.bound_facts.specs.Locks.{is_same_type}
-use Rattle.bound_facts.specs.Node.{type_at, is_variant, is_array_type}
+use Rattle.bound_facts.specs.Node.{type_at}
 use Rattle.up_base.proofs.Tests.{by_test}
 use Rattle.net_tree.specs.declared.declaration.NetPassing.{NetPassing}
 use Rattle.net_tree.specs.declared.declaration.NetPassing.TheVariants as passing
-use Rattle.net_tree.specs.Tree.{Exp, call_of, path}
-use Rattle.net_meaning.specs.declared.value.ValueN.{ValueN}
+use Rattle.net_tree.specs.Tree.{call_of, path}
 use Rattle.net_meaning.specs.declared.value.ValueN.TheVariants as net_scalar
-use Rattle.net_meaning.specs.SameValues.{IsSame, IsSameOperator, IsSameUnary}
-use Rattle.net_meaning.specs.SameValues as values
-use Rattle.net_meaning.specs.WrittenRows.{Written, evaluate, write_operator, write_unary, write_conversion}
-use Rattle.meaning_laws.proofs.SameRows as same
-use Rattle.meaning_laws.proofs.ConversionRows.{minus, turn}
-use Rattle.run_base.specs.Outcomes.{Outcome, after, gives, then, answered}
+use Rattle.net_meaning.specs.WrittenRows.{write_operator, write_unary, write_conversion}
+use Rattle.run_base.specs.Outcomes.{Outcome, then, answered}
 use Rattle.vb6_run.specs.Expressions as source
-use Rattle.vb6_run.specs.Expressions.{Context, lows_at}
+use Rattle.vb6_run.specs.Expressions.{Context}
 use Rattle.vb6_run.specs.Forms.{SourceLine}
-use Rattle.vb6_run.specs.Store.{Memory, SourceCalls, SourceFrame, SourceGiven}
-use Rattle.net_run.specs.Calls.{passings_at, Arguments}
+use Rattle.vb6_run.specs.Store.{SourceCalls, SourceFrame}
+use Rattle.net_run.specs.Calls.{passings_at}
 use Rattle.net_run.specs.Expressions as target
 use Rattle.net_run.specs.Lines.{NetFrame, NetLine, scope_of}
 use Rattle.net_run.specs.Making.{Jobs}
@@ -44,199 +26,52 @@ use Rattle.net_run.specs.Members.{Code}
 use Rattle.net_run.specs.Names as net_names
 use Rattle.net_run.specs.Store as net
 use Rattle.net_run.specs.Values as net_value
-use Rattle.written_trees.specs.Arguments.{argument_exp, has_address, is_conversion, is_property, kept, takes_reference, temporary_exp}
+use Rattle.written_trees.specs.Arguments.{argument_exp, has_address, is_conversion, is_copied, is_property, kept, takes_reference}
 use Rattle.written_trees.specs.Exprs.{exp_of, index_at, indexes_of, passed_of}
 use Rattle.written_trees.specs.Library.{low_at}
 use Rattle.written_trees.specs.Names.{Scope, procedure_path}
-use Rattle.written_trees.specs.Operators.{binary_exp, unary_exp}
 use Rattle.run_matches.specs.Agreeing.{Agrees}
 use Rattle.run_matches.specs.CoveredVariables.{covers_type}
-use Rattle.run_matches.specs.CoveredExprs.{Uses, covers_array, covers_bounded, covers_dimension, covers_exprs, covers_library, is_bound, covers_term, covers_operator, covers_expr, covers_passed, is_passable, is_variable}
-use Rattle.run_matches.specs.Covered.{is_referred, suits_array, suits_passed, hands_argument, hands_passed, is_item}
-use Rattle.run_matches.specs.Frames.{frame_pledge}
+use Rattle.run_matches.specs.CoveredExprs.{Uses, covers_array, covers_bounded, covers_exprs, covers_library, is_bound, covers_operator, covers_expr, covers_passed, covers_place, has_scalar, is_passable, is_variable}
+use Rattle.run_matches.specs.Covered.{is_referred, suits_array, suits_group, suits_passed, hands_argument, hands_passed, is_item}
 use Rattle.run_matches.specs.Likeness.{are_same}
 use Rattle.run_matches.specs.Maps.{World}
 use Rattle.run_matches.specs.Match.{MemoryMatch}
 use Rattle.run_matches.specs.Pledges.{Pledge, Later}
 use Rattle.run_matches.specs.Upgrades.{Upgrade, runnable_of}
 use Rattle.run_matches.specs.Runs.{CallsAgree}
-use Rattle.run_statements.specs.Elements.{IndexedMatch, IndexesAgree}
-use Rattle.run_statements.specs.Fitting.{FitsPassed, FitsRank}
-use Rattle.run_statements.specs.Frames.{ArraysAgree, ElementsAgree, AllCalled, AllCalledAll, AllCalledFor, IsArray, LeadsBefore, AnyParts, CallsAreMade, CanCall, Demands, demands, ScalarMatch, PlainMatch, IsOpen, context_of, AreReadable, ExpressionsAgree, passing_at, passing_by, ElementMatch, IsOne}
+use Rattle.run_statements.specs.Fitting.{FitsPassed}
+use Rattle.run_statements.specs.Frames.{AllCalled, AllCalledAll, AllCalledFor, CanCall, Demands, demands, ScalarMatch, PlainMatch, IsOpen, context_of, AreReadable, passing_at, passing_by, IsOne}
 use Rattle.run_statements.specs.Written.{Passes}
-use Rattle.row_laws.specs.Constants.{IsHeld}
-use Rattle.row_laws.specs.Follows.{Any, RowOfOne, RowOfTwo}
-use Rattle.row_laws.specs.Rows.{IsOf, Fits, operand_of, is_direct, is_ready}
 use Rattle.row_laws.proofs.Stated as rows
-use Rattle.run_matches.specs.Formed.{are_formed, are_longs, has_elements, is_row_of_call, types_of, is_row_of_one, is_row_of_two, passed_are_formed, is_formed}
-use Rattle.agreeing_laws.proofs.Agreeing.{agrees_gives, agrees_weaker, agrees_promised}
-use Rattle.expression_laws.specs.Calls.{ArgumentsMatch, GivenMatch, Stands, no_arguments}
+use Rattle.run_matches.specs.Formed.{are_formed, are_longs, has_elements, types_of, is_row_of_one, is_row_of_two, passed_are_formed, is_formed}
+use Rattle.agreeing_laws.proofs.Agreeing.{agrees_gives}
+use Rattle.expression_laws.specs.Calls.{ArgumentsMatch, Stands, no_arguments}
 use Rattle.expression_laws.specs.Images.{HaveImages}
-use Rattle.expression_laws.specs.Statements.{ArraysAgreeBy, ElementsAgreeBy, IndexesAgreeBy, VariablesAreReadBy, FormedExpressionsAgreeBy, FormedScalarsAgreeBy, VariablesAreRead, FormedScalarsAgree}
-use Rattle.expression_laws.proofs.Types.{both_true, either_true, same_as, same_of, covered_typed}
+use Rattle.expression_laws.proofs.Types.{both_true, covered_type, covered_typed}
 use Rattle.expression_laws.proofs.Checks.{TermMatch, term_agrees, plain_agrees}
-use Rattle.expression_laws.proofs.Conversions.{IsConstant, formed_constant, constant_agrees, conversion_agrees}
-use Rattle.expression_laws.proofs.Arguments.{stands_now, stands_later}
-use Rattle.expression_laws.proofs.Calls.{call_agrees, call_value_agrees, callee_is}
-use Rattle.expression_laws.proofs.Handed.{taken_agrees}
+use Rattle.expression_laws.proofs.Conversions.{formed_constant, constant_agrees, conversion_agrees}
+use Rattle.expression_laws.proofs.Arguments.{stands_later}
+use Rattle.expression_laws.proofs.Calls.{call_value_agrees, callee_is, no_copy}
+use Rattle.expression_laws.proofs.FieldValues.{scalar_field_agrees}
+use Rattle.expression_laws.proofs.GroupArguments.{place_given}
+use Rattle.expression_laws.proofs.Handed.{scalar_lasts, taken_agrees}
 use Rattle.expression_laws.proofs.Handled.{Handles}
-use Rattle.expression_laws.proofs.Images.{images_now, images_later}
+use Rattle.expression_laws.proofs.LastingImages.{images_later}
 use Rattle.expression_laws.proofs.Library.{by_either, library_agrees}
 use Rattle.expression_laws.proofs.IndexRows.{index_is_row}
-use Rattle.expression_laws.proofs.Elements.{IndexesLike, array_agrees, index_agrees, indexed_agrees, next_agrees, sound_array}
+use Rattle.expression_laws.proofs.Elements.{IndexesLike, index_agrees, next_agrees}
 use Rattle.expression_laws.proofs.ElementValues.{element_agrees, element_value}
-use Rattle.expression_laws.proofs.Bounds.{bounds_agree, long_bound}
 use Rattle.expression_laws.proofs.ErrNumbers.{err_number_agrees}
-use Rattle.expression_laws.proofs.References.{IsPassed, first, further, here, reference_agrees, scalar_passed, or_true}
+use Rattle.expression_laws.proofs.References.{IsPassed, further, here, passed_by, reference_agrees, scalar_passed}
 use Rattle.expression_laws.proofs.Temporaries.{conversion_given, conversion_goes, value_goes}
 use Rattle.expression_laws.proofs.Variables.{variable_agrees}
 use Rattle.expression_laws.proofs.WrittenValues.{exp_handles}
-use Rattle.expression_laws.proofs.RowsAgree.{any_same, At, one_agrees, two_agree}
-
--- ---- operators
-
--- each operator but Is
-same_operator : (equal : ℕ → ℕ → Bool) (o : BinOp) → covers_operator o ≡ true → IsSameOperator equal o
-same_operator r bin.Pow e = same.pow r
-same_operator r bin.Mul e = same.multiply r
-same_operator r bin.Div e = same.div r
-same_operator r bin.IntDiv e = same.divide r
-same_operator r bin.Mod e = same.modulo r
-same_operator r bin.Add e = same.add r
-same_operator r bin.Sub e = same.subtract r
-same_operator r bin.Concat e = same.concatenate r
-same_operator r bin.Equal e = same.equal r
-same_operator r bin.NotEqual e = same.not_equal r
-same_operator r bin.Less e = same.less r
-same_operator r bin.Greater e = same.greater r
-same_operator r bin.LessEqual e = same.less_equal r
-same_operator r bin.GreaterEqual e = same.greater_equal r
-same_operator r bin.Is e = absurd (cc e)
-same_operator r bin.Like e = same.like r
-same_operator r bin.And e = same.both r
-same_operator r bin.Or e = same.either r
-same_operator r bin.Xor e = same.one_alone r
-same_operator r bin.Eqv e = same.alike r
-same_operator r bin.Imp e = same.implies r
-
-same_unary : (equal : ℕ → ℕ → Bool) (o : UnOp) → IsSameUnary equal o
-same_unary r un.Neg = minus r
-same_unary r un.Not = turn r
-
-no_variant : (s : Ty) → covers_type s ≡ true → is_variant s ≡ false
-no_variant types.variant h = absurd (cc h)
-no_variant _ h = refl
-
-typed_unary : (s : Ty) (o : UnOp) → covers_type s ≡ true → unary_row s o ≡ op6.TypedUn o
-typed_unary s o h = ap (λ z. cond z (op6.VariantUn o) (op6.TypedUn o)) (no_variant s h)
-
-typed_binary : (s t : Ty) (o : BinOp) → covers_type s ≡ true → covers_type t ≡ true → binary_row s t o ≡ op6.Typed o
-typed_binary s t o h i =
-    ap (λ z. cond (z || is_variant t) (op6.Variant o) (op6.Typed o)) (no_variant s h)
-    ∙ ap (λ z. cond z (op6.Variant o) (op6.Typed o)) (no_variant t i)
-
--- where an operand is a constant, it is one of its type
-formed_held : (e : Expr) → covers_type (type_at e) ≡ true → is_formed e ≡ true → IsHeld e
-formed_held (typed ty (constant x origin)) covers h =
-    let is : IsConstant ty x = formed_constant ty x origin covers h in
-    (is.within, is.is_type)
-formed_held (typed ty (variable v qualified)) covers h = tt
-formed_held (typed ty (field e k)) covers h = tt
-formed_held (typed ty (element e indexes)) covers h = tt
-formed_held (typed ty (call p qualified of args)) covers h = tt
-formed_held (typed ty (library f args)) covers h = tt
-formed_held (typed ty (unary o e)) covers h = tt
-formed_held (typed ty (binary o d e)) covers h = tt
-formed_held (typed ty (convert to e)) covers h = tt
-formed_held (typed ty (new_object c)) covers h = tt
-formed_held (typed ty me) covers h = tt
-formed_held (typed ty (with_object root)) covers h = tt
-formed_held (typed ty err_number) covers h = tt
-formed_held (typed ty (err_raise e)) covers h = tt
-formed_held (typed ty err_clear) covers h = tt
-formed_held (typed ty (is_same d e)) covers h = tt
-formed_held (typed ty (loose e rules)) covers h = tt
-
-pub covered_type : (uses : Uses) (e : Expr) → covers_expr uses e ≡ true → covers_type (type_at e) ≡ true
-covered_type uses (typed ty t) h = (both_true (covers_type ty) (covers_term uses t) h).0
-
-module _ (U : Upgrade) (K : Pledge) (S : net_names.Scope) (oracle : Jobs) where
-  unary_agrees : (o : UnOp) (ty : Ty) (e : Expr) (a : Exp) (x : Option Written) (r : Outcome Memory Value6) (w : World) → covers_type ty ≡ true
-      → is_row_of_one ty x ≡ true
-      → IfSome x (λ q. is_direct q.row ≡ true → RowOfOne S oracle Any (unary_exp o q.ty e a) a (λ y. evaluate q.row y net_scalar.Nothing))
-      → ((v : World) (z : Value6) (y : ValueN) → At v (type_at e) z y → IsSame (are_same v) (operate (op6.TypedUn o) z z) x y net_scalar.Nothing)
-      → MemoryMatch U w → Agrees U K w (PlainMatch U (type_at e)) r (target.value_of S oracle a w.net)
-      → Agrees U K w (TermMatch U ty) (then r (λ z v. source.answer_as ty (operate (op6.TypedUn o) z z) v)) (target.value_of S oracle (unary_exp o ty e a) w.net)
-  unary_agrees o ty e a None r w covers formed h law start operand = absurd (cc formed)
-  unary_agrees o ty e a (Some q) r w covers formed h law start operand =
-      let both = both_true (is_same_type q.ty ty) (is_direct q.row) formed in
-      let is : q.ty ≡ ty = same_as q.ty ty covers both.0 in
-      one_agrees U K S oracle (type_at e) ty (λ z. operate (op6.TypedUn o) z z) (λ y. evaluate q.row y net_scalar.Nothing) (unary_exp o ty e a) a r w
-      (subst (λ t. RowOfOne S oracle Any (unary_exp o t e a) a (λ y. evaluate q.row y net_scalar.Nothing)) is (h both.1))
-      (λ v z y m. subst (λ t. values.Agrees (At v t) (operate (op6.TypedUn o) z z) (evaluate q.row y net_scalar.Nothing)) is (law v z y m)) start operand
-
-  binary_agrees : (o : BinOp) (ty : Ty) (d e : Expr) (a c : Exp) (x : Option Written) (r : Outcome Memory Value6) (r' : Memory → Outcome Memory Value6) (w : World)
-      → covers_type ty ≡ true → is_row_of_two o ty x ≡ true
-      → IfSome x (λ q. is_ready o q ≡ true → Fits S oracle (operand_of d a) → Fits S oracle (operand_of e c)
-      → RowOfTwo S oracle (IsOf any_same (type_at d)) (binary_exp o q.ty d e a c) a c (evaluate q.row))
-      → Fits S oracle (operand_of d a) → Fits S oracle (operand_of e c)
-      → ((v : World) (z z' : Value6) (y y' : ValueN) → At v (type_at d) z y → At v (type_at e) z' y'
-      → IsSame (are_same v) (operate (op6.Typed o) z z') x y y')
-      → MemoryMatch U w → Agrees U K w (PlainMatch U (type_at d)) r (target.value_of S oracle a w.net)
-      → ((v : World) → Later U K w v → Agrees U K v (PlainMatch U (type_at e)) (r' v.src) (target.value_of S oracle c v.net))
-      → Agrees U K w (TermMatch U ty) (then r (λ z v. after [] (then (r' v) (λ z' u. source.answer_as ty (operate (op6.Typed o) z z') u))))
-      (target.value_of S oracle (binary_exp o ty d e a c) w.net)
-  binary_agrees o ty d e a c None r r' w covers formed h fits_a fits_c law start operand other = absurd (cc formed)
-  binary_agrees o ty d e a c (Some q) r r' w covers formed h fits_a fits_c law start operand other =
-      let both = both_true (is_same_type q.ty ty) (is_ready o q) formed in
-      let is : q.ty ≡ ty = same_as q.ty ty covers both.0 in
-      two_agree U K S oracle (type_at d) (type_at e) ty (λ z z'. operate (op6.Typed o) z z') (evaluate q.row) (binary_exp o ty d e a c) a c r r' w
-      (subst (λ t. RowOfTwo S oracle (IsOf any_same (type_at d)) (binary_exp o t d e a c) a c (evaluate q.row)) is (h both.1 fits_a fits_c))
-      (λ v z z' y y' m m'. subst (λ t. values.Agrees (At v t) (operate (op6.Typed o) z z') (evaluate q.row y y')) is (law v z z' y y' m m')) start operand other
-
--- ---- arrays
-
--- an array variable
-pub record IsArrayUse (uses : Uses) (e : Expr) : Type 0 where
-  pub element : Ty
-  pub rank : ℕ
-  pub id : VarId
-  pub qualified : Bool
-  pub is : e ≡ typed (types.array element rank) (variable id qualified)
-  pub used : uses.array id element ≡ true
-
-pub array_use : (uses : Uses) (e : Expr) → covers_array uses e ≡ true → IsArrayUse uses e
-array_use uses (typed (types.array d rank) (variable v qualified)) h = record { element = d; rank = rank; id = v; qualified = qualified; is = refl; used = h }
-array_use uses (typed (types.array d rank) _) h = absurd (cc h)
-array_use uses (typed _ t) h = absurd (cc h)
-
--- what is written for arrays leads to them before indexes too
-abbrev pub AllLead : net_names.Scope → Scope → Uses → Type 0
-AllLead S T uses = (v : VarId) (element : Ty) → uses.array v element ≡ true → LeadsBefore S T v.0
-
--- indexes are Longs, of which there are two at most
-abbrev pub AllLong : List Ty → Type 0
-AllLong [] = Unit {0}
-AllLong (t ∷ ts) = (t ≡ long) × AllLong ts
-
-pub all_long : (ts : List Ty) → are_longs ts ≡ true → AllLong ts × (length ts ≤ 2)
-all_long [] h = absurd (cc h)
-all_long (t ∷ []) h = ((same_of long t refl h, tt), omega arith)
-all_long (t ∷ s ∷ []) h =
-    let both = both_true (is_same_type long t) (is_same_type long s) h in
-    ((same_of long t refl both.0, (same_of long s refl both.1, tt)), omega arith)
-all_long (t ∷ s ∷ r ∷ ts) h = absurd (cc h)
-
-pub from_none : (ts : List Ty) → length ts ≤ 2 → 0 + length ts ≤ 2
-from_none ts h = omega arith
-
-in_two : (d : ℕ) (t : Ty) (ts : List Ty) → d + length (t ∷ ts) ≤ 2 → d < 2
-in_two d t ts h = omega arith
-
-in_two_more : (d : ℕ) (t : Ty) (ts : List Ty) → d + length (t ∷ ts) ≤ 2 → suc d + length ts ≤ 2
-in_two_more d t ts h = omega arith
-
--- ---- elements that are given
+use Rattle.expression_laws.proofs.RowsAgree.{any_same}
+use Rattle.expression_laws.proofs.Operators.{binary_agrees, formed_held, same_operator, same_unary, typed_binary, typed_unary, unary_agrees}
+use Rattle.expression_laws.proofs.ArrayUses.{AllLead, AllLong, all_long, bounded_by, from_none, in_two, in_two_more, indexed_by}
+use Rattle.expression_laws.proofs.ItemArguments.{ItemAgrees, item_passed}
+use Rattle.expression_laws.proofs.CallsGiven.{call_made, from_first}
 
 one_left : (xs ys : List Ty) (t : Ty) → IsOne xs t → IsOne (xs ++ ys) t
 one_left [] ys t o = absurd o
@@ -246,13 +81,6 @@ one_left (x ∷ xs) ys t (inr o) = inr (one_left xs ys t o)
 one_right : (xs ys : List Ty) (t : Ty) → IsOne ys t → IsOne (xs ++ ys) t
 one_right [] ys t o = o
 one_right (x ∷ xs) ys t o = inr (one_right xs ys t o)
-
--- an element is written as it stands
-item_written : (T : Scope) (referred : Bool) (ty : Ty) (a : Expr) (indexes : Exprs) (x : Exp)
-    → argument_exp T referred (by_reference (typed ty (element a indexes))) x ≡ x
-item_written T referred ty a indexes x = ap (λ b. cond b x (temporary_exp T (typed ty (element a indexes)) x)) (or_true (is_array_type ty))
-
--- ---- expressions
 
 module _ (U : Upgrade) (p : ℕ) (f : SourceFrame) (g : NetFrame) (oracle : SourceCalls) (net_oracle : Jobs)
     (l : SourceLine) (k : NetLine) (c : Code) (T : Scope) (uses : Uses) (same_declarations : T.declarations ≡ U.program.declarations)
@@ -273,110 +101,11 @@ module _ (U : Upgrade) (p : ℕ) (f : SourceFrame) (g : NetFrame) (oracle : Sour
   abbrev Asked : Pledge → Demands
   Asked K = demands U K (scope_of U.written c g k) T
 
-  from_first : (K : Pledge) {q : ℕ} {called_with : Passed} (can : Can K q called_with) (n : ℕ)
-      → passing_at (passings_at U.written (Some can.number)) n ≡ passing_by (takes_reference U.program.declarations q (0 + n))
-  from_first K {q} can n = can.passings n ∙ ap (λ m. passing_by (takes_reference U.program.declarations q m)) (first n)
-
-  -- an element, where its indexes agree
-  pub indexed_by : (K : Pledge) (ty : Ty) (e : Expr) (indexes : Exprs) (w : World) → MemoryMatch U w → HaveImages U K w f S T uses → covers_array uses e ≡ true
-      → has_elements (type_at e) ty ≡ true → FitsRank U e indexes
-      → Agrees U K w (λ u zs ys. IndexesLike (λ d. low_at T e d) 0 (length (types_of indexes)) zs ys) (source.indexes_of C indexes w.src)
-      (target.values_of S net_oracle (indexes_of T e 0 indexes) w.net)
-      → Agrees U K w (IndexedMatch U (lows_at C e) ty)
-      (then (source.address_of C e w.src) (λ b s. then (source.indexes_of C indexes s) (λ zs s. gives [] (b, zs) s)))
-      (target.reach S net_oracle false (exp_of T (typed ty (element e indexes))) w.net)
-  indexed_by K ty e indexes w start have covers typed_as fits given =
-      let x : IsArrayUse uses e = array_use uses e covers in
-      by x e x.is typed_as fits given
-    where
-      by : (x : IsArrayUse uses e) (d : Expr) → d ≡ typed (types.array x.element x.rank) (variable x.id x.qualified) → has_elements (type_at d) ty ≡ true
-          → FitsRank U d indexes
-          → Agrees U K w (λ u zs ys. IndexesLike (λ j. low_at T d j) 0 (length (types_of indexes)) zs ys) (source.indexes_of C indexes w.src)
-          (target.values_of S net_oracle (indexes_of T d 0 indexes) w.net)
-          → Agrees U K w (IndexedMatch U (lows_at C d) ty)
-          (then (source.address_of C d w.src) (λ b s. then (source.indexes_of C indexes s) (λ zs s. gives [] (b, zs) s)))
-          (target.reach S net_oracle false (exp_of T (typed ty (element d indexes))) w.net)
-      by x d is =
-          subst (λ d. has_elements (type_at d) ty ≡ true → FitsRank U d indexes
-          → Agrees U K w (λ u zs ys. IndexesLike (λ j. low_at T d j) 0 (length (types_of indexes)) zs ys) (source.indexes_of C indexes w.src)
-          (target.values_of S net_oracle (indexes_of T d 0 indexes) w.net)
-          → Agrees U K w (IndexedMatch U (lows_at C d) ty)
-          (then (source.address_of C d w.src) (λ b s. then (source.indexes_of C indexes s) (λ zs s. gives [] (b, zs) s)))
-          (target.reach S net_oracle false (exp_of T (typed ty (element d indexes))) w.net)) (sym is)
-          (λ typed_as fits given.
-          let r : IsArray U x.id.0 x.element = readable.arrays x.id x.element x.used in
-          let a : Expr = typed (types.array x.element x.rank) (variable x.id x.qualified) in
-          subst (λ t. Agrees U K w (IndexedMatch U (lows_at C a) t)
-          (then (source.address_of C a w.src) (λ b s. then (source.indexes_of C indexes s) (λ zs s. gives [] (b, zs) s)))
-          (target.reach S net_oracle false (exp_of T (typed t (element a indexes))) w.net)) (sym (same_of x.element ty r.covers typed_as))
-          (indexed_agrees U K p f g oracle net_oracle l k c T same_declarations x.element x.rank x.id x.qualified r w start
-          (λ a at. have x.id a (inr (inl (x.element, x.used))) at) indexes (length (types_of indexes)) readable.facts (leads x.id x.element x.used)
-          (fits (sound_array U x.id x.element (types.array x.element x.rank) x.qualified r refl)) given))
-
-  -- the bounds of an array
-  bounded_by : (K : Pledge) (ty : Ty) (function : LibCall) (args : Exprs) (w : World) → MemoryMatch U w → HaveImages U K w f S T uses
-      → (is_bound function && covers_bounded uses args) ≡ true → is_formed (typed ty (library function args)) ≡ true
-      → Agrees U K w (ScalarMatch U ty) (source.value_of C (typed ty (library function args)) w.src) (written (typed ty (library function args)) w)
-  bounded_by K ty function no_exprs w start have covers formed = absurd (cc (both_true (is_bound function) false covers).1)
-  bounded_by K ty function (next_expr e rest) w start have covers formed =
-      let both = both_true (is_bound function) (covers_array uses e && covers_dimension rest) covers in
-      let inner = both_true (covers_array uses e) (covers_dimension rest) both.1 in
-      let forms = both_true (is_row_of_call function (types_of (next_expr e rest)) ty) (are_formed (next_expr e rest)) formed in
-      let x : IsArrayUse uses e = array_use uses e inner.0 in
-      subst (λ d. Agrees U K w (ScalarMatch U ty) (source.value_of C (typed ty (library function (next_expr d rest))) w.src)
-      (written (typed ty (library function (next_expr d rest))) w)) (sym x.is)
-      (bounds_agree U K p f g oracle net_oracle l k c T same_declarations readable.facts opened.support x.element x.rank x.id x.qualified
-      (readable.arrays x.id x.element x.used) w start (λ a at. have x.id a (inr (inl (x.element, x.used))) at) function ty rest both.0
-      (long_bound function (types_of (next_expr e rest)) ty both.0 forms.0))
-
   -- what is written for a value without an address
   handles : (K : Pledge) (e : Expr) → AllCalled (Asked K) e → covers_expr uses e ≡ true → is_formed e ≡ true → has_address T.declarations (kept e) ≡ false
       → Handles S (exp_of T e)
   handles K e can covers formed none =
       exp_handles U K (scope_of U.written c g k) opened T uses same_declarations e can covers formed (ap (λ E. has_address E (kept e)) (sym same_declarations) ∙ none)
-
-  -- a call, which keeps the arrays of the elements that it is given
-  abbrev kept_with : Pledge → Passed → Pledge
-  kept_with K args = giving K (given_types args)
-
-  pub call_made : (K : Pledge) (ty : Ty) (q : ProcId) (qualified : Bool) (args : Passed) (w : World) → MemoryMatch U w → Stands U K w f g
-      → (can : Can K q.0 args)
-      → Agrees U (kept_with K args) w (ArgumentsMatch U (kept_with K args) q.0 0) (source.args_of C q.0 0 args w.src)
-      (target.args_of S net_oracle (passings_at U.written (Some can.number)) (passed_of T q.0 0 args) w.net)
-      → Agrees U K w (GivenMatch U) (source.term_parts C ty (call q qualified no_object args) w.src)
-      (target.address_of S net_oracle (call_of (path (procedure_path T qualified q.0)) (passed_of T q.0 0 args)) w.net)
-  call_made K ty q qualified args w start stands can given =
-      let ts = given_types args in
-      agrees_promised U K (giving K ts) w (GivenMatch U) (source.term_parts C ty (call q qualified no_object args) w.src)
-      (target.address_of S net_oracle (call_of (path (procedure_path T qualified q.0)) (passed_of T q.0 0 args)) w.net) start (giving_more K ts w)
-      (call_agrees U (giving K ts) p f g oracle net_oracle l k c T agree ty q qualified args (can_giving U K S T ts q.0 args can.given can) w
-      (stands_giving U K ts w start f g stands) start given)
-
-  -- ---- elements that are given by reference
-
-  abbrev ItemAgrees : Pledge → World → Expr → Type 0
-  ItemAgrees K w (typed ty (element a indexes)) =
-      Agrees U K w (ElementMatch U ty) (source.term_parts C ty (element a indexes) w.src)
-      (target.reach S net_oracle false (exp_of T (typed ty (element a indexes))) w.net)
-  ItemAgrees K w (typed ty t) = Unit {0}
-
-  item_passed : (K : Pledge) (q i : ℕ) (w : World) (quiet : Bool) (mode : NetPassing) (referred : Bool) (e : Expr) (rest : Memory → Outcome Memory (List SourceGiven))
-      (rest' : net.Memory → Outcome net.Memory Arguments) → mode ≡ passing.Reference → is_item e ≡ true
-      → ((t : Ty) → IsOne (given_by (by_reference e)) t → K.keeps t) → hands_argument U.program q i (by_reference e) ≡ true → MemoryMatch U w → ItemAgrees K w e
-      → ((v : World) → Later U K w v → Agrees U K v (ArgumentsMatch U K q (suc i)) (rest v.src) (rest' v.net))
-      → Agrees U K w (ArgumentsMatch U K q i)
-      (then (source.argument_of C quiet (by_reference e) w.src) (λ g w. then (rest w) (λ gs w. gives [] (g ∷ gs) w)))
-      (then (target.given S net_oracle mode (target.reach S net_oracle false (argument_exp T referred (by_reference e) (exp_of T e)) w.net))
-      (λ g w. then (rest' w) (λ gs w. gives [] (g ∷ gs) w)))
-  item_passed K q i w quiet mode referred (typed ty (element a indexes)) rest rest' m is kept hands start first more =
-      let e : Expr = typed ty (element a indexes) in
-      given_elements.element_agrees U K ty (kept ty (inl refl)) q i quiet (λ b r. absurd (cc (hands, r))) C a indexes S net_oracle w
-      (target.reach S net_oracle false (exp_of T e) w.net)
-      (target.given S net_oracle mode (target.reach S net_oracle false (argument_exp T referred (by_reference e) (exp_of T e)) w.net))
-      (ap (λ z. target.given S net_oracle z (target.reach S net_oracle false (argument_exp T referred (by_reference e) (exp_of T e)) w.net)) m
-      ∙ ap (λ z. target.given S net_oracle passing.Reference (target.reach S net_oracle false z w.net)) (item_written T referred ty a indexes (exp_of T e)))
-      start first rest rest' more
-  item_passed K q i w quiet mode referred (typed ty _) rest rest' m is kept hands start first more = absurd (cc is)
 
   mutual
     pub expression_agrees : (K : Pledge) (e : Expr) (w : World) → MemoryMatch U w → HaveImages U K w f S T uses → Stands U K w f g → AllCalled (Asked K) e
@@ -430,7 +159,10 @@ module _ (U : Upgrade) (p : ℕ) (f : SourceFrame) (g : NetFrame) (oracle : Sour
         term_agrees U K C ty to (convert to (typed from t)) w (written (typed ty (convert to (typed from t))) w) refl both.0 start
         (conversion_agrees U K S net_oracle opened C from to t (exp_of T (typed from t)) w (covered_type uses (typed from t) operand.1) forms.1 forms.0 start
         (plain_agrees U K C (typed from t) from w (written (typed from t) w) start (expression_agrees K (typed from t) w start have stands can operand.1 forms.1)))
-    expression_agrees K (typed ty (field e i)) w start have stands can covers formed = absurd (cc formed)
+    expression_agrees K (typed ty (field e i)) w start have stands can covers formed =
+        let both = both_true (covers_type ty) (has_scalar uses (type_at e) i && covers_place uses e) covers in
+        let inner = both_true (has_scalar uses (type_at e) i) (covers_place uses e) both.1 in
+        scalar_field_agrees U K p f g oracle net_oracle l k c T uses same_declarations readable w have start ty e i both.0 inner.0 inner.1
     expression_agrees K (typed ty (element e indexes)) w start have stands can covers formed =
         let both = both_true (covers_type ty) (covers_array uses e && covers_exprs uses indexes) covers in
         let inner = both_true (covers_array uses e) (covers_exprs uses indexes) both.1 in
@@ -439,7 +171,7 @@ module _ (U : Upgrade) (p : ℕ) (f : SourceFrame) (g : NetFrame) (oracle : Sour
         let longs = all_long (types_of indexes) rest.0 in
         element_value U K C ty both.0 e indexes S net_oracle w (target.reach S net_oracle false (exp_of T (typed ty (element e indexes))) w.net) start
         (element_agrees U K C e ty indexes w (target.reach S net_oracle false (exp_of T (typed ty (element e indexes))) w.net) start
-        (indexed_by K ty e indexes w start have inner.0 forms.0 can.0
+        (indexed_by U p f g oracle net_oracle l k c T uses same_declarations opened readable leads K ty e indexes w start have inner.0 forms.0 can.0
         (indexes_agree K e 0 indexes w (from_none (types_of indexes) longs.1) longs.0 start have stands can.1 inner.1 rest.1)))
     expression_agrees K (typed ty (call q qualified (of_object e) args)) w start have stands can covers formed =
         absurd (cc (both_true (covers_type ty) false covers).1)
@@ -447,8 +179,8 @@ module _ (U : Upgrade) (p : ℕ) (f : SourceFrame) (g : NetFrame) (oracle : Sour
         let both = both_true (covers_type ty) (covers_passed uses args) covers in
         let parted = call_of (path (procedure_path T qualified q.0)) (passed_of T q.0 0 args) in
         let ts = given_types args in
-        let called = call_made K ty q qualified args w start stands can.0
-        (passed_agree (giving K ts) q.0 0 args (passings_at U.written (Some can.0.number)) w (from_first K can.0) can.0.suits can.0.hands start
+        let called = call_made U p f g oracle net_oracle l k c T agree K ty q qualified args w start stands can.0
+        (passed_agree (giving K ts) q.0 0 args (passings_at U.written (Some can.0.number)) w (from_first U p f g oracle net_oracle l k c T agree K can.0) can.0.suits can.0.hands start
         (images_giving U K ts w start f S T uses have) (stands_giving U K ts w start f g stands) (called_giving_for U K S T ts args can.0.inside can.1) both.1 formed
         can.0.ranks (λ t o. inr o)) in
         subst (λ x. Agrees U K w (ScalarMatch U ty) (source.value_of C (typed ty (call q qualified no_object args)) w.src) (target.value_of S net_oracle x w.net))
@@ -459,13 +191,13 @@ module _ (U : Upgrade) (p : ℕ) (f : SourceFrame) (g : NetFrame) (oracle : Sour
         let both = both_true (covers_type ty) ((covers_library function && covers_exprs uses args) || (is_bound function && covers_bounded uses args)) covers in
         by_either (covers_library function && covers_exprs uses args) (is_bound function && covers_bounded uses args) both.1
         (λ values. library_agrees U K S net_oracle opened C T uses ty function args w start both.0 values formed tt)
-        (λ bounds. bounded_by K ty function args w start have bounds formed)
+        (λ bounds. bounded_by U p f g oracle net_oracle l k c T uses same_declarations opened readable K ty function args w start have bounds formed)
     expression_agrees K (typed ty (library function (next_expr d no_exprs))) w start have stands can covers formed =
         let args : Exprs = (next_expr d no_exprs) in
         let both = both_true (covers_type ty) ((covers_library function && covers_exprs uses args) || (is_bound function && covers_bounded uses args)) covers in
         by_either (covers_library function && covers_exprs uses args) (is_bound function && covers_bounded uses args) both.1
         (λ values. library_agrees U K S net_oracle opened C T uses ty function args w start both.0 values formed ((λ v later h i. expression_agrees K d v later.match (images_later U K w v f S T uses start later have) (stands_later U K w v f g later stands) can.1.0 h i), tt))
-        (λ bounds. bounded_by K ty function args w start have bounds formed)
+        (λ bounds. bounded_by U p f g oracle net_oracle l k c T uses same_declarations opened readable K ty function args w start have bounds formed)
     expression_agrees K (typed ty (library function (next_expr d (next_expr e no_exprs)))) w start have stands can covers formed =
         let args : Exprs = (next_expr d (next_expr e no_exprs)) in
         let both = both_true (covers_type ty) ((covers_library function && covers_exprs uses args) || (is_bound function && covers_bounded uses args)) covers in
@@ -474,7 +206,7 @@ module _ (U : Upgrade) (p : ℕ) (f : SourceFrame) (g : NetFrame) (oracle : Sour
           (λ v later h i. expression_agrees K d v later.match (images_later U K w v f S T uses start later have) (stands_later U K w v f g later stands) can.1.0 h i),
           ((λ v later h i. expression_agrees K e v later.match (images_later U K w v f S T uses start later have) (stands_later U K w v f g later stands) can.1.1.0 h i), tt),
         ))
-        (λ bounds. bounded_by K ty function args w start have bounds formed)
+        (λ bounds. bounded_by U p f g oracle net_oracle l k c T uses same_declarations opened readable K ty function args w start have bounds formed)
     expression_agrees K (typed ty (library function (next_expr d (next_expr e (next_expr x rest))))) w start have stands can covers formed =
         let args : Exprs = (next_expr d (next_expr e (next_expr x rest))) in
         let both = both_true (covers_type ty) ((covers_library function && covers_exprs uses args) || (is_bound function && covers_bounded uses args)) covers in
@@ -486,7 +218,7 @@ module _ (U : Upgrade) (p : ℕ) (f : SourceFrame) (g : NetFrame) (oracle : Sour
             ((λ v later h i. expression_agrees K x v later.match (images_later U K w v f S T uses start later have) (stands_later U K w v f g later stands) can.1.1.1.0 h i), tt),
           ),
         ))
-        (λ bounds. bounded_by K ty function args w start have bounds formed)
+        (λ bounds. bounded_by U p f g oracle net_oracle l k c T uses same_declarations opened readable K ty function args w start have bounds formed)
     expression_agrees K (typed ty (new_object class)) w start have stands can covers formed = absurd (cc formed)
     expression_agrees K (typed ty me) w start have stands can covers formed = absurd (cc formed)
     expression_agrees K (typed ty (with_object root)) w start have stands can covers formed = absurd (cc formed)
@@ -498,7 +230,7 @@ module _ (U : Upgrade) (p : ℕ) (f : SourceFrame) (g : NetFrame) (oracle : Sour
 
     -- an element, as a place
     item_agrees : (K : Pledge) (e : Expr) (w : World) → MemoryMatch U w → HaveImages U K w f S T uses → Stands U K w f g → AllCalled (Asked K) e
-        → covers_expr uses e ≡ true → is_formed e ≡ true → ItemAgrees K w e
+        → covers_expr uses e ≡ true → is_formed e ≡ true → ItemAgrees U C S net_oracle T K w e
     item_agrees K (typed ty (element e indexes)) w start have stands can covers formed =
         let both = both_true (covers_type ty) (covers_array uses e && covers_exprs uses indexes) covers in
         let inner = both_true (covers_array uses e) (covers_exprs uses indexes) both.1 in
@@ -506,7 +238,7 @@ module _ (U : Upgrade) (p : ℕ) (f : SourceFrame) (g : NetFrame) (oracle : Sour
         let rest = both_true (are_longs (types_of indexes)) (are_formed indexes) forms.1 in
         let longs = all_long (types_of indexes) rest.0 in
         element_agrees U K C e ty indexes w (target.reach S net_oracle false (exp_of T (typed ty (element e indexes))) w.net) start
-        (indexed_by K ty e indexes w start have inner.0 forms.0 can.0
+        (indexed_by U p f g oracle net_oracle l k c T uses same_declarations opened readable leads K ty e indexes w start have inner.0 forms.0 can.0
         (indexes_agree K e 0 indexes w (from_none (types_of indexes) longs.1) longs.0 start have stands can.1 inner.1 rest.1))
     item_agrees K (typed ty _) w start have stands can covers formed = tt
 
@@ -538,12 +270,13 @@ module _ (U : Upgrade) (p : ℕ) (f : SourceFrame) (g : NetFrame) (oracle : Sour
     passed_agree K q i no_passed modes w takes suits hands start have stands can covers formed fits kept = agrees_gives U K w (ArgumentsMatch U K q i) [] [] start (no_arguments i w)
     passed_agree K q i (next_passed (by_reference e) rest) modes w takes suits hands start have stands can covers formed fits kept =
         let D = U.program.declarations in
-        let both = both_true ((is_passable uses e && covers_expr uses e) || covers_array uses e) (covers_passed uses rest) covers in
-        let passed : IsPassed uses e = either_true (is_passable uses e && covers_expr uses e) (covers_array uses e) both.0 in
-        let fit = both_true (takes_reference D q i && (is_referred e && suits_array D q i e)) (suits_passed D q (suc i) rest) suits in
+        let both = both_true ((is_passable uses e && covers_expr uses e) || (covers_array uses e || covers_place uses e)) (covers_passed uses rest) covers in
+        let passed : IsPassed uses e = passed_by uses e both.0 in
+        let fit = both_true (takes_reference D q i && (is_referred e && (suits_array D q i e && suits_group D q i e))) (suits_passed D q (suc i) rest) suits in
         let hand = both_true (hands_argument U.program q i (by_reference e)) (hands_passed U.program q (suc i) rest) hands in
-        let one = both_true (takes_reference D q i) (is_referred e && suits_array D q i e) fit.0 in
-        let referred = both_true (is_referred e) (suits_array D q i e) one.1 in
+        let one = both_true (takes_reference D q i) (is_referred e && (suits_array D q i e && suits_group D q i e)) fit.0 in
+        let referred = both_true (is_referred e) (suits_array D q i e && suits_group D q i e) one.1 in
+        let types = both_true (suits_array D q i e) (suits_group D q i e) referred.1 in
         let forms = both_true (is_formed e) (passed_are_formed rest) formed in
         let next = λ (n : ℕ). takes (suc n) ∙ ap (λ m. passing_by (takes_reference D q m)) (further i n) in
         let keep = λ (t : Ty) (o : IsOne (given_types rest) t). kept t (one_right (given_by (by_reference e)) (given_types rest) t o) in
@@ -555,29 +288,30 @@ module _ (U : Upgrade) (p : ℕ) (f : SourceFrame) (g : NetFrame) (oracle : Sour
         (λ yes is h.
         reference_agrees U K p f g oracle net_oracle l k c T uses same_declarations readable q i w ((runnable_of U).quiet q i) (target.first_passing modes)
         (takes_reference T.declarations q i) e (source.args_of C q (suc i) rest) (target.args_of S net_oracle (target.rest_passings modes) (passed_of T q (suc i) rest))
-        mode is passed fits.0 referred.1 hand.0 start have
+        mode is passed fits.0 types.0 hand.0 start have
         (passed_agree K q (suc i) rest (target.rest_passings modes) w next fit.1 hand.1 start have stands can.1 both.1 forms.1 fits.1 keep))
         (λ no is h.
-        let scalar : covers_expr uses e ≡ true = scalar_passed uses e passed is in
+        let scalar : covers_expr uses e ≡ true = scalar_passed uses e passed is h in
         let covered : covers_type (type_at e) ≡ true = covered_type uses e scalar in
         by_test (is_conversion e) (λ b. is_conversion e ≡ b → (b || is_item e) ≡ true
         → Agrees U K w (ArgumentsMatch U K q i) (source.args_of C q i (next_passed (by_reference e) rest) w.src)
         (target.args_of S net_oracle modes (passed_of T q i (next_passed (by_reference e) rest)) w.net))
         (λ converts is_one any.
-        taken_agrees U K q i w (type_at e) (source.value_of C e w.src) (target.value_of S net_oracle (exp_of T e) w.net)
+        taken_agrees U K q i (ScalarMatch U (type_at e)) (scalar_lasts U K q i (type_at e)) w (source.value_of C e w.src) (target.value_of S net_oracle (exp_of T e) w.net)
         (source.argument_of C ((runnable_of U).quiet q i) (by_reference e) w.src)
         (target.given S net_oracle (target.first_passing modes)
         (target.reach S net_oracle false (argument_exp T (takes_reference T.declarations q i) (by_reference e) (exp_of T e)) w.net))
         (source.args_of C q (suc i) rest) (target.args_of S net_oracle (target.rest_passings modes) (passed_of T q (suc i) rest))
         (conversion_given C ((runnable_of U).quiet q i) e w.src covered is_one)
-        (conversion_goes S net_oracle T e covered w.net (handles K e can.0 scalar forms.0) (target.first_passing modes) (takes_reference T.declarations q i) mode is_one)
+        (conversion_goes S net_oracle T e (no_copy T.facts (type_at e) (is_copied e) covered) w.net (handles K e can.0 scalar forms.0) (target.first_passing modes)
+        (takes_reference T.declarations q i) covered mode is_one)
         start
         (expression_agrees K e w start have stands can.0 scalar forms.0)
         (λ v later.
         passed_agree K q (suc i) rest (target.rest_passings modes) v next fit.1 hand.1 later.match (images_later U K w v f S T uses start later have)
         (stands_later U K w v f g later stands) can.1 both.1 forms.1 fits.1 keep))
         (λ other is_none item.
-        item_passed K q i w ((runnable_of U).quiet q i) (target.first_passing modes) (takes_reference T.declarations q i) e
+        item_passed U C S net_oracle T K q i w ((runnable_of U).quiet q i) (target.first_passing modes) (takes_reference T.declarations q i) e
         (source.args_of C q (suc i) rest) (target.args_of S net_oracle (target.rest_passings modes) (passed_of T q (suc i) rest)) mode item
         (λ t o. kept t (one_left (given_by (by_reference e)) (given_types rest) t o)) hand.0 start (item_agrees K e w start have stands can.0 scalar forms.0)
         (λ v later.
@@ -585,112 +319,26 @@ module _ (U : Upgrade) (p : ℕ) (f : SourceFrame) (g : NetFrame) (oracle : Sour
         (stands_later U K w v f g later stands) can.1 both.1 forms.1 fits.1 keep)) refl h) refl referred.0
     passed_agree K q i (next_passed (by_value e) rest) modes w takes suits hands start have stands can covers formed fits kept =
         let D = U.program.declarations in
-        let both = both_true (covers_expr uses e) (covers_passed uses rest) covers in
+        let both = both_true (covers_expr uses e || covers_place uses e) (covers_passed uses rest) covers in
         let forms = both_true (is_formed e) (passed_are_formed rest) formed in
-        let fit = both_true true (suits_passed D q (suc i) rest) suits in
+        let fit = both_true (suits_group D q i e) (suits_passed D q (suc i) rest) suits in
         let hand = both_true true (hands_passed U.program q (suc i) rest) hands in
         let keep = λ (t : Ty) (o : IsOne (given_types rest) t). kept t (one_right (given_by (by_value e)) (given_types rest) t o) in
         let next = λ (n : ℕ). takes (suc n) ∙ ap (λ m. passing_by (takes_reference D q m)) (further i n) in
-        taken_agrees U K q i w (type_at e) (source.value_of C e w.src) (target.value_of S net_oracle (exp_of T e) w.net)
+        let mode : target.first_passing modes ≡ passing_by (takes_reference D q i) = takes 0 ∙ ap (λ n. passing_by (takes_reference D q n)) (here i) in
+        let more = λ (v : World) (later : Later U K w v).
+        passed_agree K q (suc i) rest (target.rest_passings modes) v next fit.1 hand.1 later.match (images_later U K w v f S T uses start later have)
+        (stands_later U K w v f g later stands) can.1 both.1 forms.1 fits.1 keep in
+        by_either (covers_expr uses e) (covers_place uses e) both.0
+        (λ scalar.
+        taken_agrees U K q i (ScalarMatch U (type_at e)) (scalar_lasts U K q i (type_at e)) w (source.value_of C e w.src) (target.value_of S net_oracle (exp_of T e) w.net)
         (source.argument_of C ((runnable_of U).quiet q i) (by_value e) w.src)
         (target.given S net_oracle (target.first_passing modes)
         (target.reach S net_oracle false (argument_exp T (takes_reference T.declarations q i) (by_value e) (exp_of T e)) w.net))
         (source.args_of C q (suc i) rest) (target.args_of S net_oracle (target.rest_passings modes) (passed_of T q (suc i) rest)) refl
-        (value_goes S net_oracle T e (covered_type uses e both.0) w.net (handles K e can.0 both.0 forms.0) (takes_reference D q i) (target.first_passing modes)
-        (takes_reference T.declarations q i) (takes 0 ∙ ap (λ n. passing_by (takes_reference D q n)) (here i)) (ap (λ E. takes_reference E q i) same_declarations))
-        start
-        (expression_agrees K e w start have stands can.0 both.0 forms.0)
-        (λ v later.
-        passed_agree K q (suc i) rest (target.rest_passings modes) v next fit.1 hand.1 later.match (images_later U K w v f S T uses start later have)
-        (stands_later U K w v f g later stands) can.1 both.1 forms.1 fits.1 keep)
-
--- ---- the laws
-
-pub expressions_agree_by : (U : Upgrade) (K : Pledge) → FormedExpressionsAgreeBy U K
-expressions_agree_by U K w p f g oracle net_oracle l k c T uses e start frames declarations opened readable placed agree can covers formed =
-    expression_agrees U p f g oracle net_oracle l k c T uses declarations opened readable placed.leads agree K e w start
-    (images_now U K w p f g (scope_of U.written c g k) refl refl T declarations frames uses start readable placed) (stands_now U K w p f g frames) can covers formed
-
-pub scalars_agree_by : (U : Upgrade) (K : Pledge) → FormedScalarsAgreeBy U K
-scalars_agree_by U K w p f g oracle net_oracle l k c T uses e start frames declarations opened readable placed agree can covers formed =
-    plain_agrees U K (context_of U oracle p f l) e (type_at e) w (target.value_of (scope_of U.written c g k) net_oracle (exp_of T e) w.net) start
-    (expressions_agree_by U K w p f g oracle net_oracle l k c T uses e start frames declarations opened readable placed agree can covers formed)
-
-pub indexes_agree_by : (U : Upgrade) (K : Pledge) → IndexesAgreeBy U K
-indexes_agree_by U K w p f g oracle net_oracle l k c T uses ty a indexes start frames declarations opened readable placed agree can covers_array
-    covers_indexes formed =
-    let forms = both_true (has_elements (type_at a) ty) (are_longs (types_of indexes) && are_formed indexes) formed in
-    let rest = both_true (are_longs (types_of indexes)) (are_formed indexes) forms.1 in
-    let longs = all_long (types_of indexes) rest.0 in
-    let have : HaveImages U K w f (scope_of U.written c g k) T uses =
-    images_now U K w p f g (scope_of U.written c g k) refl refl T declarations frames uses start readable placed in
-    indexed_by U p f g oracle net_oracle l k c T uses declarations opened readable placed.leads agree K ty a indexes w start have covers_array forms.0 can.0
-    (indexes_agree U p f g oracle net_oracle l k c T uses declarations opened readable placed.leads agree K a 0 indexes w
-    (from_none (types_of indexes) longs.1) longs.0 start have (stands_now U K w p f g frames) can.1 covers_indexes rest.1)
-
-pub elements_agree_by : (U : Upgrade) (K : Pledge) → ElementsAgreeBy U K
-elements_agree_by U K w p f g oracle net_oracle l k c T uses ty a indexes start frames declarations opened readable placed agree can covers_array
-    covers_indexes formed =
-    element_agrees U K (context_of U oracle p f l) a ty indexes w
-    (target.reach (scope_of U.written c g k) net_oracle false (exp_of T (typed ty (element a indexes))) w.net) start
-    (indexes_agree_by U K w p f g oracle net_oracle l k c T uses ty a indexes start frames declarations opened readable placed agree can covers_array
-    covers_indexes formed)
-
-pub arrays_agree_by : (U : Upgrade) (K : Pledge) → ArraysAgreeBy U K
-arrays_agree_by U K w p f g oracle net_oracle l k c T uses d rank (variable v qualified) start frames declarations readable placed covers =
-    array_agrees U K p f g oracle net_oracle l k c T declarations d rank v qualified (readable.arrays v d covers) w start
-    (λ a at. images_now U K w p f g (scope_of U.written c g k) refl refl T declarations frames uses start readable placed v a (inr (inl (d, covers))) at)
-arrays_agree_by U K w p f g oracle net_oracle l k c T uses d rank _ start frames declarations readable placed covers = absurd (cc covers)
-
-pub indexes_agree_all : (U : Upgrade) → VariablesAreRead U → IndexesAgree U
-indexes_agree_all U reads K = indexes_agree_by U K
-
-pub elements_agree : (U : Upgrade) → VariablesAreRead U → ElementsAgree U
-elements_agree U reads K = elements_agree_by U K
-
-pub arrays_agree : (U : Upgrade) → ArraysAgree U
-arrays_agree U K = arrays_agree_by U K
-
-pub expressions_agree : (U : Upgrade) → VariablesAreRead U → ExpressionsAgree U
-expressions_agree U reads K = expressions_agree_by U K
-
-pub scalars_agree : (U : Upgrade) → VariablesAreRead U → FormedScalarsAgree U
-scalars_agree U reads K = scalars_agree_by U K
-
--- a covered call is made on both sides
-pub calls_are_made : (U : Upgrade) → VariablesAreRead U → CallsAreMade U
-calls_are_made U reads K w p f g oracle net_oracle l k c T uses ty q qualified args start frames declarations opened readable placed agree can covers formed =
-    let C : Context = context_of U oracle p f l in
-    let S : net_names.Scope = scope_of U.written c g k in
-    let stands : Stands U K w f g = stands_now U K w p f g frames in
-    let r' = target.address_of S net_oracle (call_of (path (procedure_path T qualified q.0)) (passed_of T q.0 0 args)) w.net in
-    agrees_weaker U K w (GivenMatch U) AnyParts (source.term_parts C ty (call q qualified no_object args) w.src) r' (λ v x a l m. tt)
-    (call_made U p f g oracle net_oracle l k c T uses declarations opened readable placed.leads agree K ty q qualified args w start stands can.0
-    (passed_agree U p f g oracle net_oracle l k c T uses declarations opened readable placed.leads agree (giving K (given_types args)) q.0 0 args
-    (passings_at U.written (Some can.0.number)) w
-    (from_first U p f g oracle net_oracle l k c T uses declarations opened readable placed.leads agree K can.0) can.0.suits can.0.hands start
-    (images_giving U K (given_types args) w start f S T uses
-    (images_now U K w p f g (scope_of U.written c g k) refl refl T declarations frames uses start readable placed))
-    (stands_giving U K (given_types args) w start f g stands) (called_giving_for U K S T (given_types args) args can.0.inside can.1) covers formed can.0.ranks
-    (λ t o. inr o)))
-
--- under the pledge of a frame
-
-pub frame_expressions_agree : (U : Upgrade) (p : ℕ) (w : World) (f : SourceFrame) → VariablesAreReadBy U (frame_pledge U p w f)
-    → FormedExpressionsAgreeBy U (frame_pledge U p w f)
-frame_expressions_agree U p w f reads = expressions_agree_by U (frame_pledge U p w f)
-
-pub frame_scalars_agree : (U : Upgrade) (p : ℕ) (w : World) (f : SourceFrame) → VariablesAreReadBy U (frame_pledge U p w f)
-    → FormedScalarsAgreeBy U (frame_pledge U p w f)
-frame_scalars_agree U p w f reads = scalars_agree_by U (frame_pledge U p w f)
-
-pub frame_indexes_agree : (U : Upgrade) (p : ℕ) (w : World) (f : SourceFrame) → VariablesAreReadBy U (frame_pledge U p w f)
-    → IndexesAgreeBy U (frame_pledge U p w f)
-frame_indexes_agree U p w f reads = indexes_agree_by U (frame_pledge U p w f)
-
-pub frame_elements_agree : (U : Upgrade) (p : ℕ) (w : World) (f : SourceFrame) → VariablesAreReadBy U (frame_pledge U p w f)
-    → ElementsAgreeBy U (frame_pledge U p w f)
-frame_elements_agree U p w f reads = elements_agree_by U (frame_pledge U p w f)
-
-pub frame_arrays_agree : (U : Upgrade) (p : ℕ) (w : World) (f : SourceFrame) → ArraysAgreeBy U (frame_pledge U p w f)
-frame_arrays_agree U p w f = arrays_agree_by U (frame_pledge U p w f)
+        (value_goes S net_oracle T e (no_copy T.facts (type_at e) (is_copied e) (covered_type uses e scalar)) w.net (handles K e can.0 scalar forms.0)
+        (takes_reference D q i) (target.first_passing modes) (takes_reference T.declarations q i) mode (ap (λ E. takes_reference E q i) same_declarations))
+        start (expression_agrees K e w start have stands can.0 scalar forms.0) more)
+        (λ place.
+        place_given U K p f g oracle net_oracle l k c T uses same_declarations readable w start have q i ((runnable_of U).quiet q i) (target.first_passing modes) e
+        (source.args_of C q (suc i) rest) (target.args_of S net_oracle (target.rest_passings modes) (passed_of T q (suc i) rest)) mode place more)

@@ -1,19 +1,17 @@
 -- An element that is given by reference: its index is checked at once on both sides.
-use Rattle.std.proofs.Common.{◌≡◌, inr, refl, sym, ap, subst, ◌∙◌, ℕ, suc, ℤ, Bool, true, false, ◌||◌, List, [], ◌∷◌, Option, Some, None}
+use Rattle.std.proofs.Common.{◌≡◌, inr, refl, sym, ap, subst, ◌∙◌, ℕ, suc, Bool, true, false, List, [], ◌∷◌, Option, Some, None}
 use Rattle.vb_tree.specs.BoundTree.{Ty}
 use Rattle.vb6_meaning.specs.Answers.{Answer}
 use Rattle.bound_tree.specs.Tree.{Expr, typed, element, Exprs, by_reference}
 use Rattle.bound_facts.specs.Node.{is_array_type}
-use Rattle.net_meaning.specs.declared.value.ValueN.TheVariants as n
-use Rattle.net_tree.specs.declared.declaration.NetPassing.TheVariants as passing
-use Rattle.run_base.specs.Frames.{Given, by_address}
+use Rattle.run_base.specs.Frames.{by_address}
 use Rattle.run_base.specs.Outcomes.{Outcome, after, answered, found, gives, raises, then}
 use Rattle.run_base.specs.Positions.{Position}
 use Rattle.vb6_run.specs.Arrays.{element_place, item_if, with_held_array}
 use Rattle.vb6_run.specs.Expressions as source
 use Rattle.vb6_run.specs.Expressions.{Context, Parts, at_element}
 use Rattle.vb6_run.specs.Shapes.{Shape, array, simple}
-use Rattle.vb6_run.specs.Store.{Address, Held, Memory, SourceGiven, held_at, item, root}
+use Rattle.vb6_run.specs.Store.{Address, Memory, SourceGiven, held_at, item, root}
 use Rattle.vb6_run.specs.Values.{Dimension, Value, Values}
 use Rattle.net_run.specs.Calls.{Arguments}
 use Rattle.net_run.specs.Expressions as target
@@ -22,12 +20,10 @@ use Rattle.net_run.specs.Names as net_names
 use Rattle.net_run.specs.Names.{Reached}
 use Rattle.net_run.specs.Shapes as shape
 use Rattle.net_run.specs.Store as net
-use Rattle.net_run.specs.Values as net_value
 use Rattle.row_laws.proofs.Composing.{after_nil, then_assoc}
-use Rattle.run_matches.specs.Addresses.{GivesWhole, HasParameterRank, IsPlain, IsTarget, Same, position_of, same_item}
+use Rattle.run_matches.specs.Addresses.{GivesWhole, HasParameterRank, IsPlain, IsTarget, Same, same_item}
 use Rattle.run_matches.specs.Agreeing.{Agrees}
-use Rattle.run_matches.specs.Likeness.{SameShape}
-use Rattle.run_matches.specs.Maps.{World, is_auto_root, moved_at}
+use Rattle.run_matches.specs.Maps.{World, is_auto_root}
 use Rattle.run_matches.specs.Match.{MemoryMatch}
 use Rattle.run_matches.specs.Pledges.{Later, NetGiven, Pledge}
 use Rattle.run_matches.specs.Upgrades.{Upgrade}
@@ -37,7 +33,7 @@ use Rattle.agreeing_laws.proofs.Indexes.{as_answer, place_agrees}
 use Rattle.agreeing_laws.proofs.Moves.{address_later}
 use Rattle.expression_laws.specs.Calls.{ArgumentsMatch, next_address}
 use Rattle.expression_laws.proofs.ElementValues.{element_like, sizes_of}
-use Rattle.expression_laws.proofs.Images.{plain_later}
+use Rattle.expression_laws.proofs.LastingImages.{plain_later}
 use Rattle.expression_laws.proofs.References.{or_true, plain_shape}
 
 -- addresses of an element on both sides

@@ -1,12 +1,10 @@
 -- While a call with elements by reference is evaluated, their arrays are kept.
-use Rattle.std.proofs.Common.{◌≡◌, ◌⊎◌, inl, inr, refl, ℕ, Bool, not, Some, List, [], ◌∷◌, ◌++◌}
+use Rattle.std.proofs.Common.{◌⊎◌, inl, inr, refl, ℕ, Bool, not, List, [], ◌∷◌, ◌++◌}
 use Rattle.vb_tree.specs.BoundTree.{Ty}
-use Rattle.vb_tree.specs.declared.bound.LibCall.{LibCall}
 use Rattle.bound_tree.specs.Tree.{Expr, typed, constant, variable, field, element, call, library, unary, binary, convert, new_object, me, with_object, err_number, err_raise, err_clear, is_same, loose, Exprs, no_exprs, next_expr, Passed, no_passed, next_passed, by_value, by_reference}
 use Rattle.bound_facts.specs.Facts.{is_quiet}
 use Rattle.bound_facts.specs.Locks.{Keeps}
-use Rattle.bound_facts.specs.Node.{called}
-use Rattle.bound_facts.specs.Nodes.{nodes, nodes_in, nodes_of_all, nodes_of_object, nodes_of_passed}
+use Rattle.bound_facts.specs.Nodes.{nodes, nodes_of_all, nodes_of_object, nodes_of_passed}
 use Rattle.written_trees.specs.Names.{Scope}
 use Rattle.vb6_run.specs.Store.{Address, SourceFrame}
 use Rattle.net_run.specs.Lines.{NetFrame}
@@ -14,7 +12,6 @@ use Rattle.net_run.specs.Names as net_names
 use Rattle.net_run.specs.Store as net
 use Rattle.run_matches.specs.Addresses.{Bound, images, mirrored}
 use Rattle.run_matches.specs.CoveredExprs.{Uses}
-use Rattle.run_matches.specs.Keeping.{given_types}
 use Rattle.run_matches.specs.Maps.{World}
 use Rattle.run_matches.specs.Match.{MemoryMatch}
 use Rattle.run_matches.specs.Pledges.{Pledge}
@@ -97,6 +94,7 @@ module _ (U : Upgrade) (K : Pledge) (S : net_names.Scope) (T : Scope) (ts : List
     number = c.number;
     is_number = c.is_number;
     plain = c.plain;
+    standard = c.standard;
     suits = c.suits;
     hands = c.hands;
     given = c.given;

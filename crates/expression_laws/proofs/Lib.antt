@@ -3,9 +3,12 @@ pub mod Checks
 pub mod Variables
 pub mod RowsAgree
 pub mod Conversions
+pub mod UsedShapes
+pub mod ModuleImages
 pub mod Images
-mod FieldPaths
+pub mod LastingImages
 pub mod Places
+pub mod FieldValues
 mod LibraryArguments
 mod Inputs
 pub mod Library
@@ -15,6 +18,7 @@ pub mod References
 pub mod Giving
 pub mod GivenElements
 pub mod Temporaries
+pub mod GroupArguments
 pub mod NoPlaces
 pub mod IndexRows
 pub mod Elements
@@ -24,5 +28,10 @@ mod ErrNumbers
 pub mod Handed
 pub mod Handled
 pub mod WrittenValues
+pub mod Operators
+pub mod ArrayUses
+pub mod ItemArguments
+pub mod CallsGiven
 pub mod Expressions
+pub mod Agreements
 mod Examples

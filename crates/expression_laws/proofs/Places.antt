@@ -1,24 +1,20 @@
 -- Places of user types: variables, and fields of these that are of user types themselves.
-use Rattle.std.proofs.Common.{◌≡◌, refl, sym, ap, subst, ◌∙◌, inl, inr, ℕ, zero, suc, Bool, true, false, cond, ◌&&◌, nat_eq, List, [], ◌∷◌, ◌++◌, append_assoc, append-nil, Option, Some, None, option_map, eqb-true, true≢false}
+use Rattle.std.proofs.Common.{◌≡◌, refl, sym, ap, subst, ◌∙◌, inr, ℕ, Bool, true, false, List, [], ◌++◌, Option, Some, None, eqb-true, true≢false}
 use Rattle.std.specs.Prelude.{slice_get}
 use Rattle.vb_tree.specs.BoundTree.{Ty}
 use Rattle.vb_tree.specs.BoundTree as types
 use Rattle.vb_tree.specs.declared.declared.VarId.{VarId}
-use Rattle.bound_tree.specs.Tree.{Declarations, Variable, Expr, typed, Term, variable, field}
-use Rattle.bound_facts.specs.Facts.{is_quiet}
+use Rattle.bound_tree.specs.Tree.{Declarations, Expr, typed, Term, variable, field}
 use Rattle.bound_facts.specs.Locks.{is_same_type}
-use Rattle.bound_facts.specs.Members.{field_of}
-use Rattle.bound_facts.specs.Node.{auto_class, class_in, type_at, variable_number}
-use Rattle.net_tree.specs.Tree.{path}
-use Rattle.row_laws.proofs.Composing.{after_nil}
-use Rattle.run_base.specs.Outcomes.{Outcome, after, gives, outside, then, some_of}
-use Rattle.run_base.specs.Positions.{Position, inner}
+use Rattle.bound_facts.specs.Node.{auto_class, class_in}
+use Rattle.run_base.specs.Outcomes.{gives, outside, then, some_of}
+use Rattle.run_base.specs.Positions.{Position, Root}
 use Rattle.vb6_run.specs.Expressions as source
-use Rattle.vb6_run.specs.Expressions.{Context, Parts, at_address}
+use Rattle.vb6_run.specs.Expressions.{Context, at_address}
 use Rattle.vb6_run.specs.Forms.{SourceLine}
 use Rattle.vb6_run.specs.Runnables.{variable_address}
-use Rattle.vb6_run.specs.Shapes.{Shape, group, Shapes, no_shapes, next_shape, shape_at, user_shapes, variable_shape}
-use Rattle.vb6_run.specs.Store.{Address, root, item, Memory, SourceCalls, SourceFrame, field_address}
+use Rattle.vb6_run.specs.Shapes.{Shape, user_shapes}
+use Rattle.vb6_run.specs.Store.{Address, root, Memory, SourceCalls, SourceFrame}
 use Rattle.net_run.specs.Expressions as target
 use Rattle.net_run.specs.Lines.{NetFrame, NetLine, scope_of}
 use Rattle.net_run.specs.Making.{Jobs}
@@ -27,30 +23,28 @@ use Rattle.net_run.specs.Names as net_names
 use Rattle.net_run.specs.Names.{at_place, path_start, starts}
 use Rattle.net_run.specs.Shapes as shape
 use Rattle.net_run.specs.Store as net
-use Rattle.written_trees.specs.Exprs.{exp_of, made_if, member_of}
-use Rattle.written_trees.specs.Names.{Scope, variable_name, variable_path}
-use Rattle.run_matches.specs.Addresses.{AllMatched, AllRanked, IsPlain, IsTarget, Same, same_item, same_root, position_of}
+use Rattle.written_trees.specs.Exprs.{exp_of}
+use Rattle.written_trees.specs.Names.{Scope, variable_path}
+use Rattle.run_matches.specs.Addresses.{IsTarget, Same, same_item, same_root, position_of}
 use Rattle.run_matches.specs.Agreeing.{Agrees}
 use Rattle.run_matches.specs.CoveredVariables.{covers_user}
-use Rattle.run_matches.specs.CoveredExprs.{Uses, IsUsed, covers_place, is_type}
+use Rattle.run_matches.specs.CoveredExprs.{Uses, covers_place, is_type}
 use Rattle.run_matches.specs.Maps.{World, is_auto_root, moved_at}
-use Rattle.run_matches.specs.Likeness.{SameShape}
-use Rattle.run_matches.specs.Match.{MemoryMatch}
 use Rattle.run_matches.specs.Pledges.{Pledge}
-use Rattle.run_matches.specs.SoundShapes.{IsField, IsSoundShape, AreSoundShapes}
-use Rattle.run_matches.specs.Upgrades.{Upgrade, field_name, is_flagged_some, type_of_some}
+use Rattle.run_matches.specs.SoundShapes.{IsField, IsSoundShape}
+use Rattle.run_matches.specs.Upgrades.{Upgrade}
 use Rattle.run_statements.specs.Frames.{AreReadable, IsGroup, context_of}
-use Rattle.run_statements.specs.Groups.{PlaceMatch, PlacesAgree}
+use Rattle.run_statements.specs.Groups.{PlaceMatch}
 use Rattle.agreeing_laws.proofs.Agreeing.{agrees_gives, agrees_outside}
-use Rattle.agreeing_laws.proofs.FieldNames.{is_first_named, name_itself}
-use Rattle.agreeing_laws.proofs.Fields.{GroupImage, SameField, group_parts, same_of_field}
 use Rattle.agreeing_laws.proofs.UserShapes.{FieldShape, field_shape_is}
 use Rattle.expression_laws.specs.Images.{HasImage, HaveImages, IsImage}
-use Rattle.expression_laws.proofs.FieldPaths.{path_more}
-use Rattle.expression_laws.proofs.Images.{group_shape_is, images_now}
-use Rattle.expression_laws.proofs.References.{sound_stands}
+use Rattle.expression_laws.specs.Statements.{PlacesAgreeBy}
+use Rattle.expression_laws.proofs.Images.{images_now}
+use Rattle.expression_laws.proofs.UsedShapes.{group_stands}
 use Rattle.expression_laws.proofs.Types.{both_true}
 use Rattle.expression_laws.proofs.Variables.{known_exp, known_none}
+use Rattle.agreeing_laws.proofs.FieldPaths.{path_more}
+use Rattle.agreeing_laws.proofs.FieldPlaces.{PlaceFound, field_found, place_reached, sound_field}
 
 -- the image of a variable stands at a position
 abbrev StandsAt : net.Address → Type 0
@@ -65,62 +59,7 @@ parts_source : (C : Context) (o : Option Address) (class : Option ℕ) → class
 parts_source C None class e w = refl
 parts_source C (Some a) class e w = ap (λ z. then (gives [] (at_address a) w) (source.made_for C z)) e
 
--- ---- fields
-
-group_image : (U : Upgrade) (K : Pledge) (w : World) (s : ℕ) (fs : Shapes) (q : Position) (a : Address) (b : net.Address) → a ≡ root (group s fs) q
-    → Same U K w a b → GroupImage U w s fs b q
-group_image U K w s fs q _ _ is (same_root z d p sh m r) =
-    let shaped : z ≡ group s fs = root_shape z (group s fs) p q is in
-    subst (λ y. GroupImage U w s fs (net.root d (moved_at U w.map p)) y) (root_position z (group s fs) p q is)
-    (group_parts U K w s fs d p (subst (λ y. SameShape U y d) shaped sh) (subst (λ y. AllMatched U w y p) shaped m)
-    (subst (λ y. AllRanked U w y d p) shaped r))
-  where
-    root_shape : (z t : Shape) (p q : Position) → root z p ≡ root t q → z ≡ t
-    root_shape z t p q e = cc
-
-    root_position : (z t : Shape) (p q : Position) → root z p ≡ root t q → p ≡ q
-    root_position z t p q e = cc
-group_image U K w s fs q _ _ is (same_item e t d p k j inside keeps m has part sh) = absurd (cc is)
-
-sound_field : (U : Upgrade) (t i k : ℕ) (fs : Shapes) (s : Shape) → AreSoundShapes U t i fs → shape_at fs k ≡ Some s → IsSoundShape U s
-sound_field U t i k no_shapes s c e = cc
-sound_field U t i zero (next_shape z rest) s c e = subst (λ y. IsSoundShape U y) (the_shape z s e) c.1
-  where
-    the_shape : (a b : Shape) → Some a ≡ Some b → a ≡ b
-    the_shape a b e = cc
-sound_field U t i (suc k) (next_shape z rest) s c e = sound_field U t (suc i) k rest s c.2 e
-
-field_target : (U : Upgrade) (s t : Shape) (q : Position) (j : ℕ) → IsTarget U (root s q) → IsTarget U (root t (inner q j))
-field_target U s t q j (inl x) =
-    inl (record { place = x.place; shape = t; path = j ∷ x.path; stands = ap (λ z. root t (inner z j)) (root_position s x.shape q _ x.stands) })
-  where
-    root_position : (z t : Shape) (p q : Position) → root z p ≡ root t q → p ≡ q
-    root_position z t p q e = cc
-field_target U s t q j (inr x) =
-    inr (record {
-      variable = x.variable;
-      key = x.key;
-      of_shape = t;
-      path = j ∷ x.path;
-      stands = ap (λ z. root t (inner z j)) (root_position s x.of_shape q _ x.stands);
-      is_key = x.is_key;
-      differs = x.differs;
-    })
-  where
-    root_position : (z t : Shape) (p q : Position) → root z p ≡ root t q → p ≡ q
-    root_position z t p q e = cc
-
--- a field of a user type makes no object
-no_class : (t : ℕ) (o : Option Variable) → type_of_some o ≡ Some (types.user t) → auto_class o ≡ None
-no_class t None e = cc
-no_class t (Some y) e = ap (λ z. cond y.auto (class_in z) None) (the_type y.ty (types.user t) e) ∙ none_both y.auto None
-  where
-    the_type : (a b : Ty) → Some a ≡ Some b → a ≡ b
-    the_type a b e = cc
-
-    none_both : (b : Bool) (n : Option ℕ) → cond b n n ≡ n
-    none_both true n = refl
-    none_both false n = refl
+-- ---- what is declared
 
 same_user : (t : ℕ) (ty : Ty) → is_same_type (types.user t) ty ≡ true → ty ≡ types.user t
 same_user t (types.user u) e = ap types.user (sym (eqb-true t u e))
@@ -130,6 +69,28 @@ field_declared : (U : Upgrade) (T : Scope) (uses : Uses) → AreReadable U T use
     → is_type (types.user t) o ≡ true → IsField U s j (types.user t)
 field_declared U T uses readable s t j None is e = absurd (true≢false (sym e))
 field_declared U T uses readable s t j (Some ty) is e = subst (λ z. IsField U s j z) (same_user t ty e) (readable.fields s j ty is)
+
+-- a covered place is of a covered user type, none of whose declarations carries an issue
+pub record IsSoundPlace (U : Upgrade) (t : ℕ) : Type 0 where
+  pub covers : covers_user U.program.declarations t ≡ true
+  pub sound : IsSoundShape U (user_shapes U.program.declarations t)
+
+pub place_sound : (U : Upgrade) (T : Scope) (uses : Uses) → AreReadable U T uses → (t : ℕ) (tm : Term) → covers_place uses (typed (types.user t) tm) ≡ true
+    → IsSoundPlace U t
+place_sound U T uses readable t (variable v qualified) covers =
+    let r : IsGroup U v.0 t = readable.groups v t covers in
+    record { covers = r.covers; sound = r.fields }
+place_sound U T uses readable t (field (typed (types.user s) tm) j) covers =
+    let both = both_true (is_type (types.user t) (uses.field_type s j)) (covers_place uses (typed (types.user s) tm)) covers in
+    let i : IsField U s j (types.user t) = field_declared U T uses readable s t j (uses.field_type s j) refl both.0 in
+    let x : IsSoundPlace U s = place_sound U T uses readable s tm both.1 in
+    let shaped : FieldShape U.program.declarations s j (types.user t) = field_shape_is U.program.declarations s j i.variable (types.user t) x.covers i.declares i.is_type in
+    record {
+      covers = shaped.covers;
+      sound = sound_field U s 0 j shaped.shapes (user_shapes U.program.declarations t) (subst (λ z. IsSoundShape U z) shaped.is_group x.sound) shaped.is_shape;
+    }
+place_sound U T uses readable t (field (typed _ tm) j) covers = absurd (true≢false (sym covers))
+place_sound U T uses readable t _ covers = absurd (true≢false (sym covers))
 
 module _ (U : Upgrade) (K : Pledge) (p : ℕ) (f : SourceFrame) (g : NetFrame) (oracle : SourceCalls) (net_oracle : Jobs) (l : SourceLine) (k : NetLine)
     (c : Code) (T : Scope) (uses : Uses) (same_declarations : T.declarations ≡ U.program.declarations) (readable : AreReadable U T uses) where
@@ -142,184 +103,131 @@ module _ (U : Upgrade) (K : Pledge) (p : ℕ) (f : SourceFrame) (g : NetFrame) (
   abbrev D : Declarations
   D = U.program.declarations
 
-  -- a place on both sides, with the path that is written for it
-  pub record PlaceFound (w : World) (t : ℕ) (e : Expr) (a : Address) : Type 0 where
-    pub address : net.Address
-    pub match : PlaceMatch U K t w a address
-    pub covers : covers_user D t ≡ true
-    pub names : List (List ℕ)
-    pub is_exp : exp_of T e ≡ path names
-    pub behind : (name : List ℕ) → member_of e (path names) name ≡ path (names ++ name ∷ [])
-    pub leads :
-        (more : List (List ℕ)) (v : net.Memory)
-        → target.started S net_oracle (path_start S false (names ++ more)) v ≡ target.members_from S net_oracle (at_place address) more v
+  abbrev pub Found : World → Root → Ty → Expr → Type 0
+  Found w r ty e = PlaceFound U K w (context_of U oracle p f l) (scope_of U.written c g k) net_oracle T r ty e
 
-  -- what the source does with it
-  pub data PlaceIs (w : World) (t : ℕ) (e : Expr) : Outcome Memory Parts → Type 0 where
-    missing : PlaceIs w t e (outside [])
-    placed : (a : Address) → PlaceFound w t e a → PlaceIs w t e (gives [] (at_address a) w.src)
+  -- what the source does with a place, in any memory; it stands in a variable that is no As New one
+  pub data PlaceIs (w : World) (ty : Ty) (e : Expr) : Type 0 where
+    missing : ((s : Memory) → source.parts_of C e s ≡ outside []) → PlaceIs w ty e
+    placed : (r : Root) → is_auto_root U w.map r ≡ false → Found w r ty e → PlaceIs w ty e
 
-  module _ (w : World) (start : MemoryMatch U w) (have : HaveImages U K w f S T uses) where
-    variable_found : (t : ℕ) (v : VarId) (qualified : Bool) → uses.group v t ≡ true → (a : Address) → variable_address D f v.0 ≡ Some a
-        → PlaceFound w t (typed (types.user t) (variable v qualified)) a
-    variable_found t v qualified used a at =
-        let r : IsGroup U v.0 t = readable.groups v t used in
-        let x : HasImage U K w S T v.0 a = have v a (inr (inr (t, used))) at in
-        let i : IsImage U K w v.0 a x.address = x.image r.exact in
-        let shaped : variable_shape D v.0 ≡ user_shapes D t = group_shape_is U v.0 t r in
-        let stands : a ≡ root (variable_shape D v.0) i.position =
-        sound_stands U (variable_shape D v.0) a i.position (subst (λ s. IsSoundShape U s) (sym shaped) r.fields) i.stands in
-        let b : StandsAt x.address = image_stands U K w (variable_shape D v.0) i.position a x.address stands i.same in
-        record {
-          address = x.address;
-          match = record {
-            position = i.position;
-            stands = stands ∙ ap (λ s. root s i.position) shaped;
-            sound = r.fields;
-            same = i.same;
-            target = i.target;
-            plain = i.plain;
-          };
-          covers = r.covers;
+  module _ (w : World) where
+    -- ---- variables
+
+    module _ (have : HaveImages U K w f S T uses) (t : ℕ) (v : VarId) (qualified : Bool) (used : uses.group v t ≡ true) where
+      abbrev the_variable : Expr
+      the_variable = typed (types.user t) (variable v qualified)
+
+      of_type : IsGroup U v.0 t
+      of_type = readable.groups v t used
+
+      variable_parts : (o : Option Address) → variable_address D f v.0 ≡ o → (s : Memory)
+          → source.parts_of C the_variable s ≡ some_of o (λ a w. gives [] (at_address a) w) s
+      variable_parts o is s =
+          parts_source C (variable_address D f v.0) (auto_class (slice_get D.vars v.0))
+          (known_none D.vars v.0 of_type.known.variable of_type.known.is_variable of_type.known.plain) s
+          ∙ ap (λ o. some_of o (λ a w. gives [] (at_address a) w) s) is
+
+      module _ (a : Address) (at : variable_address D f v.0 ≡ Some a) where
+        image : HasImage U K w S T v.0 a
+        image = have v a (inr (inr (t, used))) at
+
+        exact : IsImage U K w v.0 a image.address
+        exact = image.image of_type.exact
+
+        abbrev q : Position
+        q = exact.position
+
+        stands : a ≡ root (user_shapes D t) exact.position
+        stands = group_stands U v.0 t of_type a q exact.stands
+
+        leads :
+            (more : List (List ℕ)) (m : net.Memory) → target.started S net_oracle (path_start S false (variable_path T qualified v.0 ++ more)) m
+            ≡ target.members_from S net_oracle (at_place image.address) more m
+        leads more m =
+            let b : StandsAt image.address = image_stands U K w (user_shapes D t) q a image.address stands exact.same in
+            ap (λ z. target.started S net_oracle z m)
+            (path_more S b.0 b.1 (variable_path T qualified v.0) more (image.found qualified ∙ ap (λ z. starts (at_place z) []) b.2)
+            ∙ ap (λ z. starts (at_place z) more) (sym b.2))
+
+        variable_found : Found w exact.position.root (types.user t) the_variable
+        variable_found = record {
+          position = q;
+          address = image.address;
+          in_root = refl;
+          found = λ s. variable_parts (Some a) at s ∙ ap (λ z. gives [] (at_address z) s) stands;
+          sound = of_type.fields;
+          covers = of_type.covers;
+          same = subst (λ z. Same U K w z image.address) stands exact.same;
+          target = subst (λ z. IsTarget U z) stands exact.target;
           names = variable_path T qualified v.0;
           is_exp =
-              known_exp T (types.user t) v qualified r.known.variable (ap (λ E. slice_get E.vars v.0) same_declarations ∙ r.known.is_variable) r.known.plain;
+              known_exp T (types.user t) v qualified of_type.known.variable (ap (λ E. slice_get E.vars v.0) same_declarations ∙ of_type.known.is_variable)
+              of_type.known.plain;
           behind = λ name. refl;
-          leads = λ more m.
-              ap (λ z. target.started S net_oracle z m)
-              (path_more S b.0 b.1 (variable_path T qualified v.0) more (x.found qualified ∙ ap (λ z. starts (at_place z) []) b.2)
-              ∙ ap (λ z. starts (at_place z) more) (sym b.2));
+          leads = leads;
         }
 
-    variable_is : (t : ℕ) (v : VarId) (qualified : Bool) → uses.group v t ≡ true
-        → PlaceIs w t (typed (types.user t) (variable v qualified)) (source.parts_of C (typed (types.user t) (variable v qualified)) w.src)
-    variable_is t v qualified used =
-        let r : IsGroup U v.0 t = readable.groups v t used in
-        subst (λ z. PlaceIs w t (typed (types.user t) (variable v qualified)) z)
-        (sym (parts_source C (variable_address D f v.0) (auto_class (slice_get D.vars v.0)) (known_none D.vars v.0 r.known.variable r.known.is_variable r.known.plain) w.src))
-        (by (variable_address D f v.0) refl)
-      where
-        by : (o : Option Address) → variable_address D f v.0 ≡ o
-            → PlaceIs w t (typed (types.user t) (variable v qualified)) (some_of o (λ a w. gives [] (at_address a) w) w.src)
-        by None e = missing
-        by (Some a) e = placed a (variable_found t v qualified used a e)
+        variable_placed : PlaceIs w (types.user t) the_variable
+        variable_placed = placed exact.position.root (exact.plain q (ap position_of stands)) variable_found
 
-    module _ (s t j : ℕ) (tm : Term) (i : IsField U s j (types.user t)) where
-      abbrev e : Expr
-      e = typed (types.user s) tm
+      variable_is : PlaceIs w (types.user t) the_variable
+      variable_is = by (variable_address D f v.0) refl
+        where
+          by : (o : Option Address) → variable_address D f v.0 ≡ o → PlaceIs w (types.user t) the_variable
+          by None e = missing (variable_parts None e)
+          by (Some a) e = variable_placed a e
 
-      abbrev the_field : Expr
-      the_field = typed (types.user t) (field e j)
+    -- ---- fields
 
-      field_class : auto_class (variable_number D.vars (field_of D (types.user s) j)) ≡ None
-      field_class = ap (λ o. auto_class (variable_number D.vars o)) i.declares ∙ no_class t (slice_get D.vars i.variable) i.is_type
+    -- a field of a place stands where the place does
+    pub field_is : (s j : ℕ) (tm : Term) (fty ty : Ty) → IsField U s j fty → class_in fty ≡ None → PlaceIs w (types.user s) (typed (types.user s) tm)
+        → PlaceIs w fty (typed ty (field (typed (types.user s) tm) j))
+    field_is s j tm fty ty i none (missing h) =
+        let e : Expr = typed (types.user s) tm in
+        missing (λ m. ap (λ r. then (then r (source.field_parts C e j (types.user s))) (source.as_new C (field e j))) (h m))
+    field_is s j tm fty ty i none (placed r plain x) =
+        placed r plain (field_found U K w C S net_oracle T r refl same_declarations s j tm fty ty i none x)
 
-      module _ (a : Address) (x : PlaceFound w s e a) where
-        abbrev q : Position
-        q = x.match.position
-
-        shaped : FieldShape D s j (types.user t)
-        shaped = field_shape_is D s j i.variable (types.user t) x.covers i.declares i.is_type
-
-        stands : a ≡ root (group s shaped.shapes) q
-        stands = x.match.stands ∙ ap (λ z. root z q) shaped.is_group
-
-        image : GroupImage U w s shaped.shapes x.address q
-        image = group_image U K w s shaped.shapes q a x.address stands x.match.same
-
-        found : SameField U K w s j (user_shapes D t) image.written q
-        found =
-            same_of_field U K w s j (user_shapes D t) shaped.shapes image.written q name_itself image.same image.matched image.ranked shaped.is_shape
-            (ap (is_flagged_some U) i.declares ∙ i.sound) (is_first_named U s j i.variable x.covers i.declares)
-
-        abbrev name : List ℕ
-        name = field_name U s j
-
-        abbrev new : Address
-        new = root (user_shapes D t) (inner q j)
-
-        abbrev there : net.Address
-        there = net.root found.shape (inner (moved_at U w.map q) j)
-
-        field_exp : exp_of T the_field ≡ path (x.names ++ name ∷ [])
-        field_exp =
-            ap (λ E. made_if E (auto_class (variable_number E.vars (field_of E (types.user s) j)))
-            (member_of e (exp_of T e) (variable_name E (field_of E (types.user s) j)))) same_declarations
-            ∙ ap (λ o. made_if D o (member_of e (exp_of T e) name)) field_class
-            ∙ ap (λ z. member_of e z name) x.is_exp ∙ x.behind name
-
-        reached : (v : net.Memory) → net_names.member_at S x.address name v ≡ at_place there
-        reached v =
-            ap (λ b. net_names.member_at S b name v) image.stands
-            ∙ ap (λ o. at_place (net.inner_of (net.root (shape.structured image.home image.member image.written) (moved_at U w.map q)) o)) found.found
-
-        field_leads : (more : List (List ℕ)) (v : net.Memory)
-            → target.started S net_oracle (path_start S false ((x.names ++ name ∷ []) ++ more)) v ≡ target.members_from S net_oracle (at_place there) more v
-        field_leads more v =
-            ap (λ z. target.started S net_oracle (path_start S false z) v) (append_assoc x.names (name ∷ []) more)
-            ∙ x.leads (name ∷ more) v ∙ after_nil (target.members_from S net_oracle (net_names.member_at S x.address name v) more v)
-            ∙ ap (λ r. target.members_from S net_oracle r more v) (reached v)
-
-        field_found : PlaceFound w t the_field new
-        field_found = record {
-          address = there;
-          match = record {
-            position = inner q j;
-            stands = refl;
-            sound = sound_field U s 0 j shaped.shapes (user_shapes D t) (subst (λ z. IsSoundShape U z) shaped.is_group x.match.sound) shaped.is_shape;
-            same = found.same;
-            target = field_target U (group s shaped.shapes) (user_shapes D t) q j (subst (λ z. IsTarget U z) stands x.match.target);
-            plain = λ y z. subst (λ (u : Position). is_auto_root U w.map u.root ≡ false) (some_position (inner q j) y z) (x.match.plain q (ap position_of stands));
-          };
-          covers = shaped.covers;
-          names = x.names ++ name ∷ [];
-          is_exp = field_exp;
-          behind = λ n. refl;
-          leads = field_leads;
-        }
-          where
-            some_position : (y z : Position) → Some y ≡ Some z → y ≡ z
-            some_position y z e = cc
-
-        source_address : field_address j a w.src.held ≡ Some new
-        source_address = ap (λ z. field_address j z w.src.held) stands ∙ ap (λ o. option_map (λ z. root z (inner q j)) o) shaped.is_shape
-
-      field_is : (r : Outcome Memory Parts) → PlaceIs w s e r
-          → PlaceIs w t the_field
-          (then (then r (source.field_parts C e j (types.user s))) (source.made_for C (auto_class (variable_number D.vars (field_of D (types.user s) j)))))
-      field_is _ missing = missing
-      field_is _ (placed a x) =
-          subst
-          (λ o. PlaceIs w t the_field
-          (then (then (gives [] (at_address a) w.src) (source.field_parts C e j (types.user s))) (source.made_for C o))) (sym field_class)
-          (subst (λ o. PlaceIs w t the_field (then (after [] (after [] (some_of o (λ b v. gives [] (at_address b) v) w.src))) (source.made_for C None)))
-          (sym (source_address a x))
-          (placed (new a x) (field_found a x)))
-
-    pub place_is : (t : ℕ) (tm : Term) → covers_place uses (typed (types.user t) tm) ≡ true
-        → PlaceIs w t (typed (types.user t) tm) (source.parts_of C (typed (types.user t) tm) w.src)
-    place_is t (variable v qualified) covers = variable_is t v qualified covers
-    place_is t (field (typed (types.user s) tm) j) covers =
-        let both = both_true (is_type (types.user t) (uses.field_type s j)) (covers_place uses (typed (types.user s) tm)) covers in
-        field_is s t j tm (field_declared U T uses readable s t j (uses.field_type s j) refl both.0) (source.parts_of C (typed (types.user s) tm) w.src)
-        (place_is s tm both.1)
-    place_is t (field (typed _ tm) j) covers = absurd (true≢false (sym covers))
-    place_is t _ covers = absurd (true≢false (sym covers))
+    module _ (have : HaveImages U K w f S T uses) where
+      pub place_is : (t : ℕ) (tm : Term) → covers_place uses (typed (types.user t) tm) ≡ true → PlaceIs w (types.user t) (typed (types.user t) tm)
+      place_is t (variable v qualified) covers = variable_is have t v qualified covers
+      place_is t (field (typed (types.user s) tm) j) covers =
+          let both = both_true (is_type (types.user t) (uses.field_type s j)) (covers_place uses (typed (types.user s) tm)) covers in
+          field_is s j tm (types.user t) (types.user t) (field_declared U T uses readable s t j (uses.field_type s j) refl both.0) refl (place_is s tm both.1)
+      place_is t (field (typed _ tm) j) covers = absurd (true≢false (sym covers))
+      place_is t _ covers = absurd (true≢false (sym covers))
 
 -- ---- the law
 
-pub places_agree : (U : Upgrade) → PlacesAgree U
-places_agree U K w p f g oracle net_oracle l k c T uses t tm start frames declarations readable stands covers =
-    by (source.parts_of (context_of U oracle p f l) (typed (types.user t) tm) w.src)
-    (place_is U K p f g oracle net_oracle l k c T uses declarations readable w start
+pub places_agree_by : (U : Upgrade) (K : Pledge) → PlacesAgreeBy U K
+places_agree_by U K w p f g oracle net_oracle l k c T uses t tm start frames declarations readable stands covers =
+    by
+    (place_is U K p f g oracle net_oracle l k c T uses declarations readable w
     (images_now U K w p f g (scope_of U.written c g k) refl refl T declarations frames uses start readable stands) t tm covers)
   where
-    by : (r : Outcome Memory Parts) → PlaceIs U K p f g oracle net_oracle l k c T uses declarations readable w t (typed (types.user t) tm) r
-        → Agrees U K w (PlaceMatch U K t) (then r source.finished) (target.address_of (scope_of U.written c g k) net_oracle (exp_of T (typed (types.user t) tm)) w.net)
-    by _ missing = agrees_outside U K w (PlaceMatch U K t) (target.address_of (scope_of U.written c g k) net_oracle (exp_of T (typed (types.user t) tm)) w.net)
-    by _ (placed a x) =
-        subst (λ z. Agrees U K w (PlaceMatch U K t) (gives [] a w.src) z)
-        (sym (ap (λ z. target.address_of (scope_of U.written c g k) net_oracle z w.net) x.is_exp
-        ∙ ap (λ n. target.address_from (scope_of U.written c g k) net_oracle (target.started (scope_of U.written c g k) net_oracle (path_start (scope_of U.written c g k) false n) w.net)) (sym (append-nil x.names))
-        ∙ ap (target.address_from (scope_of U.written c g k) net_oracle) (x.leads [] w.net)))
-        (agrees_gives U K w (PlaceMatch U K t) a x.address start x.match)
+    by : PlaceIs U K p f g oracle net_oracle l k c T uses declarations readable w (types.user t) (typed (types.user t) tm)
+        → Agrees U K w (PlaceMatch U K t) (source.address_of (context_of U oracle p f l) (typed (types.user t) tm) w.src)
+        (target.address_of (scope_of U.written c g k) net_oracle (exp_of T (typed (types.user t) tm)) w.net)
+    by (missing none) =
+        subst (λ z. Agrees U K w (PlaceMatch U K t) (then z source.finished)
+        (target.address_of (scope_of U.written c g k) net_oracle (exp_of T (typed (types.user t) tm)) w.net)) (sym (none w.src))
+        (agrees_outside U K w (PlaceMatch U K t) (target.address_of (scope_of U.written c g k) net_oracle (exp_of T (typed (types.user t) tm)) w.net))
+    by (placed r plain x) =
+        subst (λ z. Agrees U K w (PlaceMatch U K t) (then z source.finished)
+        (target.address_of (scope_of U.written c g k) net_oracle (exp_of T (typed (types.user t) tm)) w.net)) (sym (x.found w.src))
+        (subst (λ z. Agrees U K w (PlaceMatch U K t) (gives [] (root (user_shapes U.program.declarations t) x.position) w.src)
+        (target.address_from (scope_of U.written c g k) net_oracle z))
+        (sym (place_reached U K w (context_of U oracle p f l) (scope_of U.written c g k) net_oracle T r (types.user t) (typed (types.user t) tm) x w.net))
+        (agrees_gives U K w (PlaceMatch U K t) (root (user_shapes U.program.declarations t) x.position) x.address start
+        (record {
+          position = x.position;
+          stands = refl;
+          sound = x.sound;
+          same = x.same;
+          target = x.target;
+          plain = λ q e. subst (λ (z : Position). is_auto_root U w.map z.root ≡ false) (some_position x.position q e) (ap (is_auto_root U w.map) x.in_root ∙ plain);
+        })))
+      where
+        some_position : (y z : Position) → Some y ≡ Some z → y ≡ z
+        some_position y z e = cc

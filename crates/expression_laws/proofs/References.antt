@@ -4,7 +4,7 @@ use Rattle.std.specs.Prelude.{slice_get}
 use Rattle.vb_tree.specs.BoundTree as types
 use Rattle.vb_tree.specs.BoundTree.{Ty}
 use Rattle.vb_tree.specs.declared.declared.VarId.{VarId}
-use Rattle.bound_tree.specs.Tree.{Declarations, Expr, typed, variable, by_reference, Program}
+use Rattle.bound_tree.specs.Tree.{Declarations, Expr, typed, field, variable, by_reference, Program}
 use Rattle.bound_facts.specs.Facts.{is_quiet}
 use Rattle.bound_facts.specs.Node.{auto_class, is_array_type}
 use Rattle.net_tree.specs.declared.declaration.NetPassing.{NetPassing}
@@ -17,7 +17,7 @@ use Rattle.vb6_run.specs.Expressions as source
 use Rattle.vb6_run.specs.Expressions.{Context, at_address}
 use Rattle.vb6_run.specs.Forms.{SourceLine}
 use Rattle.vb6_run.specs.Runnables.{variable_address}
-use Rattle.vb6_run.specs.Shapes.{Shape, simple, array, variable_shape, endless, part_shape, group}
+use Rattle.vb6_run.specs.Shapes.{Shape, simple, endless, part_shape, user_shapes}
 use Rattle.vb6_run.specs.Store.{Address, Memory, SourceCalls, SourceFrame, SourceGiven, held_at, root, item, constant}
 use Rattle.vb6_run.specs.Values.{Value}
 use Rattle.net_run.specs.Calls.{Arguments}
@@ -30,21 +30,21 @@ use Rattle.net_run.specs.Names.{at_place, path_start, starts}
 use Rattle.net_run.specs.Shapes as shape
 use Rattle.net_run.specs.Store as net
 use Rattle.net_run.specs.Values as net_value
-use Rattle.written_trees.specs.Arguments.{argument_exp, temporary_exp}
+use Rattle.written_trees.specs.Arguments.{argument_exp, is_conversion, temporary_exp}
 use Rattle.written_trees.specs.Exprs.{exp_of}
 use Rattle.written_trees.specs.Names.{Scope, variable_path}
 use Rattle.run_matches.specs.Addresses.{HasParameterRank, IsPlain, IsTarget, Same, same_item, same_root, GivesWhole, IsScalarAt}
 use Rattle.run_matches.specs.Agreeing.{Agrees}
 use Rattle.run_matches.specs.CoveredVariables.{covers_type}
-use Rattle.run_matches.specs.CoveredExprs.{Uses, IsUsed, covers_array, covers_expr, is_passable, is_variable, is_relied_on}
-use Rattle.run_matches.specs.Covered.{suits_array, hands_argument, is_relied_at}
+use Rattle.run_matches.specs.CoveredExprs.{Uses, IsUsed, covers_array, covers_expr, covers_place, is_passable, is_variable, is_relied_on}
+use Rattle.run_matches.specs.Covered.{suits_array, hands_argument, is_item, is_relied_at}
 use Rattle.run_matches.specs.Likeness.{SameShape, same_array, same_class, same_group, same_scalar}
 use Rattle.run_matches.specs.Maps.{World}
 use Rattle.run_matches.specs.Match.{MemoryMatch}
 use Rattle.run_matches.specs.Pledges.{Pledge}
+use Rattle.run_matches.specs.SoundShapes.{IsSoundShape}
 use Rattle.run_matches.specs.Upgrades.{Upgrade, takes_array}
 use Rattle.run_statements.specs.Fitting.{FitsArgument}
-use Rattle.run_matches.specs.SoundShapes.{IsSoundShape}
 use Rattle.run_statements.specs.Frames.{AreReadable, IsGroup, IsKnown, IsReadable, context_of}
 use Rattle.row_laws.proofs.Composing.{after_nil}
 use Rattle.agreeing_laws.proofs.Agreeing.{agrees_outside}
@@ -52,8 +52,8 @@ use Rattle.expression_laws.specs.Calls.{ArgumentsMatch}
 use Rattle.expression_laws.specs.Images.{HasImage, HaveImages, IsImage}
 use Rattle.expression_laws.proofs.Calls.{address_agrees}
 use Rattle.expression_laws.proofs.Elements.{ArrayThere, array_there, sound_array}
-use Rattle.expression_laws.proofs.Images.{array_stands, group_shape_is, known_used, scalar_stands}
-use Rattle.expression_laws.proofs.Types.{both_true}
+use Rattle.expression_laws.proofs.UsedShapes.{array_stands, group_stands, known_used, scalar_stands}
+use Rattle.expression_laws.proofs.Types.{both_true, either_true}
 use Rattle.expression_laws.proofs.Variables.{known_exp, known_none}
 
 -- ---- places of arguments
@@ -97,9 +97,22 @@ array_typed : (uses : Uses) (ty : Ty) (v : VarId) (qualified : Bool) → covers_
 array_typed uses (types.array e rank) v qualified h = refl
 array_typed uses _ v qualified h = absurd (cc h)
 
--- a scalar or an array
+-- a variable of a user type
+group_used : (uses : Uses) (ty : Ty) (v : VarId) (qualified : Bool) → covers_place uses (typed ty (variable v qualified)) ≡ true
+    → (user_type : ℕ) × (uses.group v user_type ≡ true)
+group_used uses (types.user t) v qualified h = (t, h)
+group_used uses _ v qualified h = absurd (true≢false (sym h))
+
+-- a scalar, an array or a user type
 abbrev pub IsPassed : Uses → Expr → Type 0
-IsPassed uses e = ((is_passable uses e && covers_expr uses e) ≡ true) ⊎ (covers_array uses e ≡ true)
+IsPassed uses e = ((is_passable uses e && covers_expr uses e) ≡ true) ⊎ ((covers_array uses e ≡ true) ⊎ (covers_place uses e ≡ true))
+
+pub passed_by : (uses : Uses) (e : Expr) → ((is_passable uses e && covers_expr uses e) || (covers_array uses e || covers_place uses e)) ≡ true → IsPassed uses e
+passed_by uses e h = by (either_true (is_passable uses e && covers_expr uses e) (covers_array uses e || covers_place uses e) h)
+  where
+    by : ((is_passable uses e && covers_expr uses e) ≡ true) ⊎ ((covers_array uses e || covers_place uses e) ≡ true) → IsPassed uses e
+    by (inl a) = inl a
+    by (inr b) = inr (either_true (covers_array uses e) (covers_place uses e) b)
 
 scalar_of_passed : (uses : Uses) (e : Expr) → (is_passable uses e && covers_expr uses e) ≡ true → covers_expr uses e ≡ true
 scalar_of_passed uses e h = (both_true (is_passable uses e) (covers_expr uses e) h).1
@@ -107,26 +120,37 @@ scalar_of_passed uses e h = (both_true (is_passable uses e) (covers_expr uses e)
 used_by : (uses : Uses) (ty : Ty) (v : VarId) (qualified : Bool) → IsPassed uses (typed ty (variable v qualified)) → IsUsed uses v
 used_by uses ty v qualified (inl h) =
     inl (both_true (covers_type ty) (uses.scalar v) (scalar_of_passed uses (typed ty (variable v qualified)) h)).1
-used_by uses ty v qualified (inr h) = inr (inl (array_used uses ty v qualified h))
+used_by uses ty v qualified (inr (inl h)) = inr (inl (array_used uses ty v qualified h))
+used_by uses ty v qualified (inr (inr h)) = inr (inr (group_used uses ty v qualified h))
 
 -- it is no quiet parameter
 passed_exact : (U : Upgrade) (T : Scope) (uses : Uses) → AreReadable U T uses → (ty : Ty) (v : VarId) (qualified : Bool)
     → IsPassed uses (typed ty (variable v qualified)) → is_quiet U.program.declarations U.known v.0 ≡ false
 passed_exact U T uses readable ty v qualified (inl h) =
     readable.exact v (both_true (uses.exact v) (covers_expr uses (typed ty (variable v qualified))) h).0
-passed_exact U T uses readable ty v qualified (inr h) =
+passed_exact U T uses readable ty v qualified (inr (inl h)) =
     let used = array_used uses ty v qualified h in
     (readable.arrays v used.0 used.1).exact
+passed_exact U T uses readable ty v qualified (inr (inr h)) =
+    let used = group_used uses ty v qualified h in
+    (readable.groups v used.0 used.1).exact
 
 no_array : (uses : Uses) (e : Expr) → covers_array uses e ≡ true → is_variable e ≡ false → ⊥
 no_array uses (typed (types.array e rank) (variable v qualified)) h other = true≢false other
 no_array uses (typed (types.array e rank) _) h other = true≢false (sym h)
 no_array uses (typed _ t) h other = true≢false (sym h)
 
--- what is no variable is a scalar
-pub scalar_passed : (uses : Uses) (e : Expr) → IsPassed uses e → is_variable e ≡ false → covers_expr uses e ≡ true
-scalar_passed uses e (inl h) other = scalar_of_passed uses e h
-scalar_passed uses e (inr h) other = absurd (no_array uses e h other)
+-- no place is a conversion or an element
+no_place : (uses : Uses) (e : Expr) → covers_place uses e ≡ true → is_variable e ≡ false → (is_conversion e || is_item e) ≡ true → ⊥
+no_place uses (typed ty (variable v qualified)) h other is = true≢false other
+no_place uses (typed ty (field e k)) h other is = true≢false (sym is)
+no_place uses (typed ty _) h other is = true≢false (sym h)
+
+-- a conversion or an element is a scalar
+pub scalar_passed : (uses : Uses) (e : Expr) → IsPassed uses e → is_variable e ≡ false → (is_conversion e || is_item e) ≡ true → covers_expr uses e ≡ true
+scalar_passed uses e (inl h) other is = scalar_of_passed uses e h
+scalar_passed uses e (inr (inl h)) other is = absurd (no_array uses e h other)
+scalar_passed uses e (inr (inr h)) other is = absurd (no_place uses e h other is)
 
 -- ---- ranks
 
@@ -164,6 +188,19 @@ plain_ranked U K w q i _ _ ty p (inr e) (same_item x t d p' k j inside keeps m h
     plain_shape U q i t d ty
     (some_shape t (simple ty) (sym part ∙ (ap (λ z. part_shape z x) (ap inside_of e.1) ∙ ap (λ z. Some z) (ap element_in e.1)))) sh
 
+-- what has no array has no rank
+sound_ranked : (U : Upgrade) (q i : ℕ) (s : Shape) (d : shape.Shape) → SameShape U s d → IsSoundShape U s → HasParameterRank U q i d
+sound_ranked U q i _ _ (same_scalar t word is) c = tt
+sound_ranked U q i _ _ (same_class k home is) c = tt
+sound_ranked U q i _ _ (same_group t home member fs gs is fields) c = tt
+sound_ranked U q i _ _ (same_array x bounds d rank same) c = absurd c
+
+group_ranked : (U : Upgrade) (K : Pledge) (w : World) (q i : ℕ) (s : Shape) (a : Address) (b : net.Address) (p : Position) → IsSoundShape U s → a ≡ root s p
+    → Same U K w a b → HasParameterRank U q i (net.shape_at b)
+group_ranked U K w q i s _ _ p c e (same_root t d p' sh m r) =
+    sound_ranked U q i t d sh (subst (λ z. IsSoundShape U z) (sym (shape_of_root t s p' p e)) c)
+group_ranked U K w q i s _ _ p c e (same_item x t d p' k j inside keeps m has part sh) = absurd (no_root_item x s p' p j inside e)
+
 suited : (b t : Bool) → b ≡ true → (not b || t) ≡ true → t ≡ true
 suited true t e h = h
 suited false t e h = absurd (cc e)
@@ -176,7 +213,11 @@ parameter_ranked : (U : Upgrade) (K : Pledge) (w : World) (T : Scope) (uses : Us
 parameter_ranked U K w T uses readable q i ty v qualified (inl h) fits suits a b x =
     let r : IsReadable U v.0 = readable.scalars v (both_true (covers_type ty) (uses.scalar v) (scalar_of_passed uses (typed ty (variable v qualified)) h)).1 in
     plain_ranked U K w q i a b r.variable.ty x.position (scalar_stands U v.0 r a x.position x.stands) x.same
-parameter_ranked U K w T uses readable q i ty v qualified (inr h) fits suits a b x =
+parameter_ranked U K w T uses readable q i ty v qualified (inr (inr h)) fits suits a b x =
+    let used = group_used uses ty v qualified h in
+    let r : IsGroup U v.0 used.0 = readable.groups v used.0 used.1 in
+    group_ranked U K w q i (user_shapes U.program.declarations used.0) a b x.position r.fields (group_stands U v.0 used.0 r a x.position x.stands) x.same
+parameter_ranked U K w T uses readable q i ty v qualified (inr (inl h)) fits suits a b x =
     let used = array_used uses ty v qualified h in
     let stands = array_stands U v.0 used.0 (readable.arrays v used.0 used.1) a x.position x.stands in
     let there : ArrayThere U w (simple used.0) x.position b = array_there U K w (simple used.0) stands.0 x.position a b stands.1 x.same in
@@ -184,25 +225,6 @@ parameter_ranked U K w T uses readable q i ty v qualified (inr h) fits suits a b
     (x.ranked there.element there.rank (ap net.shape_at there.stands)
     ∙ fits (sound_array U v used.0 ty qualified (readable.arrays v used.0 used.1) (array_typed uses ty v qualified h))
     (suited (is_array_type ty) (takes_array U.program.declarations q i) (array_typed uses ty v qualified h) suits))
-
--- what has no array stands as it is declared
-pub sound_stands : (U : Upgrade) (s : Shape) (a : Address) (p : Position) → IsSoundShape U s → StandsAs s a p → a ≡ root s p
-sound_stands U (simple ty) a p c h = h
-sound_stands U (group t fs) a p c h = h
-sound_stands U (array e bounds) a p c h = absurd c
-sound_stands U endless a p c h = absurd c
-
--- where it stands
-stands_at : (U : Upgrade) (T : Scope) (uses : Uses) → AreReadable U T uses → (v : VarId) → IsUsed uses v → (a : Address) (p : Position)
-    → StandsAs (variable_shape U.program.declarations v.0) a p → (s : Shape) × (a ≡ root s p)
-stands_at U T uses readable v (inl h) a p stands =
-    let r : IsReadable U v.0 = readable.scalars v h in (simple r.variable.ty, scalar_stands U v.0 r a p stands)
-stands_at U T uses readable v (inr (inr h)) a p stands =
-    let r : IsGroup U v.0 h.0 = readable.groups v h.0 h.1 in
-    let c : IsSoundShape U (variable_shape U.program.declarations v.0) = subst (λ s. IsSoundShape U s) (sym (group_shape_is U v.0 h.0 r)) r.fields in
-    (variable_shape U.program.declarations v.0, sound_stands U (variable_shape U.program.declarations v.0) a p c stands)
-stands_at U T uses readable v (inr (inl h)) a p stands =
-    let r = array_stands U v.0 h.0 (readable.arrays v h.0 h.1) a p stands in (array (simple h.0) r.0, r.1)
 
 -- ---- the target
 

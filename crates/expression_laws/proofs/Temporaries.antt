@@ -18,7 +18,7 @@ use Rattle.net_run.specs.Names.{Scope, at_address, found_at}
 use Rattle.net_run.specs.Shapes as shape
 use Rattle.net_run.specs.Store as net
 use Rattle.net_run.specs.Values as net_value
-use Rattle.written_trees.specs.Arguments.{argument_exp, copy_by, has_address, in_parentheses, is_conversion, is_copied, kept, temporary_exp}
+use Rattle.written_trees.specs.Arguments.{argument_exp, copy_by, has_address, in_parentheses, is_conversion, kept, needs_copy, temporary_exp}
 use Rattle.written_trees.specs.Exprs.{exp_of}
 use Rattle.written_trees.specs.Names as written_names
 use Rattle.run_matches.specs.CoveredVariables.{covers_type}
@@ -26,7 +26,7 @@ use Rattle.run_matches.specs.Pledges.{NetGiven}
 use Rattle.agreeing_laws.specs.Promises.{Yields}
 use Rattle.row_laws.proofs.Composing.{then_assoc, then_gives}
 use Rattle.run_statements.specs.Frames.{passing_by}
-use Rattle.expression_laws.proofs.Calls.{argument_is, given_is, no_copy}
+use Rattle.expression_laws.proofs.Calls.{argument_is, given_is}
 use Rattle.expression_laws.proofs.Handled.{Handed, Handles, IsHandled, handled, handled_given, handled_place, paren_handled}
 use Rattle.expression_laws.proofs.NoPlaces.{NoPlace, yields_then}
 
@@ -84,7 +84,7 @@ module _ (S : Scope) (oracle : Jobs) where
         value = in_value (target.address_of S oracle e w);
       }
 
-  module _ (T : written_names.Scope) (e : Expr) (covers : covers_type (type_at e) ≡ true) (w : net.Memory)
+  module _ (T : written_names.Scope) (e : Expr) (uncopied : needs_copy T.facts e ≡ false) (w : net.Memory)
       (handles : has_address T.declarations (kept e) ≡ false → Handles S (exp_of T e)) where
     by_test : (b : Bool) → (b ≡ false → Handles S (exp_of T e)) → Taken (in_parentheses b (exp_of T e)) (exp_of T e) w
     by_test true h = in_parens (exp_of T e) w
@@ -94,7 +94,7 @@ module _ (S : Scope) (oracle : Jobs) where
     pub temporary_taken : Taken (temporary_exp T e (exp_of T e)) (exp_of T e) w
     temporary_taken =
         subst (λ b. Taken (cond b (copy_by (type_at e) (exp_of T e)) (in_parentheses (has_address T.declarations (kept e)) (exp_of T e))) (exp_of T e) w)
-        (sym (no_copy T.facts (type_at e) (is_copied e) covers)) (by_test (has_address T.declarations (kept e)) handles)
+        (sym uncopied) (by_test (has_address T.declarations (kept e)) handles)
 
 -- ---- conversions that are given by reference
 
@@ -118,7 +118,7 @@ conversion_given C quiet (typed ty _) w covers h = absurd (true≢false (sym h))
 
 -- ---- arguments
 
-module _ (S : Scope) (oracle : Jobs) (T : written_names.Scope) (e : Expr) (covers : covers_type (type_at e) ≡ true) (w : net.Memory)
+module _ (S : Scope) (oracle : Jobs) (T : written_names.Scope) (e : Expr) (uncopied : needs_copy T.facts e ≡ false) (w : net.Memory)
     (handles : has_address T.declarations (kept e) ≡ false → Handles S (exp_of T e)) where
   abbrev Goes : NetPassing → bound.Argument → Bool → Type 0
   Goes mode a referred =
@@ -128,15 +128,16 @@ module _ (S : Scope) (oracle : Jobs) (T : written_names.Scope) (e : Expr) (cover
   pub value_goes : (b : Bool) (mode : NetPassing) (referred : Bool) → mode ≡ passing_by b → referred ≡ b → Goes mode (bound.by_value e) referred
   value_goes true mode referred m r =
       subst (λ z. Goes z (bound.by_value e) referred) (sym m)
-      (subst (λ z. Goes passing.Reference (bound.by_value e) z) (sym r) (temporary_taken S oracle T e covers w handles))
+      (subst (λ z. Goes passing.Reference (bound.by_value e) z) (sym r) (temporary_taken S oracle T e uncopied w handles))
   value_goes false mode referred m r =
       value_taken (target.given S oracle mode (target.reach S oracle false (argument_exp T referred (bound.by_value e) (exp_of T e)) w))
       (target.value_of S oracle (exp_of T e) w)
-      (ap (λ z. target.given S oracle mode (target.reach S oracle false z w)) (argument_is T referred e r covers) ∙ given_is S oracle mode (exp_of T e) w m)
+      (ap (λ z. target.given S oracle mode (target.reach S oracle false z w)) (argument_is T referred e r uncopied) ∙ given_is S oracle mode (exp_of T e) w m)
 
   -- and so does a conversion that is given by reference
-  pub conversion_goes : (mode : NetPassing) (referred : Bool) → mode ≡ passing.Reference → is_conversion e ≡ true → Goes mode (by_reference e) referred
-  conversion_goes mode referred m is =
+  pub conversion_goes : (mode : NetPassing) (referred : Bool) → covers_type (type_at e) ≡ true → mode ≡ passing.Reference → is_conversion e ≡ true
+      → Goes mode (by_reference e) referred
+  conversion_goes mode referred covers m is =
       subst (λ z. Goes z (by_reference e) referred) (sym m)
       (subst (λ z. IsTaken (target.given S oracle passing.Reference (target.reach S oracle false z w)) (target.value_of S oracle (exp_of T e) w))
-      (sym (conversion_written T referred e (exp_of T e) covers is)) (temporary_taken S oracle T e covers w handles))
+      (sym (conversion_written T referred e (exp_of T e) covers is)) (temporary_taken S oracle T e uncopied w handles))

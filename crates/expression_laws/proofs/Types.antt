@@ -2,12 +2,14 @@
 use Rattle.std.proofs.Common.{◌≡◌, ◌⊎◌, inl, inr, ℕ, ℤ, Bool, true, false, ◌&&◌, ◌||◌, List, refl}
 use Rattle.vb_tree.specs.BoundTree as types
 use Rattle.vb_tree.specs.BoundTree.{Ty}
-use Rattle.bound_tree.specs.Tree.{Declarations}
+use Rattle.bound_tree.specs.Tree.{Declarations, Expr, typed}
 use Rattle.bound_facts.specs.Locks.{is_same_type}
+use Rattle.bound_facts.specs.Node.{type_at}
 use Rattle.net_meaning.specs.SameValues.{is_typed}
 use Rattle.vb6_run.specs.Expressions.{type_shape}
 use Rattle.vb6_run.specs.Shapes.{Shape, simple, shape_by}
 use Rattle.run_matches.specs.CoveredVariables.{covers_type}
+use Rattle.run_matches.specs.CoveredExprs.{Uses, covers_expr, covers_term}
 
 pub both_true : (a b : Bool) → (a && b) ≡ true → (a ≡ true) × (b ≡ true)
 both_true true b h = (refl, h)
@@ -131,3 +133,6 @@ simple_type users bounds types.long c = refl
 simple_type users bounds types.currency c = refl
 simple_type users bounds types.str c = refl
 simple_type users bounds _ c = absurd (cc c)
+
+pub covered_type : (uses : Uses) (e : Expr) → covers_expr uses e ≡ true → covers_type (type_at e) ≡ true
+covered_type uses (typed ty t) h = (both_true (covers_type ty) (covers_term uses t) h).0

@@ -9,7 +9,6 @@ use Rattle.std.specs.Prelude.{slice_get, option_and_then}
 use Rattle.vb_tree.specs.BoundTree as types
 use Rattle.vb_tree.specs.BoundTree.{Ty}
 use Rattle.vb_tree.specs.declared.declared.VarId.{VarId}
-use Rattle.vb_tree.specs.declared.value.Value6.{Value6}
 use Rattle.bound_tree.specs.Tree.{Variable, typed, variable}
 use Rattle.bound_facts.specs.Facts.{is_quiet}
 use Rattle.bound_facts.specs.Locks.{is_same_type}
@@ -24,7 +23,7 @@ use Rattle.vb6_run.specs.Runnables.{variable_address}
 use Rattle.vb6_run.specs.Shapes.{Shape, simple, group, array, endless}
 use Rattle.vb6_run.specs.Store as store
 use Rattle.vb6_run.specs.Store.{Held, blank, table, parts, Address, root, Does, SourceCalls, SourceFrame, provided, value_if, single_in, array_in, fields_from, all_gathered, item, item_in}
-use Rattle.vb6_run.specs.Values.{Value, scalar, fields, elements, Values, Dimension, is_of_shape, is_typed, part_in, value_at}
+use Rattle.vb6_run.specs.Values.{Value, scalar, fields, elements, Values, Dimension, is_of_shape, part_in, value_at}
 use Rattle.net_run.specs.Expressions as target
 use Rattle.net_run.specs.Lines.{NetFrame, NetLine, scope_of}
 use Rattle.net_run.specs.Making.{Jobs}
@@ -49,7 +48,7 @@ use Rattle.run_statements.specs.Frames.{IsReadable, ScalarMatch, context_of, Are
 use Rattle.agreeing_laws.proofs.Agreeing.{agrees_outside, left_alone}
 use Rattle.agreeing_laws.proofs.Lasting.{later_now}
 use Rattle.expression_laws.specs.Images.{HasImage, HaveImages}
-use Rattle.expression_laws.proofs.Types.{both_true, same_as, same_of, covered_shape}
+use Rattle.expression_laws.proofs.Types.{both_true, covered_shape}
 use Rattle.expression_laws.proofs.Checks.{value_checked}
 
 -- ---- addresses of other shapes
@@ -171,7 +170,7 @@ module _ (U : Upgrade) (K : Pledge) where
       part_is None = refl
       part_is (Some x) = refl
 
-  same_agrees : (C : Context) (ty : Ty) (a : Address) (b : net.Address) (w : World) → IsWhole a ⊎ IsElement a → covers_type ty ≡ true → MemoryMatch U w
+  pub same_agrees : (C : Context) (ty : Ty) (a : Address) (b : net.Address) (w : World) → IsWhole a ⊎ IsElement a → covers_type ty ≡ true → MemoryMatch U w
       → Same U K w a b → Agrees U K w (ScalarMatch U ty) (then (after [] (store.read a w.src)) (Checked C ty)) (target.read b w.net)
   same_agrees C ty _ _ w whole covers start (same_root s d q sh m r) =
       read_agrees C ty s q d w covers start sh (matched_whole U w s q m)

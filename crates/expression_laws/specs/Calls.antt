@@ -1,21 +1,19 @@
 -- What a call needs of the frames in which it stands, what its arguments are, and what it gives.
 use Rattle.std.specs.Prelude.{◌≡◌, ℕ, suc, Option, option_map, List, [], ◌∷◌}
-use Rattle.vb_tree.specs.BoundTree.{Ty}
-use Rattle.vb_tree.specs.declared.value.Value6.{Value6}
 use Rattle.run_base.specs.Frames.{by_address, by_value}
 use Rattle.vb6_run.specs.Expressions.{Parts, result_parts}
 use Rattle.vb6_run.specs.Store.{Address, SourceFrame, SourceGiven}
-use Rattle.vb6_run.specs.Values.{Value, scalar}
+use Rattle.vb6_run.specs.Values.{Value}
 use Rattle.net_run.specs.Calls.{result_address}
 use Rattle.net_run.specs.Lines.{NetFrame}
 use Rattle.net_run.specs.Shapes as shape
 use Rattle.net_run.specs.Store as net
 use Rattle.net_run.specs.Values as net_value
-use Rattle.run_matches.specs.Addresses.{AllLocked, HasParameterRank, IsPlain, IsTarget, Same, GivesWhole}
+use Rattle.run_matches.specs.Addresses.{AllLocked, HasParameterRank, IsGivable, IsPlain, IsTarget, Same, GivesWhole}
 use Rattle.run_matches.specs.Agreeing.{ResultMatch}
 use Rattle.run_matches.specs.Likeness.{LikeV}
 use Rattle.run_matches.specs.Maps.{World}
-use Rattle.run_matches.specs.Pledges.{NetGiven, Pledge}
+use Rattle.run_matches.specs.Pledges.{NetGiven, Pledge, arrays_in}
 use Rattle.run_matches.specs.Runs.{IsObject}
 use Rattle.run_matches.specs.Upgrades.{Upgrade}
 
@@ -25,11 +23,11 @@ pub record Stands (U : Upgrade) (K : Pledge) (w : World) (f : SourceFrame) (g : 
   pub object : IsObject w f.me
   pub locks : AllLocked U K w f.env
 
--- scalars that are given by value, and variables by reference, to a procedure from a place of its parameters on
+-- values without arrays that are given by value, and variables by reference, to a procedure from a place of its parameters on
 pub data ArgumentsMatch (U : Upgrade) (K : Pledge) (q : ℕ) : (place : ℕ) → World → List SourceGiven → List NetGiven → Type 0 where
   no_arguments : (i : ℕ) (w : World) → ArgumentsMatch U K q i w [] []
-  next_value : (i : ℕ) (w : World) (ty : Ty) (z : Value6) (y : net_value.Value) (xs : List SourceGiven) (ys : List NetGiven) → LikeV U w (scalar ty z) y
-      → ArgumentsMatch U K q (suc i) w xs ys → ArgumentsMatch U K q i w (by_value (scalar ty z) ∷ xs) (by_value y ∷ ys)
+  next_value : (i : ℕ) (w : World) (x : Value) (y : net_value.Value) (xs : List SourceGiven) (ys : List NetGiven) → LikeV U w x y → IsGivable U q i x
+      → arrays_in y ≡ [] → ArgumentsMatch U K q (suc i) w xs ys → ArgumentsMatch U K q i w (by_value x ∷ xs) (by_value y ∷ ys)
   next_address : (i : ℕ) (w : World) (a : Address) (b : net.Address) (xs : List SourceGiven) (ys : List NetGiven) → Same U K w a b → IsTarget U a
       → GivesWhole U q i a → IsPlain U w a → HasParameterRank U q i (net.shape_at b) → ArgumentsMatch U K q (suc i) w xs ys → ArgumentsMatch U K q i w (by_address a ∷ xs) (by_address b ∷ ys)
 

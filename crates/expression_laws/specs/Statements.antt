@@ -1,27 +1,21 @@
 -- The statements: expressions that are covered and well formed do the same as what is written for them.
 use Rattle.std.specs.Prelude.{◌≡◌, ℕ, true, false, []}
-use Rattle.vb_tree.specs.BoundTree.{Ty, array}
+use Rattle.vb_tree.specs.BoundTree.{Ty, array, user}
 use Rattle.bound_tree.specs.Tree.{Expr, typed, element, Exprs, Term}
 use Rattle.bound_facts.specs.Node.{type_at}
 use Rattle.run_base.specs.Outcomes.{gives, then}
-use Rattle.run_base.specs.Positions.{Position}
 use Rattle.vb6_run.specs.Expressions as source
 use Rattle.vb6_run.specs.Expressions.{lows_at}
 use Rattle.vb6_run.specs.Forms.{SourceLine}
-use Rattle.vb6_run.specs.Shapes.{simple}
-use Rattle.vb6_run.specs.Store as store
-use Rattle.vb6_run.specs.Store.{Address, root, SourceCalls, SourceFrame}
+use Rattle.vb6_run.specs.Store.{SourceCalls, SourceFrame}
 use Rattle.net_run.specs.Expressions as target
 use Rattle.net_run.specs.Lines.{NetFrame, NetLine, scope_of}
 use Rattle.net_run.specs.Making.{Jobs}
 use Rattle.net_run.specs.Members.{Code}
-use Rattle.net_run.specs.Store as net
 use Rattle.written_trees.specs.Exprs.{exp_of}
 use Rattle.written_trees.specs.Names.{Scope}
-use Rattle.run_matches.specs.Addresses.{Same}
 use Rattle.run_matches.specs.Agreeing.{Agrees}
-use Rattle.run_matches.specs.CoveredVariables.{covers_type}
-use Rattle.run_matches.specs.CoveredExprs.{Uses, covers_array, covers_expr, covers_exprs}
+use Rattle.run_matches.specs.CoveredExprs.{Uses, covers_array, covers_expr, covers_exprs, covers_place}
 use Rattle.run_matches.specs.Frames.{FrameMatch}
 use Rattle.run_matches.specs.Maps.{World}
 use Rattle.run_matches.specs.Match.{MemoryMatch}
@@ -29,18 +23,13 @@ use Rattle.run_matches.specs.Pledges.{Pledge}
 use Rattle.run_matches.specs.Upgrades.{Upgrade}
 use Rattle.run_statements.specs.Elements.{IndexedMatch}
 use Rattle.run_statements.specs.Fitting.{rank_of}
+use Rattle.run_statements.specs.Groups.{PlaceMatch}
 use Rattle.run_statements.specs.Frames.{ArrayMatch, ElementMatch, ScalarMatch, PlainMatch, IsOpen, context_of, ArePlaced, AreReadable, AllCalled, demands}
 use Rattle.run_matches.specs.Runs.{CallsAgree}
 use Rattle.run_statements.specs.Written.{Passes}
 use Rattle.run_matches.specs.Formed.{is_formed}
 
 -- ---- under one pledge
-
--- what is read of a scalar variable of a covered type, and of its image
-abbrev pub VariablesAreReadBy : Upgrade → Pledge → Type 0
-VariablesAreReadBy U K =
-    (w : World) (ty : Ty) (a : Address) (b : net.Address) → covers_type ty ≡ true → MemoryMatch U w → Same U K w a b
-    → ((q : Position) × (a ≡ root (simple ty) q)) → Agrees U K w (ScalarMatch U ty) (store.read a w.src) (target.read b w.net)
 
 -- the values of expressions that are covered and well formed
 abbrev pub FormedExpressionsAgreeBy : Upgrade → Pledge → Type 0
@@ -99,10 +88,17 @@ ArraysAgreeBy U K =
     (source.address_of (context_of U oracle p f l) (typed (array d rank) t) w.src)
     (target.address_of (scope_of U.written c g k) net_oracle (exp_of T (typed (array d rank) t)) w.net)
 
--- ---- under any pledge
+-- the address of a covered place of a user type
+abbrev pub PlacesAgreeBy : Upgrade → Pledge → Type 0
+PlacesAgreeBy U K =
+    (w : World) (p : ℕ) (f : SourceFrame) (g : NetFrame) (oracle : SourceCalls) (net_oracle : Jobs) (l : SourceLine) (k : NetLine) (c : Code)
+    (T : Scope) (uses : Uses) (t : ℕ) (tm : Term) → MemoryMatch U w → FrameMatch U K w p f g → T.declarations ≡ U.program.declarations
+    → AreReadable U T uses → ArePlaced U p f (scope_of U.written c g k) T uses → covers_place uses (typed (user t) tm) ≡ true
+    → Agrees U K w (PlaceMatch U K t)
+    (source.address_of (context_of U oracle p f l) (typed (user t) tm) w.src)
+    (target.address_of (scope_of U.written c g k) net_oracle (exp_of T (typed (user t) tm)) w.net)
 
-abbrev pub VariablesAreRead : Upgrade → Type 1
-VariablesAreRead U = (K : Pledge) → VariablesAreReadBy U K
+-- ---- under any pledge
 
 abbrev pub FormedScalarsAgree : Upgrade → Type 1
 FormedScalarsAgree U = (K : Pledge) → FormedScalarsAgreeBy U K

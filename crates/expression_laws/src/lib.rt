@@ -3,4 +3,6 @@
 
 mod laws;
 
-pub use laws::{arrays_agree, elements_agree, expressions_agree, indexes_agree, scalars_agree};
+pub use laws::{
+    arrays_agree, elements_agree, expressions_agree, indexes_agree, places_agree, scalars_agree,
+};

@@ -13,28 +13,25 @@ use Rattle.run_matches.specs.Pledges.{Pledge, Later}
 use Rattle.run_matches.specs.Addresses.{KeptMatch}
 use Rattle.run_matches.specs.Frames.{FrameMatch, OwnsAll}
 use Rattle.agreeing_laws.proofs.Lasting.{later_now, later_then}
-use Rattle.line_laws.specs.Lasting.{SteadyFrame, SteadyNext}
+use Rattle.line_laws.specs.Lasting.{GoOnMatching, SteadyNext}
 use Rattle.line_laws.proofs.Bounds.{kept_later}
 use Rattle.line_laws.proofs.FrameLater.{frame_keeping, frame_placed, heads_keeping, IsNoAddress, KeptHere, placed}
 
-module _ (U : Upgrade) (K : Pledge) (p : ℕ) (f : SourceFrame) (g : NetFrame) (w : World) (h : MemoryMatch U w) (F : SteadyFrame U K w p f g) where
-  pub steady_later : (w1 : World) → Later U K w w1 → SteadyFrame U K w1 p f g
-  steady_later w1 l = record { match = λ w2 m. F.match w2 (later_then U K w w1 w2 h l m); shapes = F.shapes }
+module _ (U : Upgrade) (K : Pledge) (p : ℕ) (f : SourceFrame) (g : NetFrame) (w : World) (h : MemoryMatch U w) (F : GoOnMatching U K p f g w) where
+  pub steady_later : (w1 : World) → Later U K w w1 → GoOnMatching U K p f g w1
+  steady_later w1 l w2 m = F w2 (later_then U K w w1 w2 h l m)
 
   module _ (owns : OwnsAll U K p f) (w1 : World) (l : Later U K w w1) where
     abbrev at : (w2 : World) → Later U K w1 w2 → FrameMatch U K w2 p f g
-    at w2 m = F.match w2 (later_then U K w w1 w2 h l m)
+    at w2 m = F w2 (later_then U K w w1 w2 h l m)
 
     -- at a line where control goes on
     pub next_at : (n m : ℕ) → m ≡ n → SteadyNext U K p f.me w1 (to_line n f) (to_line m g)
     next_at n m e = record {
       same_object = refl;
-      frames = record {
-        match = λ w2 x.
-            frame_placed U K w2 p f g n m f.handler g.handler f.active g.active f.resume g.resume e (at w2 x).handler (at w2 x).active (at w2 x).resume
-            (at w2 x);
-        shapes = F.shapes;
-      };
+      frames = λ w2 x.
+          frame_placed U K w2 p f g n m f.handler g.handler f.active g.active f.resume g.resume e (at w2 x).handler (at w2 x).active (at w2 x).resume
+          (at w2 x);
       owns = record { variables = owns.variables; heads = owns.heads };
     }
 
@@ -42,10 +39,7 @@ module _ (U : Upgrade) (K : Pledge) (p : ℕ) (f : SourceFrame) (g : NetFrame) (
     pub placed_at : (n m : ℕ) (i j : Handler) (t u : Bool) → m ≡ n → j ≡ i → u ≡ t → SteadyNext U K p f.me w1 (placed n i t f.resume f) (placed m j u g.resume g)
     placed_at n m i j t u e d c = record {
       same_object = refl;
-      frames = record {
-        match = λ w2 x. frame_placed U K w2 p f g n m i j t u f.resume g.resume e d c (at w2 x).resume (at w2 x);
-        shapes = F.shapes;
-      };
+      frames = λ w2 x. frame_placed U K w2 p f g n m i j t u f.resume g.resume e d c (at w2 x).resume (at w2 x);
       owns = record { variables = owns.variables; heads = owns.heads };
     }
 
@@ -54,11 +48,8 @@ module _ (U : Upgrade) (K : Pledge) (p : ℕ) (f : SourceFrame) (g : NetFrame) (
         → ((exact : Bool) → KeptMatch U K w1 exact x y) → (n m : ℕ) → m ≡ n → SteadyNext U K p f.me w1 (keeping x n f) (keeping y m g)
     keeping_at x y no_address here kept n m e = record {
       same_object = refl;
-      frames = record {
-        match = λ w2 later.
-            frame_keeping U K w2 p f g x y (λ exact. kept_later U K w1 w2 l.match later exact x y (kept exact)) no_address here (at w2 later) n m e;
-        shapes = F.shapes;
-      };
+      frames = λ w2 later.
+          frame_keeping U K w2 p f g x y (λ exact. kept_later U K w1 w2 l.match later exact x y (kept exact)) no_address here (at w2 later) n m e;
       owns = heads_keeping U K w1 p f g x y kept no_address here (at w1 (later_now U K w1 l.match)) n owns;
     }
 
@@ -66,9 +57,6 @@ module _ (U : Upgrade) (K : Pledge) (p : ℕ) (f : SourceFrame) (g : NetFrame) (
     pub handler_at : (n : ℕ) → SteadyNext U K p f.me w1 (at_handler n f) (at_handler n g)
     handler_at n = record {
       same_object = refl;
-      frames = record {
-        match = λ w2 x. frame_placed U K w2 p f g n n f.handler g.handler true true f.line g.line refl (at w2 x).handler refl (at w2 x).line (at w2 x);
-        shapes = F.shapes;
-      };
+      frames = λ w2 x. frame_placed U K w2 p f g n n f.handler g.handler true true f.line g.line refl (at w2 x).handler refl (at w2 x).line (at w2 x);
       owns = record { variables = owns.variables; heads = owns.heads };
     }

@@ -119,7 +119,7 @@ module _ (U : Upgrade) (expressions : ExpressionsAgree U) (elements : ElementsAg
   known = (readable.arrays variable.number variable.of variable.used).known
 
   place : IsPlaced U p f S T variable.number.0
-  place = placed.places variable.number (inr (variable.of, variable.used))
+  place = placed.places variable.number (inr (inl (variable.of, variable.used)))
 
   in_array : (s : Memory) → Yields (IsElementIn U f variable.number.0) (source.term_parts C ty (element a indexes) s)
   in_array s =
@@ -135,7 +135,7 @@ module _ (U : Upgrade) (expressions : ExpressionsAgree U) (elements : ElementsAg
       let d : source_shape.Shape = source_shape.array (simple ty) y.0.bounds in (
         (y.0, λ steady. own_element U K p f owns variable.number.0 known (inward steady variable) x u.src y.1 y.0.position d y.0.indexes y.0.stands),
         subst (λ b. IsPlain U u b) (element_array y.1.0 x y.0.position d y.0.indexes y.1.2 y.0.stands)
-            (known_plain U K u p f g (G u later) S T variable.number.0 known place y.1.0 y.1.1) y.0.position refl,
+            (known_plain U K u p f g k c T declared (G u later) variable.number.0 known place y.1.0 y.1.1) y.0.position refl,
       ))
       (agrees_yields U K w (ElementMatch U ty) (IsElementIn U f variable.number.0) (source.term_parts C ty (element a indexes) w.src)
       (reach S net_oracle false (exp_of T to) w.net) (in_array w.src)
@@ -370,7 +370,7 @@ module _ (U : Upgrade) (expressions : ExpressionsAgree U) (elements : ElementsAg
         let two = both_true (are_longs (types_of indexes)) (are_formed indexes) well.1 in
         let zs = indexes_known U expressions K p f g l k c T declared oracle net_oracle is_open uses readable placed agree w h F indexes calm can.1 all_indexes
         (longs_are (types_of indexes) two.0) two.1 in
-        let b = known_there U K w p f g F S T variable.number.0 known place in
+        let b = known_there U K w p f g k c T declared F variable.number.0 known place in
         let address : (s : Memory) → source.address_of C a s ≡ gives [] b.0 s =
         λ s.
         subst (λ i. source.address_of C i s ≡ gives [] b.0 s) (sym variable.is)

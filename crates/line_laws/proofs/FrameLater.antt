@@ -22,6 +22,7 @@ use Rattle.run_matches.specs.CoveredLines.{covers_line}
 use Rattle.run_matches.specs.Frames.{SameVariable, SameStatic, HasNames, HasPlace, KeptBy, FrameMatch, OwnsAll, is_exact_head, lines_of}
 use Rattle.agreeing_laws.proofs.Made.{more, below_then, same_at}
 use Rattle.agreeing_laws.proofs.Moves.{all_matched_later, all_ranked_later, matched_whole, locks_later}
+use Rattle.agreeing_laws.proofs.OwnObjects.{own_object_later}
 use Rattle.line_laws.proofs.Bounds.{bound_made, bound_later, kept_later, plain_later}
 
 -- ---- later
@@ -75,6 +76,7 @@ module _ (U : Upgrade) (K : Pledge) where
     resume = F.resume;
     me = F.me ∙ sym (object_stays w0 w1 l.extends f.me F.me_made);
     me_made = λ o e. more o w0.src.next_object w1.src.next_object l.grows.objects (F.me_made o e);
+    own_object = own_object_later U K w0 w1 p f.me l F.own_object;
     names = F.names;
     vars = λ v a e s. variable_later w0 w1 h l v a g (F.vars v a e s);
     statics = λ v r e s. static_later U K w0 w1 l v r g (F.statics v r e s);
@@ -107,6 +109,7 @@ frame_placed U K w p f g n m h i t u r s a b c d F = record {
   resume = d;
   me = F.me;
   me_made = F.me_made;
+  own_object = F.own_object;
   names = names_placed (code_of U p) m i u s g F.names;
   vars = λ v a e s. let x = F.vars v a e s in record { address = x.address; found = x.found; bound = x.bound; ranked = x.ranked; plain = x.plain };
   statics = λ v r e s.
@@ -158,6 +161,7 @@ module _ (U : Upgrade) (K : Pledge) (w : World) (p : ℕ) (f : SourceFrame) (g :
     resume = F.resume;
     me = F.me;
     me_made = F.me_made;
+    own_object = F.own_object;
     names = names_kept (code_of U p) m F.names;
     vars = λ v a e s. let z = F.vars v a e s in record { address = z.address; found = z.found; bound = z.bound; ranked = z.ranked; plain = z.plain };
     statics = λ v r e s.

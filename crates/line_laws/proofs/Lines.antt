@@ -1,18 +1,16 @@
 -- Covered lines do the same as what is written for them.
-use Rattle.std.proofs.Common.{◌≡◌, ◌∙◌, refl, sym, ap, subst, ℕ, Bool, true, ◌&&◌, ◌||◌, Option, Some, List, [], ◌∷◌, ◌++◌, codes, true≢false, false, not, map}
+use Rattle.std.proofs.Common.{◌≡◌, ◌∙◌, refl, sym, ap, subst, ℕ, Bool, true, ◌&&◌, Option, Some, List, [], ◌∷◌, ◌++◌, codes, true≢false, false, not, map}
 use Rattle.std.specs.List.{list_all}
 use Rattle.std.proofs.lemmas.List.Elements.{Contains-push}
 use Rattle.vb_tree.specs.BoundTree.{Ty}
 use Rattle.vb_tree.specs.declared.declared.ProcId.{ProcId}
-use Rattle.vb_tree.specs.declared.declared.VarId.{VarId}
 use Rattle.vb_tree.specs.declared.form_parts.Label6.{Label6}
 use Rattle.vb_tree.specs.Tree.{Form}
 use Rattle.vb_tree.specs.Tree as source_form
 use Rattle.bound_tree.specs.Labels.{Label, labels}
-use Rattle.bound_tree.specs.Tree.{Expr, Line, typed, Term, constant, variable, field, element, call, library, unary, binary, convert, new_object, me, with_object, err_number, err_raise, err_clear, is_same, loose, no_object, of_object, Passed}
+use Rattle.bound_tree.specs.Tree.{Expr, Line, typed, constant, variable, field, element, call, library, unary, binary, convert, new_object, me, with_object, err_number, err_raise, err_clear, is_same, loose, no_object, of_object, Passed}
 use Rattle.bound_facts.proofs.Chains.{both_true}
 use Rattle.bound_facts.specs.Effects.{is_outside}
-use Rattle.bound_facts.specs.Locks.{is_same_type}
 use Rattle.bound_facts.specs.Node.{args_at, called, declared_at, root, type_at}
 use Rattle.bound_facts.specs.Parts.{resizes}
 use Rattle.net_tree.specs.Tree as net
@@ -25,7 +23,7 @@ use Rattle.written_trees.specs.Exprs.{exp_of, has_none, passed_of, reads_itself}
 use Rattle.written_trees.specs.Lines.{assign_line, first_exp, items_exp, jump, print_name, line_of, call_line, as_call, empty_extents, resized_array}
 use Rattle.written_trees.specs.Types.{element_type, written_type}
 use Rattle.written_trees.specs.Puts as written_puts
-use Rattle.written_trees.specs.Names.{Scope, variable_path, procedure_path}
+use Rattle.written_trees.specs.Names.{Scope, procedure_path}
 use Rattle.written_trees.specs.Arguments.{is_property}
 use Rattle.written_trees.specs.Exprs as written
 use Rattle.vb6_run.specs.Arrays.{erase}
@@ -51,16 +49,16 @@ use Rattle.run_matches.specs.Match.{MemoryMatch}
 use Rattle.run_matches.specs.Pledges.{Pledge, Later}
 use Rattle.run_matches.specs.Agreeing.{Agrees}
 use Rattle.run_matches.specs.Formed.{is_formed}
-use Rattle.run_matches.specs.CoveredVariables.{covers_type}
-use Rattle.run_matches.specs.CoveredExprs.{Uses, covers_array, covers_exprs, keeps_order, is_changeable_in, covers_expr, uses_in}
-use Rattle.run_matches.specs.CoveredLines.{is_ordered_in, covers_condition, covers_store, covers_form, covers_part, head_line, jump_of, resumes, covers_call, covers_called}
-use Rattle.run_matches.specs.Frames.{FrameMatch, KeptBy, NextMatch, OwnsAll, is_own_of, frame_pledge, lines_of}
+use Rattle.run_matches.specs.CoveredExprs.{Uses, uses_in}
+use Rattle.run_matches.specs.CoveredLines.{covers_condition, covers_store, covers_form, covers_part, head_line, jump_of, resumes, covers_call, covers_called}
+use Rattle.run_matches.specs.Frames.{FrameMatch, KeptBy, NextMatch, OwnsAll, frame_pledge, lines_of}
 use Rattle.run_matches.specs.Runs.{line_result, CallsAgree}
 use Rattle.run_matches.specs.Sites.{site_lines}
 use Rattle.run_statements.specs.Elements.{IndexesAgree}
 use Rattle.run_statements.specs.Memory.{ArraysAreErased, ArraysAreResized, ElementsAreWritten}
 use Rattle.run_statements.specs.Frames.{ArraysAgree, ElementsAgree, ExpressionsAgree, ScalarsAreRead, ScalarsAreWritten, IsOpen, AnyUnits, context_of, ArePlaced, AllCalled, AnyParts, CallsAreMade, CanCall, demands, AreReadable}
 use Rattle.run_statements.specs.Fitting.{FitsNode}
+use Rattle.run_statements.specs.Groups.{GroupsAreRead, GroupsAreWritten}
 use Rattle.run_statements.specs.Kept.{AllSameWays, LinesAgree}
 use Rattle.run_statements.specs.Written.{Passes, site_scope}
 use Rattle.agreeing_laws.specs.Beside.{with_steps}
@@ -68,7 +66,7 @@ use Rattle.agreeing_laws.proofs.Agreeing.{agrees_gives, agrees_weaker, then_agre
 use Rattle.agreeing_laws.proofs.Lasting.{later_now}
 use Rattle.agreeing_laws.proofs.Machines.{stepped_agrees, handled_agrees}
 use Rattle.row_laws.proofs.Composing.{then_gives}
-use Rattle.line_laws.specs.Lasting.{SteadyFrame, SteadyNext, SteadyLinesAgree}
+use Rattle.line_laws.specs.Lasting.{GoOnMatching, SteadyNext, SteadyLinesAgree}
 use Rattle.line_laws.proofs.Behind.{handler_at, keeping_at, next_at, placed_at, steady_later}
 use Rattle.line_laws.proofs.Bounds.{some_is}
 use Rattle.line_laws.proofs.Choices.{case_agrees, select_agrees}
@@ -85,9 +83,8 @@ use Rattle.line_laws.proofs.Prints.{AnyAddress, print_agrees}
 use Rattle.line_laws.proofs.Resizes.{MayStore, erase_agrees, redim_agrees}
 use Rattle.line_laws.proofs.Rounds.{next_agrees}
 use Rattle.line_laws.proofs.Unkept.{resizing_not_kept}
-use Rattle.line_laws.proofs.ElementLines.{element_stored, not_outside}
-use Rattle.line_laws.proofs.Stores.{assignment_agrees, line_is, same_type}
-use Rattle.line_laws.proofs.Uses.{all_good, good, good_parts, is_good}
+use Rattle.line_laws.proofs.Assignments.{stored}
+use Rattle.line_laws.proofs.Uses.{all_good, good}
 
 -- ---- forms
 
@@ -103,12 +100,12 @@ call_is U T declared ty q qualified args h =
     (ap (λ D. is_property D q.0) declared ∙ h)
 
 module _ (U : Upgrade) (expressions : ExpressionsAgree U) (calls : CallsAreMade U) (reads : ScalarsAreRead U) (scalars : ScalarsAreWritten U) (elements : ElementsAgree U) (indexed : IndexesAgree U)
-    (writes : ElementsAreWritten U) (arrays : ArraysAgree U) (resizing : ArraysAreResized U) (erasing : ArraysAreErased U) (K : Pledge) (p q : ℕ) (f : SourceFrame) (g : NetFrame) (l : SourceLine) (k : NetLine) (c : Code) (T : Scope)
+    (writes : ElementsAreWritten U) (reads_groups : GroupsAreRead U) (writes_groups : GroupsAreWritten U) (arrays : ArraysAgree U) (resizing : ArraysAreResized U) (erasing : ArraysAreErased U) (K : Pledge) (p q : ℕ) (f : SourceFrame) (g : NetFrame) (l : SourceLine) (k : NetLine) (c : Code) (T : Scope)
     (declared : T.declarations ≡ U.program.declarations) (oracle : SourceCalls) (net_oracle : Jobs)
     (is_open : IsOpen (scope_of U.written c g k)) (uses : Uses) (readable : AreReadable U T uses)
     (placed : ArePlaced U p f (scope_of U.written c g k) T uses) (agree : CallsAgree U (Passes U) oracle net_oracle)
     (R : World → SourceFrame → NetFrame → Type 0) (w : World) (h : MemoryMatch U w)
-    (F : SteadyFrame U K w p f g) (owns : OwnsAll U K p f) (aims : k.aims ≡ l.aims)
+    (F : GoOnMatching U K p f g w) (owns : OwnsAll U K p f) (aims : k.aims ≡ l.aims)
     (next : (n m : ℕ) → m ≡ n → (w1 : World) → Later U K w w1 → R w1 (to_line n f) (to_line m g)) (place : Places U K w R f g) where
   abbrev machine : NetMachine
   machine = target_program.frames_of U.written
@@ -154,11 +151,11 @@ module _ (U : Upgrade) (expressions : ExpressionsAgree U) (calls : CallsAreMade 
 
   -- both set a handler
   handles : (i : Handler) → Agrees U K w R (handles_by C i w.src) (handler_set g k i w.net)
-  handles i = handler_agrees U K R p q oracle f l g w h (F.match w (later_now U K w h)) place k aims i
+  handles i = handler_agrees U K R p q oracle f l g w h (F w (later_now U K w h)) place k aims i
 
   handles_at : (n m : Option ℕ) → m ≡ n
       → Agrees U K w R (some_of n (λ n w. handles_by C (at_line n) w) w.src) (some_of m (λ n w. handler_set g k (at_line n) w) w.net)
-  handles_at n m e = handler_at_agrees U K R p q oracle f l g w h (F.match w (later_now U K w h)) place k aims n m e
+  handles_at n m e = handler_at_agrees U K R p q oracle f l g w h (F w (later_now U K w h)) place k aims n m e
 
   -- a condition with the lines where it holds and where it doesn't
   tested : (m n : Option ℕ) (go : Bool → net_store.Memory → Outcome net_store.Memory NetFrame) → ((w1 : World) → Later U K w w1 → BothLead U K R C m n go w1)
@@ -166,7 +163,7 @@ module _ (U : Upgrade) (expressions : ExpressionsAgree U) (calls : CallsAreMade 
       → Agrees U K w R (source_lines.condition C m n es w.src) (then (condition S net_oracle (first_exp T es) w.net) go)
   tested m n go both [] can covers formed = absurd (true≢false (sym covers))
   tested m n go both (e ∷ []) can covers formed =
-      condition_agrees U expressions K p f g l k c T declared oracle net_oracle is_open uses readable placed agree R w h (F.match w (later_now U K w h)) m n go both e can.0
+      condition_agrees U expressions K p f g l k c T declared oracle net_oracle is_open uses readable placed agree R w h (F w (later_now U K w h)) m n go both e can.0
       (good uses e covers (both_true (is_formed e) true formed).0)
   tested m n go both (e ∷ d ∷ es) can covers formed = absurd (true≢false (sym covers))
 
@@ -174,49 +171,17 @@ module _ (U : Upgrade) (expressions : ExpressionsAgree U) (calls : CallsAreMade 
   abbrev IsOwnTarget : Expr → Type 0
   IsOwnTarget e = K.steady → is_outside U.program.declarations.vars p (root e) ≡ false
 
-  first_of_two : (b : Bool) → (b || false) ≡ true → b ≡ true
-  first_of_two true h = refl
-  first_of_two false h = h
-
-  -- to a variable
-  stored_variable : (ty : Ty) (v : VarId) (qualified : Bool) (e : Expr) → Can e → uses.exact v ≡ true → covers_expr uses (typed ty (variable v qualified)) ≡ true → is_good uses e ≡ true
-      → IsOwnTarget (typed ty (variable v qualified))
-      → Agrees U K w R (then (then (source.value_of C e w.src) (let_to C (typed ty (variable v qualified)))) (λ x s. goes_on C s))
-      (does (assign_line T (typed ty (variable v qualified) ∷ e ∷ [])))
-  stored_variable ty v qualified e can exact to_covers covers own =
-      let parts : (covers_type ty ≡ true) × (uses.scalar v ≡ true) = both_true (covers_type ty) (uses.scalar v) to_covers in
-      subst (λ x. Agrees U K w R (then (then (source.value_of C e w.src) (let_to C (typed ty (variable v qualified)))) (λ x s. goes_on C s)) (does x))
-      (sym (line_is U T declared ty v qualified (readable.scalars v parts.1) e parts.0))
-      (goes AnyUnits (then (source.value_of C e w.src) (let_to C (typed ty (variable v qualified))))
-      (assignment S net_oracle (net.path (variable_path T qualified v.0)) (exp_of T e) w.net)
-      (assignment_agrees U expressions scalars K p f g l k c T declared oracle net_oracle is_open uses readable placed agree F.shapes w h
-      (F.match w (later_now U K w h)) owns ty v qualified parts.1 (readable.exact v exact) (λ steady. not_outside (is_own_of U p v.0) (own steady)) e can covers))
-
-  stored : (ty : Ty) (t : Term) (e : Expr) → Can (typed ty t) → Can e → (is_changeable_in uses t || is_ordered_in uses ty t e) ≡ true → covers_expr uses (typed ty t) ≡ true
-      → is_formed (typed ty t) ≡ true → is_good uses e ≡ true → IsOwnTarget (typed ty t)
-      → Agrees U K w R (then (then (source.value_of C e w.src) (let_to C (typed ty t))) (λ x s. goes_on C s)) (does (assign_line T (typed ty t ∷ e ∷ [])))
-  stored ty (variable v qualified) e can_to can is to_covers to_formed covers own = stored_variable ty v qualified e can (first_of_two (uses.exact v) is) to_covers covers own
-  stored ty (element a indexes) e can_to can is to_covers to_formed covers own =
-      let both = both_true (is_same_type ty (type_at e)) (keeps_order uses indexes e) is in
-      let of_type = (both_true (covers_type ty) (covers_array uses a && covers_exprs uses indexes) to_covers).0 in
-      let good = good_parts uses e covers in
-      let stores : Outcome Memory Unit = then (source.value_of C e w.src) (let_to C (typed ty (element a indexes))) in
-      element_stored U expressions elements indexed writes K p f g l k c T declared oracle net_oracle is_open uses readable placed agree w h F.match owns ty a indexes e
-      can_to can to_covers to_formed good.0 good.1 own (same_type ty (type_at e) of_type both.0) (λ x. Agrees U K w R (then stores (λ x s. goes_on C s)) (does x))
-      (λ x. goes AnyUnits stores (assignment S net_oracle (exp_of T (typed ty (element a indexes))) (exp_of T e) w.net) x)
-      (λ name x.
-      goes AnyUnits stores
-      (then (target.address_of S net_oracle (support_call (codes "Put" ++ name) (two (exp_of T e) (exp_of T (typed ty (element a indexes))))) w.net) (λ a t. gives [] tt t)) x)
-      both.1
-  stored ty _ e can_to can is to_covers to_formed covers own = absurd (true≢false (sym is))
-
   assigned : (target value : Expr) → Can target → Can value → covers_store uses (target ∷ value ∷ []) ≡ true → is_formed target ≡ true → is_formed value ≡ true
       → IsOwnTarget target
       → Agrees U K w R (then (then (source.value_of C value w.src) (let_to C target)) (λ x s. goes_on C s)) (does (assign_line T (target ∷ value ∷ [])))
-  assigned (typed ty t) e can_to can covers to_formed formed own =
-      let first = both_true (is_changeable_in uses t || is_ordered_in uses ty t e) (covers_expr uses (typed ty t) && covers_expr uses e) covers in
-      let second : (covers_expr uses (typed ty t) ≡ true) × (covers_expr uses e ≡ true) = both_true (covers_expr uses (typed ty t)) (covers_expr uses e) first.1 in
-      stored ty t e can_to can first.0 second.0 to_formed (good uses e second.1 formed) own
+  assigned to e can_to can covers to_formed formed own =
+      let stores : Outcome Memory Unit = then (source.value_of C e w.src) (let_to C to) in
+      stored U expressions scalars elements indexed writes reads_groups writes_groups K p f g l k c T declared oracle net_oracle is_open uses readable placed
+      agree w h F owns (λ x. Agrees U K w R (then stores (λ x s. goes_on C s)) (does x)) to e can_to can covers to_formed formed own
+      (λ x. goes AnyUnits stores (assignment S net_oracle (exp_of T to) (exp_of T e) w.net) x)
+      (λ name x.
+      goes AnyUnits stores
+      (then (target.address_of S net_oracle (support_call (codes "Put" ++ name) (two (exp_of T e) (exp_of T to))) w.net) (λ a t. gives [] tt t)) x)
 
   -- a call whose value is let go of
   shown : (r : Outcome Memory source.Parts) (e : net.Exp) → AgreesAsCall U K w S net_oracle r e → Agrees U K w R (then r (λ x s. goes_on C s)) (does (as_call e))
@@ -237,19 +202,19 @@ module _ (U : Upgrade) (expressions : ExpressionsAgree U) (calls : CallsAreMade 
       (goes AnyDone r (then r' (λ a t. gives [] tt t))
       (subst (λ x. Agrees U K w AnyDone x (then r' (λ a t. gives [] tt t))) (then_gives r)
       (then_agrees U K w AnyParts AnyDone r r' (λ x s. gives [] x s) (λ a t. gives [] tt t) h
-      (calls K w p f g oracle net_oracle l k c T uses ty id qualified args h (F.match w (later_now U K w h)) declared is_open readable placed agree can covers formed)
+      (calls K w p f g oracle net_oracle l k c T uses ty id qualified args h (F w (later_now U K w h)) declared is_open readable placed agree can covers formed)
       (λ x a w1 m later. agrees_gives U K w1 AnyDone x tt later.match tt)))))
   called_line (typed ty (call id qualified (of_object d) args)) can covers formed = absurd (true≢false (sym covers))
   called_line (typed ty (library function args)) can covers formed =
       shown (source.parts_of C (typed ty (library function args)) w.src) (exp_of T (typed ty (library function args)))
-      (box_agrees U expressions K p f g l k c T declared oracle net_oracle is_open uses readable placed agree w h (F.match w (later_now U K w h)) ty
+      (box_agrees U expressions K p f g l k c T declared oracle net_oracle is_open uses readable placed agree w h (F w (later_now U K w h)) ty
       (library function args) can covers formed)
   called_line (typed ty (err_raise e)) can covers formed =
       shown (source.parts_of C (typed ty (err_raise e)) w.src) (exp_of T (typed ty (err_raise e)))
-      (raise_agrees U expressions K p f g l k c T declared oracle net_oracle is_open uses readable placed agree w h (F.match w (later_now U K w h)) ty e can covers formed)
+      (raise_agrees U expressions K p f g l k c T declared oracle net_oracle is_open uses readable placed agree w h (F w (later_now U K w h)) ty e can covers formed)
   called_line (typed ty err_clear) can covers formed =
       shown (source.parts_of C (typed ty err_clear) w.src) (exp_of T (typed ty err_clear))
-      (clear_agrees U expressions K p f g l k c T declared oracle net_oracle is_open uses readable placed agree w h (F.match w (later_now U K w h)) ty)
+      (clear_agrees U expressions K p f g l k c T declared oracle net_oracle is_open uses readable placed agree w h (F w (later_now U K w h)) ty)
   called_line (typed ty _) can covers formed = absurd (true≢false (sym covers))
 
   calls_agree : (es : List Expr) → AllIn Can es → covers_call uses es ≡ true → list_all is_formed es ≡ true
@@ -274,7 +239,7 @@ module _ (U : Upgrade) (expressions : ExpressionsAgree U) (calls : CallsAreMade 
       (then (target.address_of S net_oracle (support_call (print_name ended) (one (items_exp T es))) w.net) (λ a t. gives [] tt t))
       (put_agrees (then (items_text C es w.src) (print ended))
       (target.address_of S net_oracle (support_call (print_name ended) (one (items_exp T es))) w.net)
-      (print_agrees U expressions K p f g l k c T declared oracle net_oracle is_open uses readable placed agree w h F.match ended es can (all_good uses es covers formed)))
+      (print_agrees U expressions K p f g l k c T declared oracle net_oracle is_open uses readable placed agree w h F ended es can (all_good uses es covers formed)))
     where
       put_agrees : (r : Outcome Memory Unit) (r' : Outcome net_store.Memory net_store.Address) → Agrees U K w AnyAddress r r'
           → Agrees U K w AnyUnits r (then r' (λ a t. gives [] tt t))
@@ -292,11 +257,11 @@ module _ (U : Upgrade) (expressions : ExpressionsAgree U) (calls : CallsAreMade 
   form_agrees ls source_form.end_if es can covers formed found may keep stands ways = behind_now
   form_agrees ls (source_form.select e) [] can covers formed found may keep stands ways = absurd (true≢false (sym covers))
   form_agrees ls (source_form.select e) (x ∷ []) can covers formed found may keep stands ways =
-      select_agrees U expressions K p f g l k c T declared oracle net_oracle is_open uses readable placed agree R w h (F.match w (later_now U K w h)) e x can.0
+      select_agrees U expressions K p f g l k c T declared oracle net_oracle is_open uses readable placed agree R w h (F w (later_now U K w h)) e x can.0
       (good uses x covers (both_true (is_formed x) true formed).0) keep after_same
   form_agrees ls (source_form.select e) (x ∷ y ∷ es) can covers formed found may keep stands ways = absurd (true≢false (sym covers))
   form_agrees ls (source_form.case_line items) es can covers formed found may keep stands ways =
-      case_agrees U expressions K p f g l k c T declared oracle net_oracle is_open uses readable placed agree R w h F.match items es can covers formed aims
+      case_agrees U expressions K p f g l k c T declared oracle net_oracle is_open uses readable placed agree R w h F items es can covers formed aims
       (λ w1 x. (behind w1 x, otherwise w1 x)) stands
   form_agrees ls source_form.case_else es can covers formed found may keep stands ways = behind_now
   form_agrees ls source_form.end_select es can covers formed found may keep stands ways = behind_now
@@ -304,10 +269,10 @@ module _ (U : Upgrade) (expressions : ExpressionsAgree U) (calls : CallsAreMade 
   form_agrees ls (source_form.for_head head first last pace) (e ∷ []) can covers formed found may keep stands ways = absurd (true≢false (sym covers))
   form_agrees ls (source_form.for_head head first last pace) (e ∷ start ∷ []) can covers formed found may keep stands ways = absurd (true≢false (sym covers))
   form_agrees ls (source_form.for_head head first last pace) (e ∷ start ∷ limit ∷ steps) can covers formed found may keep stands ways =
-      for_agrees U expressions scalars K p f g l k c T declared oracle net_oracle is_open uses readable placed agree R w h F.match owns aims head first last pace e start
+      for_agrees U expressions scalars K p f g l k c T declared oracle net_oracle is_open uses readable placed agree R w h F owns aims head first last pace e start
       limit steps can.1 covers formed keep stands
   form_agrees ls (source_form.next name) es can covers formed found may keep stands ways =
-      next_agrees U reads scalars K p f g l k oracle R w h F.match owns aims (λ w1 x. (back w1 x, behind w1 x)) name es stands
+      next_agrees U reads scalars K p f g l k oracle R w h F owns aims (λ w1 x. (back w1 x, behind w1 x)) name es stands
   form_agrees ls source_form.do_head es can covers formed found may keep stands ways = behind_now
   form_agrees ls (source_form.do_while e) es can covers formed found may keep stands ways =
       tested (Some l.aims.after) l.aims.otherwise (if_holds g k) (λ w1 x. (behind w1 x, otherwise w1 x)) es can covers formed
@@ -329,24 +294,24 @@ module _ (U : Upgrade) (expressions : ExpressionsAgree U) (calls : CallsAreMade 
   form_agrees ls source_form.on_error_goto_zero es can covers formed found may keep stands ways = handles none
   form_agrees ls source_form.on_error_resume_next es can covers formed found may keep stands ways = handles next_line
   form_agrees ls source_form.resume es can covers formed found may keep stands ways =
-      resume_agrees U K R p q oracle f l g w h (F.match w (later_now U K w h)) place (ways refl)
+      resume_agrees U K R p q oracle f l g w h (F w (later_now U K w h)) place (ways refl)
   form_agrees ls source_form.resume_next es can covers formed found may keep stands ways =
-      resume_next_agrees U K R p q oracle f l g w h (F.match w (later_now U K w h)) place (ways refl)
+      resume_next_agrees U K R p q oracle f l g w h (F w (later_now U K w h)) place (ways refl)
   form_agrees ls (source_form.resume_at a) es can covers formed found may keep stands ways =
-      resume_at_agrees U K R p q oracle f l g w h (F.match w (later_now U K w h)) place (line_of_label C a) (target_lines.target_of c (jump ls a)) (found a refl)
+      resume_at_agrees U K R p q oracle f l g w h (F w (later_now U K w h)) place (line_of_label C a) (target_lines.target_of c (jump ls a)) (found a refl)
   form_agrees ls (source_form.exit kind) es can covers formed found may keep stands ways = exit_agrees U K R C g k aims w h next kind
   form_agrees ls (source_form.call callee) es can covers formed found may keep stands ways = calls_agree es can covers formed
   form_agrees ls (source_form.invoke callee args) es can covers formed found may keep stands ways = calls_agree es can covers formed
   form_agrees ls (source_form.redim preserve items) es can covers formed found may keep stands ways =
       goes AnyUnits (redim_does C preserve (resizes items es) w.src) (redim_all S net_oracle preserve (map (resized_array T) (resizes items es)) w.net)
-      (redim_agrees U expressions arrays resizing erasing K p f g l k c T declared oracle net_oracle is_open uses readable placed agree owns w h F.match preserve items
+      (redim_agrees U expressions arrays resizing erasing K p f g l k c T declared oracle net_oracle is_open uses readable placed agree owns w h F preserve items
       es can formed covers may.fits (λ e m. record { unkept = may.unkept e m; own = may.own e m }))
   form_agrees ls (source_form.erase target) [] can covers formed found may keep stands ways = absurd (true≢false (sym covers))
   form_agrees ls (source_form.erase target) (e ∷ []) can covers formed found may keep stands ways =
       goes AnyUnits (then (source.address_of C e w.src) (erase f.env))
       (assignment S net_oracle (exp_of T e)
       (net.new_array (written_type T (element_type (type_at e))) (empty_extents (written_puts.rank_of T.facts (declared_at T.declarations e)))) w.net)
-      (erase_agrees U expressions arrays resizing erasing K p f g l k c T declared oracle net_oracle is_open uses readable placed agree owns w h F.match e covers
+      (erase_agrees U expressions arrays resizing erasing K p f g l k c T declared oracle net_oracle is_open uses readable placed agree owns w h F e covers
       (record { unkept = may.unkept e (Contains-push [] e); own = may.own e (Contains-push [] e) }))
   form_agrees ls (source_form.erase target) (e ∷ d ∷ es) can covers formed found may keep stands ways = absurd (true≢false (sym covers))
   form_agrees ls _ es can covers formed found may keep stands ways = absurd (true≢false (sym covers))
@@ -376,10 +341,10 @@ node_has U K S T (typed ty (loose e rules)) can fits = tt
 
 -- A covered line does the same as what is written for it, in frames that go on to match.
 pub steady_lines_agree : (U : Upgrade) → ExpressionsAgree U → CallsAreMade U → ScalarsAreRead U → ScalarsAreWritten U → ElementsAgree U → IndexesAgree U → ElementsAreWritten U
-    → ArraysAgree U → ArraysAreResized U → ArraysAreErased U → SteadyLinesAgree U
-steady_lines_agree U expressions calls reads scalars elements indexed writes arrays resizing erasing p s written number turns l c L code opens readable placed own agree can fits remade covers stands w f g at h F given =
+    → GroupsAreRead U → GroupsAreWritten U → ArraysAgree U → ArraysAreResized U → ArraysAreErased U → SteadyLinesAgree U
+steady_lines_agree U expressions calls reads scalars elements indexed writes reads_groups writes_groups arrays resizing erasing p s written number turns l c L code opens readable placed own agree can fits remade covers stands w f g at h F given =
     let K : Pledge = frame_pledge U p w f in
-    let owns : OwnsAll U K p f = owns_now U p f K w w g (F.match w (later_now U K w h)) in
+    let owns : OwnsAll U K p f = owns_now U p f K w w g (F w (later_now U K w h)) in
     let R : World → SourceFrame → NetFrame → Type 0 = SteadyNext U K p f.me in
     let oracle : SourceCalls = go (source_program.machine_of (runnable_of U)) turns in
     let net_oracle : Jobs = go (target_program.machine_of U.written) turns in
@@ -394,8 +359,8 @@ steady_lines_agree U expressions calls reads scalars elements indexed writes arr
     h
     (λ j left later.
     let w1 : World = with_steps w j in
-    let F1 : SteadyFrame U K w1 p f g = steady_later U K p f g w h F w1 later in
-    let now : FrameMatch U K w1 p f g = F.match w1 later in
+    let F1 : GoOnMatching U K p f g w1 = steady_later U K p f g w h F w1 later in
+    let now : FrameMatch U K w1 p f g = F w1 later in
     let next : (n m : ℕ) → m ≡ n → (w2 : World) → Later U K w1 w2 → R w2 (to_line n f) (to_line m g) =
     λ n m e w2 more. next_at U K p f g w1 later.match F1 owns w2 more n m e in
     let keep : Keeps U K p f g R w1 l.form.source.form l.form.bindings.exprs =
@@ -411,7 +376,7 @@ steady_lines_agree U expressions calls reads scalars elements indexed writes arr
     (target_lines.line_in U.written (target_program.frames_of U.written) net_oracle written g L.line o w1.net)) (sym code)
     (subst (λ x. Agrees U K w1 R (source_program.line_does (runnable_of U) oracle p f l w1.src)
     (target_lines.form_does (target_program.frames_of U.written) net_oracle written c (scope_of U.written c g L.line) g L.line x w1.net)) (sym L.form)
-    (form_agrees U expressions calls reads scalars elements indexed writes arrays resizing erasing K p written f g l L.line c T refl oracle net_oracle (opens g L.line now.names)
+    (form_agrees U expressions calls reads scalars elements indexed writes reads_groups writes_groups arrays resizing erasing K p written f g l L.line c T refl oracle net_oracle (opens g L.line now.names)
     (uses_in U.program p l.form.bindings.mentions) readable (placed f g L.line now.names given) agree R w1 later.match F1 owns L.aims next
     (λ n m i j t u d e c w2 more. placed_at U K p f g w1 later.match F1 owns w2 more n m i j t u d e c)
     (labels (site_lines s)) l.form.source.form l.form.bindings.exprs
@@ -427,20 +392,17 @@ steady_lines_agree U expressions calls reads scalars elements indexed writes arr
 -- ---- all frames that match go on to match
 
 steady_now : (U : Upgrade) (K : Pledge) (w : World) (p : ℕ) (f : SourceFrame) (g : NetFrame) → MemoryMatch U w → FrameMatch U K w p f g
-    → SteadyFrame U K w p f g
-steady_now U K w p f g h F = record {
-  match = λ w1 l. frame_later U K w w1 p f g h l F;
-  shapes = λ v a e o. let x = F.own v a e o in record { place = x.place; stands = x.stands };
-}
+    → GoOnMatching U K p f g w
+steady_now U K w p f g h F w1 l = frame_later U K w w1 p f g h l F
 
 pub lines_agree : (U : Upgrade) → ExpressionsAgree U → CallsAreMade U → ScalarsAreRead U → ScalarsAreWritten U → ElementsAgree U → IndexesAgree U → ElementsAreWritten U
-    → ArraysAgree U → ArraysAreResized U → ArraysAreErased U → LinesAgree U
-lines_agree U expressions calls reads scalars elements indexed writes arrays resizing erasing p s written number turns l c L code opens readable placed own agree can fits remade covers stands w f g at h F given =
+    → GroupsAreRead U → GroupsAreWritten U → ArraysAgree U → ArraysAreResized U → ArraysAreErased U → LinesAgree U
+lines_agree U expressions calls reads scalars elements indexed writes reads_groups writes_groups arrays resizing erasing p s written number turns l c L code opens readable placed own agree can fits remade covers stands w f g at h F given =
     let K : Pledge = frame_pledge U p w f in
     agrees_weaker U K w (SteadyNext U K p f.me) (NextMatch U K p f.me)
     (line_result (source_program.machine_of (runnable_of U)) turns p f l w.src)
     (line_result (target_program.machine_of U.written) turns written g L.line w.net)
     (λ w1 f1 g1 later x.
-    record { same_object = x.same_object; frames = x.frames.match w1 (later_now U K w1 later.match); owns = x.owns })
-    (steady_lines_agree U expressions calls reads scalars elements indexed writes arrays resizing erasing p s written number turns l c L code opens readable placed own agree can fits remade covers stands w f g at h
+    record { same_object = x.same_object; frames = x.frames w1 (later_now U K w1 later.match); owns = x.owns })
+    (steady_lines_agree U expressions calls reads scalars elements indexed writes reads_groups writes_groups arrays resizing erasing p s written number turns l c L code opens readable placed own agree can fits remade covers stands w f g at h
     (steady_now U K w p f g h F) given)

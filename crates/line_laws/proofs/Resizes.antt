@@ -1,5 +1,5 @@
 -- ReDim and Erase do the same as what is written for them.
-use Rattle.std.proofs.Common.{◌≡◌, ◌∙◌, inr, refl, sym, ap, subst, ℕ, zero, suc, ◌+◌, negsuc, Bool, true, false, cond, not, ◌&&◌, ◌||◌, nat_eq, Option, Some, None, List, [], ◌∷◌, length, map, true≢false, eqb-true, arith}
+use Rattle.std.proofs.Common.{inl, ◌≡◌, ◌∙◌, inr, refl, sym, ap, subst, ℕ, zero, suc, ◌+◌, negsuc, Bool, true, false, cond, not, ◌&&◌, ◌||◌, nat_eq, Option, Some, None, List, [], ◌∷◌, length, map, true≢false, eqb-true, arith}
 use Rattle.std.specs.Prelude.{nat_le, replicate}
 use Rattle.std.specs.List.{list_all, Contains}
 use Rattle.vb_tree.specs.BoundTree as types
@@ -192,7 +192,7 @@ module _ (U : Upgrade) (expressions : ExpressionsAgree U) (arrays : ArraysAgree 
     settles : (w : World) → FrameMatch U K w p f g → IsSettled S net_oracle (exp_of T a)
     settles w F =
         subst (λ e. IsSettled S net_oracle e) (sym (known_path U T declared (types.array of rank) v qualified is_array.known))
-        (settled U K w p f g k c T declared net_oracle F v.0 qualified is_array.known (placed.places v (inr (of, used))))
+        (settled U K w p f g k c T declared net_oracle F v.0 qualified is_array.known (placed.places v (inr (inl (of, used)))))
 
     -- the array on both sides, whatever has been evaluated before
     abbrev Standing : World → Address → net_store.Address → Type 0

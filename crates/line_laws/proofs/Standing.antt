@@ -1,35 +1,28 @@
 -- Variables that a frame always has, and the calm expressions of them.
-use Rattle.std.proofs.Common.{◌≡◌, ◌∙◌, ◌⊎◌, inl, inr, ⊎_elim, refl, sym, ap, subst, ℕ, ℤ, Bool, true, false, cond, not, ◌&&◌, nat_eq, Option, Some, None, List, [], ◌∷◌, slice_get, true≢false}
+use Rattle.std.proofs.Common.{◌≡◌, ◌∙◌, inl, inr, refl, sym, ap, subst, ℕ, ℤ, Bool, true, false, ◌&&◌, Some, List, [], ◌∷◌, true≢false}
 use Rattle.std.specs.Prelude.{is_some}
-use Rattle.std.proofs.lemmas.Bool.{eq-eqb, eqb-true}
-use Rattle.std.specs.Map.{lookup}
 use Rattle.vb_tree.specs.BoundTree as types
 use Rattle.vb_tree.specs.BoundTree.{Ty}
-use Rattle.vb_tree.specs.declared.declared.Owner.{Owner}
-use Rattle.vb_tree.specs.declared.declared.Owner.TheVariants as owner
 use Rattle.vb_tree.specs.declared.declared.VarId.{VarId}
 use Rattle.vb_tree.specs.declared.value.Value6.{Value6}
 use Rattle.vb_tree.specs.declared.value.Value6.TheVariants as v
-use Rattle.bound_tree.specs.Tree.{Expr, typed, constant, variable, convert, Exprs, no_exprs, next_expr, Variable}
+use Rattle.bound_tree.specs.Tree.{Expr, typed, constant, variable, convert, Exprs, no_exprs, next_expr}
 use Rattle.bound_facts.proofs.Chains.{both_true}
-use Rattle.bound_facts.specs.Effects.{is_own_owner, is_own_variable}
 use Rattle.bound_facts.specs.Facts.{is_quiet}
 use Rattle.bound_facts.specs.Locks.{is_same_type}
 use Rattle.bound_facts.specs.Node.{type_at}
-use Rattle.bound_facts.specs.SelfMade.{module_of}
 use Rattle.net_meaning.specs.declared.value.ValueN.{ValueN}
 use Rattle.net_meaning.specs.ValueMatch.{Matches, longs}
 use Rattle.net_meaning.specs.WrittenRows.{write_conversion}
 use Rattle.run_base.specs.Outcomes.{gives, after, then, found, some_of}
-use Rattle.run_base.specs.Positions.{Position, shared, whole, made}
+use Rattle.run_base.specs.Positions.{Position}
 use Rattle.written_trees.specs.Exprs.{exp_of}
 use Rattle.written_trees.specs.Names.{Scope}
 use Rattle.vb6_run.specs.Expressions as source
 use Rattle.vb6_run.specs.Expressions.{at_address, indexes_of, value_in}
 use Rattle.vb6_run.specs.Forms.{SourceLine}
-use Rattle.vb6_run.specs.Programs.{is_local_of}
-use Rattle.vb6_run.specs.Runnables.{declared_address, object_root, root_address, static_root, variable_address}
-use Rattle.vb6_run.specs.Shapes.{Shape, simple, variable_shape}
+use Rattle.vb6_run.specs.Runnables.{variable_address}
+use Rattle.vb6_run.specs.Shapes.{simple}
 use Rattle.vb6_run.specs.Store.{Address, root, Held, blank, single, Memory, SourceCalls, SourceFrame, read, single_in, value_if}
 use Rattle.vb6_run.specs.Values.{scalar}
 use Rattle.net_run.specs.Expressions as target
@@ -38,27 +31,25 @@ use Rattle.net_run.specs.Making.{Jobs}
 use Rattle.net_run.specs.Members.{Code}
 use Rattle.net_run.specs.Names as net_names
 use Rattle.net_run.specs.Store as net
-use Rattle.run_matches.specs.Addresses.{AllMatched, IsPlain, Same, same_item, same_root, IsScalarAt, IsWhole, is_element}
+use Rattle.run_matches.specs.Addresses.{AllMatched, IsPlain, Same, same_item, same_root, IsScalarAt, IsWhole, is_element, position_of}
 use Rattle.run_matches.specs.CoveredVariables.{covers_type}
 use Rattle.run_matches.specs.CoveredExprs.{Uses, are_calm, covers_expr, covers_exprs, is_calm, is_declared_as, widens, is_relied_on}
-use Rattle.run_matches.specs.CoveredLines.{is_local_in, is_passing_in, is_passing_of}
-use Rattle.run_matches.specs.Covered.{is_reference_in, is_reference_owner_of}
 use Rattle.run_matches.specs.Formed.{are_formed, are_longs, is_formed, types_of}
-use Rattle.run_matches.specs.Frames.{FrameMatch, GivenPlace, HasPlace, StandsAs, SameVariable, is_own_of, is_reference_of, GivenAddress}
+use Rattle.run_matches.specs.Frames.{FrameMatch, StandsAs}
 use Rattle.run_matches.specs.Maps.{World, IsMade, is_auto_root, mark, moved_at}
 use Rattle.run_matches.specs.Agreeing.{Agrees}
 use Rattle.run_matches.specs.Match.{Holds, MemoryMatch, holds_single}
 use Rattle.run_matches.specs.Pledges.{IsHeld, Pledge}
 use Rattle.run_matches.specs.Runs.{CallsAgree}
-use Rattle.run_matches.specs.Upgrades.{Upgrade, is_auto}
-use Rattle.run_statements.specs.Frames.{AllCalled, AllCalledAll, AreReadable, ArePlaced, ExpressionsAgree, IsGiven, IsKnown, IsOpen, IsOwnStatic, IsPlaced, IsReadable, IsShared, ScalarMatch, context_of, demands}
+use Rattle.run_matches.specs.Upgrades.{Upgrade}
+use Rattle.run_statements.specs.Frames.{AllCalled, AllCalledAll, AreReadable, ArePlaced, ExpressionsAgree, IsKnown, IsOpen, IsPlaced, IsReadable, ScalarMatch, context_of, demands}
 use Rattle.run_statements.specs.Written.{Passes}
-use Rattle.line_laws.proofs.Bounds.{exactly, some_is}
+use Rattle.line_laws.proofs.Bounds.{some_is}
 use Rattle.line_laws.proofs.Calm.{Gives, IsFit, Widened, as_long, constant_gives, converted_gives, fit_of, formed_constant, fit_typed, same_self, value_read, widened_value}
-use Rattle.line_laws.proofs.Elements.{known_address, known_auto}
-use Rattle.line_laws.proofs.Shared.{SharedPlace, StaticPlace, at_key, shared_address, shared_place, static_owner, static_place}
+use Rattle.line_laws.proofs.Flat.{flat_scalar, known_scalar}
+use Rattle.line_laws.proofs.Placed.{FlatImages, PlacedVariable, placed_variable}
 use Rattle.line_laws.proofs.Stores.{same_type}
-use Rattle.line_laws.proofs.Uses.{address_is, given_address, given_address_is, no_auto, shape_is}
+use Rattle.line_laws.proofs.Uses.{no_auto, shape_is}
 
 -- ---- where they stand
 
@@ -83,147 +74,36 @@ pub whole_stands : (ty : Ty) (a : Address) (q : Position) → IsWhole a → IsSc
 whole_stands ty a q h (inl e) = e
 whole_stands ty a q h (inr x) = absurd (true≢false (sym (ap is_element x.1) ∙ h))
 
-turned : (a b : ℕ) → nat_eq b a ≡ true → nat_eq a b ≡ true
-turned a b e = eq-eqb a b (sym (eqb-true b a e))
-
--- the procedure's own are local variables, parameters and the result
-own_owner_is : (p : ℕ) (o : Owner) → is_own_owner p o ≡ true → (is_local_of p o ≡ true) ⊎ (is_passing_of p o ≡ true)
-own_owner_is p (owner.Local q) own = inl (turned p q.0 own)
-own_owner_is p (owner.Value q) own = inr (turned p q.0 own)
-own_owner_is p (owner.Answer q) own = inr (turned p q.0 own)
-own_owner_is p _ own = absurd (true≢false (sym own))
-
-own_is : (p : ℕ) (o : Option Variable) → is_own_variable p o ≡ true → (is_local_in p o ≡ true) ⊎ (is_passing_in p o ≡ true)
-own_is p None own = absurd (true≢false (sym own))
-own_is p (Some x) own = own_owner_is p x.owner own
-
-given_owner_is : (p : ℕ) (o : Owner) → is_reference_owner_of p o ≡ true → is_passing_of p o ≡ true
-given_owner_is p (owner.Reference q) given = given
-given_owner_is p _ given = absurd (true≢false (sym given))
-
-given_is : (p : ℕ) (o : Option Variable) → is_reference_in p o ≡ true → is_passing_in p o ≡ true
-given_is p None given = absurd (true≢false (sym given))
-given_is p (Some x) given = given_owner_is p x.owner given
-
-module _ (U : Upgrade) (K : Pledge) (w : World) (p : ℕ) (f : SourceFrame) (g : NetFrame) (F : FrameMatch U K w p f g) (v : ℕ) where
-  abbrev InFrame : Type 0
-  InFrame = (a : Address) × (lookup (nat_eq v) f.vars ≡ Some a)
-
-  own_there : is_own_of U p v ≡ true → InFrame
-  own_there own = ⊎_elim (λ x. F.has_locals v x) (λ x. F.has_passing v x) (own_is p (slice_get U.program.declarations.vars v) own)
-
-  given_there : is_reference_of U p v ≡ true → InFrame
-  given_there given = F.has_passing v (given_is p (slice_get U.program.declarations.vars v) given)
-
--- ---- arrays
-
-static_there : (U : Upgrade) (p : ℕ) (f : SourceFrame) (v : ℕ) → IsOwnStatic U p v
-    → variable_address U.program.declarations f v ≡ Some (root (variable_shape U.program.declarations v) (at_key v))
-static_there U p f v s =
-    let D = U.program.declarations in
-    let o = static_owner p s.variable.owner s.is_static in
-    ap (declared_address D f v) s.is_variable ∙ o.2 D f v
-    ∙ ap (λ q. root_address D v (static_root D f.me v (module_of (slice_get D.procs q)))) o.1
-    ∙ ap (λ i. root_address D v (static_root D f.me v i)) s.is_file
-    ∙ ap (λ b. root_address D v (cond b (object_root f.me v) (Some (shared (v ∷ []))))) s.standard
-
-given_at : (U : Upgrade) (p : ℕ) (f : SourceFrame) (v : ℕ) (k : IsKnown U v) → is_reference_of U p v ≡ true
-    → variable_address U.program.declarations f v ≡ lookup (nat_eq v) f.vars
-given_at U p f v k given =
-    ap (declared_address U.program.declarations f v) k.is_variable
-    ∙ given_address U.program.declarations f v p k.variable.owner (sym (ap (is_reference_in p) k.is_variable) ∙ given)
-
 -- a variable that is placed has an address in each frame that matches
-pub known_there : (U : Upgrade) (K : Pledge) (w : World) (p : ℕ) (f : SourceFrame) (g : NetFrame) (F : FrameMatch U K w p f g) (S : net_names.Scope) (T : Scope)
-    (v : ℕ) (k : IsKnown U v) → IsPlaced U p f S T v → (a : Address) × (variable_address U.program.declarations f v ≡ Some a)
-known_there U K w p f g F S T v k (inl own) =
-    let x = own_there U K w p f g F v own in (x.0, known_address U v k p own f ∙ x.1)
-known_there U K w p f g F S T v k (inr (inl s)) = (_, static_there U p f v s)
-known_there U K w p f g F S T v k (inr (inr (inl s))) =
-    (_, shared_address U.program.declarations f v s.variable s.file s.is_variable s.is_owner s.standard)
-known_there U K w p f g F S T v k (inr (inr (inr (inl x)))) =
-    let y = given_there U K w p f g F v x.reference in (y.0, given_at U p f v k x.reference ∙ y.1)
-
-at_number : (U : Upgrade) (w : World) (v : ℕ) (d : Shape) (a : Address) → is_auto U v ≡ false → a ≡ root d (at_key v) → IsPlain U w a
-at_number U w v d a plain e = subst (λ b. IsPlain U w b) (sym e) (λ q i. subst (λ (z : Position). is_auto_root U w.map z.root ≡ false) (some_is (at_key v) q i) plain)
+pub known_there : (U : Upgrade) (K : Pledge) (w : World) (p : ℕ) (f : SourceFrame) (g : NetFrame) (k : NetLine) (c : Code) (T : Scope)
+    → T.declarations ≡ U.program.declarations → FrameMatch U K w p f g → (v : ℕ) → IsKnown U v → IsPlaced U p f (scope_of U.written c g k) T v
+    → (a : Address) × (variable_address U.program.declarations f v ≡ Some a)
+known_there U K w p f g k c T declared F v x placed =
+    let y : PlacedVariable U K w f (scope_of U.written c g k) T v = placed_variable U K w p f g k c T declared F v x placed in (y.address, y.found)
 
 -- and no use of it makes what stands there
-pub known_plain : (U : Upgrade) (K : Pledge) (w : World) (p : ℕ) (f : SourceFrame) (g : NetFrame) (F : FrameMatch U K w p f g) (S : net_names.Scope) (T : Scope)
-    (v : ℕ) (k : IsKnown U v) → IsPlaced U p f S T v → (a : Address) → variable_address U.program.declarations f v ≡ Some a → IsPlain U w a
-known_plain U K w p f g F S T v k (inl own) a e =
-    (F.vars v a (sym (known_address U v k p own f) ∙ e) k.sound).plain (ap is_some (known_auto U v k))
-known_plain U K w p f g F S T v k (inr (inl s)) a e =
-    at_number U w v (variable_shape U.program.declarations v) a (ap is_some (known_auto U v k))
-    (some_is a (root (variable_shape U.program.declarations v) (at_key v)) (sym e ∙ static_there U p f v s))
-known_plain U K w p f g F S T v k (inr (inr (inl s))) a e =
-    at_number U w v (variable_shape U.program.declarations v) a (ap is_some (known_auto U v k))
-    (some_is a (root (variable_shape U.program.declarations v) (at_key v))
-    (sym e ∙ shared_address U.program.declarations f v s.variable s.file s.is_variable s.is_owner s.standard))
-known_plain U K w p f g F S T v k (inr (inr (inr (inl x)))) a e =
-    (F.vars v a (sym (given_at U p f v k x.reference) ∙ e) k.sound).plain (ap is_some (known_auto U v k))
+pub known_plain : (U : Upgrade) (K : Pledge) (w : World) (p : ℕ) (f : SourceFrame) (g : NetFrame) (k : NetLine) (c : Code) (T : Scope)
+    → T.declarations ≡ U.program.declarations → FrameMatch U K w p f g → (v : ℕ) → IsKnown U v → IsPlaced U p f (scope_of U.written c g k) T v
+    → (a : Address) → variable_address U.program.declarations f v ≡ Some a → IsPlain U w a
+known_plain U K w p f g k c T declared F v x placed a found =
+    let y : PlacedVariable U K w f (scope_of U.written c g k) T v = placed_variable U K w p f g k c T declared F v x placed in
+    subst (λ b. IsPlain U w b) (some_is y.address a (sym y.found ∙ found)) y.plain
 
--- ---- scalars
-
-module _ (U : Upgrade) (K : Pledge) (w : World) (h : MemoryMatch U w) (p : ℕ) (f : SourceFrame) (g : NetFrame) (S : net_names.Scope) (T : Scope)
-    (declared : T.declarations ≡ U.program.declarations) (F : FrameMatch U K w p f g) (v : ℕ) (r : IsReadable U v) (loud : is_quiet U.program.declarations U.known v ≡ false)
-    (relied : is_relied_on U.program v ≡ true) where
-  no_object : is_auto U v ≡ false
-  no_object = ap is_some (no_auto U v r)
-
-  abbrev At : Type 0
-  At = Standing U w f v r.variable.ty
-
-  of_frame : (a : Address) → lookup (nat_eq v) f.vars ≡ Some a → (q : Position) → a ≡ root (simple r.variable.ty) q
-      → variable_address U.program.declarations f v ≡ lookup (nat_eq v) f.vars → At
-  of_frame a e q is there =
-      let s : SameVariable U K w v a g = F.vars v a e r.sound in
-      record {
-        position = q;
-        found = there ∙ e ∙ ap (λ a. Some a) is;
-        matched = same_matched U K w r.variable.ty q a s.address is (exactly U K w (not (is_quiet U.program.declarations U.known v)) a s.address (ap not loud) s.bound);
-        plain = subst (λ a. IsPlain U w a) is (s.plain no_object) q refl;
-      }
-
-  of_own : is_own_of U p v ≡ true → At
-  of_own own =
-      let x = own_there U K w p f g F v own in
-      let place : HasPlace U w v x.0 = F.own v x.0 x.1 own in
-      let q : Position = whole (made place.place) in
-      of_frame x.0 x.1 q (place.stands ∙ ap (λ d. root d q) (shape_is U v r)) (address_is U v r p own f)
-
-  of_given : IsGiven U p f v → At
-  of_given x =
-      let y = given_there U K w p f g F v x.reference in
-      let there : GivenAddress U v y.0 = x.stands y.0 y.1 in
-      let place : GivenPlace U v y.0 = there.place loud in
-      of_frame y.0 y.1 place.position
-      (whole_stands r.variable.ty y.0 place.position (there.whole relied) (subst (λ d. StandsAs d y.0 place.position) (shape_is U v r) place.stands)) (given_address_is U v r p x.reference f)
-
-  of_shared : IsShared U S T v → At
-  of_shared s =
-      let x : SharedPlace U K w f S T v r s = shared_place U K w h f S T v r s in
-      record {
-        position = x.position;
-        found = x.found ∙ ap (λ a. Some a) x.stands;
-        matched = same_matched U K w r.variable.ty x.position x.address x.net_address x.stands x.same;
-        plain = subst (λ (q : Position). is_auto_root U w.map q.root ≡ false) (sym x.is_at) no_object;
-      }
-
-  of_static : IsOwnStatic U p v → At
-  of_static s =
-      let x : StaticPlace U K w p f g T v r = static_place U K w p f g T declared F v r s in
-      record {
-        position = x.position;
-        found = x.found ∙ ap (λ a. Some a) x.stands;
-        matched = same_matched U K w r.variable.ty x.position x.address x.net_address x.stands x.same;
-        plain = subst (λ (q : Position). is_auto_root U w.map q.root ≡ false) (sym x.is_at) no_object;
-      }
-
-  pub standing : IsPlaced U p f S T v → At
-  standing (inl own) = of_own own
-  standing (inr (inl s)) = of_static s
-  standing (inr (inr (inl s))) = of_shared s
-  standing (inr (inr (inr (inl x)))) = of_given x
+-- a scalar that is relied on stands as a variable
+pub standing : (U : Upgrade) (K : Pledge) (w : World) → MemoryMatch U w → (p : ℕ) (f : SourceFrame) (g : NetFrame) (k : NetLine) (c : Code) (T : Scope)
+    → T.declarations ≡ U.program.declarations → FrameMatch U K w p f g → (v : ℕ) (r : IsReadable U v) → is_quiet U.program.declarations U.known v ≡ false
+    → is_relied_on U.program v ≡ true → IsPlaced U p f (scope_of U.written c g k) T v → Standing U w f v r.variable.ty
+standing U K w h p f g k c T declared F v r loud relied placed =
+    let y : PlacedVariable U K w f (scope_of U.written c g k) T v = placed_variable U K w p f g k c T declared F v (known_scalar U v r) placed in
+    let i : FlatImages U K w v y.address y.net_address = y.flat h (flat_scalar U v r) loud in
+    let at : y.address ≡ root (simple r.variable.ty) i.position =
+    whole_stands r.variable.ty y.address i.position (y.whole relied) (subst (λ d. StandsAs d y.address i.position) (shape_is U v r) i.stands) in
+    record {
+      position = i.position;
+      found = y.found ∙ ap (λ a. Some a) at;
+      matched = same_matched U K w r.variable.ty i.position y.address y.net_address at i.same;
+      plain = y.plain i.position (ap position_of at);
+    }
 
 -- ---- the types of indexes
 
@@ -331,7 +211,7 @@ module _ (U : Upgrade) (expressions : ExpressionsAgree U) (K : Pledge) (p : ℕ)
       let same : r.variable.ty ≡ ty =
       same_type ty r.variable.ty covers_ty (sym (ap (is_declared_as ty) r.is_variable) ∙ readable.types v ty relied.0) in
       let at : Standing U w f v.0 r.variable.ty =
-      standing U K w h p f g S T declared F v.0 r (readable.exact v exact.0) (readable.relied v relied.1) (placed.places v (inl all.0)) in
+      standing U K w h p f g k c T declared F v.0 r (readable.exact v exact.0) (readable.relied v relied.1) (placed.places v (inl all.0)) in
       let x = variable_gives ty v qualified r covers_ty (subst (λ t. Standing U w f v.0 t) same at) in
       known (typed ty (variable v qualified)) x.0 can covers formed x.1
   calm_known (typed ty (convert to e)) calm can covers formed =

@@ -80,6 +80,7 @@ module _ (U : Upgrade) (K : Pledge) (w : World) (h : MemoryMatch U w) where
     resume = F.resume;
     me = F.me;
     me_made = F.me_made;
+    own_object = F.own_object;
     names = F.names;
     vars = λ v a e s.
         let x = F.vars v a e s in
@@ -167,6 +168,7 @@ can_call_still U K w S T q args inward c = record {
   number = c.number;
   is_number = c.is_number;
   plain = c.plain;
+  standard = c.standard;
   suits = c.suits;
   hands = c.hands;
   given = c.given;

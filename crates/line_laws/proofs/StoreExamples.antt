@@ -1,5 +1,5 @@
 -- Assignments to elements that are covered, and one that isn't.
-use Rattle.std.proofs.Common.{◌≡◌, refl, ℕ, pos, true, false, not, nat_eq}
+use Rattle.std.proofs.Common.{◌≡◌, refl, ℕ, pos, true, false, not, nat_eq, None}
 use Rattle.vb_tree.specs.BoundTree as types
 use Rattle.vb_tree.specs.declared.expression.BinOp.TheVariants as b
 use Rattle.vb_tree.specs.declared.value.Value6.TheVariants as v
@@ -14,6 +14,8 @@ abbrev uses : Uses
 uses = record {
   scalar = λ w. true;
   array = λ w e. true;
+  group = λ w t. false;
+  field_type = λ t k. None;
   is_of = λ w ty. is_same_type ty types.long;
   inward = λ q. nat_eq q 0;
   exact = λ w. not (nat_eq w.0 8);

@@ -13,7 +13,6 @@ use Rattle.bound_facts.specs.Effects.{is_own_owner, is_own_variable}
 use Rattle.bound_facts.specs.Facts.{Known, is_quiet, is_quiet_owner, is_quiet_variable}
 use Rattle.bound_facts.specs.Node.{type_at, auto_class, class_in}
 use Rattle.net_tree.specs.Tree as net
-use Rattle.net_tree.specs.Tree.{Member, Module}
 use Rattle.run_base.specs.Outcomes.{gives, then, some_of}
 use Rattle.written_trees.specs.Exprs.{exp_of, made_if}
 use Rattle.written_trees.specs.Names.{Scope, alone, owner_path, variable_path, variable_path_of, variable_name_of}
@@ -24,17 +23,15 @@ use Rattle.vb6_run.specs.Shapes.{Shape, simple, shape_by, declared_shape, user_s
 use Rattle.vb6_run.specs.Store.{Address, Memory, SourceFrame}
 use Rattle.net_run.specs.Expressions.{reach, started}
 use Rattle.net_run.specs.Making.{Jobs}
-use Rattle.net_run.specs.Members.{member_named}
 use Rattle.net_run.specs.Names as net_names
-use Rattle.net_run.specs.Names.{Reached, at_place, not_found, starts, path_start, frame_start, member_start, module_start, module_member, member_reached, var_in}
-use Rattle.net_run.specs.Shapes.{module_named, module_at, members_of}
+use Rattle.net_run.specs.Names.{at_place, starts, path_start, frame_start, var_in}
 use Rattle.net_run.specs.Store as store
 use Rattle.run_matches.specs.Upgrades.{Upgrade, runnable_of}
 use Rattle.run_matches.specs.Formed.{is_formed}
 use Rattle.run_matches.specs.CoveredVariables.{covers_type, covers_owner}
 use Rattle.run_matches.specs.CoveredExprs.{Uses, covers_expr, covers_term}
-use Rattle.run_matches.specs.Covered.{is_reference_in, is_reference_owner_of}
-use Rattle.run_matches.specs.Frames.{is_own_of, is_reference_of, name_of}
+use Rattle.run_matches.specs.Covered.{is_reference_owner_of}
+use Rattle.run_matches.specs.Frames.{is_own_of, name_of}
 use Rattle.run_statements.specs.Frames.{IsReadable}
 
 -- ---- expressions
@@ -56,18 +53,9 @@ own_address D f v p (owner.Value q) h = refl
 own_address D f v p (owner.Answer q) h = refl
 own_address D f v p _ h = absurd (true≢false (sym h))
 
-given_owner : (p : ℕ) (o : Owner) → is_reference_owner_of p o ≡ true → (T : Scope) (qualified : Bool) (name : List ℕ) → owner_path T qualified name o ≡ alone name
-given_owner p (owner.Reference q) h T qualified name = refl
-given_owner p _ h T qualified name = absurd (true≢false (sym h))
-
 pub given_address : (D : Declarations) (f : SourceFrame) (v p : ℕ) (o : Owner) → is_reference_owner_of p o ≡ true → owned_address D f v o ≡ lookup (nat_eq v) f.vars
 given_address D f v p (owner.Reference q) h = refl
 given_address D f v p _ h = absurd (true≢false (sym h))
-
--- what is given by reference is not the procedure's own
-given_not_own : (p : ℕ) (o : Owner) → is_reference_owner_of p o ≡ true → is_own_owner p o ≡ false
-given_not_own p (owner.Reference q) h = refl
-given_not_own p _ h = absurd (true≢false (sym h))
 
 own_not_quiet : (F : Known) (p : ℕ) (o : Owner) → is_own_owner p o ≡ true → is_quiet_owner F o ≡ false
 own_not_quiet F p (owner.Reference q) h = absurd (true≢false (sym h))
@@ -130,22 +118,6 @@ module _ (U : Upgrade) (v : ℕ) (r : IsReadable U v) where
       ap (λ (E : Declarations). variable_path_of T qualified (slice_get E.vars v)) e ∙ ap (variable_path_of T qualified) r.is_variable
       ∙ own_owner p r.variable.owner (own_is p own) T qualified r.variable.name
 
-  -- where it is given by reference
-
-  given_is : (p : ℕ) → is_reference_of U p v ≡ true → is_reference_owner_of p r.variable.owner ≡ true
-  given_is p h = sym (ap (is_reference_in p) r.is_variable) ∙ h
-
-  pub given_address_is : (p : ℕ) → is_reference_of U p v ≡ true → (f : SourceFrame) → variable_address D f v ≡ lookup (nat_eq v) f.vars
-  given_address_is p given f = ap (declared_address D f v) r.is_variable ∙ given_address D f v p r.variable.owner (given_is p given)
-
-  pub given_path : (p : ℕ) → is_reference_of U p v ≡ true → (T : Scope) → T.declarations ≡ D → (qualified : Bool) → variable_path T qualified v ≡ r.variable.name ∷ []
-  given_path p given T e qualified =
-      ap (λ (E : Declarations). variable_path_of T qualified (slice_get E.vars v)) e ∙ ap (variable_path_of T qualified) r.is_variable
-      ∙ given_owner p r.variable.owner (given_is p given) T qualified r.variable.name
-
-  pub given_foreign : (p : ℕ) → is_reference_of U p v ≡ true → is_own_of U p v ≡ false
-  given_foreign p given = ap (is_own_variable p) r.is_variable ∙ given_not_own p r.variable.owner (given_is p given)
-
 pub address_by : (C : Context) (o : Option Address) (m : Option ℕ) → m ≡ None → (s : Memory)
     → then (then (some_of o (λ a w. gives [] (at_address a) w) s) (made_for C m)) finished ≡ some_of o (λ a w. gives [] a w) s
 address_by C None m e s = refl
@@ -171,28 +143,6 @@ path_is U T e ty v qualified r =
     (ap (λ (d : Declarations). auto_class (slice_get d.vars v.0)) e ∙ no_auto U v.0 r)
 
 module _ (S : net_names.Scope) (oracle : Jobs) where
-  class_alone : (home : ℕ) (b : Bool) → module_member S home b [] ≡ starts not_found []
-  class_alone home true = refl
-  class_alone home false = refl
-
-  module_alone : (name : List ℕ) (o : Option (ℕ × Module)) → (r : Reached) × (module_start S name [] o ≡ starts r [])
-  module_alone name None = (not_found, refl)
-  module_alone name (Some found) = (not_found, class_alone found.0 found.1.class)
-
-  member_alone : (name : List ℕ) (o : Option (ℕ × Member)) → (r : Reached) × (member_start S name [] o ≡ starts r [])
-  member_alone name None = module_alone name (module_named S.project name)
-  member_alone name (Some found) = (member_reached S None S.home found.0 found.1, refl)
-
-  start_alone : (name : List ℕ) (o : Option store.Address) → (r : Reached) × (frame_start S name [] o ≡ starts r [])
-  start_alone name None = member_alone name (member_named name (members_of (module_at S.project S.home)))
-  start_alone name (Some a) = (at_place a, refl)
-
-  -- a name alone leads somewhere, and does nothing
-  pub name_reached : (name : List ℕ) (t : store.Memory) → (r : Reached) × (reach S oracle false (net.path (name ∷ [])) t ≡ gives [] r t)
-  name_reached name t =
-      let x = start_alone name (var_in S.vars name) in
-      (x.0, ap (λ z. started S oracle z t) x.1)
-
   -- a path that leads to a variable
   pub variable_reached : (names : List (List ℕ)) (a : store.Address) (t : store.Memory) → path_start S false names ≡ starts (at_place a) []
       → reach S oracle false (net.path names) t ≡ gives [] (at_place a) t

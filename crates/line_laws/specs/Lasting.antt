@@ -1,17 +1,14 @@
 -- Frames that go on to match at later worlds, and lines in them.
-use Rattle.std.specs.Prelude.{◌≡◌, ℕ, true, nat_eq, Option, Some}
-use Rattle.std.specs.Map.{lookup}
-use Rattle.run_base.specs.Positions.{made, whole}
+use Rattle.std.specs.Prelude.{◌≡◌, ℕ, true, Option, Some}
 use Rattle.std.specs.List.{Contains}
 use Rattle.bound_tree.specs.Tree.{Expr}
 use Rattle.bound_facts.specs.Node.{args_at, called}
 use Rattle.bound_facts.specs.Parts.{line_uses}
 use Rattle.run_base.specs.Machines.{go}
 use Rattle.written_trees.specs.Bodies.{inside_procedure}
-use Rattle.vb6_run.specs.Shapes.{variable_shape}
 use Rattle.vb6_run.specs.Forms.{SourceLine}
 use Rattle.vb6_run.specs.Programs as source
-use Rattle.vb6_run.specs.Store.{Address, root, SourceFrame}
+use Rattle.vb6_run.specs.Store.{SourceFrame}
 use Rattle.net_run.specs.Lines.{NetFrame, NetLine, scope_of}
 use Rattle.net_run.specs.Members.{Code, code_at}
 use Rattle.net_run.specs.Program as target
@@ -23,7 +20,7 @@ use Rattle.run_matches.specs.Pledges.{Pledge, Later}
 use Rattle.run_matches.specs.Agreeing.{Agrees}
 use Rattle.run_matches.specs.CoveredExprs.{uses_in}
 use Rattle.run_matches.specs.CoveredLines.{covers_line}
-use Rattle.run_matches.specs.Frames.{HasNames, FrameMatch, OwnsAll, is_own_of, frame_pledge, GivenStand}
+use Rattle.run_matches.specs.Frames.{HasNames, FrameMatch, OwnsAll, frame_pledge, GivenStand}
 use Rattle.run_matches.specs.Runs.{line_result, CallsAgree}
 use Rattle.run_matches.specs.Sites.{Site}
 use Rattle.run_statements.specs.Fitting.{FitsLine, FitsNode}
@@ -33,23 +30,13 @@ use Rattle.run_statements.specs.Written.{WrittenLine, Passes, site_scope}
 
 -- ---- frames
 
--- the place of a variable has the shape of its declaration
-pub record OwnShape (U : Upgrade) (v : ℕ) (a : Address) : Type 0 where
-  pub place : ℕ
-  pub stands : a ≡ root (variable_shape U.program.declarations v) (whole (made place))
-
 -- frames match now and as long as the pledge is kept
 abbrev pub GoOnMatching : Upgrade → Pledge → (procedure : ℕ) → SourceFrame → NetFrame → World → Type 0
 GoOnMatching U K p f g w = (w1 : World) → Later U K w w1 → FrameMatch U K w1 p f g
 
--- so they do, and the procedure's own variables have the shapes of their declarations
-pub record SteadyFrame (U : Upgrade) (K : Pledge) (w : World) (p : ℕ) (f : SourceFrame) (g : NetFrame) : Type 0 where
-  pub match : GoOnMatching U K p f g w
-  pub shapes : (v : ℕ) (a : Address) → lookup (nat_eq v) f.vars ≡ Some a → is_own_of U p v ≡ true → OwnShape U v a
-
 pub record SteadyNext (U : Upgrade) (K : Pledge) (p : ℕ) (me : Option ℕ) (w : World) (f : SourceFrame) (g : NetFrame) : Type 0 where
   pub same_object : f.me ≡ me
-  pub frames : SteadyFrame U K w p f g
+  pub frames : GoOnMatching U K p f g w
   pub owns : OwnsAll U K p f
 
 -- ---- lines
@@ -57,7 +44,7 @@ pub record SteadyNext (U : Upgrade) (K : Pledge) (p : ℕ) (me : Option ℕ) (w 
 -- from such frames at the line of a number, a line of the procedure p and the written line lead to such frames, with so many turns for calls
 abbrev pub SameSteadyLine : Upgrade → (p q number turns : ℕ) → SourceLine → NetLine → Type 0
 SameSteadyLine U p q number turns l k =
-    (w : World) (f : SourceFrame) (g : NetFrame) → f.line ≡ number → MemoryMatch U w → SteadyFrame U (frame_pledge U p w f) w p f g
+    (w : World) (f : SourceFrame) (g : NetFrame) → f.line ≡ number → MemoryMatch U w → GoOnMatching U (frame_pledge U p w f) p f g w
     → GivenStand U p f l.form
     → Agrees U (frame_pledge U p w f) w (SteadyNext U (frame_pledge U p w f) p f.me)
     (line_result (source.machine_of (runnable_of U)) turns p f l w.src)

@@ -1,7 +1,7 @@
 -- Covered user types: their parts, how deep they are taken apart, and that they hold no arrays.
-use Rattle.std.proofs.Common.{◌≡◌, refl, sym, ap, subst, ◌∙◌, ℕ, zero, suc, ◌+◌, Bool, true, false, cond, ◌&&◌, ◌||◌, nat_eq, List, [], ◌∷◌, ◌++◌, length, map, Option, Some, None, slice_get, arith, inl, inr, ⊎_elim, true≢false}
-use Rattle.std.specs.Prelude.{◌⊎◌, ℤ, filter, option_to_list, nat_lt, IsTrue}
-use Rattle.std.specs.List.{Contains, flat_map, list_all, list_any}
+use Rattle.std.proofs.Common.{◌≡◌, refl, sym, ap, subst, ◌∙◌, ℕ, zero, suc, ◌+◌, Bool, true, false, cond, ◌&&◌, nat_eq, List, [], ◌∷◌, length, map, Option, Some, None, slice_get, arith, inl, inr, ⊎_elim, true≢false}
+use Rattle.std.specs.Prelude.{◌⊎◌, filter, option_to_list, nat_lt, IsTrue}
+use Rattle.std.specs.List.{flat_map, list_all, list_any}
 use Rattle.std.proofs.lemmas.Bool.{eqb-true}
 use Rattle.vb_tree.specs.BoundTree.{Ty}
 use Rattle.vb_tree.specs.BoundTree as types
@@ -12,15 +12,15 @@ use Rattle.reach_table.specs.Chains.{Chain, empty, longer}
 use Rattle.bound_facts.specs.Leading.{is_in, is_within, within}
 use Rattle.bound_facts.specs.Locks.{user_in, type_of_variable, field_types, pairs_from, type_pairs}
 use Rattle.bound_facts.specs.Node.{is_array_type}
-use Rattle.written_trees.specs.Facts.{AreFacts, Facts, Holds, is_made_type, types_with}
-use Rattle.vb6_run.specs.Shapes.{Shape, user_shape, group_by}
-use Rattle.run_matches.specs.CoveredVariables.{covers_type, are_different, covers_field_type, covers_field, covers_user_by, covers_user_within, covers_user}
+use Rattle.written_trees.specs.Facts.{Holds, is_made_type, types_with}
+use Rattle.vb6_run.specs.Shapes.{user_shape, group_by}
+use Rattle.run_matches.specs.CoveredVariables.{are_different, covers_field_type, covers_field, covers_user_by, covers_user_within, covers_user}
 use Rattle.run_matches.specs.Pledges.{type_of_shape}
 use Rattle.run_matches.specs.Upgrades.{Upgrade}
 use Rattle.run_matches.specs.UserTypes.{field_names, type_leads}
 use Rattle.run_statements.specs.Written.{IsWritten}
 use Rattle.agreeing_laws.proofs.UserShapes.{deeper_covers, deeper_same}
-use Rattle.name_laws.proofs.Lists.{both_true, same_number, some_same, Among, among, all_among, any_among, among_append, among_map}
+use Rattle.name_laws.proofs.Lists.{both_true, some_same, Among, among, all_among, any_among, among_append, among_map}
 
 -- ---- the parts of a covered user type
 

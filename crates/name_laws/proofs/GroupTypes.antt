@@ -1,6 +1,5 @@
 -- What is written for variables of covered user types.
-use Rattle.std.proofs.Common.{◌≡◌, refl, ap, sym, subst, ◌∙◌, ℕ, Bool, true, false, cond, nat_eq, List, [], ◌∷◌, length, Option, None, Some, slice_get}
-use Rattle.std.specs.Prelude.{◌||◌}
+use Rattle.std.proofs.Common.{◌≡◌, refl, ap, sym, subst, ◌∙◌, ℕ, true, false, cond, nat_eq, List, [], ◌∷◌, length, Option, None, Some}
 use Rattle.std.specs.Cmp.Lexicographic.{pointwise}
 use Rattle.vb_tree.specs.BoundTree as types
 use Rattle.bound_tree.specs.Tree.{Declarations, Variable}

@@ -12,13 +12,15 @@ use Rattle.vb_tree.specs.declared.declared.VarId.{VarId}
 use Rattle.vb_tree.specs.Tree.{Form}
 use Rattle.vb_tree.specs.Tree as source
 use Rattle.bound_tree.specs.declared.body.Mention.{Mention}
-use Rattle.bound_tree.specs.Tree.{Procedure, Declarations, Program, Expr, typed, Term, element, variable, Line}
+use Rattle.bound_tree.specs.declared.expression.Root.TheVariants.{Object}
+use Rattle.bound_tree.specs.Tree.{Procedure, Declarations, Program, Expr, typed, Term, element, field, variable, Line}
 use Rattle.reach_table.specs.Chains.{empty}
 use Rattle.bound_facts.specs.Calls.{count_procedures}
-use Rattle.bound_facts.specs.CanRaise.{can_raise}
+use Rattle.bound_facts.specs.CanRaise.{can_raise, is_me}
 use Rattle.bound_facts.specs.Effects.{is_own_variable, is_own_owner, is_outside, changes_outside, is_loud, is_outward_node, is_outward_line, outward_items, outward}
 use Rattle.bound_facts.specs.Leading.{is_in}
-use Rattle.bound_facts.specs.Node.{root}
+use Rattle.bound_facts.specs.Locks.{is_same_type}
+use Rattle.bound_facts.specs.Node.{is_object_type, root, type_at}
 use Rattle.bound_facts.specs.Parts.{line_stores, line_uses, stores}
 use Rattle.bound_facts.specs.SelfMade.{module_of, is_mine, is_mine_owner, is_mine_variable, is_plain_store, is_plain_line, enters, unplain_items, unplain}
 use Rattle.run_base.specs.Machines.{nth_line}
@@ -26,8 +28,8 @@ use Rattle.vb6_run.specs.Programs.{is_static_of}
 use Rattle.vb6_run.specs.Runnables.{is_class_file}
 use Rattle.run_matches.specs.CleanLines.{lines_at}
 use Rattle.run_matches.specs.CoveredVariables.{covers_type, is_foreign_name, is_reached}
-use Rattle.run_matches.specs.CoveredExprs.{Uses, covers_array, covers_exprs, covers_expr, covers_term, is_changeable, is_changeable_in, uses_in}
-use Rattle.run_matches.specs.CoveredLines.{is_ordered, is_ordered_in, covers_form, covers_line}
+use Rattle.run_matches.specs.CoveredExprs.{Uses, covers_array, covers_exprs, covers_expr, covers_place, covers_place_term, covers_term, has_field, has_inner, has_scalar, is_changeable, is_changeable_in, uses_in}
+use Rattle.run_matches.specs.CoveredLines.{covers_copy, covers_store, is_ordered, is_ordered_in, covers_form, covers_line}
 use Rattle.run_matches.specs.Formed.{is_formed}
 use Rattle.run_matches.specs.Pledges.{stands_in_class}
 use Rattle.run_matches.specs.Shared.{names_lead, is_alone_static, is_outer, others_differ}
@@ -38,7 +40,8 @@ use Rattle.name_laws.proofs.Lists.{both_true, same_number, Among, among, among_a
 use Rattle.name_laws.proofs.Looked.{not_true}
 use Rattle.name_laws.proofs.Led.{led}
 use Rattle.name_laws.proofs.Arrows.{project_items_there}
-use Rattle.name_laws.proofs.Uses.{ArrayUse, HasLine, array_parts, has_line, CoveredUse, used_parts}
+use Rattle.name_laws.proofs.Reached.{either}
+use Rattle.name_laws.proofs.Uses.{ArrayUse, GroupUse, HasLine, array_parts, group_use, has_line, CoveredUse, used_parts}
 
 -- ---- lists
 
@@ -163,14 +166,67 @@ module _ (P : Program) (p : ℕ) (x : Procedure) (is_procedure : slice_get P.dec
   mine_array (typed (types.array e rank) _) covers h = absurd (cc covers)
   mine_array (typed _ t) covers h = absurd (cc covers)
 
+  -- nor is a variable of a user type, or a field in it
+  mine_group_variable : (v : VarId) (of : ℕ) → uses.group v of ≡ true → is_own_variable p (slice_get D.vars v.0) ≡ false
+      → is_mine_variable D p (slice_get D.vars v.0) ≡ false
+  mine_group_variable v of h e =
+      let u : GroupUse P p v.0 of = (group_use P p mentions v of h).1 in
+      let other : is_own_owner p u.used.owner ≡ false = sym (ap (is_own_variable p) u.is_used) ∙ e in
+      ap (is_mine_variable D p) u.is_used ∙ ap (λ o. is_mine_owner p (module_of o) u.used.owner) is_procedure
+      ∙ mine_owner v.0 u.used.name u.used.owner u.reached other
+
+  has_no_object : (of : Ty) (k : ℕ) (ty : Ty) → has_field uses of k ty ≡ true → is_object_type of ≡ false
+  has_no_object (types.user t) k ty h = refl
+  has_no_object _ k ty h = absurd (cc h)
+
+  inner_no_object : (of : Ty) (k : ℕ) (ty : Ty) → has_inner uses of k ty ≡ true → is_object_type of ≡ false
+  inner_no_object of k (types.user t) h = has_no_object of k (types.user t) h
+  inner_no_object of k _ h = absurd (cc h)
+
+  scalar_no_object : (of : Ty) (k : ℕ) → has_scalar uses of k ≡ true → is_object_type of ≡ false
+  scalar_no_object (types.user t) k h = refl
+  scalar_no_object _ k h = absurd (cc h)
+
+  -- a field is what its user type is
+  mine_field : (ty of : Ty) (t : Term) (k : ℕ) → is_object_type of ≡ false
+      → (is_outside D.vars p (root (typed of t)) ≡ true → is_mine D p (typed of t) ≡ false)
+      → is_outside D.vars p (root (typed ty (field (typed of t) k))) ≡ true → is_mine D p (typed ty (field (typed of t) k)) ≡ false
+  mine_field ty of t k none inside h =
+      ap (λ b. cond b (is_me (typed of t)) (is_mine D p (typed of t))) none
+      ∙ inside (sym (ap (λ b. is_outside D.vars p (cond b Object (root (typed of t)))) none) ∙ h)
+
+  mine_place : (ty : Ty) (t : Term) → covers_place_term uses ty t ≡ true → is_outside D.vars p (root (typed ty t)) ≡ true → is_mine D p (typed ty t) ≡ false
+  mine_place (types.user of) (variable v qualified) covers h =
+      mine_group_variable v of covers (not_true (is_own_variable p (slice_get D.vars v.0)) h)
+  mine_place ty (field (typed of t) k) covers h =
+      let b = both_true (has_inner uses of k ty) (covers_place_term uses of t) covers in
+      mine_field ty of t k (inner_no_object of k ty b.0) (mine_place of t b.1) h
+  mine_place ty _ covers h = absurd (cc covers)
+
   mine : (ty : Ty) (t : Term) (e : Expr) → (is_changeable_in uses t || is_ordered_in uses ty t e) ≡ true → covers_term uses t ≡ true → is_outside D.vars p (root (typed ty t)) ≡ true
       → is_mine D p (typed ty t) ≡ false
   mine ty (variable v qualified) e is covers h = mine_variable v covers (not_true (is_own_variable p (slice_get D.vars v.0)) h)
+  mine ty (field (typed of t) k) e is covers h =
+      let b = both_true (has_scalar uses of k) (covers_place_term uses of t) covers in
+      mine_field ty of t k (scalar_no_object of k b.0) (mine_place of t b.1) h
   mine ty (element a indexes) e is covers h = mine_array a (both_true (covers_array uses a) (covers_exprs uses indexes) covers).0 h
   mine ty _ e is covers h = absurd (cc is)
 
   target : (to e : Expr) → (is_changeable uses to || is_ordered uses to e) ≡ true → covers_expr uses to ≡ true → is_outside D.vars p (root to) ≡ true → is_mine D p to ≡ false
   target (typed ty t) e is covers h = mine ty t e is (both_true (covers_type ty) (covers_term uses t) covers).1 h
+
+  copied : (to e : Expr) → covers_copy uses to e ≡ true → is_outside D.vars p (root to) ≡ true → is_mine D p to ≡ false
+  copied (typed ty t) e c h =
+      let a = both_true (is_changeable uses (typed ty t)) (is_same_type ty (type_at e) && (covers_place_term uses ty t && covers_place uses e)) c in
+      let b = both_true (is_same_type ty (type_at e)) (covers_place_term uses ty t && covers_place uses e) a.1 in
+      mine_place ty t (both_true (covers_place_term uses ty t) (covers_place uses e) b.1).0 h
+
+  stored : (to e : Expr) → covers_store uses (to ∷ e ∷ []) ≡ true → is_outside D.vars p (root to) ≡ true → is_mine D p to ≡ false
+  stored to e c h =
+      either ((is_changeable uses to || is_ordered uses to e) && (covers_expr uses to && covers_expr uses e)) (covers_copy uses to e) c
+      (λ s. let a = both_true (is_changeable uses to || is_ordered uses to e) (covers_expr uses to && covers_expr uses e) s in
+      target to e a.0 (both_true (covers_expr uses to) (covers_expr uses e) a.1).0 h)
+      (λ k. copied to e k h)
 
   only_one : (to e : Expr) → Among (to ∷ []) e → to ≡ e
   only_one to e (inl h) = h
@@ -181,10 +237,8 @@ module _ (P : Program) (p : ℕ) (x : Procedure) (is_procedure : slice_get P.dec
   not_plain (source.assign left right) [] c e m h = refl
   not_plain (source.assign left right) (to ∷ []) c e m h = refl
   not_plain (source.assign left right) (to ∷ d ∷ []) c e m h =
-      let a = both_true (is_changeable uses to || is_ordered uses to d) (covers_expr uses to && covers_expr uses d) c in
-      let b = both_true (covers_expr uses to) (covers_expr uses d) a.1 in
       and_first (is_mine D p to) (not (can_raise D d))
-      (target to d a.0 b.0 (ap (λ z. is_outside D.vars p (root z)) (only_one to e m) ∙ h))
+      (stored to d c (ap (λ z. is_outside D.vars p (root z)) (only_one to e m) ∙ h))
   not_plain (source.assign left right) (to ∷ d ∷ more ∷ es) c e m h = absurd (cc c)
   not_plain _ es c e m h = refl
 

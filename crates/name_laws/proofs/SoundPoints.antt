@@ -1,28 +1,27 @@
 -- No chain from what is clean leads to what breaks a rule: so the fields of user types of variables that it mentions carry no issue.
-use Rattle.std.proofs.Common.{◌≡◌, refl, ap, sym, subst, ◌∙◌, ℕ, zero, suc, ◌+◌, Bool, true, false, cond, List, [], ◌∷◌, ◌++◌, length, map, Option, Some, None, slice_get, arith, inl, inr}
-use Rattle.std.specs.Prelude.{◌||◌, option_to_list}
-use Rattle.std.specs.List.{Contains, list_all}
+use Rattle.std.proofs.Common.{◌≡◌, refl, ap, sym, subst, ◌∙◌, ℕ, zero, suc, ◌+◌, Bool, true, false, List, [], ◌∷◌, ◌++◌, length, map, Option, Some, slice_get, arith, inl, inr}
+use Rattle.std.specs.Prelude.{option_to_list}
+use Rattle.std.specs.List.{list_all}
 use Rattle.vb_tree.specs.BoundTree.{Ty}
 use Rattle.vb_tree.specs.BoundTree as types
 use Rattle.vb_tree.specs.declared.declared.VarId.{VarId}
 use Rattle.bound_tree.specs.declared.declared.TypeDecl.{TypeDecl}
 use Rattle.bound_tree.specs.declared.marks.Marks.{Marks}
-use Rattle.bound_tree.specs.Tree.{Variable, Declarations, Program, Line}
+use Rattle.bound_tree.specs.Tree.{Variable, Declarations, Program}
 use Rattle.bound_facts.specs.Clean.{Point, procedure, variable, user_type, Arrow, to_all, owner_point, lettered_point, variable_arrows, type_arrows, procedure_arrows, captured_arrows, arrows, Path, stays, goes, point_broken, IsClean}
 use Rattle.bound_facts.specs.Locks.{user_in}
 use Rattle.bound_facts.specs.Members.{at_option, type_fields}
 use Rattle.written_trees.specs.Facts.{is_flagged_variable}
-use Rattle.vb6_run.specs.Shapes.{Shape, Shapes, declared_shape, field_shapes, group_by, shape_by, user_shape, user_shapes}
+use Rattle.vb6_run.specs.Shapes.{Shape, declared_shape, field_shapes, group_by, shape_by, user_shape, user_shapes}
 use Rattle.run_matches.specs.CleanLines.{IsSoundPoint}
-use Rattle.run_matches.specs.CoveredVariables.{belongs_to, covers_field, covers_field_type, covers_type, covers_user, covers_user_within}
+use Rattle.run_matches.specs.CoveredVariables.{belongs_to, covers_field, covers_field_type, covers_user, covers_user_within}
 use Rattle.run_matches.specs.Pledges.{type_of_shape}
 use Rattle.run_matches.specs.SoundShapes.{AreSoundShapes, IsField, IsSoundShape}
 use Rattle.run_matches.specs.Upgrades.{Upgrade, field_variable, is_flagged, is_unknown, type_of, type_of_some}
 use Rattle.run_statements.specs.Written.{IsWritten}
-use Rattle.name_laws.proofs.Arrows.{before, one_arrow, owned, owned_is_arrow, variable_arrow, variable_is_arrow, variable_unflagged}
+use Rattle.name_laws.proofs.Arrows.{one_arrow, owned, variable_arrow, variable_is_arrow, variable_unflagged}
 use Rattle.name_laws.proofs.CoveredTypes.{FieldType, TypeParts, field_type, type_of_user, type_parts}
-use Rattle.name_laws.proofs.Lists.{Among, among_at, among_left, among_right, both_true, contains, map_among, none_of_both, some_same}
-use Rattle.name_laws.proofs.Words.{simple_type}
+use Rattle.name_laws.proofs.Lists.{Among, among_left, among_right, both_true, map_among, none_of_both, some_same}
 
 -- ---- chains
 

@@ -1,34 +1,32 @@
 -- The structure that is written for a covered user type: where it stands, and that names lead to it.
-use Rattle.std.proofs.Common.{◌≡◌, refl, ap, sym, subst, ◌∙◌, ℕ, zero, suc, ◌+◌, ◌<◌, Bool, true, false, cond, not, ◌&&◌, nat_eq, List, [], ◌∷◌, ◌++◌, length, map, Option, Some, None, option_map, slice_get, codes, arith, inl, inr, true≢false}
-use Rattle.std.specs.Prelude.{◌||◌, ◌⊎◌, filter, find, is_some, option_and_then, position}
+use Rattle.std.proofs.Common.{◌≡◌, refl, ap, sym, subst, ◌∙◌, ℕ, suc, ◌+◌, ◌<◌, Bool, true, false, cond, not, ◌&&◌, nat_eq, List, [], ◌∷◌, ◌++◌, length, Option, Some, None, option_map, slice_get, codes, arith, inl, inr, true≢false}
+use Rattle.std.specs.Prelude.{◌||◌, filter, find, is_some, option_and_then, position}
 use Rattle.std.specs.List.{flat_map, list_all, list_any}
-use Rattle.std.specs.Cmp.Lexicographic.{pointwise}
 use Rattle.std.proofs.lemmas.Bool.{eqb-true}
 use Rattle.up_base.specs.Names.{is_same_name}
-use Rattle.vb_tree.specs.declared.declared.VarId.{VarId}
 use Rattle.vb_tree.specs.Tree.{Module, Member, alone, group, proc}
 use Rattle.vb_tree.specs.Tree as source
 use Rattle.bound_tree.specs.declared.declared.TypeDecl.{TypeDecl}
 use Rattle.bound_tree.specs.Tree.{Declarations}
 use Rattle.bound_facts.specs.Members.{sub_from}
 use Rattle.net_tree.specs.Tree as net
-use Rattle.written_trees.specs.DeclaredMembers.{structure_of, type_name, fields_from}
+use Rattle.written_trees.specs.DeclaredMembers.{structure_of, type_name}
 use Rattle.written_trees.specs.Members.{written_members}
-use Rattle.written_trees.specs.Names.{Scope, is_foreign, is_standard_module, module_at, module_name, name_in, declared_path, type_path, type_path_of}
+use Rattle.written_trees.specs.Names.{Scope, is_standard_module, module_at, module_name, name_in, type_path, type_path_of}
 use Rattle.written_trees.specs.Placing.{Placed, is_type_head}
-use Rattle.written_trees.specs.Projects.{first_numbers, has_initializer, makers, module_scope, written_module, modules_from}
+use Rattle.written_trees.specs.Projects.{first_numbers, makers, module_scope, modules_from}
 use Rattle.net_run.specs.Shapes as written_shape
 use Rattle.net_run.specs.Shapes.{Shape, first_from, is_structure, is_structure_named, members_of, module_in, module_named, named_by, structure_by, structure_or, structure_found, foreign_structure, class_by}
 use Rattle.net_tree.specs.Types.{TypeName}
 use Rattle.run_matches.specs.Shared.{is_module, placed_module}
 use Rattle.run_matches.specs.Upgrades.{Upgrade, home_of, structure_for, structure_number, structure_place}
-use Rattle.run_matches.specs.UserTypes.{declares_type, has_fields, is_type_of, is_type_or_other, suits_type, type_leads, type_leads_home, type_leads_in}
+use Rattle.run_matches.specs.UserTypes.{declares_type, has_fields, is_type_of, suits_type, type_leads, type_leads_home, type_leads_in}
 use Rattle.run_statements.specs.Written.{IsWritten}
 use Rattle.name_laws.proofs.Codes.{module_is}
 use Rattle.name_laws.proofs.CoveredTypes.{among_flat}
 use Rattle.name_laws.proofs.Counting.{found_stands}
 use Rattle.name_laws.proofs.Led.{PlacedAt, first_written, placed_at}
-use Rattle.name_laws.proofs.Lists.{Among, all_among, among_left, among_right, any_among, both_true, flat_among, some_same}
+use Rattle.name_laws.proofs.Lists.{Among, all_among, any_among, both_true, flat_among, some_same}
 use Rattle.name_laws.proofs.Looked.{name_self, not_true, position_at}
 use Rattle.name_laws.proofs.WrittenTypes.{among_filter, count_structures, filter_among, members_structures, own_structures, structures_of, type_below}
 

@@ -1,8 +1,7 @@
 -- The shape of what is written for a covered user type is that of the type.
-use Rattle.std.proofs.Common.{◌≡◌, refl, ap, sym, subst, ◌∙◌, ℕ, ℤ, zero, suc, ◌+◌, ◌*◌, ◌<◌, Bool, true, false, cond, ◌&&◌, nat_eq, List, [], ◌∷◌, ◌++◌, length, map, Option, Some, None, slice_get, append_assoc, arith, inl, inr, ⊎_elim}
+use Rattle.std.proofs.Common.{◌≡◌, refl, ap, sym, subst, ◌∙◌, ℕ, zero, suc, ◌+◌, ◌*◌, ◌<◌, Bool, true, false, cond, List, [], ◌∷◌, ◌++◌, length, map, Option, Some, None, slice_get, append_assoc, arith, inl, inr, ⊎_elim}
 use Rattle.std.specs.Prelude.{◌||◌, ◌⊎◌}
 use Rattle.std.specs.List.{list_all}
-use Rattle.std.specs.Cmp.Lexicographic.{pointwise}
 use Rattle.vb_tree.specs.BoundTree.{Ty}
 use Rattle.vb_tree.specs.BoundTree as types
 use Rattle.vb_tree.specs.declared.declared.VarId.{VarId}
@@ -14,26 +13,25 @@ use Rattle.net_tree.specs.Tree as net
 use Rattle.net_tree.specs.Types as words
 use Rattle.net_tree.specs.Types.{TypeName}
 use Rattle.written_trees.specs.Comments.{Comment, past, texts, up_to}
-use Rattle.written_trees.specs.DeclaredMembers.{field_comments, field_member, field_type, fields_from, line_fields, statement_comments, structure_of}
+use Rattle.written_trees.specs.DeclaredMembers.{field_comments, field_member, field_type, fields_from, line_fields, statement_comments}
 use Rattle.written_trees.specs.Facts.{Facts, is_flagged_variable}
 use Rattle.written_trees.specs.Names.{Scope, type_path, variable_name}
-use Rattle.written_trees.specs.Placing.{Placed}
 use Rattle.written_trees.specs.Projects.{module_scope}
 use Rattle.written_trees.specs.Prologues.{variables_of}
 use Rattle.written_trees.specs.Types.{type_with, variable_type}
 use Rattle.vb6_run.specs.Shapes.{Shape, Shapes, declared_shape, field_shapes, group_by, shape_by, user_shape, user_shapes}
 use Rattle.vb6_run.specs.Shapes as source_shape
 use Rattle.net_run.specs.Shapes as shape
-use Rattle.net_run.specs.Shapes.{fields_by, most_depth, named_by, shape_of, shape_within}
+use Rattle.net_run.specs.Shapes.{fields_by, most_depth, shape_of, shape_within}
 use Rattle.run_matches.specs.CoveredVariables.{covers_field, covers_field_type, covers_type, covers_user, covers_user_within}
 use Rattle.run_matches.specs.Likeness.{HasFieldRank, SameFields, SameShape, flagged_field, no_fields, same_array, same_class, same_field, same_group, same_scalar}
-use Rattle.run_matches.specs.Upgrades.{Upgrade, field_name, field_variable, home_of, is_flagged, is_flagged_field, is_flagged_some, is_unknown, type_of}
+use Rattle.run_matches.specs.Upgrades.{Upgrade, field_name, field_variable, home_of, is_flagged_field, is_flagged_some, is_unknown, type_of}
 use Rattle.run_matches.specs.UserTypes.{fields_declared}
 use Rattle.run_statements.specs.Written.{IsWritten}
 use Rattle.agreeing_laws.proofs.UserShapes.{deeper_covers, group_more}
-use Rattle.name_laws.proofs.CoveredTypes.{FieldType, TypeParts, covers_deeper, depths_same, field_type as type_of_field, type_parts}
+use Rattle.name_laws.proofs.CoveredTypes.{TypeParts, depths_same, type_parts}
 use Rattle.name_laws.proofs.Depths.{settled}
-use Rattle.name_laws.proofs.Lists.{Among, among_append, both_true, map_append, same_numbers, some_same}
+use Rattle.name_laws.proofs.Lists.{Among, among_append, both_true, map_append, same_numbers}
 use Rattle.name_laws.proofs.Owned.{variable_of_statement}
 use Rattle.name_laws.proofs.Structures.{Structure, TypeLed, file_is, number_is_below, path_leads, place_is, structure, type_led}
 use Rattle.name_laws.proofs.Words.{WordOf, simple_type, word_of}

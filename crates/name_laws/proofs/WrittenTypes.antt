@@ -1,21 +1,19 @@
 -- The structures among the members that are written for a module: one for each Type, in order.
-use Rattle.std.proofs.Common.{◌≡◌, refl, ap, sym, subst, ◌∙◌, ℕ, zero, suc, ◌+◌, ◌<◌, Bool, true, false, cond, not, List, [], ◌∷◌, ◌++◌, length, map, Option, Some, None, slice_get, append-nil, arith, inl, inr, ⊎_elim}
-use Rattle.std.specs.Prelude.{◌⊎◌, filter, sum_by}
+use Rattle.std.proofs.Common.{◌≡◌, refl, ap, sym, subst, ◌∙◌, ℕ, zero, suc, ◌+◌, ◌<◌, Bool, true, false, cond, not, List, [], ◌∷◌, ◌++◌, length, map, Option, Some, None, slice_get, append-nil, arith, inl, inr}
+use Rattle.std.specs.Prelude.{filter, sum_by}
 use Rattle.std.specs.List.{flat_map, list_all}
 use Rattle.std.proofs.lemmas.List.Sums.{sum_by-cons}
 use Rattle.vb_tree.specs.declared.value.Value6.{Value6}
 use Rattle.vb_tree.specs.Tree.{Form, Nodes, Module, Member, alone, group, proc}
 use Rattle.vb_tree.specs.Tree as source
-use Rattle.bound_tree.specs.Tree.{Variable, Constant, Procedure, Declarations, Program}
-use Rattle.net_tree.specs.declared.declaration.NetClose.TheVariants.{EndSub, EndFunction}
+use Rattle.bound_tree.specs.Tree.{Constant, Procedure, Program}
 use Rattle.net_tree.specs.declared.declaration.NetVisibility.{NetVisibility}
 use Rattle.net_tree.specs.Tree as net
 use Rattle.written_trees.specs.Arguments.{is_property_kind}
-use Rattle.written_trees.specs.Bodies.{procedure_with}
 use Rattle.written_trees.specs.Comments.{Comment, up_to, past, texts, upgrade_texts}
 use Rattle.written_trees.specs.DeclaredMembers.{member_comments, module_variable, module_constant, constant_by, declared_members, statement_comments, line_members, structure_of, enum_constants, enum_from, group_rules, group_members, is_standard}
 use Rattle.written_trees.specs.Facts.{Facts}
-use Rattle.written_trees.specs.Heads.{is_function, head_of}
+use Rattle.written_trees.specs.Heads.{is_function}
 use Rattle.written_trees.specs.Members.{plain_member, property_member, member_by, stays_inside, procedure_members, written_at, written_member, written_members}
 use Rattle.written_trees.specs.Names.{Scope, procedure_name}
 use Rattle.written_trees.specs.Placing.{Numbers, Placed, placed_members, place_member, behind_member, behind_members, counts_group, last_comments, last_line, is_type_head}

@@ -1,4 +1,4 @@
-use Rattle.expression_laws.proofs.Expressions as stated
+use Rattle.expression_laws.proofs.Agreements as stated
 use Rattle.expression_laws.proofs.laws.scalars_agree.Goals as goal
 
 pub returns : goal.returns

@@ -1,8 +1,8 @@
 -- Names behind the path of a variable: what the path leads to is where they begin.
-use Rattle.std.proofs.Common.{◌≡◌, refl, sym, ap, subst, ◌∙◌, ℕ, Bool, true, false, cond, ◌&&◌, List, [], ◌∷◌, ◌++◌, Option, Some, None}
+use Rattle.std.proofs.Common.{◌≡◌, ap, ◌∙◌, ℕ, Bool, true, false, List, [], ◌∷◌, ◌++◌, Option, Some, None}
 use Rattle.net_tree.specs.Tree.{Module, Member}
 use Rattle.run_base.specs.Positions.{Position}
-use Rattle.net_run.specs.Names.{Scope, Start, starts, Reached, at_place, path_start, frame_start, frame_var, var_in, member_start, module_start, module_member, outer_start, member_reached, named_member, not_found}
+use Rattle.net_run.specs.Names.{Scope, starts, Reached, at_place, path_start, frame_start, var_in, member_start, module_start, module_member, outer_start, member_reached, named_member, not_found}
 use Rattle.net_run.specs.Members.{member_named}
 use Rattle.net_run.specs.Shapes.{Shape, module_named, module_at, members_of}
 use Rattle.net_run.specs.Store as net
