@@ -17,8 +17,8 @@ use Rattle.vb6_run.specs.Programs.{answer_in, is_local_of, owned_from, is_static
 use Rattle.vb6_run.specs.Runnables.{is_class_file}
 use Rattle.run_matches.specs.Callees.{answer_owns, frame_owns, own_of_some, parameter_owns}
 use Rattle.run_matches.specs.CoveredVariables.{are_different, belongs_to, covers_declared, covers_owner, has_extents, is_named_in}
-use Rattle.run_matches.specs.Covered.{covers_body, covers_all_calls, covers_head, covers_kind, covers_names, covers_own, covers_owns, covers_parameter, covers_procedure, covers_result, covers_site, covers_variables, has_result, is_answer_of, is_value_of, is_parameter_of}
-use Rattle.run_matches.specs.Sites.{Own, own_variable, own_constant, own_name, own_variables, own_constants, statement_owns, owns_from, owns_of, Site, site_of, site_lines, first_statement, local_numbers, static_numbers, variable_numbers}
+use Rattle.run_matches.specs.Covered.{covers_body, covers_all_calls, covers_head, covers_kind, covers_names, covers_own, covers_owns, covers_parameter, covers_procedure, covers_result, covers_site, covers_variables, has_result, is_answer_of, is_parameter_of}
+use Rattle.run_matches.specs.Sites.{Own, own_variable, own_constant, own_name, own_variables, own_constants, statement_owns, owns_from, owns_of, Site, site_of, site_lines, first_statement, local_numbers, static_numbers}
 use Rattle.correspondence.specs.Lists.{In}
 use Rattle.correspondence.specs.Uses.{IsAlone}
 use Rattle.correspondence.proofs.Among.{has_any, in_either, in_left, in_map, in_right, from_map}
@@ -290,10 +290,10 @@ module _ (P : Program) (p : ℕ) (s : Site) (C : Covers P p s) (v : ℕ) (x : Va
 
   own_among : belongs_to p x.owner ≡ true → In (own_variable v x) (frame_owns D (Some C.procedure) s)
   own_among h =
-      let each = both_true (list_all (λ (y : Variable). cond (belongs_to p y.owner) (covers_declared y) true) D.vars) (has_extents P) C.vars in
-      let passes = passes_at (λ (y : Variable). cond (belongs_to p y.owner) (covers_declared y) true) D.vars v x each.0 e in
-      let covers : covers_declared x ≡ true = sym (ap {B = Bool} (λ (c : Bool). cond c (covers_declared x) true) h) ∙ passes in
-      among_by x.owner refl h (declared_owner x covers)
+      let each = both_true (list_all (λ (y : Variable). cond (belongs_to p y.owner) (covers_declared D y) true) D.vars) (has_extents P) C.vars in
+      let passes = passes_at (λ (y : Variable). cond (belongs_to p y.owner) (covers_declared D y) true) D.vars v x each.0 e in
+      let covers : covers_declared D x ≡ true = sym (ap {B = Bool} (λ (c : Bool). cond c (covers_declared D x) true) h) ∙ passes in
+      among_by x.owner refl h (declared_owner D x covers)
 
 pub alone_in : (P : Program) (p : ℕ) (s : Site) → site_of P.declarations p ≡ Some s → covers_procedure P p ≡ true → (v : ℕ) (x : Variable)
     → slice_get P.declarations.vars v ≡ Some x → belongs_to p x.owner ≡ true → IsAlone P.declarations p v x

@@ -24,6 +24,7 @@ use Rattle.correspondence.proofs.Support.{support_corresponds}
 use Rattle.run_matches.specs.Sites.{Site, site_of, site_lines, first_statement, sites_from, module_sites}
 use Rattle.run_matches.specs.Upgrades.{Upgrade}
 use Rattle.run_statements.specs.Written.{IsWritten, WrittenProcedure, ProceduresAreWritten, site_scope}
+use Rattle.name_laws.proofs.CoveredTypes.{holds_no_array}
 use Rattle.correspondence.specs.Heads.{HeadCorresponds}
 use Rattle.correspondence.specs.Corresponds.{ProcedureCorresponds, ModuleCorresponds, ModulesCorrespond, FilesCorrespond}
 use Rattle.written_trees.specs.Heads.{head_of}
@@ -50,7 +51,7 @@ procedure_corresponds U support p s x is e plain W =
       names = λ h. alone_in U.program p s e h;
       supported =
           lines_supported U.program (inside_procedure S p) refl p (labels (site_lines s)) U.facts U.written U.written.support support W.number W.code W.is_code
-          (zip (code_sets S p (first_statement s) 0 (site_lines s)) b.lines) lines;
+          (zip (code_sets S p (first_statement s) 0 (site_lines s)) b.lines) (holds_no_array U is) lines;
       prologue = prologue_kept U.program S refl s p at b W.code.procedure head W.close W.is_written;
       number = W.number;
       is_number = W.is_number;

@@ -9,7 +9,7 @@ use Rattle.vb_tree.specs.Tree.{CaseItem, Form, ReDimItem}
 use Rattle.vb_tree.specs.Tree as source
 use Rattle.bound_tree.specs.declared.body.Mention.{Mention}
 use Rattle.bound_tree.specs.Labels.{Label}
-use Rattle.bound_tree.specs.Tree.{Program, Expr, typed, variable, Line, Term, library, Exprs, no_exprs, next_expr, Declarations, call, no_object, of_object, Passed, err_raise, err_clear}
+use Rattle.bound_tree.specs.Tree.{Program, Expr, typed, field, variable, Line, Term, library, Exprs, no_exprs, next_expr, Declarations, call, no_object, of_object, Passed, err_raise, err_clear}
 use Rattle.vb_tree.specs.declared.bound.LibCall.{LibCall}
 use Rattle.vb_tree.specs.declared.bound.LibCall.TheVariants as lib
 use Rattle.bound_facts.specs.Locks.{is_same_type}
@@ -21,20 +21,21 @@ use Rattle.net_tree.specs.Tree.{Exp}
 use Rattle.net_tree.specs.Tree as net
 use Rattle.written_trees.specs.Exprs.{called, exp_of, is_bare, passed_of}
 use Rattle.written_trees.specs.Lines.{as_call, case_items, empty_extents, first_exp, items_exp, line_of, resized_array, step_exp, call_line}
-use Rattle.written_trees.specs.Names.{Scope, Path, module_name, procedure_path}
-use Rattle.written_trees.specs.Puts.{formed, order_shows, put_type, rank_of, store_by, store_line, target_rank}
+use Rattle.written_trees.specs.Names.{Scope, Path, copy_name, module_name, procedure_path, support}
+use Rattle.written_trees.specs.Puts.{formed, order_shows, put_type, rank_of, store_by, store_line, stored_value, target_rank, user_copy}
 use Rattle.written_trees.specs.Types.{element_type, written_type}
 use Rattle.run_matches.specs.CoveredVariables.{covers_type, is_reached}
-use Rattle.run_matches.specs.CoveredExprs.{covers_expr, covers_term, covers_value, is_variable, covers_library, covers_exprs, uses_in, is_bound, covers_bounded}
-use Rattle.run_matches.specs.CoveredLines.{covers_condition, covers_counter, covers_counting, covers_items, covers_step, covers_store, covers_form, covers_line, is_comparison, is_counter, covers_box, covers_call, covers_called_in, is_box, covers_erased, covers_resizes}
+use Rattle.run_matches.specs.Covered.{is_user}
+use Rattle.run_matches.specs.CoveredExprs.{Uses, covers_place, has_inner, is_changeable, covers_expr, covers_term, covers_value, is_variable, covers_library, covers_exprs, uses_in, is_bound, covers_bounded}
+use Rattle.run_matches.specs.CoveredLines.{covers_copy, is_ordered, covers_condition, covers_counter, covers_counting, covers_items, covers_step, covers_store, covers_form, covers_line, is_comparison, is_counter, covers_box, covers_call, covers_called_in, is_box, covers_erased, covers_resizes}
 use Rattle.run_matches.specs.Formed.{is_formed, is_row_of_call, are_formed}
-use Rattle.correspondence.specs.Uses.{redim_exps, resize_exprs, FormCorresponds, SameUses, case_exps, names, total, uses, CallCorresponds, IsAlone, IsSharedAlone, is_call_in, is_call_of, path_names, shared_names}
-use Rattle.correspondence.proofs.NamedCalls.{neither, none_of_both, path_other, shared_path_other}
+use Rattle.correspondence.specs.Uses.{redim_exps, resize_exprs, FormCorresponds, SameUses, case_exps, names, total, uses, CallCorresponds, IsAlone, IsFirst, IsSharedAlone, is_call_in, is_call_of, is_group_named, path_names, shared_names}
+use Rattle.correspondence.proofs.NamedCalls.{neither, none_of_both}
 use Rattle.correspondence.proofs.Among.{or_cases}
 use Rattle.correspondence.proofs.NamedArrays.{IsRight}
 use Rattle.correspondence.proofs.Resizes.{erased_names, resizes_all, resizes_names}
-use Rattle.correspondence.proofs.Naming.{expr_names, items_names, assigned_names, box_names, raised_names, term_names}
-use Rattle.correspondence.proofs.Variables.{no_support, own_use, shared_use}
+use Rattle.correspondence.proofs.Naming.{expr_names, items_names, assigned_names, box_names, copied_names, raised_names, term_names}
+use Rattle.correspondence.proofs.Rights.{any_either, is_shared_test, own_right, shared_right}
 
 no_bound : (g : LibCall) → is_box g ≡ true → is_bound g ≡ true → ⊥
 no_bound lib.MsgBox h k = absurd (cc k)
@@ -55,6 +56,29 @@ stored_plain S to e c =
 pub type_covered : (P : Program) (p : ℕ) (mentions : List Mention) (e : Expr) → covers_expr (uses_in P p mentions) e ≡ true → covers_type (type_at e) ≡ true
 type_covered P p mentions (typed ty t) h = (both_true (covers_type ty) (covers_term (uses_in P p mentions) t) h).0
 
+-- a user type that is assigned is copied with what it holds
+copied_value : (S : Scope) (count : Path → ℕ) → ((name : List ℕ) → count (support name) ≡ 0) → (rank : ℕ) (ty : Ty) (a : Exp) → is_user ty ≡ true
+    → names count (formed S rank ty a) ≡ names count a
+copied_value S count no_support rank (types.user t) a h = by (S.facts.holds_array t)
+  where
+    by : (b : Bool) → names count (user_copy b t a) ≡ names count a
+    by true = let none = no_support (copy_name t) in omega (arith, none)
+    by false = refl
+copied_value S count no_support rank _ a h = absurd (cc h)
+
+pub user_place : (P : Program) (p : ℕ) (mentions : List Mention) (e : Expr) → covers_place (uses_in P p mentions) e ≡ true → is_user (type_at e) ≡ true
+user_place P p mentions (typed (types.user t) u) h = refl
+user_place P p mentions (typed ty (variable k q)) h = absurd (cc h)
+user_place P p mentions (typed ty (field e k)) h =
+    absurd (cc (both_true (has_inner (uses_in P p mentions) (type_at e) k ty) (covers_place (uses_in P p mentions) e) h).0)
+user_place P p mentions (typed ty _) h = absurd (cc h)
+
+pub copy_parts : (cover : Uses) (to e : Expr) → covers_copy cover to e ≡ true → (covers_place cover to ≡ true) × (covers_place cover e ≡ true)
+copy_parts cover to e h =
+    let a = both_true (is_changeable cover to) (is_same_type (type_at to) (type_at e) && (covers_place cover to && covers_place cover e)) h in
+    let b = both_true (is_same_type (type_at to) (type_at e)) (covers_place cover to && covers_place cover e) a.1 in
+    both_true (covers_place cover to) (covers_place cover e) b.1
+
 module _ (P : Program) (S : Scope) (same : S.declarations ≡ P.declarations) (p : ℕ) (labels : List (Option Label)) (mentions : List Mention) where
   -- what holds of any count that is right
   abbrev Counts : List Expr → List Exp → Type 0
@@ -64,33 +88,22 @@ module _ (P : Program) (S : Scope) (same : S.declarations ≡ P.declarations) (p
 
   pub same_uses : (es : List Expr) (ws : List Exp) → Counts es ws → SameUses S p es ws
   same_uses es ws each = record {
-    own = λ v x at own alone free.
+    own = λ v x at own alone first free.
         let here : slice_get P.declarations.vars v ≡ Some x = ap (λ (d : Declarations). slice_get d.vars v) (sym same) ∙ at in
         let apart : IsAlone P.declarations p v x = subst (λ (d : Declarations). IsAlone d p v x) same alone in
-        each v (path_names x.name) (is_call_of S.declarations x.name)
-        record {
-          no_support = λ n. refl;
-          no_strings = λ n. refl;
-          no_math = refl;
-          used = own_use P S same p v x here own apart mentions;
-          uncalled = λ ty q qualified args e. path_other S.declarations S refl x.name qualified q.0 e;
-        }
-        free;
-    shared = λ v x file at of reached alone free.
+        let leads : IsFirst P.declarations x = subst (λ (d : Declarations). IsFirst d x) same first in
+        each v (path_names (is_user x.ty) x.name) (is_call_of S.declarations x.name) (own_right P S same p v x here own apart leads mentions) free;
+    shared = λ v x file at of reached alone first free others.
         let here : slice_get P.declarations.vars v ≡ Some x = ap (λ (d : Declarations). slice_get d.vars v) (sym same) ∙ at in
         let there : is_reached P.declarations p v x.name x.owner ≡ true = subst (λ (d : Declarations). is_reached d p v x.name x.owner ≡ true) same reached in
         let apart : IsSharedAlone P.declarations v file x = subst (λ (d : Declarations). IsSharedAlone d v file x) same alone in
-        subst (λ (d : Declarations). total (uses v) es ≡ total (names (shared_names (nat_eq S.file file) (module_name d file) x.name)) ws) (sym same)
-        (each v (shared_names (nat_eq S.file file) (module_name P.declarations file) x.name)
-        (is_call_in P.declarations (module_name P.declarations file) x.name)
-        record {
-          no_support = no_support P S same p v x file here of there apart;
-          no_strings = λ n. refl;
-          no_math = refl;
-          used = shared_use P S same p v x file here of there apart mentions;
-          uncalled = λ ty q qualified args e. shared_path_other P.declarations S same file x.name qualified q.0 e;
-        }
-        (subst (λ (d : Declarations). list_any (is_call_in d (module_name d file) x.name) (flat_map nodes es) ≡ false) same free));
+        let leads : IsFirst P.declarations x = subst (λ (d : Declarations). IsFirst d x) same first in
+        subst (λ (d : Declarations). total (uses v) es ≡ total (names (shared_names (is_user x.ty) (nat_eq S.file file) (module_name d file) x.name)) ws) (sym same)
+        (each v (shared_names (is_user x.ty) (nat_eq S.file file) (module_name P.declarations file) x.name)
+        (is_shared_test P file x) (shared_right P S same p v x file here of there apart leads mentions)
+        (any_either (is_call_in P.declarations (module_name P.declarations file) x.name) (is_group_named P.declarations (module_name P.declarations file)) (flat_map nodes es)
+        (subst (λ (d : Declarations). list_any (is_call_in d (module_name d file) x.name) (flat_map nodes es) ≡ false) same free)
+        (subst (λ (d : Declarations). list_any (is_group_named d (module_name d file)) (flat_map nodes es) ≡ false) same others)));
   }
 
   abbrev IsCall : List Expr → Type 0
@@ -109,21 +122,39 @@ module _ (P : Program) (S : Scope) (same : S.declarations ≡ P.declarations) (p
   assigned target value (to ∷ e ∷ d ∷ es) h f = absurd (cc h)
   assigned target value (to ∷ e ∷ []) h f =
       let cover = uses_in P p mentions in
-      let first = both_true _ (covers_expr cover to && covers_expr cover e) h in
-      let both = both_true (covers_expr cover to) (covers_expr cover e) first.1 in
-      let forms = both_true (is_formed to) (list_all is_formed (e ∷ [])) f in
-      let form = both_true (is_formed e) true forms.1 in
-      subst (FormCorresponds S p (source.assign target value) (to ∷ e ∷ [])) (sym (stored_plain S to e (type_covered P p mentions to both.0)))
-      (stored target value (to ∷ e ∷ []) (order_shows S.declarations to e) (put_type (type_at to)) (exp_of S to) (exp_of S e)
-      (same_uses (to ∷ e ∷ []) (exp_of S to ∷ exp_of S e ∷ [])
-      (λ v count test right free. assigned_names P S p v count test mentions right to e both.0 both.1 forms.0 form.0 free)))
+      by (or_cases ((is_changeable cover to || is_ordered cover to e) && (covers_expr cover to && covers_expr cover e)) (covers_copy cover to e) h)
+    where
+      scalar : (covers_expr (uses_in P p mentions) to && covers_expr (uses_in P p mentions) e) ≡ true
+          → FormCorresponds S p (source.assign target value) (to ∷ e ∷ []) (line_of S labels (source.assign target value) (to ∷ e ∷ []))
+      scalar c =
+          let both = both_true (covers_expr (uses_in P p mentions) to) (covers_expr (uses_in P p mentions) e) c in
+          let forms = both_true (is_formed to) (list_all is_formed (e ∷ [])) f in
+          let form = both_true (is_formed e) true forms.1 in
+          subst (FormCorresponds S p (source.assign target value) (to ∷ e ∷ [])) (sym (stored_plain S to e (type_covered P p mentions to both.0)))
+          (stored target value (to ∷ e ∷ []) (order_shows S.declarations to e) (put_type (type_at to)) (exp_of S to) (exp_of S e)
+          (same_uses (to ∷ e ∷ []) (exp_of S to ∷ exp_of S e ∷ [])
+          (λ v count test right free. assigned_names P S same p v count test mentions right to e both.0 both.1 forms.0 form.0 free)))
+
+      by : (((is_changeable (uses_in P p mentions) to || is_ordered (uses_in P p mentions) to e)
+          && (covers_expr (uses_in P p mentions) to && covers_expr (uses_in P p mentions) e)) ≡ true) ⊎ (covers_copy (uses_in P p mentions) to e ≡ true)
+          → FormCorresponds S p (source.assign target value) (to ∷ e ∷ []) (line_of S labels (source.assign target value) (to ∷ e ∷ []))
+      by (inl c) =
+          scalar
+          (both_true (is_changeable (uses_in P p mentions) to || is_ordered (uses_in P p mentions) to e)
+          (covers_expr (uses_in P p mentions) to && covers_expr (uses_in P p mentions) e) c).1
+      by (inr c) =
+          let places = copy_parts (uses_in P p mentions) to e c in
+          stored target value (to ∷ e ∷ []) (order_shows S.declarations to e) (put_type (type_at to)) (exp_of S to) (stored_value S to e)
+          (same_uses (to ∷ e ∷ []) (exp_of S to ∷ stored_value S to e ∷ [])
+          (λ v count test right free. copied_names P S same p v count test mentions right to e places.0 places.1 free (stored_value S to e)
+          (copied_value S count right.no_support (target_rank S to) (type_at to) (exp_of S e) (user_place P p mentions to places.0))))
 
   resized : (preserve : Bool) (items : List ReDimItem) (es : List Expr) → covers_resizes (uses_in P p mentions) preserve (resizes items es) ≡ true
       → list_all is_formed es ≡ true → FormCorresponds S p (source.redim preserve items) es (line_of S labels (source.redim preserve items) es)
   resized preserve items es h f = (
     refl,
     same_uses (flat_map resize_exprs (resizes items es)) (flat_map redim_exps (map (resized_array S) (resizes items es)))
-        (λ v count test right free. resizes_names P S p v count test mentions right preserve (resizes items es) h (resizes_all is_formed items es f) free),
+        (λ v count test right free. resizes_names P S same p v count test mentions right preserve (resizes items es) h (resizes_all is_formed items es f) free),
   )
 
   erased : (array : source.Exp) (es : List Expr) → covers_erased (uses_in P p mentions) es ≡ true
@@ -133,14 +164,14 @@ module _ (P : Program) (S : Scope) (same : S.declarations ≡ P.declarations) (p
       let ty = written_type S (element_type (type_at e)) in
       let rank = rank_of S.facts (declared_at S.declarations e) in
       same_uses (e ∷ []) (exp_of S e ∷ net.new_array ty (empty_extents rank) ∷ [])
-      (λ v count test right free. erased_names P S p v count test mentions right e ty rank h)
+      (λ v count test right free. erased_names P S same p v count test mentions right e ty rank h)
   erased array (d ∷ e ∷ es) h = absurd (cc h)
 
   condition_uses : (es : List Expr) → covers_condition (uses_in P p mentions) es ≡ true → list_all is_formed es ≡ true
       → Counts es (first_exp S es ∷ [])
   condition_uses [] h f v count test right free = absurd (cc h)
   condition_uses (e ∷ []) h f v count test right free =
-      ap {B = ℕ} (λ n. n + 0) (expr_names P S p v count test mentions right e h (both_true (is_formed e) true f).0 (none_of_both test (nodes e) [] free).0)
+      ap {B = ℕ} (λ n. n + 0) (expr_names P S same p v count test mentions right e h (both_true (is_formed e) true f).0 (none_of_both test (nodes e) [] free).0)
   condition_uses (e ∷ d ∷ es) h f v count test right free = absurd (cc h)
 
   items_use : (items : List CaseItem) (es : List Expr) → covers_items (uses_in P p mentions) items es ≡ true → list_all is_formed es ≡ true
@@ -153,7 +184,7 @@ module _ (P : Program) (S : Scope) (same : S.declarations ≡ P.declarations) (p
       let a = both_true (covers_expr cover e) (covers_items cover items es) h in
       let b = both_true (is_formed e) (list_all is_formed es) f in
       let parted = none_of_both test (nodes e) (flat_map nodes es) free in
-      let one = expr_names P S p v count test mentions right e a.0 b.0 parted.0 in
+      let one = expr_names P S same p v count test mentions right e a.0 b.0 parted.0 in
       let more = items_use items es a.1 b.1 v count test right parted.1 in
       omega (arith, one, more)
   items_use (source.case_range y z ∷ items) [] h f v count test right free = absurd (cc h)
@@ -166,8 +197,8 @@ module _ (P : Program) (S : Scope) (same : S.declarations ≡ P.declarations) (p
       let g = both_true (is_formed e) (list_all is_formed es) b.1 in
       let parted = none_of_both test (nodes d) (flat_map nodes (e ∷ es)) free in
       let others = none_of_both test (nodes e) (flat_map nodes es) parted.1 in
-      let low = expr_names P S p v count test mentions right d a.0 b.0 parted.0 in
-      let high = expr_names P S p v count test mentions right e c.0 g.0 others.0 in
+      let low = expr_names P S same p v count test mentions right d a.0 b.0 parted.0 in
+      let high = expr_names P S same p v count test mentions right e c.0 g.0 others.0 in
       let more = items_use items es c.1 g.1 v count test right others.1 in
       omega (arith, low, high, more)
   items_use (source.case_is o y ∷ items) [] h f v count test right free = absurd (cc h)
@@ -177,7 +208,7 @@ module _ (P : Program) (S : Scope) (same : S.declarations ≡ P.declarations) (p
       let a = both_true (covers_expr cover e) (covers_items cover items es) k.1 in
       let b = both_true (is_formed e) (list_all is_formed es) f in
       let parted = none_of_both test (nodes e) (flat_map nodes es) free in
-      let one = expr_names P S p v count test mentions right e a.0 b.0 parted.0 in
+      let one = expr_names P S same p v count test mentions right e a.0 b.0 parted.0 in
       let more = items_use items es a.1 b.1 v count test right parted.1 in
       omega (arith, one, more)
 
@@ -198,11 +229,11 @@ module _ (P : Program) (S : Scope) (same : S.declarations ≡ P.declarations) (p
       let first_parts = none_of_both test (nodes e) (flat_map nodes (start ∷ limit ∷ steps)) free in
       let start_parts = none_of_both test (nodes start) (flat_map nodes (limit ∷ steps)) first_parts.1 in
       let limit_parts = none_of_both test (nodes limit) (flat_map nodes steps) start_parts.1 in
-      let counted = expr_names P S p v count test mentions right e g.1 k.0 first_parts.0 in
+      let counted = expr_names P S same p v count test mentions right e g.1 k.0 first_parts.0 in
       let first =
-      expr_names P S p v count test mentions right start (both_true (is_same_type ty (type_at start)) (covers_expr cover start) i.0).1 l.0 start_parts.0 in
+      expr_names P S same p v count test mentions right start (both_true (is_same_type ty (type_at start)) (covers_expr cover start) i.0).1 l.0 start_parts.0 in
       let last =
-      expr_names P S p v count test mentions right limit (both_true (is_same_type ty (type_at limit)) (covers_expr cover limit) j.0).1 m.0 limit_parts.0 in
+      expr_names P S same p v count test mentions right limit (both_true (is_same_type ty (type_at limit)) (covers_expr cover limit) j.0).1 m.0 limit_parts.0 in
       let pace = by_step steps j.1 m.1 limit_parts.1 in
       omega (arith, counted, first, last, pace)
     where
@@ -211,7 +242,7 @@ module _ (P : Program) (S : Scope) (same : S.declarations ≡ P.declarations) (p
       by_step [] c g n = refl
       by_step (s ∷ []) c g n =
           let one =
-          expr_names P S p v count test mentions right s (both_true (is_same_type (type_at e) (type_at s)) (covers_expr (uses_in P p mentions) s) c).1
+          expr_names P S same p v count test mentions right s (both_true (is_same_type (type_at e) (type_at s)) (covers_expr (uses_in P p mentions) s) c).1
           (both_true (is_formed s) true g).0 (none_of_both test (nodes s) [] n).0 in
           omega (arith, one)
       by_step (s ∷ d ∷ ss) c g n = absurd (cc c)
@@ -242,7 +273,7 @@ module _ (P : Program) (S : Scope) (same : S.declarations ≡ P.declarations) (p
         refl,
         refl,
         same_uses (typed ty (library lib.MsgBox (next_expr e no_exprs)) ∷ []) (exp_of S e ∷ [])
-            (λ v count test right free. box_names P S p v count test mentions right ty e both.0 form.0 free),
+            (λ v count test right free. box_names P S same p v count test mentions right ty e both.0 form.0 free),
       )
   boxed ty _ args box h f = absurd (cc box)
 
@@ -267,7 +298,7 @@ module _ (P : Program) (S : Scope) (same : S.declarations ≡ P.declarations) (p
       counted v count test right free =
           let whole = none_of_both test (nodes (typed ty (call q qualified no_object args))) [] free in
           let own = neither (test (typed ty (call q qualified no_object args))) (list_any test (nodes_in (call q qualified no_object args))) whole.0 in
-          ap {B = ℕ} (λ n. n + 0) (term_names P S p v count test mentions right ty (call q qualified no_object args) h f own.0 own.1)
+          ap {B = ℕ} (λ n. n + 0) (term_names P S same p v count test mentions right ty (call q qualified no_object args) h f own.0 own.1)
 
       by : (b : Bool) → Counts (typed ty (call q qualified no_object args) ∷ []) (called b (net.path (procedure_path S qualified q.0)) (passed_of S q.0 0 args) ∷ [])
           → CallCorresponds S p (typed ty (call q qualified no_object args) ∷ []) (as_call (called b (net.path (procedure_path S qualified q.0)) (passed_of S q.0 0 args)))
@@ -286,7 +317,7 @@ module _ (P : Program) (S : Scope) (same : S.declarations ≡ P.declarations) (p
         refl,
         refl,
         same_uses (typed ty (err_raise e) ∷ []) (exp_of S e ∷ [])
-            (λ v count test right free. raised_names P S p v count test mentions right ty e h form.1 free),
+            (λ v count test right free. raised_names P S same p v count test mentions right ty e h form.1 free),
       )
   called_in ty err_clear h f = (refl, refl)
   called_in ty _ h f = absurd (cc h)
@@ -303,7 +334,7 @@ module _ (P : Program) (S : Scope) (same : S.declarations ≡ P.declarations) (p
     items_exp S es,
     refl,
     refl,
-    same_uses es (items_exp S es ∷ []) (λ v count test right free. items_names P S p v count test mentions right es h f free),
+    same_uses es (items_exp S es ∷ []) (λ v count test right free. items_names P S same p v count test mentions right es h f free),
   )
   form_corresponds (source.if_head condition) es h f = same_uses es (first_exp S es ∷ []) (condition_uses es h f)
   form_corresponds (source.line_if condition) es h f = same_uses es (first_exp S es ∷ []) (condition_uses es h f)

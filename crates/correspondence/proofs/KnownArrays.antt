@@ -1,7 +1,6 @@
 -- The paths in what is written for uses of variables and arrays are known.
-use Rattle.std.proofs.Common.{◌≡◌, ℕ, zero, suc, ℤ, Bool, true, false, ◌&&◌, cond, List, [], ◌∷◌, ◌++◌, map, Option, Some, None, refl, sym, subst, ap, ◌∙◌, true≢false, inr}
-use Rattle.std.specs.List.{flat_map, list_all}
-use Rattle.std.specs.Prelude.{◌⊎◌, codes, is_some}
+use Rattle.std.proofs.Common.{◌≡◌, ℕ, zero, suc, ℤ, Bool, true, false, cond, List, [], ◌∷◌, ◌++◌, Option, Some, None, refl, sym, subst, ap, ◌∙◌, true≢false, inl, inr}
+use Rattle.std.specs.Prelude.{codes}
 use Rattle.up_base.proofs.Lists.{both_true}
 use Rattle.std.specs.Cmp.Lexicographic.{bytes_decides}
 use Rattle.vb_tree.specs.BoundTree as types
@@ -11,15 +10,12 @@ use Rattle.vb_tree.specs.declared.bound.LibCall.TheVariants as lib
 use Rattle.vb_tree.specs.declared.declared.VarId.{VarId}
 use Rattle.vb_tree.specs.ProjectLines.{is_reserved}
 use Rattle.bound_tree.specs.declared.body.Mention.{Mention}
-use Rattle.bound_tree.specs.Tree.{Program, Expr, typed, variable, Exprs, no_exprs, next_expr, by_reference}
-use Rattle.bound_facts.specs.Node.{declared_at, type_at}
+use Rattle.bound_tree.specs.Tree.{Program, Expr, typed, variable, Exprs, no_exprs, next_expr}
 use Rattle.net_tree.specs.Spelling.{is_same_text}
 use Rattle.net_tree.specs.Tree.{Exp}
-use Rattle.net_tree.specs.Tree as net
 use Rattle.support_text.specs.Assignments.{the_put_boolean, the_put_byte, the_put_decimal, the_put_integer, the_put_short, the_put_string}
 use Rattle.support_text.specs.Bounds.{the_at, the_hi, the_lo, the_top}
 use Rattle.support_text.specs.Errors.{the_err_number}
-use Rattle.written_trees.specs.Arguments.{argument_exp}
 use Rattle.written_trees.specs.Conversions.{support_call, two}
 use Rattle.written_trees.specs.Exprs.{exp_of, exps_of, index_at, indexes_of, is_zero, library_of}
 use Rattle.written_trees.specs.Library.{low_at, low_exp}
@@ -94,15 +90,9 @@ module _ (P : Program) (S : Scope) (same : S.declarations ≡ P.declarations) (p
       (known_path (owner_path S q found.0.name found.0.owner) (path_is P S same p k.0 q found.0 found.1), tt)
 
   pub array_known : (e : Expr) → covers_array (uses_in P p mentions) e ≡ true → HasKnown (exp_of S e)
-  array_known (typed (types.array element rank) (variable k q)) h = use_known k q (types.array element rank) (inr (element, h))
+  array_known (typed (types.array element rank) (variable k q)) h = use_known k q (types.array element rank) (inr (inl (element, h)))
   array_known (typed (types.array element rank) _) h = absurd (cc h)
   array_known (typed _ t) h = absurd (cc h)
-
-  -- an array that is given by reference
-  pub array_given : (by_address : Bool) (e : Expr) → covers_array (uses_in P p mentions) e ≡ true → HasKnown (exp_of S e)
-      → HasKnown (argument_exp S by_address (by_reference e) (exp_of S e))
-  array_given by_address (typed (types.array element rank) t) h k = k
-  array_given by_address (typed _ t) h k = absurd (cc h)
 
   pub bound_known : (ty : Ty) (g : LibCall) (args : Exprs) → is_bound g ≡ true → covers_bounded (uses_in P p mentions) args ≡ true
       → HasKnown (library_of S ty g args)

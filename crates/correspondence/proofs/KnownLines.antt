@@ -1,5 +1,5 @@
 -- The paths in what is written for a covered line or for a replaced one are known.
-use Rattle.std.proofs.Common.{◌≡◌, ℕ, Bool, true, false, ◌&&◌, cond, List, [], ◌∷◌, ◌++◌, map, Option, refl, sym, subst, suc, inl, inr}
+use Rattle.std.proofs.Common.{◌≡◌, ℕ, Bool, true, false, ◌&&◌, cond, List, [], ◌∷◌, ◌++◌, map, Option, refl, sym, ap, subst, suc, inl, inr}
 use Rattle.std.specs.List.{flat_map, list_all}
 use Rattle.std.specs.Prelude.{◌||◌, ◌⊎◌}
 use Rattle.up_base.proofs.Lists.{both_true}
@@ -10,30 +10,32 @@ use Rattle.vb_tree.specs.Tree.{CaseItem, Form}
 use Rattle.vb_tree.specs.Tree as source
 use Rattle.bound_tree.specs.declared.body.Mention.{Mention}
 use Rattle.bound_tree.specs.Labels.{Label}
-use Rattle.bound_tree.specs.Tree.{Program, Expr, typed, Term, constant, variable, element, library, unary, binary, convert, Line, Exprs, no_exprs, next_expr, call, no_object, of_object, by_value, by_reference, Passed, no_passed, next_passed, err_number, err_raise, err_clear}
+use Rattle.bound_tree.specs.Tree.{Program, Expr, typed, Term, constant, variable, field, element, library, unary, binary, convert, Line, Exprs, no_exprs, next_expr, call, no_object, of_object, by_value, by_reference, Passed, no_passed, next_passed, err_number, err_raise, err_clear}
 use Rattle.bound_facts.specs.Locks.{is_same_type}
 use Rattle.bound_facts.specs.Node.{declared_at, type_at, is_variant}
 use Rattle.bound_facts.specs.Parts.{Extent, Resize, resizes}
 use Rattle.net_tree.specs.declared.expression.NetBin.TheVariants as op
 use Rattle.net_tree.specs.Tree.{Exp}
 use Rattle.net_tree.specs.Tree as net
-use Rattle.written_trees.specs.Arguments.{argument_exp, copy_by, has_address, in_parentheses, is_copied, kept, takes_reference, has_reference, temporary_exp}
+use Rattle.written_trees.specs.Arguments.{argument_exp, copy_by, has_address, in_parentheses, is_copied, kept, needs_copy, takes_reference, has_reference, temporary_exp}
 use Rattle.written_trees.specs.Exprs.{called, exp_of, indexes_of, is_bare, library_of, passed_of, term_exp, exps_of}
 use Rattle.written_trees.specs.Lines.{case_items, empty_extents, erase_line, extent_exp, extents_exps, resized_array, first_exp, for_line, printed_item, joined_items, items_exp, line_of, flagged_line, print_name, step_exp, as_call, call_line}
 use Rattle.written_trees.specs.Literals.{is_hexadecimal}
 use Rattle.written_trees.specs.Names.{Scope, procedure_path}
-use Rattle.written_trees.specs.Puts.{order_shows, rank_of}
+use Rattle.written_trees.specs.Facts.{Facts, holds_array}
+use Rattle.written_trees.specs.Puts.{formed, order_shows, put_type, rank_of, store_by, target_rank, user_copy}
 use Rattle.written_trees.specs.Operators.{typed_operator, typed_unary, operand, is_product_in_currency, variant_operator, variant_unary}
-use Rattle.run_matches.specs.CoveredVariables.{covers_type}
-use Rattle.run_matches.specs.CoveredExprs.{covers_operator, covers_expr, covers_term, covers_exprs, covers_value, is_variable, covers_library, covers_passed, uses_in, covers_array, covers_bounded, is_bound, is_passable}
-use Rattle.run_matches.specs.CoveredLines.{covers_condition, covers_counter, covers_counting, covers_items, covers_step, covers_store, covers_form, covers_line, is_comparison, is_counter, covers_box, covers_call, is_box, covers_called_in, covers_erased, covers_extent, covers_low, covers_resize, covers_resizes}
-use Rattle.run_matches.specs.Covered.{covers_names}
+use Rattle.run_matches.specs.CoveredVariables.{covers_type, covers_user}
+use Rattle.run_matches.specs.CoveredExprs.{Uses, covers_place, has_scalar, is_changeable, covers_operator, covers_expr, covers_term, covers_exprs, covers_value, is_variable, covers_library, covers_passed, uses_in, covers_array, covers_bounded, is_bound, is_passable}
+use Rattle.run_matches.specs.CoveredLines.{covers_copy, is_ordered, covers_condition, covers_counter, covers_counting, covers_items, covers_step, covers_store, covers_form, covers_line, is_comparison, is_counter, covers_box, covers_call, is_box, covers_called_in, covers_erased, covers_extent, covers_low, covers_resize, covers_resizes}
+use Rattle.run_matches.specs.Covered.{covers_names, is_user}
 use Rattle.run_matches.specs.Formed.{is_formed}
 use Rattle.correspondence.specs.Paths.{paths_of_case, paths_of_exp, paths_of_line, paths_of_option, paths_of_exps, paths_of_redim}
-use Rattle.correspondence.proofs.CoveredLines.{stored_plain, type_covered}
+use Rattle.correspondence.proofs.CoveredLines.{copy_parts, stored_plain, type_covered, user_place}
 use Rattle.correspondence.proofs.Among.{or_cases}
 use Rattle.correspondence.proofs.Variables.{passed_cases}
-use Rattle.correspondence.proofs.KnownArrays.{array_given, array_known, bound_known, empty_known, indexes_known, is_err_number, is_top, stored_known, use_known}
+use Rattle.correspondence.proofs.KnownPlaces.{field_known, place_flat, place_known}
+use Rattle.correspondence.proofs.KnownArrays.{array_known, bound_known, empty_known, indexes_known, is_err_number, is_top, stored_known, use_known}
 use Rattle.correspondence.proofs.Naming.{no_variant, neither_variant}
 use Rattle.correspondence.proofs.Resizes.{resize_parts}
 use Rattle.correspondence.proofs.KnownLibrary.{library_known}
@@ -46,21 +48,20 @@ call_known : (b : Bool) (names : List (List ℕ)) (es : net.Exps) → IsKnown na
 call_known true names es h k = (h, tt)
 call_known false names es h k = (h, k)
 
--- an argument by value
-argument_known : (S : Scope) (by_address : Bool) (e : Expr) → covers_type (type_at e) ≡ true → HasKnown (exp_of S e)
+-- an argument by value that isn't copied
+argument_known : (S : Scope) (by_address : Bool) (e : Expr) → needs_copy S.facts e ≡ false → HasKnown (exp_of S e)
     → HasKnown (argument_exp S by_address (by_value e) (exp_of S e))
 argument_known S true e h k =
     subst (λ (b : Bool). HasKnown (cond b (copy_by (type_at e) (exp_of S e)) (in_parentheses (has_address S.declarations (kept e)) (exp_of S e))))
-    (sym (no_copy S.facts (type_at e) (is_copied e) h)) (by (has_address S.declarations (kept e)))
+    (sym h) (by (has_address S.declarations (kept e)))
   where
     by : (b : Bool) → HasKnown (in_parentheses b (exp_of S e))
     by true = k
     by false = k
-argument_known S false e h k =
-    subst (λ (b : Bool). HasKnown (cond b (copy_by (type_at e) (exp_of S e)) (exp_of S e))) (sym (no_copy S.facts (type_at e) (is_copied e) h)) k
+argument_known S false e h k = subst (λ (b : Bool). HasKnown (cond b (copy_by (type_at e) (exp_of S e)) (exp_of S e))) (sym h) k
 
 -- and one by reference
-reference_known : (S : Scope) (by_address : Bool) (e : Expr) → covers_type (type_at e) ≡ true → HasKnown (exp_of S e)
+reference_known : (S : Scope) (by_address : Bool) (e : Expr) → needs_copy S.facts e ≡ false → HasKnown (exp_of S e)
     → HasKnown (argument_exp S by_address (by_reference e) (exp_of S e))
 reference_known S by_address e h k = by (has_reference e)
   where
@@ -68,10 +69,18 @@ reference_known S by_address e h k = by (has_reference e)
     by true = k
     by false = argument_known S true e h k
 
+-- an array isn't copied as an argument
+array_kept : (F : Facts) (uses : Uses) (e : Expr) → covers_array uses e ≡ true → needs_copy F e ≡ false
+array_kept F uses (typed (types.array item rank) t) h = refl
+array_kept F uses (typed _ t) h = absurd (cc h)
+
+flat_kept : (F : Facts) (e : Expr) → holds_array F (type_at e) ≡ false → needs_copy F e ≡ false
+flat_kept F e h = ap {B = Bool} (λ b. b && is_copied e) h
+
 -- ---- covered lines
 
-module _ (P : Program) (S : Scope) (same : S.declarations ≡ P.declarations) (free : covers_names P.declarations ≡ true) (p : ℕ)
-    (mentions : List Mention) where
+module _ (P : Program) (S : Scope) (same : S.declarations ≡ P.declarations) (free : covers_names P.declarations ≡ true)
+    (flat : (t : ℕ) → covers_user P.declarations t ≡ true → S.facts.holds_array t ≡ false) (p : ℕ) (mentions : List Mention) where
   abbrev Covers : Expr → Type 0
   Covers e = covers_expr (uses_in P p mentions) e ≡ true
 
@@ -86,11 +95,27 @@ module _ (P : Program) (S : Scope) (same : S.declarations ≡ P.declarations) (f
       let both = both_true (is_bound g) (covers_bounded (uses_in P p mentions) args) h in
       bound_known P S same p mentions ty g args both.0 both.1
 
-  -- an argument by reference: a scalar or an array
-  given_known : (by_address : Bool) (e : Expr) → (Covers e) ⊎ (covers_array (uses_in P p mentions) e ≡ true) → (Covers e → HasKnown (exp_of S e))
+  abbrev IsPlace : Expr → Type 0
+  IsPlace e = covers_place (uses_in P p mentions) e ≡ true
+
+  kept_place : (e : Expr) → IsPlace e → needs_copy S.facts e ≡ false
+  kept_place e h = flat_kept S.facts e (place_flat P S same p mentions flat e h)
+
+  -- an argument by reference: a scalar, an array or a place of a user type
+  given_known : (by_address : Bool) (e : Expr) → (Covers e) ⊎ ((covers_array (uses_in P p mentions) e ≡ true) ⊎ (IsPlace e)) → (Covers e → HasKnown (exp_of S e))
       → HasKnown (argument_exp S by_address (by_reference e) (exp_of S e))
-  given_known by_address e (inl c) scalar = reference_known S by_address e (covered_type (uses_in P p mentions) e c) (scalar c)
-  given_known by_address e (inr c) scalar = array_given P S same p mentions by_address e c (array_known P S same p mentions e c)
+  given_known by_address e (inl c) scalar =
+      reference_known S by_address e (no_copy S.facts (type_at e) (is_copied e) (covered_type (uses_in P p mentions) e c)) (scalar c)
+  given_known by_address e (inr (inl c)) scalar =
+      reference_known S by_address e (array_kept S.facts (uses_in P p mentions) e c) (array_known P S same p mentions e c)
+  given_known by_address e (inr (inr c)) scalar = reference_known S by_address e (kept_place e c) (place_known P S same p mentions free e c)
+
+  -- and one by value
+  value_given : (by_address : Bool) (e : Expr) → (Covers e) ⊎ (IsPlace e) → (Covers e → HasKnown (exp_of S e))
+      → HasKnown (argument_exp S by_address (by_value e) (exp_of S e))
+  value_given by_address e (inl c) scalar =
+      argument_known S by_address e (no_copy S.facts (type_at e) (is_copied e) (covered_type (uses_in P p mentions) e c)) (scalar c)
+  value_given by_address e (inr c) scalar = argument_known S by_address e (kept_place e c) (place_known P S same p mentions free e c)
 
   mutual
     expr_known : (e : Expr) → Covers e → HasKnown (exp_of S e)
@@ -103,6 +128,9 @@ module _ (P : Program) (S : Scope) (same : S.declarations ≡ P.declarations) (f
         let both = both_true (covers_array (uses_in P p mentions) a) (covers_exprs (uses_in P p mentions) indexes) h in
         known_append (paths_of_exp (exp_of S a)) (paths_of_exps (indexes_of S a 0 indexes)) (array_known P S same p mentions a both.0)
         (indexes_known S a 0 indexes (args_known indexes both.1))
+    term_known ty (field e k) h =
+        let both = both_true (has_scalar (uses_in P p mentions) (type_at e) k) (covers_place (uses_in P p mentions) e) h in
+        field_known P S same p mentions free ty e k both.0 both.1
     term_known ty (library g args) h =
         library_by ty g args
         (or_cases (covers_library g && covers_exprs (uses_in P p mentions) args) (is_bound g && covers_bounded (uses_in P p mentions) args) h)
@@ -141,15 +169,16 @@ module _ (P : Program) (S : Scope) (same : S.declarations ≡ P.declarations) (f
     passed_known q i no_passed h = tt
     passed_known q i (next_passed (by_reference e) rest) h =
         let cover = uses_in P p mentions in
-        let both = both_true ((is_passable cover e && covers_expr cover e) || covers_array cover e) (covers_passed (uses_in P p mentions) rest) h in
+        let both = both_true ((is_passable cover e && covers_expr cover e) || (covers_array cover e || covers_place cover e)) (covers_passed (uses_in P p mentions) rest) h in
         known_append (paths_of_exp (argument_exp S (takes_reference S.declarations q i) (by_reference e) (exp_of S e))) (paths_of_exps (passed_of S q (suc i) rest))
         (given_known (takes_reference S.declarations q i) e
         (passed_cases cover e both.0) (λ c. expr_known e c))
         (passed_known q (suc i) rest both.1)
     passed_known q i (next_passed (by_value e) rest) h =
-        let both = both_true (covers_expr (uses_in P p mentions) e) (covers_passed (uses_in P p mentions) rest) h in
+        let cover = uses_in P p mentions in
+        let both = both_true (covers_expr cover e || covers_place cover e) (covers_passed cover rest) h in
         known_append (paths_of_exp (argument_exp S (takes_reference S.declarations q i) (by_value e) (exp_of S e))) (paths_of_exps (passed_of S q (suc i) rest))
-        (argument_known S (takes_reference S.declarations q i) e (covered_type (uses_in P p mentions) e both.0) (expr_known e both.0))
+        (value_given (takes_reference S.declarations q i) e (or_cases (covers_expr cover e) (covers_place cover e) both.0) (λ c. expr_known e c))
         (passed_known q (suc i) rest both.1)
 
   items_joined : (w : Exp) (es : List Expr) → list_all (covers_expr (uses_in P p mentions)) es ≡ true → HasKnown w → HasKnown (joined_items S w es)
@@ -169,6 +198,13 @@ module _ (P : Program) (S : Scope) (same : S.declarations ≡ P.declarations) (f
   print_known true = is_print_part
   print_known false = is_print_line
 
+  -- a user type that is assigned isn't copied by a function
+  copied_known : (shows : Bool) (rank : ℕ) (ty : Ty) (t a : Exp) → is_user ty ≡ true → holds_array S.facts ty ≡ false → HasKnown t → HasKnown a
+      → AreKnown (paths_of_line (store_by shows (put_type ty) t (formed S rank ty a)))
+  copied_known shows rank (types.user u) t a h none k l =
+      subst (λ (b : Bool). AreKnown (paths_of_line (net.assign t (user_copy b u a)))) (sym none) (known_append (paths_of_exp t) (paths_of_exp a) k l)
+  copied_known shows rank _ t a h none k l = absurd (cc h)
+
   store_known : (labels : List (Option Label)) (target value : source.Exp) (es : List Expr) → covers_store (uses_in P p mentions) es ≡ true
       → AreKnown (paths_of_line (line_of S labels (source.assign target value) es))
   store_known labels target value [] h = absurd (cc h)
@@ -176,11 +212,22 @@ module _ (P : Program) (S : Scope) (same : S.declarations ≡ P.declarations) (f
   store_known labels target value (to ∷ e ∷ d ∷ es) h = absurd (cc h)
   store_known labels target value (to ∷ e ∷ []) h =
       let cover = uses_in P p mentions in
-      let first = both_true _ (covers_expr cover to && covers_expr cover e) h in
-      let both = both_true (covers_expr cover to) (covers_expr cover e) first.1 in
-      let plain = type_covered P p mentions to both.0 in
-      subst (λ (w : net.Line). AreKnown (paths_of_line w)) (sym (stored_plain S to e plain))
-      (stored_known (order_shows S.declarations to e) (type_at to) (exp_of S to) (exp_of S e) plain (expr_known to both.0) (expr_known e both.1))
+      by (or_cases ((is_changeable cover to || is_ordered cover to e) && (covers_expr cover to && covers_expr cover e)) (covers_copy cover to e) h)
+    where
+      by : (((is_changeable (uses_in P p mentions) to || is_ordered (uses_in P p mentions) to e)
+          && (covers_expr (uses_in P p mentions) to && covers_expr (uses_in P p mentions) e)) ≡ true) ⊎ (covers_copy (uses_in P p mentions) to e ≡ true)
+          → AreKnown (paths_of_line (line_of S labels (source.assign target value) (to ∷ e ∷ [])))
+      by (inl c) =
+          let cover = uses_in P p mentions in
+          let first = both_true (is_changeable cover to || is_ordered cover to e) (covers_expr cover to && covers_expr cover e) c in
+          let both = both_true (covers_expr cover to) (covers_expr cover e) first.1 in
+          let plain = type_covered P p mentions to both.0 in
+          subst (λ (w : net.Line). AreKnown (paths_of_line w)) (sym (stored_plain S to e plain))
+          (stored_known (order_shows S.declarations to e) (type_at to) (exp_of S to) (exp_of S e) plain (expr_known to both.0) (expr_known e both.1))
+      by (inr c) =
+          let places = copy_parts (uses_in P p mentions) to e c in
+          copied_known (order_shows S.declarations to e) (target_rank S to) (type_at to) (exp_of S to) (exp_of S e) (user_place P p mentions to places.0)
+          (place_flat P S same p mentions flat to places.0) (place_known P S same p mentions free to places.0) (place_known P S same p mentions free e places.1)
 
   value_known : (ty : Ty) (e : Expr) → covers_value (uses_in P p mentions) ty e ≡ true → HasKnown (exp_of S e)
   value_known ty e h = expr_known e (both_true (is_same_type ty (type_at e)) (covers_expr (uses_in P p mentions) e) h).1
@@ -324,10 +371,10 @@ module _ (P : Program) (S : Scope) (same : S.declarations ≡ P.declarations) (f
   form_known labels (source.invoke callee args) es h = call_line_known es h
   form_known labels _ es h = absurd (cc h)
 
-pub covered_known : (P : Program) (S : Scope) → S.declarations ≡ P.declarations → covers_names P.declarations ≡ true → (p : ℕ)
-    (labels : List (Option Label)) (l : Line) → covers_line P p l ≡ true → AreKnown (paths_of_line (line_of S labels l.source.form l.bindings.exprs))
-covered_known P S same free p labels l h =
-    form_known P S same free p l.bindings.mentions labels l.source.form l.bindings.exprs
+pub covered_known : (P : Program) (S : Scope) → S.declarations ≡ P.declarations → covers_names P.declarations ≡ true
+    → ((t : ℕ) → covers_user P.declarations t ≡ true → S.facts.holds_array t ≡ false) → (p : ℕ) (labels : List (Option Label)) (l : Line) → covers_line P p l ≡ true → AreKnown (paths_of_line (line_of S labels l.source.form l.bindings.exprs))
+covered_known P S same free flat p labels l h =
+    form_known P S same free flat p l.bindings.mentions labels l.source.form l.bindings.exprs
     (both_true (covers_form (uses_in P p l.bindings.mentions) l.source.form l.bindings.exprs) (list_all is_formed l.bindings.exprs) h).0
 
 -- ---- replaced lines

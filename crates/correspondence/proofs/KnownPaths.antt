@@ -64,7 +64,7 @@ known_append (p ∷ ps) qs h k = (h.0, known_append ps qs h.1 k)
 -- ---- paths of procedures
 
 -- a module whose name is free isn't the support module
-free_other : (name : List ℕ) → is_free_name name ≡ true → is_same_text name (codes "UpgradeSupport") ≡ true → ⊥
+pub free_other : (name : List ℕ) → is_free_name name ≡ true → is_same_text name (codes "UpgradeSupport") ≡ true → ⊥
 free_other name h e =
     let same : name ≡ codes "UpgradeSupport" = (bytes_decides name (codes "UpgradeSupport")).0 e in
     let not_free : is_free_name name ≡ false = ap is_free_name same in

@@ -1,10 +1,13 @@
 mod Heads
 mod Numbers
 mod Variables
+mod SharedVariables
 mod NamedCalls
 mod NamedArrays
+mod Places
 mod Naming
 mod Resizes
+mod Rights
 mod CoveredLines
 mod Variants
 mod Lines
@@ -22,6 +25,7 @@ mod Support
 mod WalkedPaths
 mod KnownPaths
 mod KnownArrays
+mod KnownPlaces
 mod KnownLibrary
 mod KnownLines
 mod UsedPaths

@@ -1,6 +1,5 @@
--- What is written for uses of arrays names each variable as often as the source uses it: elements, bounds and arguments by reference.
-use Rattle.std.proofs.Common.{◌≡◌, ℕ, zero, suc, ◌+◌, ℤ, Bool, true, false, ◌&&◌, ◌||◌, cond, List, refl, sym, ◌∙◌, arith, nat_eq, codes, inl, inr}
-use Rattle.std.specs.Prelude.{◌⊎◌}
+-- What is written for uses of arrays names each variable as often as the source uses it: elements and bounds.
+use Rattle.std.proofs.Common.{◌≡◌, ℕ, zero, suc, ◌+◌, ℤ, Bool, true, false, cond, List, ◌++◌, refl, arith, nat_eq, codes, inl, inr}
 use Rattle.up_base.proofs.Lists.{both_true}
 use Rattle.vb_tree.specs.BoundTree as types
 use Rattle.vb_tree.specs.BoundTree.{Ty}
@@ -9,28 +8,29 @@ use Rattle.vb_tree.specs.declared.bound.LibCall.TheVariants as lib
 use Rattle.vb_tree.specs.declared.declared.ProcId.{ProcId}
 use Rattle.vb_tree.specs.declared.declared.VarId.{VarId}
 use Rattle.bound_tree.specs.declared.body.Mention.{Mention}
-use Rattle.bound_tree.specs.Tree.{Program, Expr, typed, constant, variable, Exprs, no_exprs, next_expr, call, no_object, by_reference, Passed}
-use Rattle.bound_facts.specs.Node.{type_at}
+use Rattle.bound_tree.specs.Tree.{Variable, Program, Expr, typed, constant, variable, Exprs, no_exprs, next_expr, call, no_object, Passed}
 use Rattle.net_tree.specs.Tree.{Exp}
-use Rattle.net_tree.specs.Tree as net
-use Rattle.written_trees.specs.Arguments.{argument_exp}
 use Rattle.written_trees.specs.Conversions.{support_call, two}
-use Rattle.written_trees.specs.Exprs.{exp_of, exps_of, index_at, index_from, indexes_of, is_zero, library_of}
+use Rattle.written_trees.specs.Exprs.{exp_of, exps_of, index_at, indexes_of, is_zero, library_of}
 use Rattle.written_trees.specs.Library.{absolute_path, low_at, low_exp}
-use Rattle.written_trees.specs.Names.{Path, Scope, support, strings, procedure_path}
+use Rattle.written_trees.specs.Names.{Path, Scope, owner_path, support, strings, procedure_path}
 use Rattle.written_trees.specs.Prologues.{one_if}
-use Rattle.run_matches.specs.CoveredExprs.{IsUsed, covers_array, covers_bounded, covers_dimension, covers_expr, is_bound, uses_in}
+use Rattle.run_matches.specs.Covered.{is_user}
+use Rattle.run_matches.specs.CoveredExprs.{IsUsed, covers_array, covers_bounded, covers_dimension, is_bound, uses_in}
 use Rattle.correspondence.specs.Uses.{uses, exprs_uses, names, exps_name}
-use Rattle.correspondence.proofs.NamedCalls.{covered_type, reference_names}
+use Rattle.correspondence.proofs.Variables.{IsCoveredAt}
 
--- A count of paths is right for a variable: it counts the paths of covered uses, none of the run-time library or of the support module, and no
--- path of a procedure whose calls a test doesn't find.
+-- A count of paths is right for a variable: it counts the paths of covered uses, none of the run-time library or of the support module, no path
+-- of a procedure whose calls a test doesn't find, and those of fields by the variables of user types that it doesn't find either.
 pub record IsRight (P : Program) (S : Scope) (p : ℕ) (mentions : List Mention) (v : ℕ) (count : Path → ℕ) (test : Expr → Bool) : Type 0 where
   pub no_support : (name : List ℕ) → count (support name) ≡ 0
   pub no_strings : (name : List ℕ) → count (strings name) ≡ 0
   pub no_math : count absolute_path ≡ 0
   pub used :
       (k : VarId) (q : Bool) (ty : Ty) → IsUsed (uses_in P p mentions) k → one_if (nat_eq v k.0) ≡ names count (exp_of S (typed ty (variable k q)))
+  pub fields :
+      (k : VarId) (q : Bool) (t : ℕ) (y : Variable) (rest : List (List ℕ)) → IsCoveredAt P p k.0 y → is_user y.ty ≡ true
+      → test (typed (types.user t) (variable k q)) ≡ false → one_if (nat_eq v k.0) ≡ count (owner_path S q y.name y.owner ++ rest)
   pub uncalled :
       (ty : Ty) (q : ProcId) (qualified : Bool) (args : Passed) → test (typed ty (call q qualified no_object args)) ≡ false
       → count (procedure_path S qualified q.0) ≡ 0
@@ -42,17 +42,10 @@ dimension_unused v (next_expr (typed ty (constant x origin)) no_exprs) h = refl
 dimension_unused v (next_expr (typed ty _) no_exprs) h = absurd (cc h)
 dimension_unused v (next_expr e (next_expr d rest)) h = absurd (cc h)
 
--- an array that is given by reference stands as it is
-array_given : (P : Program) (S : Scope) (p : ℕ) (mentions : List Mention) (count : Path → ℕ) (by_address : Bool) (e : Expr)
-    → covers_array (uses_in P p mentions) e ≡ true
-    → names count (argument_exp S by_address (by_reference e) (exp_of S e)) ≡ names count (exp_of S e)
-array_given P S p mentions count by_address (typed (types.array element rank) t) h = refl
-array_given P S p mentions count by_address (typed _ t) h = absurd (cc h)
-
 module _ (P : Program) (S : Scope) (p v : ℕ) (count : Path → ℕ) (test : Expr → Bool) (mentions : List Mention)
     (right : IsRight P S p mentions v count test) where
   pub array_names : (e : Expr) → covers_array (uses_in P p mentions) e ≡ true → uses v e ≡ names count (exp_of S e)
-  array_names (typed (types.array element rank) (variable k q)) h = right.used k q (types.array element rank) (inr (element, h))
+  array_names (typed (types.array element rank) (variable k q)) h = right.used k q (types.array element rank) (inr (inl (element, h)))
   array_names (typed (types.array element rank) _) h = absurd (cc h)
   array_names (typed _ t) h = absurd (cc h)
 
@@ -93,13 +86,3 @@ module _ (P : Program) (S : Scope) (p v : ℕ) (count : Path → ℕ) (test : Ex
       let none = right.no_support (codes "Lo") in
       omega (arith, here, unused, none)
   bound_names ty _ args b h = absurd (cc b)
-
-  -- ---- arguments by reference
-
-  -- a scalar, which names what it uses, or an array
-  pub given_names : (by_address : Bool) (e : Expr)
-      → (covers_expr (uses_in P p mentions) e ≡ true) ⊎ (covers_array (uses_in P p mentions) e ≡ true)
-      → (covers_expr (uses_in P p mentions) e ≡ true → uses v e ≡ names count (exp_of S e))
-      → uses v e ≡ names count (argument_exp S by_address (by_reference e) (exp_of S e))
-  given_names by_address e (inl c) scalar = scalar c ∙ sym (reference_names S count by_address e (covered_type (uses_in P p mentions) e c))
-  given_names by_address e (inr c) scalar = array_names e c ∙ sym (array_given P S p mentions count by_address e c)

@@ -1,5 +1,5 @@
 -- What is written for a call names what its arguments name, where the path of its procedure is no variable's.
-use Rattle.std.proofs.Common.{◌≡◌, ℕ, ◌+◌, Bool, true, false, not, ◌&&◌, cond, List, [], ◌∷◌, ◌++◌, Option, Some, None, refl, sym, ap, subst, ◌∙◌, arith, nat_eq, eqb-true}
+use Rattle.std.proofs.Common.{◌≡◌, ℕ, ◌+◌, Bool, true, false, not, ◌&&◌, cond, List, [], ◌∷◌, ◌++◌, Option, Some, None, refl, sym, ap, subst, ◌∙◌, arith, nat_eq, append-nil, eqb-true, inl}
 use Rattle.std.specs.List.{list_any}
 use Rattle.std.specs.Prelude.{slice_get, ◌||◌}
 use Rattle.up_base.specs.Names.{is_same_name, lower_case}
@@ -9,14 +9,15 @@ use Rattle.vb_tree.specs.BoundTree.{Ty}
 use Rattle.bound_tree.specs.Tree.{Declarations, Expr, typed, Procedure, by_value, by_reference}
 use Rattle.bound_facts.specs.Node.{type_at}
 use Rattle.net_tree.specs.Tree.{Exp, Exps, no_exps}
-use Rattle.written_trees.specs.Arguments.{argument_exp, copy_by, has_address, in_parentheses, is_copied, kept, has_reference, temporary_exp}
+use Rattle.written_trees.specs.Arguments.{argument_exp, copy_by, has_address, in_parentheses, kept, has_reference, needs_copy, temporary_exp}
 use Rattle.written_trees.specs.Exprs.{called, exp_of}
 use Rattle.written_trees.specs.Facts.{Facts, holds_array}
-use Rattle.written_trees.specs.Names.{Path, Scope, first_name, is_foreign, is_standard_module, module_at, module_name, procedure_name, procedure_path, procedure_path_of}
+use Rattle.written_trees.specs.Names.{Path, Scope, copy_name, first_name, is_foreign, is_standard_module, module_at, module_name, procedure_name, procedure_path, procedure_path_of, support}
 use Rattle.run_matches.specs.CoveredVariables.{covers_type}
 use Rattle.run_matches.specs.CoveredExprs.{Uses, covers_expr, covers_term}
 use Rattle.correspondence.specs.Uses.{exps_name, is_named_there, names, path_names, shared_names, stands_elsewhere}
-use Rattle.correspondence.proofs.Variables.{one_of, same_itself, shared_other}
+use Rattle.correspondence.proofs.SharedVariables.{alone_none, behind_none, shared_other}
+use Rattle.correspondence.proofs.Variables.{one_of, same_itself}
 
 -- ---- tests
 
@@ -33,19 +34,26 @@ none_of_both test (x ∷ xs) ys h =
 
 -- ---- paths of procedures
 
--- that of a procedure of another name
-pub path_other : (D : Declarations) (S : Scope) → S.declarations ≡ D → (name : List ℕ) (q : Bool) (p : ℕ) → is_same_name (procedure_name D p) name ≡ false
-    → path_names name (procedure_path S q p) ≡ 0
-path_other D S same name q p h = by (slice_get S.declarations.procs p) (ap (λ (d : Declarations). is_same_name (procedure_name d p) name) same ∙ h)
-  where
-    either : (b : Bool) (m n : List ℕ) → is_same_name n name ≡ false → path_names name (cond b (m ∷ n ∷ []) (n ∷ [])) ≡ 0
-    either true m n e = refl
-    either false m n e = ap {B = ℕ} (λ c. cond c 1 0) e
+-- no module has the name that fields stand behind
+abbrev pub NoModule : (fielded : Bool) → Declarations → (name : List ℕ) → Type 0
+NoModule fielded D name = (file : ℕ) → fielded ≡ true → is_same_name (module_name D file) name ≡ true → ⊥
 
-    by : (o : Option Procedure) → is_same_name (first_name S.declarations o) name ≡ false → path_names name (procedure_path_of S q o) ≡ 0
+-- that of a procedure of another name
+pub path_other : (D : Declarations) (S : Scope) → S.declarations ≡ D → (fielded : Bool) (name : List ℕ) → NoModule fielded D name → (q : Bool) (p : ℕ)
+    → is_same_name (procedure_name D p) name ≡ false → path_names fielded name (procedure_path S q p) ≡ 0
+path_other D S same fielded name apart q p h =
+    by (slice_get S.declarations.procs p) (ap (λ (d : Declarations). is_same_name (procedure_name d p) name) same ∙ h)
+  where
+    either : (b : Bool) (file : ℕ) (n : List ℕ) → is_same_name n name ≡ false
+        → path_names fielded name (cond b (module_name S.declarations file ∷ n ∷ []) (n ∷ [])) ≡ 0
+    either true file n e =
+        one_of fielded (is_same_name (module_name S.declarations file) name)
+        (λ a b. apart file a (subst (λ (d : Declarations). is_same_name (module_name d file) name ≡ true) same b))
+    either false file n e = ap {B = ℕ} (λ c. cond c 1 0) e
+
+    by : (o : Option Procedure) → is_same_name (first_name S.declarations o) name ≡ false → path_names fielded name (procedure_path_of S q o) ≡ 0
     by None e = refl
-    by (Some y) e =
-        either (q || is_foreign S.declarations S.file y.module_number) (module_name S.declarations y.module_number) (first_name S.declarations (Some y)) e
+    by (Some y) e = either (q || is_foreign S.declarations S.file y.module_number) y.module_number (first_name S.declarations (Some y)) e
 
 apart : (a b c : Bool) → (a && not (b && not c)) ≡ false → a ≡ true → (b ≡ true) × (c ≡ false)
 apart true true true h e = absurd (cc h)
@@ -54,7 +62,7 @@ apart true false c h e = absurd (cc h)
 apart false b c h e = absurd (cc e)
 
 -- and of one of another name or of another standard module
-module _ (S : Scope) (file : ℕ) (name : List ℕ) (q : Bool) where
+module _ (S : Scope) (fielded : Bool) (file : ℕ) (name : List ℕ) (q : Bool) (no_module : NoModule fielded S.declarations name) where
   abbrev D : Declarations
   D = S.declarations
 
@@ -62,11 +70,12 @@ module _ (S : Scope) (file : ℕ) (name : List ℕ) (q : Bool) where
   of = module_name D file
 
   abbrev count : Path → ℕ
-  count = shared_names (nat_eq S.file file) of name
+  count = shared_names fielded (nat_eq S.file file) of name
 
-  unnamed : (behind : Bool) (m n : List ℕ) → is_same_name n name ≡ false → count (cond behind (m ∷ n ∷ []) (n ∷ [])) ≡ 0
-  unnamed true m n e = one_of (is_same_name m of) (is_same_name n name) (λ s t. cc (sym e ∙ t))
-  unnamed false m n e = one_of (nat_eq S.file file) (is_same_name n name) (λ s t. cc (sym e ∙ t))
+  unnamed : (behind : Bool) (home : ℕ) (n : List ℕ) → is_same_name n name ≡ false → count (cond behind (module_name D home ∷ n ∷ []) (n ∷ [])) ≡ 0
+  unnamed true home n e =
+      behind_none fielded (nat_eq S.file file) of name (module_name D home) n [] (λ s t. cc (sym e ∙ t)) (no_module home)
+  unnamed false home n e = alone_none fielded (nat_eq S.file file) of name n [] (λ s t. cc (sym e ∙ t)) (inl refl)
 
   elsewhere : (y : Procedure) → is_standard_module (module_at D.project y.module_number) ≡ true → is_same_name (module_name D y.module_number) of ≡ false
       → count (procedure_path_of S q (Some y)) ≡ 0
@@ -74,12 +83,14 @@ module _ (S : Scope) (file : ℕ) (name : List ℕ) (q : Bool) where
       let n : List ℕ = first_name D (Some y) in
       let m : List ℕ = module_name D y.module_number in
       ap {B = ℕ} (λ b. count (cond (q || (not (nat_eq S.file y.module_number) && b)) (m ∷ n ∷ []) (n ∷ []))) standard
-      ∙ shared_other q (nat_eq S.file y.module_number) (nat_eq S.file file) of name m n (λ s t. cc (sym differs ∙ s))
+      ∙ ap count (sym (append-nil (cond (q || (not (nat_eq S.file y.module_number) && true)) (m ∷ n ∷ []) (n ∷ []))))
+      ∙ shared_other fielded (nat_eq S.file file) of name q (nat_eq S.file y.module_number) m n [] (λ s t. cc (sym differs ∙ s))
       (λ s t u.
       let here : is_same_name (module_name D y.module_number) of ≡ true =
       subst (λ i. is_same_name (module_name D i) of ≡ true) (sym (eqb-true S.file file t) ∙ eqb-true S.file y.module_number s)
       (same_itself (lower_case of)) in
       cc (sym differs ∙ here))
+      (no_module y.module_number) (inl refl)
 
   of_other : (o : Option Procedure) → (is_same_name (first_name D o) name && not (stands_elsewhere D of o)) ≡ false → count (procedure_path_of S q o) ≡ 0
   of_other None e = refl
@@ -89,15 +100,15 @@ module _ (S : Scope) (file : ℕ) (name : List ℕ) (q : Bool) where
       let parts = apart (is_same_name (first_name D (Some y)) name) (is_standard_module (module_at D.project y.module_number))
       (is_same_name (module_name D y.module_number) of) e s in
       elsewhere y parts.0 parts.1)
-      (λ s. unnamed (q || is_foreign D S.file y.module_number) (module_name D y.module_number) (first_name D (Some y)) s)
+      (λ s. unnamed (q || is_foreign D S.file y.module_number) y.module_number (first_name D (Some y)) s)
 
-pub shared_path_other : (D : Declarations) (S : Scope) → S.declarations ≡ D → (file : ℕ) (name : List ℕ) (q : Bool) (p : ℕ)
-    → is_named_there D (module_name D file) name (Some p) ≡ false
-    → shared_names (nat_eq S.file file) (module_name D file) name (procedure_path S q p) ≡ 0
-shared_path_other D S same file name q p h =
-    subst (λ (d : Declarations). is_named_there d (module_name d file) name (Some p) ≡ false
-    → shared_names (nat_eq S.file file) (module_name d file) name (procedure_path S q p) ≡ 0) same
-    (λ e. of_other S file name q (slice_get S.declarations.procs p) e) h
+pub shared_path_other : (D : Declarations) (S : Scope) → S.declarations ≡ D → (fielded : Bool) (file : ℕ) (name : List ℕ) (q : Bool) (p : ℕ)
+    → NoModule fielded D name → is_named_there D (module_name D file) name (Some p) ≡ false
+    → shared_names fielded (nat_eq S.file file) (module_name D file) name (procedure_path S q p) ≡ 0
+shared_path_other D S same fielded file name q p no_module h =
+    subst (λ (d : Declarations). NoModule fielded d name → is_named_there d (module_name d file) name (Some p) ≡ false
+    → shared_names fielded (nat_eq S.file file) (module_name d file) name (procedure_path S q p) ≡ 0) same
+    (λ m e. of_other S fielded file name q m (slice_get S.declarations.procs p) e) no_module h
 
 -- ---- arguments
 
@@ -108,28 +119,34 @@ pub no_copy : (F : Facts) (ty : Ty) (copied : Bool) → covers_type ty ≡ true 
 no_copy F (types.user t) copied h = absurd (cc h)
 no_copy F _ copied h = refl
 
+-- what copies a value names what that does
+copy_names : (count : Path → ℕ) → ((name : List ℕ) → count (support name) ≡ 0) → (ty : Ty) (a : Exp) → names count (copy_by ty a) ≡ names count a
+copy_names count no_support (types.user t) a = let none = no_support (copy_name t) in omega (arith, none)
+copy_names count no_support _ a = refl
+
 -- an argument by value names what it is
-pub argument_names : (S : Scope) (count : Path → ℕ) (by_address : Bool) (e : Expr) → covers_type (type_at e) ≡ true
+pub argument_names : (S : Scope) (count : Path → ℕ) → ((name : List ℕ) → count (support name) ≡ 0) → (by_address : Bool) (e : Expr)
     → names count (argument_exp S by_address (by_value e) (exp_of S e)) ≡ names count (exp_of S e)
-argument_names S count true e h =
-    ap {B = ℕ} (λ b. names count (cond b (copy_by (type_at e) (exp_of S e)) (in_parentheses (has_address S.declarations (kept e)) (exp_of S e))))
-    (no_copy S.facts (type_at e) (is_copied e) h)
-    ∙ by (has_address S.declarations (kept e))
+argument_names S count no_support true e = by (needs_copy S.facts e) (has_address S.declarations (kept e))
   where
-    by : (b : Bool) → names count (in_parentheses b (exp_of S e)) ≡ names count (exp_of S e)
-    by true = refl
+    by : (b c : Bool) → names count (cond b (copy_by (type_at e) (exp_of S e)) (in_parentheses c (exp_of S e))) ≡ names count (exp_of S e)
+    by true c = copy_names count no_support (type_at e) (exp_of S e)
+    by false true = refl
+    by false false = refl
+argument_names S count no_support false e = by (needs_copy S.facts e)
+  where
+    by : (b : Bool) → names count (cond b (copy_by (type_at e) (exp_of S e)) (exp_of S e)) ≡ names count (exp_of S e)
+    by true = copy_names count no_support (type_at e) (exp_of S e)
     by false = refl
-argument_names S count false e h =
-    ap {B = ℕ} (λ b. names count (cond b (copy_by (type_at e) (exp_of S e)) (exp_of S e))) (no_copy S.facts (type_at e) (is_copied e) h)
 
 -- and one by reference
-pub reference_names : (S : Scope) (count : Path → ℕ) (by_address : Bool) (e : Expr) → covers_type (type_at e) ≡ true
+pub reference_names : (S : Scope) (count : Path → ℕ) → ((name : List ℕ) → count (support name) ≡ 0) → (by_address : Bool) (e : Expr)
     → names count (argument_exp S by_address (by_reference e) (exp_of S e)) ≡ names count (exp_of S e)
-reference_names S count by_address e h = by (has_reference e)
+reference_names S count no_support by_address e = by (has_reference e)
   where
     by : (b : Bool) → names count (cond b (exp_of S e) (temporary_exp S e (exp_of S e))) ≡ names count (exp_of S e)
     by true = refl
-    by false = argument_names S count true e h
+    by false = argument_names S count no_support true e
 
 -- ---- calls
 

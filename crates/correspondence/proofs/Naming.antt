@@ -15,7 +15,7 @@ use Rattle.vb_tree.specs.declared.value.Value6.{Value6}
 use Rattle.vb_tree.specs.declared.value.Value6.TheVariants as v6
 use Rattle.bound_tree.specs.declared.body.Mention.{Mention}
 use Rattle.bound_tree.specs.declared.expression.Origin.{Origin}
-use Rattle.bound_tree.specs.Tree.{Program, Expr, typed, Term, constant, variable, element, library, unary, binary, convert, Exprs, no_exprs, next_expr, call, no_object, of_object, by_value, by_reference, Passed, no_passed, next_passed, err_number, err_raise}
+use Rattle.bound_tree.specs.Tree.{Program, Expr, typed, Term, constant, variable, field, element, library, unary, binary, convert, Exprs, no_exprs, next_expr, call, no_object, of_object, by_value, by_reference, Passed, no_passed, next_passed, err_number, err_raise}
 use Rattle.bound_facts.specs.Nodes.{nodes, nodes_in, nodes_of_all, nodes_of_passed}
 use Rattle.bound_facts.specs.Node.{type_at, is_variant}
 use Rattle.net_meaning.specs.WrittenRows.{write_operator, write_unary, write_conversion}
@@ -33,13 +33,14 @@ use Rattle.written_trees.specs.Literals.{Piece, quoted, unit, piece_exp, text, j
 use Rattle.written_trees.specs.Names.{Path, Scope, support, strings, procedure_path}
 use Rattle.written_trees.specs.Operators.{signed, checked, is_text, typed_operator, typed_unary, operand, is_product_in_currency, variant_operator, variant_unary}
 use Rattle.run_matches.specs.CoveredVariables.{covers_type}
-use Rattle.run_matches.specs.CoveredExprs.{covers_library, covers_operator, covers_expr, covers_term, covers_exprs, covers_passed, covers_array, covers_bounded, is_bound, uses_in, is_passable}
+use Rattle.run_matches.specs.CoveredExprs.{covers_library, covers_operator, covers_expr, covers_term, covers_exprs, covers_passed, covers_array, covers_place, covers_bounded, has_scalar, is_bound, uses_in, is_passable}
 use Rattle.run_matches.specs.Formed.{are_longs, has_elements, is_formed, is_formed_term, is_row_of_one, is_row_of_two, is_row_of_call, is_conversion_to, types_of, are_formed, passed_are_formed}
 use Rattle.correspondence.specs.Uses.{uses, term_uses, exprs_uses, passed_uses, names, exps_name, total}
 use Rattle.correspondence.proofs.Among.{or_cases}
 use Rattle.correspondence.proofs.Variables.{passed_cases}
-use Rattle.correspondence.proofs.NamedArrays.{IsRight, array_names, bound_names, given_names, indexes_names}
-use Rattle.correspondence.proofs.NamedCalls.{argument_names, bare_names, covered_type, full_names, neither, none_before, none_of_both}
+use Rattle.correspondence.proofs.NamedArrays.{IsRight, array_names, bound_names, indexes_names}
+use Rattle.correspondence.proofs.Places.{path_counted, place_names, scalar_place}
+use Rattle.correspondence.proofs.NamedCalls.{argument_names, bare_names, covered_type, full_names, neither, none_before, none_of_both, reference_names}
 
 module _ (count : Path → ℕ) (no_support : (name : List ℕ) → count (support name) ≡ 0) (no_strings : (name : List ℕ) → count (strings name) ≡ 0) where
   -- ---- constants name nothing
@@ -205,7 +206,11 @@ module _ (count : Path → ℕ) (no_support : (name : List ℕ) → count (suppo
 
 -- ---- expressions
 
-module _ (P : Program) (S : Scope) (p v : ℕ) (count : Path → ℕ) (test : Expr → Bool) (mentions : List Mention)
+none_first : (a b : Bool) → a ≡ false → b ≡ false → (a || b) ≡ false
+none_first true b h e = absurd (cc h)
+none_first false b h e = e
+
+module _ (P : Program) (S : Scope) (same : S.declarations ≡ P.declarations) (p v : ℕ) (count : Path → ℕ) (test : Expr → Bool) (mentions : List Mention)
     (right : IsRight P S p mentions v count test) where
   -- the test finds no node
   abbrev Free : List Expr → Type 0
@@ -223,6 +228,20 @@ module _ (P : Program) (S : Scope) (p v : ℕ) (count : Path → ℕ) (test : Ex
   call_names ty g args (inr h) row values =
       let both = both_true (is_bound g) (covers_bounded (uses_in P p mentions) args) h in
       bound_names P S p v count test mentions right ty g args both.0 both.1
+
+  -- what is given by reference
+  given_names : (e : Expr)
+      → (covers_expr (uses_in P p mentions) e ≡ true) ⊎ ((covers_array (uses_in P p mentions) e ≡ true) ⊎ (covers_place (uses_in P p mentions) e ≡ true))
+      → Free (nodes e) → (covers_expr (uses_in P p mentions) e ≡ true → uses v e ≡ names count (exp_of S e)) → uses v e ≡ names count (exp_of S e)
+  given_names e (inl c) free scalar = scalar c
+  given_names e (inr (inl c)) free scalar = array_names P S p v count test mentions right e c
+  given_names e (inr (inr c)) free scalar = place_names P S same p mentions v count test right e c free
+
+  -- and by value
+  value_names : (e : Expr) → (covers_expr (uses_in P p mentions) e ≡ true) ⊎ (covers_place (uses_in P p mentions) e ≡ true) → Free (nodes e)
+      → (covers_expr (uses_in P p mentions) e ≡ true → uses v e ≡ names count (exp_of S e)) → uses v e ≡ names count (exp_of S e)
+  value_names e (inl c) free scalar = scalar c
+  value_names e (inr c) free scalar = place_names P S same p mentions v count test right e c free
 
   mutual
     pub expr_names : (e : Expr) → covers_expr (uses_in P p mentions) e ≡ true → is_formed e ≡ true → Free (nodes e) → uses v e ≡ names count (exp_of S e)
@@ -243,6 +262,10 @@ module _ (P : Program) (S : Scope) (p v : ℕ) (count : Path → ℕ) (test : Ex
         let places = args_names indexes both.1 forms.1 parted.1 in
         let written = indexes_names P S p v count test mentions right a 0 indexes in
         omega (arith, array, places, written)
+    term_names ty (field e k) h f own free =
+        let both = both_true (has_scalar (uses_in P p mentions) (type_at e) k) (covers_place (uses_in P p mentions) e) h in
+        path_counted P S same p mentions v count test right ty (field e k) (scalar_place P S same p mentions ty e k both.0 both.1)
+        (none_first (test (typed ty (field e k))) (list_any test (nodes e)) own free)
     term_names ty (library g args) h f own free =
         let forms = both_true (is_row_of_call g (types_of args) ty) (are_formed args) f in
         call_names ty g args
@@ -306,20 +329,19 @@ module _ (P : Program) (S : Scope) (p v : ℕ) (count : Path → ℕ) (test : Ex
     passed_names q i no_passed h f free = refl
     passed_names q i (next_passed (by_reference e) rest) h f free =
         let cover = uses_in P p mentions in
-        let both = both_true ((is_passable cover e && covers_expr cover e) || covers_array cover e) (covers_passed (uses_in P p mentions) rest) h in
+        let both = both_true ((is_passable cover e && covers_expr cover e) || (covers_array cover e || covers_place cover e)) (covers_passed (uses_in P p mentions) rest) h in
         let forms = both_true (is_formed e) (passed_are_formed rest) f in
         let parted = none_of_both test (nodes e) (nodes_of_passed rest) free in
-        let here =
-        given_names P S p v count test mentions right (takes_reference S.declarations q i) e
-        (passed_cases cover e both.0) (λ c. expr_names e c forms.0 parted.0) in
+        let here = given_names e (passed_cases cover e both.0) parted.0 (λ c. expr_names e c forms.0 parted.0) in
+        let written = reference_names S count right.no_support (takes_reference S.declarations q i) e in
         let more = passed_names q (suc i) rest both.1 forms.1 parted.1 in
-        omega (arith, here, more)
+        omega (arith, here, written, more)
     passed_names q i (next_passed (by_value e) rest) h f free =
-        let both = both_true (covers_expr (uses_in P p mentions) e) (covers_passed (uses_in P p mentions) rest) h in
+        let both = both_true (covers_expr (uses_in P p mentions) e || covers_place (uses_in P p mentions) e) (covers_passed (uses_in P p mentions) rest) h in
         let forms = both_true (is_formed e) (passed_are_formed rest) f in
         let parted = none_of_both test (nodes e) (nodes_of_passed rest) free in
-        let here = expr_names e both.0 forms.0 parted.0 in
-        let written = argument_names S count (takes_reference S.declarations q i) e (covered_type (uses_in P p mentions) e both.0) in
+        let here = value_names e (or_cases (covers_expr (uses_in P p mentions) e) (covers_place (uses_in P p mentions) e) both.0) parted.0 (λ c. expr_names e c forms.0 parted.0) in
+        let written = argument_names S count right.no_support (takes_reference S.declarations q i) e in
         let more = passed_names q (suc i) rest both.1 forms.1 parted.1 in
         omega (arith, here, written, more)
 
@@ -367,6 +389,17 @@ module _ (P : Program) (S : Scope) (p v : ℕ) (count : Path → ℕ) (test : Ex
       let left = expr_names to h f parted.0 in
       let value = expr_names e k g last.0 in
       omega (arith, left, value)
+
+  -- a user type that is assigned as a whole
+  pub copied_names : (to e : Expr) → covers_place (uses_in P p mentions) to ≡ true → covers_place (uses_in P p mentions) e ≡ true
+      → Free (flat_map nodes (to ∷ e ∷ [])) → (a : Exp) → names count a ≡ names count (exp_of S e)
+      → total (uses v) (to ∷ e ∷ []) ≡ total (names count) (exp_of S to ∷ a ∷ [])
+  copied_names to e h k free a is =
+      let parted = none_of_both test (nodes to) (flat_map nodes (e ∷ [])) free in
+      let last = none_of_both test (nodes e) [] parted.1 in
+      let left = place_names P S same p mentions v count test right to h parted.0 in
+      let value = place_names P S same p mentions v count test right e k last.0 in
+      omega (arith, left, value, is)
 
   -- the number of an Err.Raise
   pub raised_names : (ty : Ty) (e : Expr) → covers_expr (uses_in P p mentions) e ≡ true → is_formed e ≡ true

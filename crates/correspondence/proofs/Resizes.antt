@@ -1,5 +1,5 @@
 -- What is written for ReDim and Erase names each variable as often as the source uses it.
-use Rattle.std.proofs.Common.{◌≡◌, ℕ, zero, suc, ◌+◌, Bool, true, false, ◌&&◌, ◌||◌, cond, List, [], ◌∷◌, ◌++◌, map, Option, Some, None, refl, ap, ◌∙◌, arith, codes}
+use Rattle.std.proofs.Common.{◌≡◌, ℕ, zero, suc, ◌+◌, Bool, true, false, ◌&&◌, ◌||◌, cond, List, [], ◌∷◌, ◌++◌, map, Option, Some, None, refl, arith, codes}
 use Rattle.std.specs.List.{flat_map, list_all, list_any}
 use Rattle.std.specs.Prelude.{drop, is_some, length, nat_eq, not}
 use Rattle.up_base.proofs.Lists.{both_true}
@@ -19,7 +19,7 @@ use Rattle.bound_facts.specs.Parts.{Extent, Resize, extents, resizes}
 use Rattle.net_tree.specs.Tree as net
 use Rattle.net_tree.specs.Types.{TypeName}
 use Rattle.written_trees.specs.Exprs.{exp_of}
-use Rattle.written_trees.specs.Lines.{empty_extents, extent_exp, extents_exps, resized_array}
+use Rattle.written_trees.specs.Lines.{empty_extents, extents_exps, resized_array}
 use Rattle.written_trees.specs.Names.{Path, Scope}
 use Rattle.run_matches.specs.CoveredExprs.{Uses, covers_array, covers_expr, covers_value, uses_in}
 use Rattle.run_matches.specs.CoveredLines.{covers_extent, covers_resize, covers_resizes}
@@ -144,7 +144,7 @@ resize_parts cover preserve r h =
     let both = both_true (covers_array cover r.array) (list_all (covers_extent cover) r.extents && one) h in
     (both.0, (both_true (list_all (covers_extent cover) r.extents) one both.1).0)
 
-module _ (P : Program) (S : Scope) (p v : ℕ) (count : Path → ℕ) (test : Expr → Bool) (mentions : List Mention)
+module _ (P : Program) (S : Scope) (same : S.declarations ≡ P.declarations) (p v : ℕ) (count : Path → ℕ) (test : Expr → Bool) (mentions : List Mention)
     (right : IsRight P S p mentions v count test) where
   extents_names : (a : Option ℕ) (d : ℕ) (xs : List Extent) → list_all (covers_extent (uses_in P p mentions)) xs ≡ true
       → list_all is_formed (flat_map extent_exprs xs) ≡ true → list_any test (flat_map nodes (flat_map extent_exprs xs)) ≡ false
@@ -155,7 +155,7 @@ module _ (P : Program) (S : Scope) (p v : ℕ) (count : Path → ℕ) (test : Ex
       let high = both_true (is_same_type types.long (type_at e)) (covers_expr (uses_in P p mentions) e) both.0 in
       let forms = both_true (is_formed e) (list_all is_formed (flat_map extent_exprs xs)) f in
       let parted = none_of_both test (nodes e) (flat_map nodes (flat_map extent_exprs xs)) free in
-      let here = expr_names P S p v count test mentions right e high.1 forms.0 parted.0 in
+      let here = expr_names P S same p v count test mentions right e high.1 forms.0 parted.0 in
       let none = right.no_support (codes "Top") in
       let more = extents_names a (suc d) xs both.1 forms.1 parted.1 in
       omega (arith, here, none, more)
@@ -170,7 +170,7 @@ module _ (P : Program) (S : Scope) (p v : ℕ) (count : Path → ℕ) (test : Ex
       let low_parted = none_of_both test (nodes l) (flat_map nodes (e ∷ flat_map extent_exprs xs)) free in
       let parted = none_of_both test (nodes e) (flat_map nodes (flat_map extent_exprs xs)) low_parted.1 in
       let low = folded_unused v l constant_low.0 in
-      let here = expr_names P S p v count test mentions right e high.1 forms.0 parted.0 in
+      let here = expr_names P S same p v count test mentions right e high.1 forms.0 parted.0 in
       let none = right.no_support (codes "Top") in
       let more = extents_names a (suc d) xs both.1 forms.1 parted.1 in
       omega (arith, low, here, none, more)

@@ -21,6 +21,7 @@ use Rattle.correspondence.specs.Paths.{Each, NamesFunction, paths_of_dim, paths_
 use Rattle.correspondence.specs.Support.{LineIsSupported, SupportCorresponds}
 use Rattle.correspondence.specs.Variants.{LineCorresponds}
 use Rattle.correspondence.proofs.Among.{from_filter, in_filter, in_either, in_flat, in_left, in_map, in_right, or_left, or_right}
+use Rattle.run_matches.specs.CoveredVariables.{covers_user}
 use Rattle.correspondence.proofs.KnownLines.{covered_known, flagged_known}
 use Rattle.correspondence.proofs.KnownPaths.{AreKnown, IsKnown, in_place}
 use Rattle.correspondence.proofs.WalkedPaths.{modules_met}
@@ -127,9 +128,10 @@ through R Q (x ∷ xs) (y ∷ ys) f h = (f x y (inl refl) h.0, through R Q xs ys
 
 pub lines_supported : (P : Program) (S : Scope) → S.declarations ≡ P.declarations → (p : ℕ) (labels : List (Option Label)) (F : Facts) (N : net.Project) (w : Module)
     → SupportCorresponds P.declarations F N.modules w → (n : ℕ) (c : Code) → code_at N n ≡ Some c → (code : List prologues.Code)
+    → ((t : ℕ) → covers_user P.declarations t ≡ true → S.facts.holds_array t ≡ false)
     → Pairwise (LineCorresponds P S p labels) code (net_flat.code_lines c.procedure)
     → Pairwise (LineIsSupported P p w) code (net_flat.code_lines c.procedure)
-lines_supported P S same p labels F N w s n c e code h =
+lines_supported P S same p labels F N w s n c e code flat h =
     through (LineCorresponds P S p labels) (LineIsSupported P p w) code (net_flat.code_lines c.procedure) line h
   where
     line : (d : prologues.Code) (l : net.Line) → In l (net_flat.code_lines c.procedure) → LineCorresponds P S p labels d l → LineIsSupported P p w d l
@@ -138,5 +140,5 @@ lines_supported P S same p labels F N w s n c e code h =
           each_named P F N w s (paths_of_line l) (λ q j. line_has N n c l q e i j)
           (subst (λ (m : net.Line). AreKnown (paths_of_line m)) (sym flagged.3) (flagged_known flagged.0 flagged.1 d.1.source.form)),
       λ r free covers. each_named P F N w s (paths_of_line l) (λ q j. line_has N n c l q e i j)
-          (subst (λ (m : net.Line). AreKnown (paths_of_line m)) (sym (k.whole r)) (covered_known P S same free p labels d.1 covers)),
+          (subst (λ (m : net.Line). AreKnown (paths_of_line m)) (sym (k.whole r)) (covered_known P S same free flat p labels d.1 covers)),
     )

@@ -1,10 +1,11 @@
 -- The written path of a covered variable names a variable of the procedure where it is that one, and else none.
-use Rattle.std.proofs.Common.{◌≡◌, ℕ, zero, suc, Bool, true, false, not, ◌&&◌, cond, List, [], ◌∷◌, Option, Some, None, refl, sym, ap, subst, ◌∙◌, nat_eq, unwrap_or, eq-eqb, eqb-true, inl, inr}
+use Rattle.std.proofs.Common.{◌≡◌, ℕ, zero, suc, Bool, true, false, not, ◌&&◌, cond, List, [], ◌∷◌, Option, Some, None, refl, sym, ap, subst, ◌∙◌, nat_eq, unwrap_or, eq-eqb, eqb-true, append-nil, ◌++◌, inl, inr}
 use Rattle.std.specs.List.{list_all, list_any}
-use Rattle.std.specs.Prelude.{slice_get, ◌||◌, ◌⊎◌, codes, position}
-use Rattle.std.specs.Cmp.Lexicographic.{pointwise}
+use Rattle.std.specs.Prelude.{slice_get, ◌||◌, ◌⊎◌, codes, find, position}
+use Rattle.std.specs.Cmp.Lexicographic.{bytes_decides, pointwise}
 use Rattle.up_base.specs.Names.{is_same_name, lower_case}
 use Rattle.up_base.proofs.Lists.{both_true, by_test}
+use Rattle.vb_tree.specs.BoundTree as types
 use Rattle.vb_tree.specs.BoundTree.{Ty}
 use Rattle.vb_tree.specs.declared.declared.Owner.{Owner}
 use Rattle.vb_tree.specs.declared.declared.Owner.TheVariants as owner
@@ -14,17 +15,20 @@ use Rattle.vb_tree.specs.Tree.{Module}
 use Rattle.bound_tree.specs.declared.body.Mention.{Mention}
 use Rattle.bound_tree.specs.Tree as tree
 use Rattle.bound_tree.specs.Tree.{Expr, Variable, Program, typed, variable}
+use Rattle.bound_facts.specs.Locks.{is_same_type}
 use Rattle.bound_facts.specs.Node.{auto_class, class_in}
 use Rattle.net_tree.specs.Tree as net
 use Rattle.written_trees.specs.Exprs.{exp_of, made_if}
-use Rattle.written_trees.specs.Names.{Path, Scope, module_at, is_standard_module, module_name, is_foreign, variable_path_of, owner_path, support}
+use Rattle.written_trees.specs.Names.{Path, Scope, module_at, is_standard_module, module_name, name_in, is_foreign, variable_path_of, owner_path}
 use Rattle.written_trees.specs.Prologues.{one_if}
 use Rattle.written_trees.specs.Types.{element_type}
-use Rattle.run_matches.specs.CoveredVariables.{covers_type, covers_owner, covers_variable, belongs_to, is_foreign_name, is_reached, covers_some, is_mention_of, is_loud, covers_array_owner, covers_array_variable, covers_bounds, covers_declared, covers_some_array, is_array_of, is_named_apart}
-use Rattle.run_matches.specs.CoveredExprs.{Uses, covers_expr, covers_array, is_passable, IsUsed, uses_in}
+use Rattle.run_matches.specs.CoveredVariables.{covers_type, covers_owner, covers_variable, belongs_to, is_foreign_name, is_reached, covers_some, is_mention_of, is_loud, covers_array_owner, covers_array_variable, covers_bounds, covers_declared, covers_group_owner, covers_group_use, covers_group_variable, covers_some_array, covers_some_group, covers_user, is_array_of, is_named_apart}
+use Rattle.run_matches.specs.Covered.{is_user}
+use Rattle.run_matches.specs.CoveredExprs.{Uses, covers_expr, covers_array, covers_place, is_passable, IsUsed, uses_in}
 use Rattle.run_matches.specs.Shared.{names_lead, leads_to_home, is_alone_static}
+use Rattle.run_matches.specs.UserTypes.{is_user_of}
 use Rattle.correspondence.proofs.Among.{or_cases}
-use Rattle.correspondence.specs.Uses.{path_names, shared_names, names, IsAlone, IsSharedAlone}
+use Rattle.correspondence.specs.Uses.{path_names, names, is_outer, IsAlone, IsFirst}
 
 pub some_same : {A : Type 0} (x y : A) → Some x ≡ Some y → x ≡ y
 some_same x y e = ap (λ o. unwrap_or o x) e
@@ -34,7 +38,7 @@ abbrev pub IsCoveredAt : (P : Program) (p k : ℕ) → Variable → Type 0
 IsCoveredAt P p k y =
     (slice_get P.declarations.vars k ≡ Some y) × (is_reached P.declarations p k y.name y.owner ≡ true) × (covers_owner y.owner ≡ true) × (y.auto ≡ false)
 
-not_true : (c : Bool) → not c ≡ true → c ≡ false
+pub not_true : (c : Bool) → not c ≡ true → c ≡ false
 not_true true e = absurd (cc e)
 not_true false e = refl
 
@@ -64,13 +68,32 @@ array_parts element y h =
     let d = both_true (covers_bounds y.ty y.bounds) (not y.auto) c.1 in
     (array_owner y.owner a.0, not_true y.auto d.1)
 
--- a declared scalar or array
-pub declared_owner : (x : Variable) → covers_declared x ≡ true → covers_owner x.owner ≡ true
-declared_owner x h = by (or_cases (covers_variable x) (covers_array_variable (element_type x.ty) x) h)
+group_owner : (o : Owner) → covers_group_owner o ≡ true → covers_owner o ≡ true
+group_owner (owner.Module file) h = refl
+group_owner (owner.Local p) h = refl
+group_owner (owner.Static p) h = refl
+group_owner (owner.Value p) h = refl
+group_owner (owner.Reference p) h = refl
+group_owner _ h = absurd (cc h)
+
+group_parts : (D : tree.Declarations) (y : Variable) → covers_group_variable D y ≡ true → (covers_owner y.owner ≡ true) × (y.auto ≡ false)
+group_parts D y h =
+    let a = both_true (covers_group_owner y.owner) (is_user_of (covers_user D) y.ty && not y.auto) h in
+    let b = both_true (is_user_of (covers_user D) y.ty) (not y.auto) a.1 in
+    (group_owner y.owner a.0, not_true y.auto b.1)
+
+-- a declared scalar, an array or a variable of a user type
+pub declared_owner : (D : tree.Declarations) (x : Variable) → covers_declared D x ≡ true → covers_owner x.owner ≡ true
+declared_owner D x h =
+    by (or_cases (covers_variable x) (covers_array_variable (element_type x.ty) x || covers_group_variable D x) h)
   where
-    by : (covers_variable x ≡ true) ⊎ (covers_array_variable (element_type x.ty) x ≡ true) → covers_owner x.owner ≡ true
+    other : (covers_array_variable (element_type x.ty) x ≡ true) ⊎ (covers_group_variable D x ≡ true) → covers_owner x.owner ≡ true
+    other (inl c) = (array_parts (element_type x.ty) x c).0
+    other (inr c) = (group_parts D x c).0
+
+    by : (covers_variable x ≡ true) ⊎ ((covers_array_variable (element_type x.ty) x || covers_group_variable D x) ≡ true) → covers_owner x.owner ≡ true
     by (inl c) = (both_true (covers_owner x.owner) (covers_type x.ty && not x.auto) c).0
-    by (inr c) = (array_parts (element_type x.ty) x c).0
+    by (inr c) = other (or_cases (covers_array_variable (element_type x.ty) x) (covers_group_variable D x) c)
 
 array_at : (P : Program) (p k : ℕ) (element : Ty) → covers_some_array P.declarations p k element (slice_get P.declarations.vars k) ≡ true
     → (y : Variable) × IsCoveredAt P p k y
@@ -85,24 +108,51 @@ array_at P p k element h = by (slice_get P.declarations.vars k) refl h
         let g = array_parts element y (both_true (covers_array_variable element y) apart f.1).0 in
         (y, (e, f.0, g.0, g.1))
 
--- a scalar or an array
+same_user : (t : ℕ) (ty : Ty) → is_same_type (types.user t) ty ≡ true → is_user ty ≡ true
+same_user t (types.user u) h = refl
+same_user t _ h = absurd (cc h)
+
+group_at : (P : Program) (p k t : ℕ) → covers_some_group P.declarations p k t (slice_get P.declarations.vars k) ≡ true
+    → (y : Variable) × IsCoveredAt P p k y × (is_user y.ty ≡ true)
+group_at P p k t h = by (slice_get P.declarations.vars k) refl h
+  where
+    by : (o : Option Variable) → slice_get P.declarations.vars k ≡ o → covers_some_group P.declarations p k t o ≡ true
+        → (y : Variable) × IsCoveredAt P p k y × (is_user y.ty ≡ true)
+    by None e c = absurd (cc c)
+    by (Some y) e c =
+        let f = both_true (is_reached P.declarations p k y.name y.owner) (is_same_type (types.user t) y.ty && covers_group_variable P.declarations y) c in
+        let g = both_true (is_same_type (types.user t) y.ty) (covers_group_variable P.declarations y) f.1 in
+        let i = group_parts P.declarations y g.1 in
+        (y, (e, f.0, i.0, i.1), same_user t y.ty g.0)
+
+-- a variable of a user type
+pub group_use_at : (P : Program) (p : ℕ) (mentions : List Mention) (k : VarId) (t : ℕ) → covers_group_use P p mentions k t ≡ true
+    → (y : Variable) × IsCoveredAt P p k.0 y × (is_user y.ty ≡ true)
+group_use_at P p mentions k t h =
+    let o : Option Variable = slice_get P.declarations.vars k.0 in
+    let both = both_true (list_any (is_mention_of k) mentions) (covers_some_group P.declarations p k.0 t o && is_loud P k.0 o) h in
+    group_at P p k.0 t (both_true (covers_some_group P.declarations p k.0 t o) (is_loud P k.0 o) both.1).0
+
+-- a scalar, an array or a variable of a user type
 pub used_at : (P : Program) (p : ℕ) (mentions : List Mention) (k : VarId) → IsUsed (uses_in P p mentions) k → (y : Variable) × IsCoveredAt P p k.0 y
 used_at P p mentions k (inl h) =
     let o : Option Variable = slice_get P.declarations.vars k.0 in
     covered_at P p k.0 (both_true (list_any (is_mention_of k) mentions) (covers_some P.declarations p k.0 o) h).1
-used_at P p mentions k (inr (element, h)) =
+used_at P p mentions k (inr (inl h)) =
     let o : Option Variable = slice_get P.declarations.vars k.0 in
-    let both = both_true (list_any (is_mention_of k) mentions) (covers_some_array P.declarations p k.0 element o && is_loud P k.0 o) h in
-    array_at P p k.0 element (both_true (covers_some_array P.declarations p k.0 element o) (is_loud P k.0 o) both.1).0
+    let both = both_true (list_any (is_mention_of k) mentions) (covers_some_array P.declarations p k.0 h.0 o && is_loud P k.0 o) h.1 in
+    array_at P p k.0 h.0 (both_true (covers_some_array P.declarations p k.0 h.0 o) (is_loud P k.0 o) both.1).0
+used_at P p mentions k (inr (inr h)) = let found = group_use_at P p mentions k h.0 h.1 in (found.0, found.1)
 
--- what is given by reference, a scalar or an array
-pub passed_cases : (uses : Uses) (e : Expr) → ((is_passable uses e && covers_expr uses e) || covers_array uses e) ≡ true
-    → (covers_expr uses e ≡ true) ⊎ (covers_array uses e ≡ true)
-passed_cases uses e h = by (or_cases (is_passable uses e && covers_expr uses e) (covers_array uses e) h)
+-- what is given by reference: a scalar, an array or a place of a user type
+pub passed_cases : (uses : Uses) (e : Expr) → ((is_passable uses e && covers_expr uses e) || (covers_array uses e || covers_place uses e)) ≡ true
+    → (covers_expr uses e ≡ true) ⊎ ((covers_array uses e ≡ true) ⊎ (covers_place uses e ≡ true))
+passed_cases uses e h = by (or_cases (is_passable uses e && covers_expr uses e) (covers_array uses e || covers_place uses e) h)
   where
-    by : ((is_passable uses e && covers_expr uses e) ≡ true) ⊎ (covers_array uses e ≡ true) → (covers_expr uses e ≡ true) ⊎ (covers_array uses e ≡ true)
+    by : ((is_passable uses e && covers_expr uses e) ≡ true) ⊎ ((covers_array uses e || covers_place uses e) ≡ true)
+        → (covers_expr uses e ≡ true) ⊎ ((covers_array uses e ≡ true) ⊎ (covers_place uses e ≡ true))
     by (inl c) = inl (both_true (is_passable uses e) (covers_expr uses e) c).1
-    by (inr c) = inr c
+    by (inr c) = inr (or_cases (covers_array uses e) (covers_place uses e) c)
 
 -- a use of it is written as its path
 pub variable_exp : (P : Program) (S : Scope) → S.declarations ≡ P.declarations → (p : ℕ) (v : VarId) (q : Bool) (ty : Ty) (y : Variable) → IsCoveredAt P p v.0 y
@@ -119,6 +169,13 @@ IsVariablePath [] = ⊥
 IsVariablePath (name ∷ []) = Unit {0}
 IsVariablePath (outer ∷ name ∷ more) = is_reserved outer ≡ false
 
+-- the name of the module of a variable to which names lead isn't reserved
+pub module_free : (D : tree.Declarations) (p k file : ℕ) (name : List ℕ) → names_lead D p k name file ≡ true → is_reserved (module_name D file) ≡ false
+module_free D p k file name h =
+    let free = both_true (is_standard_module (module_at D.project file) && not (is_reserved (module_name D file)))
+    (leads_to_home D p k name file (position (λ (m : Module). nat_eq m.file file) D.project.modules)) h in
+    not_true (is_reserved (module_name D file)) (both_true (is_standard_module (module_at D.project file)) (not (is_reserved (module_name D file))) free.0).1
+
 module_path : (b : Bool) (outer name : List ℕ) → is_reserved outer ≡ false → IsVariablePath (cond b (outer ∷ name ∷ []) (name ∷ []))
 module_path true outer name h = h
 module_path false outer name h = tt
@@ -131,17 +188,25 @@ path_is P S same p k q y is = by y.owner is.1 is.2
     by (owner.Module file) h c =
         let D : tree.Declarations = P.declarations in
         let leads = both_true (names_lead D p k y.name file) (is_foreign_name D p y.name) h in
-        let free = both_true (is_standard_module (module_at D.project file) && not (is_reserved (module_name D file)))
-        (leads_to_home D p k y.name file (position (λ (m : Module). nat_eq m.file file) D.project.modules)) leads.0 in
         module_path (q || is_foreign S.declarations S.file file) (module_name S.declarations file) y.name
-        (ap (λ (d : tree.Declarations). is_reserved (module_name d file)) same
-        ∙ not_true (is_reserved (module_name D file)) (both_true (is_standard_module (module_at D.project file)) (not (is_reserved (module_name D file))) free.0).1)
+        (ap (λ (d : tree.Declarations). is_reserved (module_name d file)) same ∙ module_free D p k file y.name leads.0)
     by (owner.Local q) h c = tt
     by (owner.Static q) h c = tt
     by (owner.Value q) h c = tt
     by (owner.Reference q) h c = tt
     by (owner.Answer q) h c = tt
     by (owner.Field t) h c = absurd (cc c)
+
+-- fields stand behind the path of a variable of a user type alone
+abbrev pub Suits : Variable → List (List ℕ) → Type 0
+Suits y rest = (rest ≡ []) ⊎ (is_user y.ty ≡ true)
+
+or_true : (a b : Bool) → b ≡ true → (a || b) ≡ true
+or_true true b h = refl
+or_true false b h = h
+
+same_units : (xs ys : List ℕ) → pointwise nat_eq xs ys ≡ true → xs ≡ ys
+same_units xs ys h = (bytes_decides xs ys).0 h
 
 -- it is named where it is used
 pub same_itself : (xs : List ℕ) → pointwise nat_eq xs xs ≡ true
@@ -157,7 +222,7 @@ same_turned (x ∷ xs) (y ∷ ys) h =
     ap {B = Bool} (λ c. c && pointwise nat_eq ys xs) (eq-eqb y x (sym (eqb-true x y b.0))) ∙ same_turned xs ys b.1
 
 -- a name that no variable of the procedure has
-foreign_name : (p : ℕ) (name : List ℕ) (xs : List Variable) (i : ℕ) (x : Variable)
+pub foreign_name : (p : ℕ) (name : List ℕ) (xs : List Variable) (i : ℕ) (x : Variable)
     → list_all (λ (x : Variable). not (belongs_to p x.owner && is_same_name x.name name)) xs ≡ true → slice_get xs i ≡ Some x → belongs_to p x.owner ≡ true
     → is_same_name x.name name ≡ false
 foreign_name p name [] i x h e own = absurd (cc e)
@@ -174,164 +239,124 @@ turned_false : (a b : List ℕ) → is_same_name a b ≡ false → is_same_name 
 turned_false a b h =
     by_test (is_same_name b a) (λ c. c ≡ false) (λ c. absurd (cc (sym (same_turned (lower_case b) (lower_case a) c) ∙ h))) (λ c. refl)
 
-module _ (P : Program) (S : Scope) (same : S.declarations ≡ P.declarations) (p v : ℕ) (x : Variable) (at : slice_get P.declarations.vars v ≡ Some x)
-    (own : belongs_to p x.owner ≡ true) (alone : IsAlone P.declarations p v x) where
-  path_named : (b : Bool) (outer name : List ℕ) → is_same_name name x.name ≡ false → path_names x.name (cond b (outer ∷ name ∷ []) (name ∷ [])) ≡ 0
-  path_named true outer name h = refl
-  path_named false outer name h = ap {B = ℕ} (λ c. cond c 1 0) h
-
-  other_own : (k : ℕ) (y : Variable) → slice_get P.declarations.vars k ≡ Some y → belongs_to p y.owner ≡ true → nat_eq v k ≡ false
-      → path_names x.name (y.name ∷ []) ≡ 0
-  other_own k y is h n =
-      ap {B = ℕ} (λ c. cond c 1 0)
-      (by_test (is_same_name y.name x.name) (λ c. c ≡ false)
-      (λ s. absurd (cc (sym n ∙ eq-eqb v k (sym (alone k y is h s)))))
-      (λ s. refl))
-
-  other : (k : ℕ) (y : Variable) (q : Bool) → slice_get P.declarations.vars k ≡ Some y → (o : Owner) → y.owner ≡ o → is_reached P.declarations p k y.name o ≡ true
-      → covers_owner o ≡ true → nat_eq v k ≡ false → path_names x.name (owner_path S q y.name o) ≡ 0
-  other k y q is (owner.Module file) e h c n =
-      let leads = both_true (names_lead P.declarations p k y.name file) (is_foreign_name P.declarations p y.name) h in
-      path_named (q || is_foreign S.declarations S.file file) (module_name S.declarations file) y.name
-      (turned_false x.name y.name (foreign_name p y.name P.declarations.vars v x leads.1 at own))
-  other k y q is (owner.Local r) e h c n = other_own k y is (ap (belongs_to p) e ∙ h) n
-  other k y q is (owner.Static r) e h c n =
-      other_own k y is (ap (belongs_to p) e ∙ (both_true (nat_eq p r.0) (is_alone_static P.declarations p k y.name) h).0) n
-  other k y q is (owner.Value r) e h c n = other_own k y is (ap (belongs_to p) e ∙ h) n
-  other k y q is (owner.Reference r) e h c n = other_own k y is (ap (belongs_to p) e ∙ h) n
-  other k y q is (owner.Answer r) e h c n = other_own k y is (ap (belongs_to p) e ∙ h) n
-  other k y q is (owner.Field t) e h c n = absurd (cc c)
-
-  itself : (q : Bool) (o : Owner) → belongs_to p o ≡ true → path_names x.name (owner_path S q x.name o) ≡ 1
-  itself q (owner.Module file) h = absurd (cc h)
-  itself q (owner.Local r) h = ap {B = ℕ} (λ c. cond c 1 0) (same_itself (lower_case x.name))
-  itself q (owner.Static r) h = ap {B = ℕ} (λ c. cond c 1 0) (same_itself (lower_case x.name))
-  itself q (owner.Value r) h = ap {B = ℕ} (λ c. cond c 1 0) (same_itself (lower_case x.name))
-  itself q (owner.Reference r) h = ap {B = ℕ} (λ c. cond c 1 0) (same_itself (lower_case x.name))
-  itself q (owner.Answer r) h = ap {B = ℕ} (λ c. cond c 1 0) (same_itself (lower_case x.name))
-  itself q (owner.Field t) h = absurd (cc h)
-
-  is_named : (k : ℕ) (y : Variable) (q : Bool) → IsCoveredAt P p k y → one_if (nat_eq v k) ≡ path_names x.name (owner_path S q y.name y.owner)
-  is_named k y q is =
-      by_test (nat_eq v k) (λ c. one_if c ≡ path_names x.name (owner_path S q y.name y.owner))
-      (λ e.
-      let found : x ≡ y = some_same x y (sym at ∙ ap (slice_get P.declarations.vars) (eqb-true v k e) ∙ is.0) in
-      sym (itself q x.owner own) ∙ ap (λ (z : Variable). path_names x.name (owner_path S q z.name z.owner)) found)
-      (λ e. sym (other k y q is.0 y.owner refl is.1 is.2 e))
-
-  module _ (mentions : List Mention) where
-    pub own_use : (k : VarId) (q : Bool) (ty : Ty) → IsUsed (uses_in P p mentions) k
-        → one_if (nat_eq v k.0) ≡ names (path_names x.name) (exp_of S (typed ty (variable k q)))
-    own_use k q ty h =
-        let found = used_at P p mentions k h in
-        is_named k.0 found.0 q found.1 ∙ sym (ap (names (path_names x.name)) (variable_exp P S same p k q ty found.0 found.1))
-
--- ---- a variable of a standard module
+-- ---- names of modules
 
 pub one_of : (a b : Bool) → (a ≡ true → b ≡ true → ⊥) → ◌≡◌ {A = ℕ} (cond (a && b) 1 0) 0
 one_of true true h = absurd (h refl refl)
 one_of true false h = refl
 one_of false b h = refl
 
-both_same : (a b : List ℕ) → ◌≡◌ {A = ℕ} (cond (is_same_name a a && is_same_name b b) 1 0) 1
-both_same a b =
-    ap {B = ℕ} (λ c. cond (c && is_same_name b b) 1 0) (same_itself (lower_case a)) ∙ ap {B = ℕ} (λ c. cond c 1 0) (same_itself (lower_case b))
+find_named : (test : Module → Bool) (ms : List Module) (name : List ℕ) → is_same_name [] name ≡ false → is_same_name (name_in (find test ms)) name ≡ true
+    → list_any (λ (m : Module). is_same_name m.name name) ms ≡ true
+find_named test [] name none h = absurd (cc (sym none ∙ h))
+find_named test (m ∷ ms) name none h = by (test m) h (find_named test ms name none)
+  where
+    by : (b : Bool) → is_same_name (name_in (cond b (Some m) (find test ms))) name ≡ true
+        → (is_same_name (name_in (find test ms)) name ≡ true → list_any (λ (m : Module). is_same_name m.name name) ms ≡ true)
+        → list_any (λ (m : Module). is_same_name m.name name) (m ∷ ms) ≡ true
+    by true e more = ap {B = Bool} (λ c. c || list_any (λ (m : Module). is_same_name m.name name) ms) e
+    by false e more = or_true (is_same_name m.name name) (list_any (λ (m : Module). is_same_name m.name name) ms) (more e)
 
--- its own path, by whether it stands in its module
-shared_itself : (q inside : Bool) (of name : List ℕ)
-    → shared_names inside of name (cond (q || (not inside && true)) (of ∷ name ∷ []) (name ∷ [])) ≡ 1
-shared_itself true inside of name = both_same of name
-shared_itself false false of name = both_same of name
-shared_itself false true of name = ap {B = ℕ} (λ c. cond c 1 0) (same_itself (lower_case name))
+-- a name of a module, and a reserved one, isn't the first of a variable's path
+pub module_outer : (D : tree.Declarations) (file : ℕ) (name : List ℕ) → is_outer D name ≡ false → is_same_name (module_name D file) name ≡ true → ⊥
+module_outer D file [] free h = cc free
+module_outer D file (c ∷ cs) free h =
+    let any = list_any (λ (m : Module). is_same_name m.name (c ∷ cs)) D.project.modules in
+    let found : any ≡ true = find_named (λ (m : Module). nat_eq m.file file) D.project.modules (c ∷ cs) refl h in
+    cc (sym free ∙ or_true (is_reserved (c ∷ cs)) any found)
 
--- the path of another variable
-pub shared_other : (q there inside : Bool) (of name other n : List ℕ) → (is_same_name other of ≡ true → is_same_name n name ≡ true → ⊥)
-    → (there ≡ true → inside ≡ true → is_same_name n name ≡ true → ⊥)
-    → shared_names inside of name (cond (q || (not there && true)) (other ∷ n ∷ []) (n ∷ [])) ≡ 0
-shared_other true there inside of name other n h e = one_of (is_same_name other of) (is_same_name n name) h
-shared_other false false inside of name other n h e = one_of (is_same_name other of) (is_same_name n name) h
-shared_other false true inside of name other n h e = one_of inside (is_same_name n name) (e refl)
+pub reserved_outer : (D : tree.Declarations) (name : List ℕ) → is_outer D name ≡ false → is_reserved name ≡ true → ⊥
+reserved_outer D [] free h = cc free
+reserved_outer D (c ∷ cs) free h =
+    cc (sym free ∙ ap {B = Bool} (λ b. b || list_any (λ (m : Module). is_same_name m.name (c ∷ cs)) D.project.modules) h)
 
-module _ (P : Program) (S : Scope) (same : S.declarations ≡ P.declarations) (p v : ℕ) (x : Variable) (file : ℕ)
-    (at : slice_get P.declarations.vars v ≡ Some x) (of : x.owner ≡ owner.Module file) (reached : is_reached P.declarations p v x.name x.owner ≡ true)
-    (alone : IsSharedAlone P.declarations v file x) where
-  abbrev D : tree.Declarations
-  D = P.declarations
+pub name_reserved : (word name : List ℕ) → is_reserved word ≡ true → is_same_name word name ≡ true → is_reserved name ≡ true
+name_reserved word name h e =
+    let lower : lower_case name ≡ lower_case word = sym (same_units (lower_case word) (lower_case name) e) in
+    ap (λ (l : List ℕ). pointwise nat_eq l (lower_case (codes "UpgradeSupport")) || pointwise nat_eq l (lower_case (codes "System"))
+    || pointwise nat_eq l (lower_case (codes "Microsoft"))) lower ∙ h
 
-  abbrev count : Path → ℕ
-  count = shared_names (nat_eq S.file file) (module_name D file) x.name
+-- ---- a variable of the procedure
 
-  leading : (names_lead D p v x.name file ≡ true) × (is_foreign_name D p x.name ≡ true)
-  leading = both_true (names_lead D p v x.name file) (is_foreign_name D p x.name) (sym (ap (is_reached D p v x.name) of) ∙ reached)
+module _ (P : Program) (S : Scope) (same : S.declarations ≡ P.declarations) (p v : ℕ) (x : Variable) (at : slice_get P.declarations.vars v ≡ Some x)
+    (own : belongs_to p x.owner ≡ true) (alone : IsAlone P.declarations p v x) (first : IsFirst P.declarations x) where
+  abbrev own_count : Path → ℕ
+  own_count = path_names (is_user x.ty) x.name
 
-  standard_at : (k f : ℕ) (name : List ℕ) → names_lead D p k name f ≡ true → is_standard_module (module_at D.project f) ≡ true
-  standard_at k f name h =
-      let free = both_true (is_standard_module (module_at D.project f) && not (is_reserved (module_name D f)))
-      (leads_to_home D p k name f (position (λ (m : Module). nat_eq m.file f) D.project.modules)) h in
-      (both_true (is_standard_module (module_at D.project f)) (not (is_reserved (module_name D f))) free.0).0
+  -- a name that differs, with fields or without
+  differing_named : (n : List ℕ) (rest : List (List ℕ)) → is_same_name n x.name ≡ false → own_count (n ∷ rest) ≡ 0
+  differing_named n [] h = ap {B = ℕ} (λ c. cond c 1 0) h
+  differing_named n (f ∷ rest) h = one_of (is_user x.ty) (is_same_name n x.name) (λ a b. cc (sym h ∙ b))
 
-  unreserved : is_reserved (module_name D file) ≡ false
-  unreserved =
-      let free = both_true (is_standard_module (module_at D.project file) && not (is_reserved (module_name D file)))
-      (leads_to_home D p v x.name file (position (λ (m : Module). nat_eq m.file file) D.project.modules)) leading.0 in
-      not_true (is_reserved (module_name D file)) (both_true (is_standard_module (module_at D.project file)) (not (is_reserved (module_name D file))) free.0).1
+  -- what stands behind the name of a module
+  behind_module : (file : ℕ) (n : List ℕ) (rest : List (List ℕ)) → own_count (module_name S.declarations file ∷ n ∷ rest) ≡ 0
+  behind_module file n rest =
+      one_of (is_user x.ty) (is_same_name (module_name S.declarations file) x.name)
+      (λ a b. module_outer P.declarations file x.name (first a) (subst (λ (d : tree.Declarations). is_same_name (module_name d file) x.name ≡ true) same b))
 
-  -- its written path
-  module_path_is : (q : Bool) (name : List ℕ) (f : ℕ) → is_standard_module (module_at D.project f) ≡ true
-      → owner_path S q name (owner.Module f) ≡ cond (q || (not (nat_eq S.file f) && true)) (module_name D f ∷ name ∷ []) (name ∷ [])
-  module_path_is q name f h =
-      ap (λ (d : tree.Declarations). cond (q || is_foreign d S.file f) (module_name d f ∷ name ∷ []) (name ∷ [])) same
-      ∙ ap (λ b. cond (q || (not (nat_eq S.file f) && b)) (module_name D f ∷ name ∷ []) (name ∷ [])) h
+  path_named : (b : Bool) (file : ℕ) (name : List ℕ) (rest : List (List ℕ)) → is_same_name name x.name ≡ false
+      → own_count (cond b (module_name S.declarations file ∷ name ∷ []) (name ∷ []) ++ rest) ≡ 0
+  path_named true file name rest h = behind_module file name rest
+  path_named false file name rest h = differing_named name rest h
 
-  -- a variable of the procedure
-  own_shared : (k : ℕ) (y : Variable) → slice_get D.vars k ≡ Some y → belongs_to p y.owner ≡ true → count (y.name ∷ []) ≡ 0
-  own_shared k y is h =
-      one_of (nat_eq S.file file) (is_same_name y.name x.name)
-      (λ s t. cc (sym (foreign_name p x.name D.vars k y leading.1 is h) ∙ t))
+  other_own : (k : ℕ) (y : Variable) (rest : List (List ℕ)) → slice_get P.declarations.vars k ≡ Some y → belongs_to p y.owner ≡ true → nat_eq v k ≡ false
+      → own_count (y.name ∷ rest) ≡ 0
+  other_own k y rest is h n =
+      differing_named y.name rest
+      (by_test (is_same_name y.name x.name) (λ c. c ≡ false)
+      (λ s. absurd (cc (sym n ∙ eq-eqb v k (sym (alone k y is h s)))))
+      (λ s. refl))
 
-  other_shared : (k : ℕ) (y : Variable) (q : Bool) → slice_get D.vars k ≡ Some y → (o : Owner) → y.owner ≡ o → is_reached D p k y.name o ≡ true
-      → covers_owner o ≡ true → nat_eq v k ≡ false → count (owner_path S q y.name o) ≡ 0
-  other_shared k y q is (owner.Module f) e h c n =
-      let leads = both_true (names_lead D p k y.name f) (is_foreign_name D p y.name) h in
-      let differs : is_same_name (module_name D f) (module_name D file) ≡ true → is_same_name y.name x.name ≡ true → ⊥ =
-      λ s t. cc (sym n ∙ eq-eqb v k (sym (alone k y f is e t s))) in
-      ap count (module_path_is q y.name f (standard_at k f y.name leads.0))
-      ∙ shared_other q (nat_eq S.file f) (nat_eq S.file file) (module_name D file) x.name (module_name D f) y.name differs
-      (λ s t. differs
-      (subst (λ i. is_same_name (module_name D i) (module_name D file) ≡ true) (sym (eqb-true S.file file t) ∙ eqb-true S.file f s)
-      (same_itself (lower_case (module_name D file)))))
-  other_shared k y q is (owner.Local r) e h c n = own_shared k y is (ap (belongs_to p) e ∙ h)
-  other_shared k y q is (owner.Static r) e h c n = own_shared k y is (ap (belongs_to p) e ∙ (both_true (nat_eq p r.0) (is_alone_static D p k y.name) h).0)
-  other_shared k y q is (owner.Value r) e h c n = own_shared k y is (ap (belongs_to p) e ∙ h)
-  other_shared k y q is (owner.Reference r) e h c n = own_shared k y is (ap (belongs_to p) e ∙ h)
-  other_shared k y q is (owner.Answer r) e h c n = own_shared k y is (ap (belongs_to p) e ∙ h)
-  other_shared k y q is (owner.Field t) e h c n = absurd (cc c)
+  other : (k : ℕ) (y : Variable) (q : Bool) (rest : List (List ℕ)) → slice_get P.declarations.vars k ≡ Some y → (o : Owner) → y.owner ≡ o
+      → is_reached P.declarations p k y.name o ≡ true → covers_owner o ≡ true → nat_eq v k ≡ false → own_count (owner_path S q y.name o ++ rest) ≡ 0
+  other k y q rest is (owner.Module file) e h c n =
+      let leads = both_true (names_lead P.declarations p k y.name file) (is_foreign_name P.declarations p y.name) h in
+      path_named (q || is_foreign S.declarations S.file file) file y.name rest
+      (turned_false x.name y.name (foreign_name p y.name P.declarations.vars v x leads.1 at own))
+  other k y q rest is (owner.Local r) e h c n = other_own k y rest is (ap (belongs_to p) e ∙ h) n
+  other k y q rest is (owner.Static r) e h c n =
+      other_own k y rest is (ap (belongs_to p) e ∙ (both_true (nat_eq p r.0) (is_alone_static P.declarations p k y.name) h).0) n
+  other k y q rest is (owner.Value r) e h c n = other_own k y rest is (ap (belongs_to p) e ∙ h) n
+  other k y q rest is (owner.Reference r) e h c n = other_own k y rest is (ap (belongs_to p) e ∙ h) n
+  other k y q rest is (owner.Answer r) e h c n = other_own k y rest is (ap (belongs_to p) e ∙ h) n
+  other k y q rest is (owner.Field t) e h c n = absurd (cc c)
 
-  shared_is_named : (k : ℕ) (y : Variable) (q : Bool) → IsCoveredAt P p k y → one_if (nat_eq v k) ≡ count (owner_path S q y.name y.owner)
-  shared_is_named k y q is =
-      by_test (nat_eq v k) (λ c. one_if c ≡ count (owner_path S q y.name y.owner))
+  -- its own name, alone or with fields
+  own_name : (rest : List (List ℕ)) → Suits x rest → own_count (x.name ∷ rest) ≡ 1
+  own_name [] s = ap {B = ℕ} (λ c. cond c 1 0) (same_itself (lower_case x.name))
+  own_name (f ∷ rest) (inl e) = absurd (cc e)
+  own_name (f ∷ rest) (inr u) =
+      ap {B = ℕ} (λ c. cond (c && is_same_name x.name x.name) 1 0) u ∙ ap {B = ℕ} (λ c. cond c 1 0) (same_itself (lower_case x.name))
+
+  itself : (q : Bool) (rest : List (List ℕ)) → Suits x rest → (o : Owner) → belongs_to p o ≡ true → own_count (owner_path S q x.name o ++ rest) ≡ 1
+  itself q rest s (owner.Module file) h = absurd (cc h)
+  itself q rest s (owner.Local r) h = own_name rest s
+  itself q rest s (owner.Static r) h = own_name rest s
+  itself q rest s (owner.Value r) h = own_name rest s
+  itself q rest s (owner.Reference r) h = own_name rest s
+  itself q rest s (owner.Answer r) h = own_name rest s
+  itself q rest s (owner.Field t) h = absurd (cc h)
+
+  pub own_named : (k : ℕ) (y : Variable) (q : Bool) (rest : List (List ℕ)) → IsCoveredAt P p k y → Suits y rest
+      → one_if (nat_eq v k) ≡ own_count (owner_path S q y.name y.owner ++ rest)
+  own_named k y q rest is s =
+      by_test (nat_eq v k) (λ c. one_if c ≡ own_count (owner_path S q y.name y.owner ++ rest))
       (λ e.
-      let found : x ≡ y = some_same x y (sym at ∙ ap (slice_get D.vars) (eqb-true v k e) ∙ is.0) in
-      sym (ap (λ o. count (owner_path S q x.name o)) of ∙ ap count (module_path_is q x.name file (standard_at v file x.name leading.0))
-      ∙ shared_itself q (nat_eq S.file file) (module_name D file) x.name)
-      ∙ ap (λ (z : Variable). count (owner_path S q z.name z.owner)) found)
-      (λ e. sym (other_shared k y q is.0 y.owner refl is.1 is.2 e))
-
-  pub no_support : (name : List ℕ) → count (support name) ≡ 0
-  no_support name =
-      one_of (is_same_name (codes "UpgradeSupport") (module_name D file)) (is_same_name name x.name)
-      (λ s t.
-      cc (sym (first_false (is_same_name (module_name D file) (codes "UpgradeSupport")) (is_same_name (module_name D file) (codes "System"))
-      (is_same_name (module_name D file) (codes "Microsoft")) unreserved)
-      ∙ same_turned (lower_case (codes "UpgradeSupport")) (lower_case (module_name D file)) s))
-    where
-      first_false : (a b c : Bool) → ((a || b) || c) ≡ false → a ≡ false
-      first_false true b c h = absurd (cc h)
-      first_false false b c h = refl
+      let found : x ≡ y = some_same x y (sym at ∙ ap (slice_get P.declarations.vars) (eqb-true v k e) ∙ is.0) in
+      sym (itself q rest (subst (λ (z : Variable). Suits z rest) (sym found) s) x.owner own)
+      ∙ ap (λ (z : Variable). own_count (owner_path S q z.name z.owner ++ rest)) found)
+      (λ e. sym (other k y q rest is.0 y.owner refl is.1 is.2 e))
 
   module _ (mentions : List Mention) where
-    pub shared_use : (k : VarId) (q : Bool) (ty : Ty) → IsUsed (uses_in P p mentions) k
-        → one_if (nat_eq v k.0) ≡ names count (exp_of S (typed ty (variable k q)))
-    shared_use k q ty h =
+    pub own_use : (k : VarId) (q : Bool) (ty : Ty) → IsUsed (uses_in P p mentions) k
+        → one_if (nat_eq v k.0) ≡ names (path_names (is_user x.ty) x.name) (exp_of S (typed ty (variable k q)))
+    own_use k q ty h =
         let found = used_at P p mentions k h in
-        shared_is_named k.0 found.0 q found.1 ∙ sym (ap (names count) (variable_exp P S same p k q ty found.0 found.1))
+        own_named k.0 found.0 q [] found.1 (inl refl)
+        ∙ ap own_count (append-nil (owner_path S q found.0.name found.0.owner))
+        ∙ sym (ap (names (path_names (is_user x.ty) x.name)) (variable_exp P S same p k q ty found.0 found.1))
+
+  -- no name of the support module or of the run-time library
+  pub own_reserved : (word n : List ℕ) (rest : List (List ℕ)) → is_reserved word ≡ true → own_count (word ∷ n ∷ rest) ≡ 0
+  own_reserved word n rest h =
+      one_of (is_user x.ty) (is_same_name word x.name) (λ a b. reserved_outer P.declarations x.name (first a) (name_reserved word x.name h b))

@@ -1,9 +1,11 @@
 -- How often variables are used, and how often they are named in what is written.
-use Rattle.std.specs.Prelude.{◌≡◌, ℕ, ◌+◌, nat_eq, true, cond, Some, List, [], ◌∷◌, ◌++◌, slice_get, option_to_list, codes, Bool, not, ◌&&◌, false, Option, None}
+use Rattle.std.specs.Prelude.{◌≡◌, ℕ, ◌+◌, nat_eq, true, cond, Some, List, [], ◌∷◌, ◌++◌, slice_get, option_to_list, codes, Bool, not, ◌&&◌, ◌||◌, false, Option, None}
 use Rattle.std.specs.List.{flat_map, list_any}
 use Rattle.up_base.specs.Names.{is_same_name}
 use Rattle.vb_tree.specs.declared.declared.Owner.TheVariants as owner
-use Rattle.vb_tree.specs.Tree.{Form}
+use Rattle.vb_tree.specs.BoundTree.{user}
+use Rattle.vb_tree.specs.ProjectLines.{is_reserved}
+use Rattle.vb_tree.specs.Tree.{Form, Module}
 use Rattle.vb_tree.specs.Tree as source
 use Rattle.bound_tree.specs.Tree.{Variable, Procedure, Declarations, Expr, typed, Term, constant, variable, field, element, call, library, unary, binary, convert, new_object, me, with_object, err_number, err_raise, err_clear, is_same, loose, Object, no_object, of_object, Exprs, no_exprs, next_expr, Argument, by_value, by_reference, Passed, no_passed, next_passed}
 use Rattle.bound_facts.specs.Node.{called}
@@ -13,7 +15,8 @@ use Rattle.net_tree.specs.Tree.{Exp, Exps, no_exps, next_exp}
 use Rattle.net_tree.specs.Tree as net
 use Rattle.written_trees.specs.Conversions.{one, two}
 use Rattle.written_trees.specs.Lines.{print_name}
-use Rattle.written_trees.specs.Names.{Path, Scope, is_standard_module, module_at, module_name, support, procedure_name}
+use Rattle.written_trees.specs.Names.{Path, Scope, is_standard_module, module_at, module_name, support, procedure_name, variable_name_of}
+use Rattle.run_matches.specs.Covered.{is_user}
 use Rattle.run_matches.specs.CoveredVariables.{belongs_to, is_reached}
 
 -- ---- bound expressions
@@ -60,18 +63,26 @@ abbrev mutual
 
 -- ---- written expressions
 
--- whether a path is a name alone, and this one; letters are compared without case
-abbrev pub path_names : List ℕ → Path → ℕ
-path_names name [] = 0
-path_names name (n ∷ []) = cond (is_same_name n name) 1 0
-path_names name (n ∷ m ∷ more) = 0
+-- whether a name may stand for something else where a path begins: for a module, the support module or the run-time library; what isn't
+-- declared has none
+abbrev pub is_outer : Declarations → List ℕ → Bool
+is_outer D [] = true
+is_outer D (c ∷ cs) = is_reserved (c ∷ cs) || list_any (λ (m : Module). is_same_name m.name (c ∷ cs)) D.project.modules
+
+-- Whether a path is a name alone, and this one; letters are compared without case. Behind the name of a variable of a user type stand fields.
+abbrev pub path_names : (fielded : Bool) → List ℕ → Path → ℕ
+path_names fielded name [] = 0
+path_names fielded name (n ∷ []) = cond (is_same_name n name) 1 0
+path_names fielded name (n ∷ m ∷ more) = cond (fielded && is_same_name n name) 1 0
 
 -- whether it is the name of a variable of a standard module behind that of the module, or alone inside of the module
-abbrev pub shared_names : (inside : Bool) → (of name : List ℕ) → Path → ℕ
-shared_names inside of name [] = 0
-shared_names inside of name (n ∷ []) = cond (inside && is_same_name n name) 1 0
-shared_names inside of name (o ∷ n ∷ []) = cond (is_same_name o of && is_same_name n name) 1 0
-shared_names inside of name (o ∷ n ∷ m ∷ more) = 0
+abbrev pub shared_names : (fielded inside : Bool) → (of name : List ℕ) → Path → ℕ
+shared_names fielded inside of name [] = 0
+shared_names fielded inside of name (n ∷ []) = cond (inside && is_same_name n name) 1 0
+shared_names fielded inside of name (o ∷ n ∷ []) =
+    cond ((is_same_name o of && is_same_name n name) || (fielded && (inside && is_same_name o name))) 1 0
+shared_names fielded inside of name (o ∷ n ∷ m ∷ more) =
+    cond (fielded && ((is_same_name o of && is_same_name n name) || (inside && is_same_name o name))) 1 0
 
 abbrev mutual
   -- how often a written expression names a variable that its paths name so often
@@ -134,18 +145,29 @@ is_named_there D of name (Some q) = is_same_name (procedure_name D q) name && no
 abbrev pub is_call_in : Declarations → (of name : List ℕ) → Expr → Bool
 is_call_in D of name e = is_named_there D of name (called e)
 
+-- whether a node is a variable of a user type that has the name
+abbrev pub is_group_named : Declarations → List ℕ → Expr → Bool
+is_group_named D name (typed (user t) (variable v qualified)) = is_same_name (variable_name_of (slice_get D.vars v.0)) name
+is_group_named D name e = false
+
+-- a path that begins with the name of a variable of a user type is that variable's
+abbrev pub IsFirst : Declarations → Variable → Type 0
+IsFirst D x = is_user x.ty ≡ true → is_outer D x.name ≡ false
+
 -- Expressions use each variable of the procedure, and each of a standard module to which names lead, as often as written ones name it, where
--- they call no procedure of its name: a result variable has that of its procedure.
+-- they call no procedure of its name: a result variable has that of its procedure. What has the name of a module breaks U20 itself; a variable
+-- of a user type with such a name might be taken for the module, since fields stand behind it.
 pub record SameUses (S : Scope) (p : ℕ) (es : List Expr) (ws : List Exp) : Type 0 where
   pub own :
       (v : ℕ) (x : Variable) → slice_get S.declarations.vars v ≡ Some x → belongs_to p x.owner ≡ true → IsAlone S.declarations p v x
-      → list_any (is_call_of S.declarations x.name) (flat_map nodes es) ≡ false
-      → total (uses v) es ≡ total (names (path_names x.name)) ws
+      → IsFirst S.declarations x → list_any (is_call_of S.declarations x.name) (flat_map nodes es) ≡ false
+      → total (uses v) es ≡ total (names (path_names (is_user x.ty) x.name)) ws
   pub shared :
       (v : ℕ) (x : Variable) (file : ℕ) → slice_get S.declarations.vars v ≡ Some x → x.owner ≡ owner.Module file
       → is_reached S.declarations p v x.name x.owner ≡ true → IsSharedAlone S.declarations v file x
-      → list_any (is_call_in S.declarations (module_name S.declarations file) x.name) (flat_map nodes es) ≡ false
-      → total (uses v) es ≡ total (names (shared_names (nat_eq S.file file) (module_name S.declarations file) x.name)) ws
+      → IsFirst S.declarations x → list_any (is_call_in S.declarations (module_name S.declarations file) x.name) (flat_map nodes es) ≡ false
+      → list_any (is_group_named S.declarations (module_name S.declarations file)) (flat_map nodes es) ≡ false
+      → total (uses v) es ≡ total (names (shared_names (is_user x.ty) (nat_eq S.file file) (module_name S.declarations file) x.name)) ws
 
 -- the expressions of an array that a ReDim makes anew, on both sides; a lower bound is a constant, which isn't written as it stands
 abbrev pub extent_exprs : Extent → List Expr

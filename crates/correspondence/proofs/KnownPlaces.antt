@@ -1,0 +1,158 @@
+-- The paths in what is written for places of user types are known, and nothing copies these.
+use Rattle.std.proofs.Common.{◌≡◌, ℕ, zero, suc, Bool, true, false, not, ◌&&◌, cond, List, [], ◌∷◌, ◌++◌, Option, Some, None, refl, sym, ap, subst, ◌∙◌, eqb-true}
+use Rattle.std.specs.List.{list_all, list_any}
+use Rattle.std.specs.Prelude.{◌||◌, slice_get}
+use Rattle.up_base.proofs.Lists.{both_true}
+use Rattle.vb_tree.specs.BoundTree as types
+use Rattle.vb_tree.specs.BoundTree.{Ty}
+use Rattle.vb_tree.specs.declared.declared.Owner.{Owner}
+use Rattle.vb_tree.specs.declared.declared.Owner.TheVariants as owner
+use Rattle.vb_tree.specs.declared.declared.VarId.{VarId}
+use Rattle.vb_tree.specs.Tree.{Module}
+use Rattle.bound_tree.specs.declared.body.Mention.{Mention}
+use Rattle.bound_tree.specs.Tree.{Constant, Declarations, Procedure, Program, Variable, Expr, typed, Term, field, variable}
+use Rattle.bound_facts.specs.Locks.{is_same_type}
+use Rattle.bound_facts.specs.Members.{field_of}
+use Rattle.bound_facts.specs.Node.{type_at}
+use Rattle.net_tree.specs.Tree.{Exp}
+use Rattle.written_trees.specs.Exprs.{exp_of, term_exp}
+use Rattle.written_trees.specs.Facts.{holds_array}
+use Rattle.written_trees.specs.Names.{Scope, is_foreign, module_name, owner_path}
+use Rattle.run_matches.specs.Covered.{covers_names, is_free_name}
+use Rattle.run_matches.specs.CoveredVariables.{covers_field_type, covers_group_owner, covers_group_use, covers_group_variable, covers_owner, covers_some_group, covers_user, field_type_in, field_type_of, is_foreign_name, is_loud, is_mention_of, is_reached}
+use Rattle.run_matches.specs.CoveredExprs.{covers_place, covers_place_term, has_inner, has_scalar, is_type, uses_in}
+use Rattle.run_matches.specs.Shared.{names_lead}
+use Rattle.run_matches.specs.UserTypes.{is_user_of}
+use Rattle.agreeing_laws.proofs.UserShapes.{FieldShape, field_shape_is}
+use Rattle.correspondence.proofs.KnownPaths.{HasKnown, IsKnown, free_other}
+use Rattle.correspondence.proofs.Places.{Place, declared_type, inner_of, place_of, scalar_place}
+use Rattle.correspondence.proofs.Variables.{module_free}
+
+-- ---- paths that begin with a free name
+
+free_path : (b : Bool) (outer name : List ℕ) (rest : List (List ℕ)) → is_free_name outer ≡ true → is_free_name name ≡ true
+    → IsKnown (cond b (outer ∷ name ∷ []) (name ∷ []) ++ rest)
+free_path true outer name rest h e = λ s. absurd (free_other outer h s)
+free_path false outer name [] h e = tt
+free_path false outer name (f ∷ rest) h e = λ s. absurd (free_other name e s)
+
+alone_path : (name : List ℕ) (rest : List (List ℕ)) → is_free_name name ≡ true → IsKnown (name ∷ rest)
+alone_path name [] h = tt
+alone_path name (f ∷ rest) h = λ s. absurd (free_other name h s)
+
+free_at : (vs : List Variable) (k : ℕ) (y : Variable) → list_all (λ (x : Variable). is_free_name x.name) vs ≡ true → slice_get vs k ≡ Some y
+    → is_free_name y.name ≡ true
+free_at [] k y h e = absurd (cc e)
+free_at (x ∷ xs) zero y h e =
+    ap (λ (z : Variable). is_free_name z.name) (sym (the_item x y e)) ∙ (both_true (is_free_name x.name) (list_all (λ (x : Variable). is_free_name x.name) xs) h).0
+  where
+    the_item : (x y : Variable) → Some x ≡ Some y → x ≡ y
+    the_item x y e = cc e
+free_at (x ∷ xs) (suc k) y h e = free_at xs k y (both_true (is_free_name x.name) (list_all (λ (x : Variable). is_free_name x.name) xs) h).1 e
+
+variable_free : (D : Declarations) → covers_names D ≡ true → (k : ℕ) (y : Variable) → slice_get D.vars k ≡ Some y → is_free_name y.name ≡ true
+variable_free D h k y e =
+    let a = both_true (list_all (λ (m : Module). is_free_name m.name) D.project.modules)
+    (list_all (λ (x : Variable). is_free_name x.name) D.vars
+    && (list_all (λ (c : Constant). is_free_name c.name) D.consts && list_all (λ (q : Procedure). is_free_name q.name) D.procs)) h in
+    free_at D.vars k y
+    (both_true (list_all (λ (x : Variable). is_free_name x.name) D.vars)
+    (list_all (λ (c : Constant). is_free_name c.name) D.consts && list_all (λ (q : Procedure). is_free_name q.name) D.procs) a.1).0 e
+
+module _ (P : Program) (S : Scope) (same : S.declarations ≡ P.declarations) (p : ℕ) (mentions : List Mention) where
+  abbrev D : Declarations
+  D = P.declarations
+
+  fields_known : (k : ℕ) (q : Bool) (y : Variable) (rest : List (List ℕ)) → is_free_name y.name ≡ true → (o : Owner) → is_reached D p k y.name o ≡ true
+      → covers_owner o ≡ true → IsKnown (owner_path S q y.name o ++ rest)
+  fields_known k q y rest free (owner.Module file) h c =
+      let leads = both_true (names_lead D p k y.name file) (is_foreign_name D p y.name) h in
+      free_path (q || is_foreign S.declarations S.file file) (module_name S.declarations file) y.name rest
+      (ap (λ (d : Declarations). is_free_name (module_name d file)) same ∙ ap not (module_free D p k file y.name leads.0)) free
+  fields_known k q y rest free (owner.Local r) h c = alone_path y.name rest free
+  fields_known k q y rest free (owner.Static r) h c = alone_path y.name rest free
+  fields_known k q y rest free (owner.Value r) h c = alone_path y.name rest free
+  fields_known k q y rest free (owner.Reference r) h c = alone_path y.name rest free
+  fields_known k q y rest free (owner.Answer r) h c = alone_path y.name rest free
+  fields_known k q y rest free (owner.Field t) h c = absurd (cc c)
+
+  path_known : covers_names D ≡ true → (ty : Ty) (t : Term) → Place P S same p mentions ty t → HasKnown (term_exp S ty t)
+  path_known free ty t L =
+      subst (λ (e : Exp). HasKnown e) (sym L.written) (
+        fields_known L.root.0 L.qualified L.root_variable L.fields (variable_free D free L.root.0 L.root_variable L.covered.0) L.root_variable.owner
+            L.covered.1 L.covered.2,
+        tt,
+      )
+
+  pub place_known : covers_names D ≡ true → (e : Expr) → covers_place (uses_in P p mentions) e ≡ true → HasKnown (exp_of S e)
+  place_known free (typed ty t) h = path_known free ty t (place_of P S same p mentions ty t h)
+
+  pub field_known : covers_names D ≡ true → (ty : Ty) (e : Expr) (k : ℕ) → has_scalar (uses_in P p mentions) (type_at e) k ≡ true
+      → covers_place (uses_in P p mentions) e ≡ true → HasKnown (term_exp S ty (field e k))
+  field_known free ty e k h c = path_known free ty (field e k) (scalar_place P S same p mentions ty e k h c)
+
+  -- ---- the types of places
+
+  abbrev IsCoveredUser : Ty → Type 0
+  IsCoveredUser ty = (t : ℕ) × (ty ≡ types.user t) × (covers_user D t ≡ true)
+
+  of_user : (ty : Ty) → is_user_of (covers_user D) ty ≡ true → IsCoveredUser ty
+  of_user (types.user t) h = (t, refl, h)
+  of_user _ h = absurd (cc h)
+
+  same_user : (t : ℕ) (ty : Ty) → is_same_type (types.user t) ty ≡ true → ty ≡ types.user t
+  same_user t (types.user u) h = ap types.user (sym (eqb-true t u h))
+  same_user t _ h = absurd (cc h)
+
+  variable_user : (t : ℕ) (k : VarId) → covers_group_use P p mentions k t ≡ true → covers_user D t ≡ true
+  variable_user t k h = by (slice_get D.vars k.0) (both_true (covers_some_group D p k.0 t o) (is_loud P k.0 o) both.1).0
+    where
+      o : Option Variable
+      o = slice_get D.vars k.0
+
+      both : (list_any (is_mention_of k) mentions ≡ true) × ((covers_some_group D p k.0 t o && is_loud P k.0 o) ≡ true)
+      both = both_true (list_any (is_mention_of k) mentions) (covers_some_group D p k.0 t o && is_loud P k.0 o) h
+
+      by : (o : Option Variable) → covers_some_group D p k.0 t o ≡ true → covers_user D t ≡ true
+      by None c = absurd (cc c)
+      by (Some y) c =
+          let f = both_true (is_reached D p k.0 y.name y.owner) (is_same_type (types.user t) y.ty && covers_group_variable D y) c in
+          let g = both_true (is_same_type (types.user t) y.ty) (covers_group_variable D y) f.1 in
+          let i = both_true (covers_group_owner y.owner) (is_user_of (covers_user D) y.ty && not y.auto) g.1 in
+          let j = both_true (is_user_of (covers_user D) y.ty) (not y.auto) i.1 in
+          subst (λ ty. is_user_of (covers_user D) ty ≡ true) (same_user t y.ty g.0) j.0
+
+  field_user : (s t k : ℕ) → covers_user D t ≡ true → is_type (types.user s) (field_type_in D mentions t k) ≡ true → covers_user D s ≡ true
+  field_user s t k c h = by (field_of D (types.user t) k) refl h
+    where
+      by_type : (v : ℕ) → field_of D (types.user t) k ≡ Some v → (o : Option Ty) → field_type_of D mentions (Some v) ≡ o → is_type (types.user s) o ≡ true
+          → covers_user D s ≡ true
+      by_type v e None f h = absurd (cc h)
+      by_type v e (Some ty) f h =
+          let is : ty ≡ types.user s = same_user s ty h in
+          let shape : FieldShape D t k ty = field_shape_is D t k v ty c e (declared_type D mentions v ty f) in
+          subst (λ z. covers_field_type (covers_user D) z ≡ true) is shape.covers
+
+      by : (o : Option ℕ) → field_of D (types.user t) k ≡ o → is_type (types.user s) (field_type_of D mentions o) ≡ true → covers_user D s ≡ true
+      by None e h = absurd (cc h)
+      by (Some v) e h = by_type v e (field_type_of D mentions (Some v)) refl h
+
+  place_user : (ty : Ty) (t : Term) → covers_place_term (uses_in P p mentions) ty t ≡ true → IsCoveredUser ty
+  place_user (types.user t) (variable k q) h = (t, refl, variable_user t k h)
+  place_user ty (field (typed of u) k) h =
+      let both = both_true (has_inner (uses_in P p mentions) of k ty) (covers_place_term (uses_in P p mentions) of u) h in
+      let i = inner_of P S same p mentions of k ty both.0 in
+      let outer = place_user of u both.1 in
+      let number : outer.0 ≡ i.1 = the_number outer.0 i.1 (sym outer.1 ∙ i.3) in
+      (i.0, i.2, field_user i.0 i.1 k (subst (λ z. covers_user D z ≡ true) number outer.2) i.4)
+    where
+      the_number : (a b : ℕ) → types.user a ≡ types.user b → a ≡ b
+      the_number a b e = cc e
+  place_user ty _ h = absurd (cc h)
+
+  -- nothing copies a place
+  pub place_flat : ((t : ℕ) → covers_user D t ≡ true → S.facts.holds_array t ≡ false) → (e : Expr) → covers_place (uses_in P p mentions) e ≡ true
+      → holds_array S.facts (type_at e) ≡ false
+  place_flat flat (typed ty t) h =
+      let u = place_user ty t h in
+      ap (holds_array S.facts) u.1 ∙ flat u.0 u.2
