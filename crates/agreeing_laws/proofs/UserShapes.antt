@@ -9,11 +9,12 @@ use Rattle.vb_tree.specs.declared.declared.VarId.{VarId}
 use Rattle.bound_tree.specs.declared.declared.TypeDecl.{TypeDecl}
 use Rattle.bound_facts.specs.Members.{at_option, type_fields, field_of}
 use Rattle.bound_tree.specs.Tree.{Variable, Declarations}
-use Rattle.vb6_run.specs.Shapes.{Shape, group, Shapes, next_shape, shape_at, shape_by, declared_shape, field_shapes, group_by, user_shape, user_shapes}
+use Rattle.vb6_run.specs.Shapes.{Shape, simple, group, array, endless, Shapes, next_shape, shape_at, shape_by, declared_shape, field_shapes, group_by, user_shape, user_shapes}
 use Rattle.run_matches.specs.CoveredVariables.{are_different, covers_field_type, covers_field, covers_user_by, covers_user_within, covers_user}
 use Rattle.run_matches.specs.Pledges.{type_of_shape}
 use Rattle.run_matches.specs.UserTypes.{field_names, type_leads}
-use Rattle.run_matches.specs.Upgrades.{type_of_some}
+use Rattle.run_matches.specs.Addresses.{IsDeclaredShape}
+use Rattle.run_matches.specs.Upgrades.{Upgrade, type_of_some}
 
 -- ---- one level
 
@@ -203,3 +204,16 @@ type_by D (suc n) t c = by (slice_get D.types t) c
 
 pub covered_type_of : (D : Declarations) (t : ℕ) → covers_user D t ≡ true → type_of_shape (user_shapes D t) ≡ types.user t
 covered_type_of D t c = type_by D (length D.types) t c
+
+-- a covered user type has the fields that it declares
+declared_by : (U : Upgrade) (t : ℕ) (s : Shape) → user_shapes U.program.declarations t ≡ s → type_of_shape s ≡ types.user t → IsDeclaredShape U s
+declared_by U t (simple ty) e of = tt
+declared_by U t (array d bounds) e of = tt
+declared_by U t endless e of = tt
+declared_by U t (group u fs) e of = ap (user_shapes U.program.declarations) (the_number u t of) ∙ e
+  where
+    the_number : (a b : ℕ) → types.user a ≡ types.user b → a ≡ b
+    the_number a b e = cc
+
+pub declared_user : (U : Upgrade) (t : ℕ) → covers_user U.program.declarations t ≡ true → IsDeclaredShape U (user_shapes U.program.declarations t)
+declared_user U t c = declared_by U t (user_shapes U.program.declarations t) refl (covered_type_of U.program.declarations t c)

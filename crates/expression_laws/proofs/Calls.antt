@@ -10,7 +10,7 @@ use Rattle.net_tree.specs.declared.declaration.NetPassing.{NetPassing}
 use Rattle.net_tree.specs.declared.declaration.NetPassing.TheVariants as passing
 use Rattle.net_tree.specs.Tree.{Exp, Exps, call_of, path}
 use Rattle.run_base.specs.Frames.{by_address, by_value}
-use Rattle.run_matches.specs.Addresses.{HasParameterRank, IsPlain, IsTarget, Same, GivesWhole}
+use Rattle.run_matches.specs.Addresses.{IsPlain, IsTarget, Same, GivesWhole, SuitsParameter}
 use Rattle.run_base.specs.Machines.{enters}
 use Rattle.run_base.specs.Outcomes.{Outcome, gives, after, then}
 use Rattle.vb6_run.specs.Expressions as source
@@ -115,7 +115,7 @@ module _ (U : Upgrade) (K : Pledge) where
   -- one more variable by reference
   pub address_agrees : (q i : ℕ) (w : World) (a : Address) (b : net.Address) (rest : Memory → Outcome Memory (List SourceGiven))
       (rest' : net.Memory → Outcome net.Memory Arguments) → MemoryMatch U w → Same U K w a b → IsTarget U a
-      → GivesWhole U q i a → IsPlain U w a → HasParameterRank U q i (net.shape_at b) → Agrees U K w (ArgumentsMatch U K q (suc i)) (rest w.src) (rest' w.net)
+      → GivesWhole U q i a → IsPlain U w a → SuitsParameter U q i a b → Agrees U K w (ArgumentsMatch U K q (suc i)) (rest w.src) (rest' w.net)
       → Agrees U K w (ArgumentsMatch U K q i) (then (gives [] (by_address a) w.src) (λ g w. then (rest w) (λ gs w. gives [] (g ∷ gs) w)))
       (then (gives [] (by_address b) w.net) (λ g w. then (rest' w) (λ gs w. gives [] (g ∷ gs) w)))
   address_agrees q i w a b rest rest' start same target whole plain ranked more =

@@ -21,7 +21,7 @@ use Rattle.net_run.specs.Names.{Reached}
 use Rattle.net_run.specs.Shapes as shape
 use Rattle.net_run.specs.Store as net
 use Rattle.row_laws.proofs.Composing.{after_nil, then_assoc}
-use Rattle.run_matches.specs.Addresses.{GivesWhole, HasParameterRank, IsPlain, IsTarget, Same, same_item}
+use Rattle.run_matches.specs.Addresses.{GivesWhole, IsPlain, IsTarget, Same, SuitsParameter, same_item}
 use Rattle.run_matches.specs.Agreeing.{Agrees}
 use Rattle.run_matches.specs.Maps.{World, is_auto_root}
 use Rattle.run_matches.specs.Match.{MemoryMatch}
@@ -45,7 +45,7 @@ record ItemGiven (U : Upgrade) (K : Pledge) (q i : ℕ) (w : World) (g : SourceG
   pub same : Same U K w address net_address
   pub target : IsTarget U address
   pub plain : IsPlain U w address
-  pub ranked : HasParameterRank U q i (net.shape_at net_address)
+  pub suits : SuitsParameter U q i address net_address
 
 some_is : (p q : Position) → Some p ≡ Some q → p ≡ q
 some_is p q e = cc e
@@ -70,7 +70,7 @@ module _ (U : Upgrade) (K : Pledge) (ty : Ty) (keeps : K.keeps ty) (q i : ℕ) (
     same = same_item (simple ty) (simple ty) m.written m.position m.array j [] keeps m.is_matched m.has refl m.same;
     target = inr (record { ty = ty; array = m.position; index = j; stands = refl });
     plain = λ p e. subst (λ (z : Position). is_auto_root U w.map z.root ≡ false) (some_is m.position p e) m.plain;
-    ranked = plain_shape U q i (simple ty) m.written ty refl m.same;
+    suits = (plain_shape U q i (simple ty) m.written ty refl m.same, tt);
   }
 
   -- the source reads what a quiet parameter is given
@@ -155,7 +155,7 @@ module _ (U : Upgrade) (K : Pledge) (ty : Ty) (keeps : K.keeps ty) (q i : ℕ) (
       subst (λ z. ArgumentsMatch U K q i u (z ∷ xs) (h ∷ ys)) (sym m.is_given)
       (subst (λ z. ArgumentsMatch U K q i u (by_address m.address ∷ xs) (z ∷ ys)) (sym m.is_net_given)
       (next_address i u m.address m.net_address xs ys (address_later U K v u m.address m.net_address later m.same) m.target (whole m.address)
-      (plain_later U K v u m.address m.net_address later m.same m.plain) m.ranked rest))
+      (plain_later U K v u m.address m.net_address later m.same m.plain) m.suits rest))
 
   pub element_agrees : (whole : (a : Address) → GivesWhole U q i a) (C : Context) (a : Expr) (indexes : Exprs) (S : net_names.Scope) (oracle : Jobs) (w : World)
       (r' : Outcome net.Memory Reached) (t : Outcome net.Memory NetGiven) → t ≡ refers r' S oracle → MemoryMatch U w

@@ -33,7 +33,7 @@ use Rattle.net_run.specs.Values as net_value
 use Rattle.written_trees.specs.Arguments.{argument_exp, is_conversion, temporary_exp}
 use Rattle.written_trees.specs.Exprs.{exp_of}
 use Rattle.written_trees.specs.Names.{Scope, variable_path}
-use Rattle.run_matches.specs.Addresses.{HasParameterRank, IsPlain, IsTarget, Same, same_item, same_root, GivesWhole, IsScalarAt}
+use Rattle.run_matches.specs.Addresses.{HasParameterRank, IsDeclaredAt, IsPlain, IsTarget, Same, SuitsParameter, same_item, same_root, GivesWhole, IsScalarAt}
 use Rattle.run_matches.specs.Agreeing.{Agrees}
 use Rattle.run_matches.specs.CoveredVariables.{covers_type}
 use Rattle.run_matches.specs.CoveredExprs.{Uses, IsUsed, covers_array, covers_expr, covers_place, is_passable, is_variable, is_relied_on}
@@ -48,6 +48,7 @@ use Rattle.run_statements.specs.Fitting.{FitsArgument}
 use Rattle.run_statements.specs.Frames.{AreReadable, IsGroup, IsKnown, IsReadable, context_of}
 use Rattle.row_laws.proofs.Composing.{after_nil}
 use Rattle.agreeing_laws.proofs.Agreeing.{agrees_outside}
+use Rattle.agreeing_laws.proofs.UserShapes.{declared_user}
 use Rattle.expression_laws.specs.Calls.{ArgumentsMatch}
 use Rattle.expression_laws.specs.Images.{HasImage, HaveImages, IsImage}
 use Rattle.expression_laws.proofs.Calls.{address_agrees}
@@ -226,6 +227,25 @@ parameter_ranked U K w T uses readable q i ty v qualified (inr (inl h)) fits sui
     ∙ fits (sound_array U v used.0 ty qualified (readable.arrays v used.0 used.1) (array_typed uses ty v qualified h))
     (suited (is_array_type ty) (takes_array U.program.declarations q i) (array_typed uses ty v qualified h) suits))
 
+scalar_declared : (U : Upgrade) (a : Address) (ty : Ty) (p : Position) → IsScalarAt ty a p → IsDeclaredAt U a
+scalar_declared U a ty p (inl e) = subst (λ z. IsDeclaredAt U z) (sym e) tt
+scalar_declared U a ty p (inr e) = subst (λ z. IsDeclaredAt U z) (sym e.1) tt
+
+-- a user type has the fields that it declares
+parameter_declared : (U : Upgrade) (K : Pledge) (w : World) (T : Scope) (uses : Uses) → AreReadable U T uses → (ty : Ty) (v : VarId) (qualified : Bool)
+    → IsPassed uses (typed ty (variable v qualified)) → (a : Address) (b : net.Address) → IsImage U K w v.0 a b → IsDeclaredAt U a
+parameter_declared U K w T uses readable ty v qualified (inl h) a b x =
+    let r : IsReadable U v.0 = readable.scalars v (both_true (covers_type ty) (uses.scalar v) (scalar_of_passed uses (typed ty (variable v qualified)) h)).1 in
+    scalar_declared U a r.variable.ty x.position (scalar_stands U v.0 r a x.position x.stands)
+parameter_declared U K w T uses readable ty v qualified (inr (inl h)) a b x =
+    let used = array_used uses ty v qualified h in
+    let stands = array_stands U v.0 used.0 (readable.arrays v used.0 used.1) a x.position x.stands in
+    subst (λ z. IsDeclaredAt U z) (sym stands.1) tt
+parameter_declared U K w T uses readable ty v qualified (inr (inr h)) a b x =
+    let used = group_used uses ty v qualified h in
+    let r : IsGroup U v.0 used.0 = readable.groups v used.0 used.1 in
+    subst (λ z. IsDeclaredAt U z) (sym (group_stands U v.0 used.0 r a x.position x.stands)) (declared_user U used.0 r.covers)
+
 -- ---- the target
 
 -- it is written as it stands
@@ -276,7 +296,7 @@ module _ (U : Upgrade) (K : Pledge) (p : ℕ) (f : SourceFrame) (g : NetFrame) (
   -- the source reads what a quiet parameter is given, and then goes on in the same way
   given_agrees : (w : World) (quiet : Bool) (a : Address) (b : net.Address) (rest : Memory → Outcome Memory (List SourceGiven))
       (rest' : net.Memory → Outcome net.Memory Arguments) → MemoryMatch U w → Same U K w a b → IsTarget U a
-      → GivesWhole U q i a → IsPlain U w a → HasParameterRank U q i (net.shape_at b) → Agrees U K w (ArgumentsMatch U K q (suc i)) (rest w.src) (rest' w.net)
+      → GivesWhole U q i a → IsPlain U w a → SuitsParameter U q i a b → Agrees U K w (ArgumentsMatch U K q (suc i)) (rest w.src) (rest' w.net)
       → Agrees U K w (ArgumentsMatch U K q i) (then (source.given_address quiet a w.src) (λ g w. then (rest w) (λ gs w. gives [] (g ∷ gs) w)))
       (then (gives [] (by_address b) w.net) (λ g w. then (rest' w) (λ gs w. gives [] (g ∷ gs) w)))
   given_agrees w false a b rest rest' start same target whole plain ranked more = address_agrees U K q i w a b rest rest' start same target whole plain ranked more
@@ -334,5 +354,5 @@ module _ (U : Upgrade) (K : Pledge) (p : ℕ) (f : SourceFrame) (g : NetFrame) (
           (sym (target_given (scope_of U.written c g k) net_oracle mode (variable_path T qualified v.0) x.address w.net takes (x.found qualified)
           (image_given U K w a x.address y.same)))
           (given_agrees w quiet a x.address rest rest' start y.same y.target (λ e. x.whole (handed_whole U.program q i ty v qualified hands e)) y.plain
-          (parameter_ranked U K w T uses readable q i ty v qualified passed fits suits a x.address y) more)
+          (parameter_ranked U K w T uses readable q i ty v qualified passed fits suits a x.address y, parameter_declared U K w T uses readable ty v qualified passed a x.address y) more)
   reference_agrees w quiet mode referred (typed ty _) rest rest' takes is passed fits suits hands start have more = absurd (true≢false (sym is))

@@ -9,7 +9,7 @@ use Rattle.net_run.specs.Lines.{NetFrame}
 use Rattle.net_run.specs.Shapes as shape
 use Rattle.net_run.specs.Store as net
 use Rattle.net_run.specs.Values as net_value
-use Rattle.run_matches.specs.Addresses.{AllLocked, HasParameterRank, IsGivable, IsPlain, IsTarget, Same, GivesWhole}
+use Rattle.run_matches.specs.Addresses.{AllLocked, IsGivable, IsPlain, IsTarget, Same, GivesWhole, SuitsParameter}
 use Rattle.run_matches.specs.Agreeing.{ResultMatch}
 use Rattle.run_matches.specs.Likeness.{LikeV}
 use Rattle.run_matches.specs.Maps.{World}
@@ -29,7 +29,7 @@ pub data ArgumentsMatch (U : Upgrade) (K : Pledge) (q : ℕ) : (place : ℕ) →
   next_value : (i : ℕ) (w : World) (x : Value) (y : net_value.Value) (xs : List SourceGiven) (ys : List NetGiven) → LikeV U w x y → IsGivable U q i x
       → arrays_in y ≡ [] → ArgumentsMatch U K q (suc i) w xs ys → ArgumentsMatch U K q i w (by_value x ∷ xs) (by_value y ∷ ys)
   next_address : (i : ℕ) (w : World) (a : Address) (b : net.Address) (xs : List SourceGiven) (ys : List NetGiven) → Same U K w a b → IsTarget U a
-      → GivesWhole U q i a → IsPlain U w a → HasParameterRank U q i (net.shape_at b) → ArgumentsMatch U K q (suc i) w xs ys → ArgumentsMatch U K q i w (by_address a ∷ xs) (by_address b ∷ ys)
+      → GivesWhole U q i a → IsPlain U w a → SuitsParameter U q i a b → ArgumentsMatch U K q (suc i) w xs ys → ArgumentsMatch U K q i w (by_address a ∷ xs) (by_address b ∷ ys)
 
 -- what a call gives, which is nothing of a Sub
 pub record GivenMatch (U : Upgrade) (w : World) (p : Parts) (a : net.Address) : Type 0 where

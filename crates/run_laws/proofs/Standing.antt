@@ -30,8 +30,8 @@ use Rattle.run_matches.specs.Upgrades.{Upgrade, is_auto}
 use Rattle.agreeing_laws.proofs.Made.{more}
 use Rattle.run_laws.specs.Entered.{AllSound}
 use Rattle.run_laws.proofs.Covered.{not_none, some_is}
-use Rattle.run_laws.proofs.StaticOrder.{AllFlat}
-use Rattle.run_laws.proofs.Usable.{usable_flat}
+use Rattle.run_laws.proofs.StaticOrder.{AllEnd}
+use Rattle.run_laws.proofs.Usable.{usable_end}
 use Rattle.run_laws.proofs.Locals.{position_is}
 
 -- ---- the frames of an entry
@@ -56,10 +56,10 @@ plain_place U w v a h auto q e =
 
 -- ---- Statics
 
-pub flat_owns : (U : Upgrade) (S : Scope) (os : List Own) → AllSound U S os → AllFlat U.program.declarations os
-flat_owns U S [] h = tt
-flat_owns U S (own_variable v x ∷ os) h = (usable_flat U v h.0.0, flat_owns U S os h.1)
-flat_owns U S (own_constant d x ∷ os) h = flat_owns U S os h.1
+pub ending_owns : (U : Upgrade) (S : Scope) (os : List Own) → AllSound U S os → AllEnd U.program.declarations os
+ending_owns U S [] h = tt
+ending_owns U S (own_variable v x ∷ os) h = (usable_end U v h.0.0, ending_owns U S os h.1)
+ending_owns U S (own_constant d x ∷ os) h = ending_owns U S os h.1
 
 pub module_in_is : (ms : List net_tree.Module) (k : ℕ) → module_in ms k ≡ slice_get ms k
 module_in_is [] k = refl

@@ -2,77 +2,73 @@
 use Rattle.std.proofs.Common.{◌≡◌, refl, sym, ap, subst, ◌∙◌, ℕ, suc, Bool, true, false, cond, List, [], ◌∷◌, ◌++◌, map, Option, Some}
 use Rattle.bound_tree.specs.Tree.{Declarations}
 use Rattle.run_base.specs.Outcomes.{Outcome, gives, outside, after, then, some_of}
-use Rattle.run_base.specs.Positions.{Key, Root, shared, made, field, Position, whole, updated}
+use Rattle.run_base.specs.Positions.{Key, shared, made, Position, whole}
 use Rattle.vb6_run.specs.Programs.{Bindings, made_each, lay_if_blank, lay_statics}
 use Rattle.vb6_run.specs.Runnables.{is_class_file, object_root}
-use Rattle.vb6_run.specs.Shapes.{Shape, array, endless, group, simple, variable_shape}
-use Rattle.vb6_run.specs.Store.{Address, Held, blank, single, table, parts, Memory, provided, root, with_held, make}
-use Rattle.vb6_run.specs.Values.{dimension_of, first_scalar, first_value, is_makeable, repeated, size}
+use Rattle.vb6_run.specs.Shapes.{Shape, variable_shape}
+use Rattle.vb6_run.specs.Store.{Address, Held, blank, single, table, parts, Memory, provided, root, make}
+use Rattle.vb6_run.specs.Values.{Value, first_value, is_makeable}
 use Rattle.written_trees.specs.Prologues.{is_static}
 use Rattle.run_matches.specs.Sites.{Own, own_variable, own_constant, local_numbers, static_numbers}
 use Rattle.agreeing_laws.proofs.Outputs.{after_nothing, then_then}
-use Rattle.run_laws.proofs.Usable.{IsFlat}
+use Rattle.memory_laws.specs.Laying.{HasEnd, held_with}
+use Rattle.memory_laws.proofs.LaidValues.{laid_is, roots_swapped}
+use Rattle.memory_laws.proofs.Parts.{held_apart, root_apart}
 
--- ---- changes at a key and in a place
+-- ---- what is laid at a key and in a place
 
-module _ {V : Type 0} (f : Position → V) (k : Key) (n : ℕ) (a b : V) where
-  swapped_at : (r : Root) (path : List ℕ)
-      → updated (updated f (whole (made n)) a) (whole (shared k)) b (record { root = r; path = path })
-      ≡ updated (updated f (whole (shared k)) b) (whole (made n)) a (record { root = r; path = path })
-  swapped_at (shared l) path = refl
-  swapped_at (made m) path = refl
-  swapped_at (field o l) path = refl
+-- a value stands at a position
+abbrev with_value : Position → Value → Memory → Memory
+with_value q x w = record w { held = held_with x q w.held }
 
-  swapped : updated (updated f (whole (made n)) a) (whole (shared k)) b ≡ updated (updated f (whole (shared k)) b) (whole (made n)) a
-  swapped = λ i q. swapped_at q.root q.path i
+abbrev with_next : Position → Value → Memory → Memory
+with_next q x w = with_value q x (record w { next = suc w.next })
 
-abbrev with_next : Position → Held → Memory → Memory
-with_next q h w = with_held q h (record w { next = suc w.next })
+-- a key is no place
+apart : (k : Key) (n : ℕ) → shared k ≡ made n → ⊥
+apart k n e = cc e
 
-swapped_memory : (w : Memory) (k : Key) (x y : Held)
-    → with_held (whole (shared k)) x (with_next (whole (made w.next)) y w) ≡ with_next (whole (made w.next)) y (with_held (whole (shared k)) x w)
-swapped_memory w k x y = ap (λ (h : Position → Held). record w { held = h; next = suc w.next }) (swapped w.held k w.next y x)
+swapped_memory : (w : Memory) (k : Key) (x y : Value)
+    → with_value (whole (shared k)) x (with_next (whole (made w.next)) y w) ≡ with_next (whole (made w.next)) y (with_value (whole (shared k)) x w)
+swapped_memory w k x y =
+    ap (λ (h : Position → Held). record w { held = h; next = suc w.next })
+    (roots_swapped x (whole (shared k)) y (whole (made w.next)) w.held (apart k w.next))
 
--- ---- what is laid and made
+-- what stands at the key stands there still
+same_key : (w : Memory) (k : Key) (y : Value) → (with_next (whole (made w.next)) y w).held (whole (shared k)) ≡ w.held (whole (shared k))
+same_key w k y =
+    held_apart y (whole (made w.next)) w.held (whole (shared k)) (root_apart (whole (made w.next)) (whole (shared k)) (λ e. apart k w.next (sym e)))
 
--- what stands there first
-abbrev first_held : Shape → Held
-first_held (simple ty) = single ty (first_scalar ty)
-first_held (group t fs) = parts
-first_held (array e bounds) = table e (map dimension_of bounds) (repeated (size (map dimension_of bounds)) (first_value e))
-first_held endless = blank
+abbrev put : Bool → Position → Value → Memory → Outcome Memory Unit
+put b q x w = provided b (λ v. gives [] tt (with_value q x v)) w
 
-abbrev put : Bool → Position → Held → Memory → Outcome Memory Unit
-put b q x w = provided b (λ v. gives [] tt (with_held q x v)) w
-
-abbrev made_by : Bool → Held → Shape → Memory → Outcome Memory Address
+abbrev made_by : Bool → Value → Shape → Memory → Outcome Memory Address
 made_by b x l w = then (put b (whole (made w.next)) x (record w { next = suc w.next })) (λ u v. gives [] (root l (whole (made w.next))) v)
 
-abbrev once_by : Bool → Held → Key → Held → Memory → Outcome Memory Unit
+abbrev once_by : Bool → Value → Key → Held → Memory → Outcome Memory Unit
 once_by b x k blank w = put b (whole (shared k)) x w
 once_by b x k (single t z) w = gives [] tt w
 once_by b x k (table e dims xs) w = gives [] tt w
 once_by b x k parts w = gives [] tt w
 
-made_is : (l : Shape) → IsFlat l → (w : Memory) → make l w ≡ made_by (is_makeable l) (first_held l) l w
-made_is (simple ty) f w = refl
-made_is (group t fs) f w = absurd f
-made_is (array e bounds) f w = refl
-made_is endless f w = absurd f
+made_is : (l : Shape) → HasEnd l → (w : Memory) → make l w ≡ made_by (is_makeable l) (first_value l) l w
+made_is l e w =
+    ap
+    (λ (f : Memory → Memory). then (provided (is_makeable l) (λ v. gives [] tt (f v)) (record w { next = suc w.next }))
+    (λ u v. gives [] (root l (whole (made w.next))) v))
+    (λ i v. laid_is l (whole (made w.next)) v e i)
 
-once_is : (s : Shape) → IsFlat s → (k : Key) (h : Held) (w : Memory)
-    → lay_if_blank s (shared k) h w ≡ once_by (is_makeable s) (first_held s) k h w
-once_is (simple ty) f k blank w = refl
-once_is (array e bounds) f k blank w = refl
-once_is (group t fs) f k blank w = absurd f
-once_is endless f k blank w = absurd f
-once_is s f k (single t z) w = refl
-once_is s f k (table e dims xs) w = refl
-once_is s f k parts w = refl
+once_is : (s : Shape) → HasEnd s → (k : Key) (h : Held) (w : Memory)
+    → lay_if_blank s (shared k) h w ≡ once_by (is_makeable s) (first_value s) k h w
+once_is s e k blank w =
+    ap (λ (f : Memory → Memory). provided (is_makeable s) (λ v. gives [] tt (f v)) w) (λ i v. laid_is s (whole (shared k)) v e i)
+once_is s e k (single t z) w = refl
+once_is s e k (table f dims xs) w = refl
+once_is s e k parts w = refl
 
 -- ---- one Static behind one local variable, and before it
 
-module _ {A : Type 0} (k : Key) (x y : Held) (l : Shape) (G : Address → Memory → Outcome Memory A) where
+module _ {A : Type 0} (k : Key) (x y : Value) (l : Shape) (G : Address → Memory → Outcome Memory A) where
   behind_made : (b : Bool) (h : Held) (w : Memory)
       → after [] (then (once_by b x k h (with_next (whole (made w.next)) y w)) (λ u v. G (root l (whole (made w.next))) v))
       ≡ then (once_by b x k h w) (λ u v. then (made_by true y l v) G)
@@ -93,14 +89,16 @@ module _ {A : Type 0} (k : Key) (x y : Held) (l : Shape) (G : Address → Memory
   one_swapped : (b c : Bool) (w : Memory)
       → then (made_by c y l w) (λ a v. then (once_by b x k (v.held (whole (shared k))) v) (λ u v. G a v))
       ≡ then (once_by b x k (w.held (whole (shared k))) w) (λ u v. then (made_by c y l v) G)
-  one_swapped b true w = behind_made b (w.held (whole (shared k))) w
+  one_swapped b true w =
+      ap (λ h. after [] (then (once_by b x k h (with_next (whole (made w.next)) y w)) (λ u v. G (root l (whole (made w.next))) v))) (same_key w k y)
+      ∙ behind_made b (w.held (whole (shared k))) w
   one_swapped b false w = behind_none b (w.held (whole (shared k))) w
 
 -- ---- behind all local variables
 
-abbrev pub AreFlat : Declarations → List ℕ → Type 0
-AreFlat D [] = Unit {0}
-AreFlat D (v ∷ vs) = IsFlat (variable_shape D v) × AreFlat D vs
+abbrev pub HaveEnds : Declarations → List ℕ → Type 0
+HaveEnds D [] = Unit {0}
+HaveEnds D (v ∷ vs) = HasEnd (variable_shape D v) × HaveEnds D vs
 
 -- a Static of a standard module is made where none is there
 abbrev pub laid_once : Declarations → (variable : ℕ) → Memory → Outcome Memory Unit
@@ -111,18 +109,18 @@ laid_all D [] w = gives [] tt w
 laid_all D (k ∷ ks) w = then (laid_once D k w) (λ u w. laid_all D ks w)
 
 module _ (D : Declarations) {A : Type 0} where
-  one_past : (k l : ℕ) → IsFlat (variable_shape D k) → IsFlat (variable_shape D l) → (G : Address → Memory → Outcome Memory A) (w : Memory)
+  one_past : (k l : ℕ) → HasEnd (variable_shape D k) → HasEnd (variable_shape D l) → (G : Address → Memory → Outcome Memory A) (w : Memory)
       → then (make (variable_shape D l) w) (λ a v. then (laid_once D k v) (λ u v. G a v))
       ≡ then (laid_once D k w) (λ u v. then (make (variable_shape D l) v) G)
   one_past k l s t G w =
       let z = variable_shape D k in
       let y = variable_shape D l in
-      let made = λ (v : Memory). made_by (is_makeable y) (first_held y) y v in
-      let once = λ (v : Memory). once_by (is_makeable z) (first_held z) (k ∷ []) (v.held (whole (shared (k ∷ [])))) v in
+      let made = λ (v : Memory). made_by (is_makeable y) (first_value y) y v in
+      let once = λ (v : Memory). once_by (is_makeable z) (first_value z) (k ∷ []) (v.held (whole (shared (k ∷ [])))) v in
       ap (λ r. then r (λ a v. then (laid_once D k v) (λ u v. G a v))) (made_is y t w)
       ∙ ap (λ f. then (made w) f)
       (λ i a v. then (once_is z s (k ∷ []) (v.held (whole (shared (k ∷ [])))) v i) (λ u v. G a v))
-      ∙ one_swapped (k ∷ []) (first_held z) (first_held y) y G (is_makeable z) (is_makeable y) w
+      ∙ one_swapped (k ∷ []) (first_value z) (first_value y) y G (is_makeable z) (is_makeable y) w
       ∙ ap (λ f. then (once w) f) (λ i u v. let e = sym (made_is y t v) in then (e i) G)
       ∙ ap (λ r. then r (λ u v. then (make y v) G)) (sym (once_is z s (k ∷ []) (w.held (whole (shared (k ∷ [])))) w))
 
@@ -137,7 +135,7 @@ module _ (D : Declarations) {A : Type 0} where
       ∙ ap (λ k. then (make (variable_shape D l) w) k)
       (λ i a v. then (made_each D ls v) (λ rest z. after_nothing (J ((l, a) ∷ rest) z) i))
 
-  all_past : (k : ℕ) → IsFlat (variable_shape D k) → (ls : List ℕ) → AreFlat D ls → (G : Bindings → Memory → Outcome Memory A) (w : Memory)
+  all_past : (k : ℕ) → HasEnd (variable_shape D k) → (ls : List ℕ) → HaveEnds D ls → (G : Bindings → Memory → Outcome Memory A) (w : Memory)
       → then (made_each D ls w) (λ xs v. then (laid_once D k v) (λ u v. G xs v))
       ≡ then (laid_once D k w) (λ u v. then (made_each D ls v) G)
   all_past k s [] ts G w =
@@ -151,10 +149,10 @@ module _ (D : Declarations) {A : Type 0} where
 
 -- ---- among the declarations of a procedure
 
-abbrev pub AllFlat : Declarations → List Own → Type 0
-AllFlat D [] = Unit {0}
-AllFlat D (own_variable v x ∷ os) = IsFlat (variable_shape D v) × AllFlat D os
-AllFlat D (own_constant c x ∷ os) = AllFlat D os
+abbrev pub AllEnd : Declarations → List Own → Type 0
+AllEnd D [] = Unit {0}
+AllEnd D (own_variable v x ∷ os) = HasEnd (variable_shape D v) × AllEnd D os
+AllEnd D (own_constant c x ∷ os) = AllEnd D os
 
 -- a variable of a procedure is made, or laid where it is a Static
 abbrev pub made_own : Declarations → (static : Bool) → (variable : ℕ) → (Memory → Outcome Memory Bindings) → Memory → Outcome Memory Bindings
@@ -167,21 +165,21 @@ made_in_order D [] w = gives [] [] w
 made_in_order D (own_variable v x ∷ os) w = made_own D (is_static x.owner) v (made_in_order D os) w
 made_in_order D (own_constant c x ∷ os) w = made_in_order D os w
 
-flat_locals : (D : Declarations) (os : List Own) → AllFlat D os → AreFlat D (local_numbers os)
-flat_locals D [] h = tt
-flat_locals D (own_variable v x ∷ os) h = by (is_static x.owner) (flat_locals D os h.1)
+ending_locals : (D : Declarations) (os : List Own) → AllEnd D os → HaveEnds D (local_numbers os)
+ending_locals D [] h = tt
+ending_locals D (own_variable v x ∷ os) h = by (is_static x.owner) (ending_locals D os h.1)
   where
-    by : (b : Bool) → AreFlat D (local_numbers os) → AreFlat D (cond b [] (v ∷ []) ++ local_numbers os)
+    by : (b : Bool) → HaveEnds D (local_numbers os) → HaveEnds D (cond b [] (v ∷ []) ++ local_numbers os)
     by true more = more
     by false more = (h.0, more)
-flat_locals D (own_constant c x ∷ os) h = flat_locals D os h
+ending_locals D (own_constant c x ∷ os) h = ending_locals D os h
 
 module _ (D : Declarations) {A : Type 0} where
   -- locals, then Statics, then the rest
   abbrev Both : List ℕ → List ℕ → (Bindings → Memory → Outcome Memory A) → Memory → Outcome Memory A
   Both ls ss G w = then (made_each D ls w) (λ xs v. then (laid_all D ss v) (λ u v. G xs v))
 
-  own_by : (v : ℕ) → IsFlat (variable_shape D v) → (b : Bool) (ls ss : List ℕ) → AreFlat D ls → (rest : Memory → Outcome Memory Bindings)
+  own_by : (v : ℕ) → HasEnd (variable_shape D v) → (b : Bool) (ls ss : List ℕ) → HaveEnds D ls → (rest : Memory → Outcome Memory Bindings)
       → ((G : Bindings → Memory → Outcome Memory A) (w : Memory) → Both ls ss G w ≡ then (rest w) G) → (G : Bindings → Memory → Outcome Memory A) (w : Memory)
       → Both (cond b [] (v ∷ []) ++ ls) (cond b (v ∷ []) [] ++ ss) G w ≡ then (made_own D b v rest w) G
   own_by v s true ls ss are rest more G w =
@@ -197,11 +195,11 @@ module _ (D : Declarations) {A : Type 0} where
       ∙ sym (then_then (make (variable_shape D v) w) (λ a z. then (rest z) (λ xs y. gives [] ((v, a) ∷ xs) y)) G)
 
   -- it makes no difference
-  pub in_order : (os : List Own) → AllFlat D os → (G : Bindings → Memory → Outcome Memory A) (w : Memory)
+  pub in_order : (os : List Own) → AllEnd D os → (G : Bindings → Memory → Outcome Memory A) (w : Memory)
       → Both (local_numbers os) (static_numbers os) G w ≡ then (made_in_order D os w) G
   in_order [] h G w = ap (λ r. after [] r) (after_nothing (G [] w))
   in_order (own_variable v x ∷ os) h G w =
-      own_by v h.0 (is_static x.owner) (local_numbers os) (static_numbers os) (flat_locals D os h.1) (made_in_order D os) (λ G w. in_order os h.1 G w) G w
+      own_by v h.0 (is_static x.owner) (local_numbers os) (static_numbers os) (ending_locals D os h.1) (made_in_order D os) (λ G w. in_order os h.1 G w) G w
   in_order (own_constant c x ∷ os) h G w = in_order os h G w
 
 -- ---- the Statics of a standard module

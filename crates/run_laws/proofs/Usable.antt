@@ -1,4 +1,4 @@
--- What is known of scalars and of arrays alike: their shapes, and what a Static holds.
+-- What is known of scalars, arrays and user types alike: their shapes, and what a Static holds.
 use Rattle.std.proofs.Common.{◌≡◌, refl, sym, ap, subst, ◌∙◌, inl, inr, ⊎_elim, ℕ, Bool, true, false, not, true≢false, Some, List, [], ◌∷◌}
 use Rattle.std.specs.Prelude.{is_some, slice_get}
 use Rattle.vb_tree.specs.BoundTree.{Ty}
@@ -9,9 +9,9 @@ use Rattle.net_meaning.specs.declared.value.ValueN.TheVariants as n
 use Rattle.run_base.specs.Outcomes.{gives}
 use Rattle.run_base.specs.Positions.{Position, shared, whole}
 use Rattle.vb6_run.specs.Programs.{lay_if_blank}
-use Rattle.vb6_run.specs.Shapes.{Shape, array, declared_shape, endless, group, shape_by, simple, user_shapes, variable_shape}
+use Rattle.vb6_run.specs.Shapes.{Shape, array, declared_shape, shape_by, simple, user_shapes, variable_shape}
 use Rattle.vb6_run.specs.Store.{Held, blank, laid, parts, provided, single, table, Memory}
-use Rattle.vb6_run.specs.Values.{Dimension, Values, is_makeable}
+use Rattle.vb6_run.specs.Values.{Dimension, Values, first_value, is_makeable}
 use Rattle.net_run.specs.Shapes as shape
 use Rattle.net_run.specs.Store as net
 use Rattle.net_tree.specs.Types.{TypeName}
@@ -22,11 +22,14 @@ use Rattle.run_matches.specs.Maps.{IsMatched, World, moved_at}
 use Rattle.run_matches.specs.Match.{HasRank, HeldLike, StoreMatch, holds_blank, holds_parts, holds_single, holds_table}
 use Rattle.run_matches.specs.Upgrades.{Upgrade, has_bounds, is_flagged, variable_key}
 use Rattle.run_statements.specs.Arrays.{array_shape}
-use Rattle.run_statements.specs.Frames.{IsArray, IsReadable, IsUsable}
+use Rattle.run_statements.specs.Frames.{IsArray, IsGroup, IsReadable, IsUsable}
 use Rattle.agreeing_laws.specs.Promises.{Yields}
 use Rattle.name_laws.proofs.Words.{simple_type}
+use Rattle.agreeing_laws.proofs.SoundParts.{all_matched_made, all_ranked_sound}
+use Rattle.memory_laws.specs.Laying.{HasEnd}
+use Rattle.memory_laws.proofs.GroupsMade.{group_shape, group_sound, group_type}
+use Rattle.memory_laws.proofs.LaidValues.{laid_is, sound_end, stands_laid}
 use Rattle.memory_laws.proofs.Making.{readable_shape}
-use Rattle.memory_laws.proofs.Positions.{updated_here}
 use Rattle.run_base.specs.Positions.{Key}
 use Rattle.run_laws.specs.Entered.{StaticMatch}
 use Rattle.run_laws.specs.Premises.{ArraysHaveRanks}
@@ -45,16 +48,11 @@ array_shape_is U v element r =
 pub has_rank_of : (U : Upgrade) (v : ℕ) (element : Ty) → IsArray U v element → ArraysHaveRanks U → U.facts.rank v ≡ 0 → ⊥
 has_rank_of U v element r ranked none = ranked v (ap is_array_variable r.known.is_variable ∙ ap is_array_type r.is_array) none
 
--- a scalar or an array: what stands there is kept in one position
-abbrev pub IsFlat : Shape → Type 0
-IsFlat (simple ty) = Unit {0}
-IsFlat (group t fs) = ⊥
-IsFlat (array e bounds) = Unit {0}
-IsFlat endless = ⊥
-
-pub usable_flat : (U : Upgrade) (v : ℕ) → IsUsable U v → IsFlat (variable_shape U.program.declarations v)
-usable_flat U v (inl r) = subst (λ s. IsFlat s) (sym (readable_shape U v r)) tt
-usable_flat U v (inr a) = subst (λ s. IsFlat s) (sym (array_shape_is U v a.0 a.1)) tt
+-- what can be used is no type that holds itself
+pub usable_end : (U : Upgrade) (v : ℕ) → IsUsable U v → HasEnd (variable_shape U.program.declarations v)
+usable_end U v (inl r) = subst (λ s. HasEnd s) (sym (readable_shape U v r)) tt
+usable_end U v (inr (inl a)) = subst (λ s. HasEnd s) (sym (array_shape_is U v a.0 a.1)) tt
+usable_end U v (inr (inr g)) = sound_end U (variable_shape U.program.declarations v) (group_shape U v g.0 g.1)
 
 -- ---- Statics
 
@@ -71,21 +69,18 @@ no_parts : parts ≡ blank → ⊥
 no_parts e = cc e
 
 -- something stands there once it was laid
-pub laid_there : (s : Shape) → IsFlat s → (v : ℕ) (w : Memory)
+pub laid_there : (s : Shape) → HasEnd s → (v : ℕ) (w : Memory)
     → Yields (λ (u : Unit {0}) (m : Memory). m.held (at_key v) ≡ blank → ⊥) (lay_if_blank s (shared (v ∷ [])) (w.held (at_key v)) w)
-laid_there s flat v w = by (w.held (at_key v)) refl
+laid_there s ends v w = by (w.held (at_key v)) refl
   where
     Q : Unit {0} → Memory → Type 0
     Q u m = m.held (at_key v) ≡ blank → ⊥
 
-    here : (z : Shape) → IsFlat z → Q tt (laid z (at_key v) w)
-    here (simple ty) f e = cc (sym (updated_here w.held (at_key v) _) ∙ e)
-    here (group t fs) f e = absurd f
-    here (array e bounds) f h = cc (sym (updated_here w.held (at_key v) _) ∙ h)
-    here endless f e = absurd f
+    here : Q tt (laid s (at_key v) w)
+    here = subst (λ m. Q tt m) (sym (laid_is s (at_key v) w ends)) (stands_laid (first_value s) (at_key v) w.held)
 
     made : (b : Bool) → Yields Q (provided b (λ m. gives [] tt (laid s (at_key v) m)) w)
-    made true = here s flat
+    made true = here
     made false = tt
 
     by : (h : Held) → w.held (at_key v) ≡ h → Yields Q (lay_if_blank s (shared (v ∷ [])) h w)
@@ -108,7 +103,7 @@ module _ (U : Upgrade) (w : World) (h : StoreMatch U w) (v : ℕ) (x : Variable)
   key_matched = record { is_made = tt; counterpart = ap is_some is_key; sound = ap not sound }
 
   kind : AreKinds (variable_shape U.program.declarations v) (at_key v) w.src.held
-  kind = ⊎_elim (λ z. absurd (there z.0)) (λ z. z) (h.kinds v x is sound)
+  kind = ⊎_elim (λ z. absurd (there (z.0 []))) (λ z. z) (h.kinds v x is sound)
 
   -- a scalar
   pub scalar_static : (r : IsReadable U v) (t : TypeName) → scalar_word r.variable.ty ≡ Some t → (b : net.Address)
@@ -148,6 +143,23 @@ module _ (U : Upgrade) (w : World) (h : StoreMatch U w) (v : ℕ) (x : Variable)
               λ fixed none. true≢false (sym fixed ∙ ap has_bounds r.known.is_variable ∙ ap (λ bs. is_some (slice_get bs 0)) none),
             );
         ranked = subst (λ s. AllRanked U w s (array_shape U v t) (at_key v)) (sym shaped) rank;
+        key = key;
+        is_key = is_key;
+        stands = stands;
+      }
+
+  -- a user type
+  pub group_static : (t : ℕ) (r : IsGroup U v t) (d : shape.Shape) → SameShape U (variable_shape U.program.declarations v) d → (b : net.Address)
+      → b ≡ net.root d (whole (shared key)) → StaticMatch U w v b
+  group_static t r d same b stands =
+      let s : Shape = variable_shape U.program.declarations v in
+      record {
+        written = d;
+        same = same;
+        matched =
+            all_matched_made U w (shared (v ∷ [])) v tt key_matched.counterpart refl s [] (group_shape U v t r) (group_type U v t r)
+            (group_sound U v t r) kind;
+        ranked = all_ranked_sound U w s d (at_key v) (group_shape U v t r);
         key = key;
         is_key = is_key;
         stands = stands;

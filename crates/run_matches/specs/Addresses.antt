@@ -232,6 +232,21 @@ abbrev pub HasParameterRank : Upgrade → (procedure place : ℕ) → shape.Shap
 HasParameterRank U p i (shape.array d rank) = rank ≡ parameter_rank U p i
 HasParameterRank U p i d = Unit {0}
 
+-- a variable of a user type has the fields that the type declares
+abbrev pub IsDeclaredShape : Upgrade → Shape → Type 0
+IsDeclaredShape U (simple ty) = Unit {0}
+IsDeclaredShape U (group t fs) = user_shapes U.program.declarations t ≡ group t fs
+IsDeclaredShape U (array e bounds) = Unit {0}
+IsDeclaredShape U endless = Unit {0}
+
+abbrev pub IsDeclaredAt : Upgrade → Address → Type 0
+IsDeclaredAt U (root s q) = IsDeclaredShape U s
+IsDeclaredAt U (item e q j path) = Unit {0}
+IsDeclaredAt U (constant x) = Unit {0}
+
+abbrev pub SuitsParameter : Upgrade → (procedure place : ℕ) → Address → net.Address → Type 0
+SuitsParameter U p i a b = HasParameterRank U p i (net.shape_at b) × IsDeclaredAt U a
+
 -- an address of what was made
 abbrev pub IsThere : World → Address → Type 0
 IsThere w a = (q : Position) → position_of a ≡ Some q → IsMade (mark w.src) q.root
@@ -253,7 +268,7 @@ pub data ArgsMatch (U : Upgrade) (K : Pledge) (w : World) (p : ℕ) : (place : �
       → ArgsMatch U K w p (suc i) xs ys → ArgsMatch U K w p i (by_value x ∷ xs) (by_value y ∷ ys)
   address_args :
       (i : ℕ) (a : Address) (b : net.Address) (xs : List SourceGiven) (ys : List NetGiven) → Same U K w a b → IsTarget U a → GivesWhole U p i a
-      → IsPlain U w a → HasParameterRank U p i (net.shape_at b) → ArgsMatch U K w p (suc i) xs ys
+      → IsPlain U w a → SuitsParameter U p i a b → ArgsMatch U K w p (suc i) xs ys
       → ArgsMatch U K w p i (by_address a ∷ xs) (by_address b ∷ ys)
   source_bound :
       (i : ℕ) (a : Address) (s : shape.Shape) (y : net_value.Value) (xs : List SourceGiven) (ys : List NetGiven) → (runnable_of U).quiet p i ≡ true
