@@ -254,9 +254,9 @@ is_false false h = refl
 -- a covered user type holds no array
 pub holds_no_array : (U : Upgrade) → IsWritten U → (t : ℕ) → covers_user U.program.declarations t ≡ true → U.facts.holds_array t ≡ false
 holds_no_array U I t h =
-    is_false (U.facts.holds_array t) (λ x. holds_none U.program.declarations is_array_type (λ n ty c. no_array (covers_user_within U.program.declarations n) ty c) t h ((I.facts.arrays t).0 x))
+    is_false (U.facts.holds_array t) (λ x. holds_none U.program.declarations is_array_type (λ n ty c. no_array (covers_user_within U.program.declarations n) ty c) t h ((I.arrays t).0 x))
 
 -- nor is it made by a function
 pub is_unmade : (U : Upgrade) → IsWritten U → (t : ℕ) → covers_user U.program.declarations t ≡ true → U.facts.is_made t ≡ false
 is_unmade U I t h =
-    is_false (U.facts.is_made t) (λ x. holds_none U.program.declarations is_made_type (λ n ty c. not_made (covers_user_within U.program.declarations n) ty c) t h ((I.facts.made t).0 x))
+    is_false (U.facts.is_made t) (λ x. holds_none U.program.declarations is_made_type (λ n ty c. not_made (covers_user_within U.program.declarations n) ty c) t h ((I.made t).0 x))

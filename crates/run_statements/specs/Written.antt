@@ -1,6 +1,6 @@
 -- What is known of a bound program, and what is written for its procedures and their lines.
 use Rattle.std.specs.List.{Contains}
-use Rattle.std.specs.Prelude.{◌≡◌, ◌+◌, ℕ, suc, true, false, Some, None, List, map, slice_get}
+use Rattle.std.specs.Prelude.{◌≡◌, ◌+◌, ℕ, suc, true, false, Some, None, List, map, slice_get, ◌↔◌, IsTrue}
 use Rattle.vb_tree.specs.BoundTree.{Ty, array, user}
 use Rattle.vb_tree.specs.Blocks.{is_code}
 use Rattle.vb_tree.specs.FlatLines.{code_lines}
@@ -34,6 +34,7 @@ use Rattle.run_matches.specs.Runs.{RunsTheSame, LineDoesTheSame}
 use Rattle.run_matches.specs.Sites.{Site, site_of, site_lines, first_statement}
 use Rattle.run_matches.specs.Upgrades.{Upgrade, home_of, written_number, is_flagged}
 use Rattle.run_statements.specs.Fitting.{FitsLine, FitsNode}
+use Rattle.bound_facts.specs.Node.{is_array_type}
 
 -- ---- what a bound program keeps
 
@@ -75,8 +76,9 @@ pub record IsWritten (U : Upgrade) : Type 0 where
   -- where each ReDim gives a dimension, each array has one
   pub dimensions :
       has_extents U.program ≡ true → (v : ℕ) → is_array_variable (slice_get U.program.declarations.vars v) ≡ true → U.facts.rank v ≡ 0 → ⊥
-  -- what is written for user types is decided by what they hold
-  pub facts : deciding.AreFacts U.program U.facts
+  -- what is written for user types is decided by what they hold: arrays, and what a function has to make
+  pub arrays : (t : ℕ) → IsTrue (U.facts.holds_array t) ↔ deciding.Holds U.program.declarations is_array_type t
+  pub made : (t : ℕ) → IsTrue (U.facts.is_made t) ↔ deciding.Holds U.program.declarations deciding.is_made_type t
   -- a variable of a user type has the type that its declaration names
   pub named : (v : ℕ) (x : Variable) (t : ℕ) → slice_get U.program.declarations.vars v ≡ Some x → x.ty ≡ user t → x.named ≡ user t
   -- the module of a procedure is the one of its file
