@@ -3,7 +3,7 @@ use Rattle.std.proofs.Common.{◌≡◌, ◌⊎◌, inl, inr, refl, sym, ap, sub
 use Rattle.std.proofs.lemmas.Bool.{eqb-true, true≢false}
 use Rattle.std.specs.Prelude.{IsTrue, ◌↔◌, nat_eq, nat_lt, slice_get}
 use Rattle.std.specs.List.{Contains, list_all}
-use Rattle.vb_tree.specs.BoundTree.{Ty, array, long}
+use Rattle.vb_tree.specs.BoundTree.{Ty, array, long, user}
 use Rattle.vb_tree.specs.declared.bound.LibCall.TheVariants as lib
 use Rattle.reach_table.specs.Chains.{Chain, empty, longer}
 use Rattle.bound_tree.specs.Tree.{Expr, typed, element, call, library, Exprs, no_exprs, next_expr, Line, Passed, no_passed, next_passed, by_value, by_reference, Procedure, Variable}
@@ -17,12 +17,14 @@ use Rattle.run_matches.specs.Covered.{IsCovered, covers_procedure}
 use Rattle.run_matches.specs.Formed.{types_of}
 use Rattle.run_matches.specs.Sites.{Site, site_of}
 use Rattle.run_matches.specs.CleanLines.{lines_at}
-use Rattle.run_matches.specs.Upgrades.{parameter_rank}
+use Rattle.run_matches.specs.Upgrades.{parameter_rank, home_of}
 use Rattle.run_statements.specs.Fitting.{FitsExtent, FitsLine, FitsNode, FitsPassed, FitsResize, rank_of}
 use Rattle.run_statements.specs.Written.{HasBody, IsWritten, PartsStandTogether}
 use Rattle.name_laws.proofs.Lists.{Among, all_among, all_at, among, both_true, some_same}
 use Rattle.run_laws.proofs.Covered.{not_none}
 use Rattle.inhabited_laws.specs.Sample.{add_lines, main_lines, number, program, sample, twice_lines, whole}
+use Rattle.bound_facts.specs.Node.{is_array_type}
+use Rattle.written_trees.specs.Facts.{Holds, is_made_type, types_with}
 
 -- ---- chains
 
@@ -271,6 +273,40 @@ ranks (suc (suc (suc (suc zero)))) x e rank at h = absurd (not_long e (suc rank)
 ranks (suc (suc (suc (suc (suc zero))))) x e rank at h = absurd (not_long e (suc rank) (typed_as _ x (array e (suc rank)) at h))
 ranks (suc (suc (suc (suc (suc (suc v)))))) x e rank at h = absurd (not_none at)
 
+-- ---- there are no user types
+
+below_none : (n : ℕ) → n < 0 → ⊥
+below_none n lt = omega arith
+
+nothing_held : (test : Ty → Bool) (t : ℕ) → IsTrue false ↔ Holds program.declarations test t
+nothing_held test t = (
+  λ x. absurd (true≢false (sym x)),
+  λ h. absurd (below_none h.0 (ltb-true h.0 0 (both_true (nat_lt h.0 0) (is_in (types_with program.declarations test 0 []) h.0) h.1).0)),
+)
+
+array_no_user : (e : Ty) (n t : ℕ) → array e n ≡ user t → ⊥
+array_no_user e n t h = cc
+
+long_no_user : (t : ℕ) → long ≡ user t → ⊥
+long_no_user t h = cc
+
+no_user : (v : ℕ) (x : Variable) (t : ℕ) → slice_get program.declarations.vars v ≡ Some x → x.ty ≡ user t → ⊥
+no_user zero x t at h = array_no_user _ _ t (typed_as _ x (user t) at h)
+no_user (suc zero) x t at h = array_no_user _ _ t (typed_as _ x (user t) at h)
+no_user (suc (suc zero)) x t at h = long_no_user t (typed_as _ x (user t) at h)
+no_user (suc (suc (suc zero))) x t at h = array_no_user _ _ t (typed_as _ x (user t) at h)
+no_user (suc (suc (suc (suc zero)))) x t at h = long_no_user t (typed_as _ x (user t) at h)
+no_user (suc (suc (suc (suc (suc zero))))) x t at h = long_no_user t (typed_as _ x (user t) at h)
+no_user (suc (suc (suc (suc (suc (suc v)))))) x t at h = absurd (not_none at)
+
+-- ---- modules
+
+homes : (p : ℕ) (s : Site) → site_of program.declarations p ≡ Some s → home_of sample s.source_module.file ≡ Some s.home
+homes zero s e = at_site (λ (z : Site). home_of sample z.source_module.file ≡ Some z.home) _ s e refl
+homes (suc zero) s e = at_site (λ (z : Site). home_of sample z.source_module.file ≡ Some z.home) _ s e refl
+homes (suc (suc zero)) s e = at_site (λ (z : Site). home_of sample z.source_module.file ≡ Some z.home) _ s e refl
+homes (suc (suc (suc p))) s e = absurd (not_none e)
+
 pub sample_is_written : IsWritten sample
 sample_is_written = record {
   known = sample_facts_are;
@@ -282,6 +318,10 @@ sample_is_written = record {
   resizes = λ p k l e u. resizes p k l e;
   ranks = λ v x e rank at ty f. ranks v x e rank at ty;
   dimensions = λ h v a e. one_not e;
+  arrays = λ t. nothing_held is_array_type t;
+  made = λ t. nothing_held is_made_type t;
+  named = λ v x t at h. absurd (no_user v x t at h);
+  homes = homes;
 }
 
 -- ---- what is covered
