@@ -18,6 +18,8 @@ pub mod Homes
 pub mod Settling
 pub mod Owned
 pub mod Together
+pub mod Named
+pub mod SiteHomes
 pub mod Read
 pub mod Ranks
 pub mod Fits

@@ -23,7 +23,9 @@ use Rattle.upgrade_laws.proofs.Bodies.{bodies_are_bound}
 use Rattle.upgrade_laws.proofs.Cleanness.{clean_apart, clean_together}
 use Rattle.upgrade_laws.proofs.Fitted.{dimensions_suit, ranks_suit, resizes_suit, uses_suit}
 use Rattle.upgrade_laws.proofs.Forms.{forms_are_quiet}
+use Rattle.upgrade_laws.proofs.Named.{types_are_named}
 use Rattle.upgrade_laws.proofs.Read.{grammar_orderly}
+use Rattle.upgrade_laws.proofs.SiteHomes.{sites_are_home}
 use Rattle.upgrade_laws.proofs.Together.{parts_stand_together}
 
 counts_clean : (P : Program) (g : Marks) (ms : List Marks) (m : Marks) (n : ℕ) → AreUnited (g ∷ ms) m → IsCleanCount P (g ∷ ms) n → CountsClean P m n
@@ -88,6 +90,10 @@ written_for P u is orderly =
       resizes = resizes_suit U ms w.are_facts.marks w.are_facts.are arrays (6, omega arith, refl) is.made.are_found.arrays;
       ranks = ranks_suit U ms w.are_facts.marks w.are_facts.are arrays (6, omega arith, refl) is.made.are_found.arrays;
       dimensions = dimensions_suit U ms w.are_facts.marks w.are_facts.are arrays (6, omega arith, refl) is.made.are_found.arrays;
+      arrays = w.are_facts.are.arrays;
+      made = w.are_facts.are.made;
+      named = types_are_named P b is.is_bound;
+      homes = sites_are_home P b is.is_bound orderly;
     }
 
 pub upgrade_is_written : (P : Project) (u : Upgraded) → IsUpgraded P u → AreOrderly P.modules → UpgradeOf P u

@@ -42,7 +42,7 @@ use Rattle.upgrade_laws.proofs.Walked.{procs_follow}
 abbrev named_file : NamedProcedure → ℕ
 named_file p = p.module_number
 
-abbrev site_file : Site → ℕ
+abbrev pub site_file : Site → ℕ
 site_file s = s.source_module.file
 
 abbrev files_in : Lists → List ℕ
@@ -135,7 +135,7 @@ listed_filed P o = modules_filed 0 first_numbers P.modules (counts no_lists) o.m
 -- ---- modules of sites
 
 -- a site is one of the modules that are numbered from one on
-abbrev StandsAmong : (home : ℕ) → List Module → Site → Type 0
+abbrev pub StandsAmong : (home : ℕ) → List Module → Site → Type 0
 StandsAmong home [] s = ⊥
 StandsAmong home (m ∷ ms) s = ((s.home ≡ home) × (site_file s ≡ m.file)) ⊎ StandsAmong (suc home) ms s
 
@@ -148,7 +148,7 @@ members_among home m at cs (group head lines close ∷ ms) =
 members_among home m at cs (proc head body close ∷ ms) =
     ((refl, refl), members_among home m (behind_member at (proc head body close)) (past (last_line (proc head body close)) cs) ms)
 
-sites_among : (home : ℕ) (at : Standing) (ms : List Module) → Each (StandsAmong home ms) (sites_from home at ms)
+pub sites_among : (home : ℕ) (at : Standing) (ms : List Module) → Each (StandsAmong home ms) (sites_from home at ms)
 sites_among home at [] = tt
 sites_among home at (m ∷ ms) =
     let rest : List Site = sites_from (suc home) (next_module (behind_members at m.members)) ms in
@@ -158,7 +158,7 @@ sites_among home at (m ∷ ms) =
     (each_from (StandsAmong (suc home) ms) (StandsAmong home (m ∷ ms)) (λ s h. inr h) rest (sites_among (suc home) (next_module (behind_members at m.members)) ms))
 
 -- one in a file that none of the modules has
-elsewhere : (home file : ℕ) (ms : List Module) (s : Site) → Each (λ (m : Module). nat_eq file m.file ≡ false) ms → site_file s ≡ file → StandsAmong home ms s → ⊥
+pub elsewhere : (home file : ℕ) (ms : List Module) (s : Site) → Each (λ (m : Module). nat_eq file m.file ≡ false) ms → site_file s ≡ file → StandsAmong home ms s → ⊥
 elsewhere home file [] s d e h = h
 elsewhere home file (m ∷ ms) s d e (inl h) = differ file m.file d.0 (sym e ∙ h.1)
   where
