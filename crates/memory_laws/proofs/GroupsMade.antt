@@ -1,5 +1,5 @@
 -- Variables of user types are made on both sides, with their first values or with a value that is given.
-use Rattle.std.proofs.Common.{◌≡◌, refl, sym, ap, subst, ◌∙◌, ℕ, suc, true, not, ◌&&◌, cond, Some, List, [], ◌∷◌}
+use Rattle.std.proofs.Common.{◌≡◌, refl, sym, ap, subst, ◌∙◌, ℕ, suc, true, not, ◌&&◌, cond, Some, None, List, [], ◌∷◌}
 use Rattle.up_base.proofs.Tests.{and_true}
 use Rattle.run_base.specs.Outcomes.{after, gives, outside, some_of, then}
 use Rattle.run_base.specs.Positions.{Position, Root, made, whole}
@@ -39,18 +39,18 @@ use Rattle.memory_laws.proofs.Positions.{at}
 -- ---- a variable of a user type
 
 module _ (U : Upgrade) (v t : ℕ) (r : IsGroup U v t) where
-  shape_is : variable_shape U.program.declarations v ≡ user_shapes U.program.declarations t
-  shape_is =
+  pub group_shape_is : variable_shape U.program.declarations v ≡ user_shapes U.program.declarations t
+  group_shape_is =
       ap (declared_shape (user_shapes U.program.declarations)) r.known.is_variable
       ∙ ap (shape_by (user_shapes U.program.declarations) r.known.variable.bounds) r.is_user
 
   pub group_shape : IsSoundShape U (variable_shape U.program.declarations v)
-  group_shape = subst (λ s. IsSoundShape U s) (sym shape_is) r.fields
+  group_shape = subst (λ s. IsSoundShape U s) (sym group_shape_is) r.fields
 
   pub group_type : part_type U v [] ≡ Some (type_of_shape (variable_shape U.program.declarations v))
   group_type =
       ap type_of_some r.known.is_variable
-      ∙ (ap (λ z. Some z) r.is_user ∙ ap (λ z. Some z) (sym (ap type_of_shape shape_is ∙ covered_type_of U.program.declarations t r.covers)))
+      ∙ (ap (λ z. Some z) r.is_user ∙ ap (λ z. Some z) (sym (ap type_of_shape group_shape_is ∙ covered_type_of U.program.declarations t r.covers)))
 
   pub group_sound : is_sound U v [] ≡ true
   group_sound = ap not r.known.sound
@@ -92,6 +92,16 @@ module _ (U : Upgrade) (s : Shape) (c : IsSoundShape U s) (w : Memory) where
       ∙ (ap (λ o. after [] (then (some_of o (λ z m. store [] z q m) (with_value (first_value s))) (λ u m. gives [] (root s q) m)))
       (value_kept U K s x y c of like)
       ∙ ap (λ o. after [] (then o (λ u m. gives [] (root s q) m))) (stored_over U [] s x q (record w { next = suc w.next }) c of)))
+
+  -- what no variable of the shape keeps makes none
+  pub make_with_none : (x : Value) → kept_as s x ≡ None → make_with s x w ≡ outside []
+  make_with_none x none =
+      ap (λ o. then o (λ a v. then (write [] x a v) (λ u m. gives [] a m))) make_is
+      ∙ (ap
+      (λ b. after []
+      (then (provided b (λ v. some_of (kept_as s x) (λ z m. store [] z q m) v) (with_value (first_value s))) (λ u m. gives [] (root s q) m)))
+      (not_fixed U s c)
+      ∙ ap (λ o. after [] (then (some_of o (λ z m. store [] z q m) (with_value (first_value s))) (λ u m. gives [] (root s q) m))) none)
 
 -- ---- in a place
 

@@ -1,5 +1,5 @@
 -- What the laws on runs need, by the laws on procedures, names, memories, expressions and lines.
-use Rattle.std.proofs.Common.{suc, true, refl, ap, ◌∙◌}
+use Rattle.std.proofs.Common.{suc, true, refl, sym, ap, subst, ◌∙◌}
 use Rattle.run_base.specs.Machines.{nth_line}
 use Rattle.run_matches.specs.Addresses.{images}
 use Rattle.run_matches.specs.CleanLines.{or_none}
@@ -28,28 +28,43 @@ use Rattle.memory_laws.proofs.Writing.{scalars_are_written}
 use Rattle.memory_laws.proofs.Making.{locals_are_made}
 use Rattle.memory_laws.proofs.ArraysMade.{arrays_are_made, static_arrays_are_laid}
 use Rattle.memory_laws.proofs.Parameters.{values_are_made}
-use Rattle.expression_laws.specs.Statements.{VariablesAreRead}
+use Rattle.memory_laws.proofs.Groups.{groups_are_read}
+use Rattle.memory_laws.proofs.GroupWriting.{groups_are_written}
+use Rattle.memory_laws.proofs.GroupsMade.{group_shape_is, groups_are_given, groups_are_made}
+use Rattle.memory_laws.proofs.StaticGroups.{static_groups_are_laid}
+use Rattle.name_laws.proofs.CoveredTypes.{is_unmade}
+use Rattle.name_laws.proofs.SoundPoints.{owned_sound}
+use Rattle.name_laws.proofs.TypeShapes.{user_type_same}
+use Rattle.net_tree.specs.Types.{named}
+use Rattle.net_run.specs.Shapes.{shape_of}
+use Rattle.written_trees.specs.Names.{type_path}
+use Rattle.run_matches.specs.Likeness.{SameShape}
 use Rattle.memory_laws.proofs.Elements.{elements_are_written}
 use Rattle.memory_laws.proofs.Resizing.{arrays_are_erased, arrays_are_resized}
-use Rattle.expression_laws.proofs.Expressions.{arrays_agree, calls_are_made, elements_agree, expressions_agree, indexes_agree_all}
+use Rattle.expression_laws.proofs.Agreements.{arrays_agree, calls_are_made, elements_agree, expressions_agree, indexes_agree_all}
 use Rattle.line_laws.proofs.Lines.{lines_agree}
-use Rattle.run_laws.specs.Premises.{LinePremises, RunPremises}
+use Rattle.run_laws.specs.Premises.{GroupsAreWritten, LinePremises, RunPremises}
 use Rattle.run_laws.proofs.Lines as by_itself
 use Rattle.run_matches.specs.Runs.{call_pledge}
-use Rattle.run_laws.proofs.Runs.{laid_arrays_in_calls, made_arrays_in_calls, made_in_calls, made_with_in_calls}
+use Rattle.run_laws.proofs.Runs.{makes_in_calls}
 use Rattle.run_laws.proofs.Runs as whole
 
 scalars_are_read : (U : Upgrade) → ScalarsAreRead U
 scalars_are_read U K w a b ty covers h same at = variables_are_read U K w true a b ty covers h (images true a b same) at
 
-variables_read : (U : Upgrade) → VariablesAreRead U
-variables_read U K w ty a b covers h same at = scalars_are_read U K w a b ty covers h same at
-
 lines_do : (U : Upgrade) → LinesAgree U
 lines_do U =
-    lines_agree U (expressions_agree U (variables_read U)) (calls_are_made U (variables_read U)) (scalars_are_read U) (scalars_are_written U)
-    (elements_agree U (variables_read U)) (indexes_agree_all U (variables_read U)) (elements_are_written U) (arrays_agree U) (arrays_are_resized U)
-    (arrays_are_erased U)
+    lines_agree U (expressions_agree U) (calls_are_made U) (scalars_are_read U) (scalars_are_written U) (elements_agree U) (indexes_agree_all U)
+    (elements_are_written U) (groups_are_read U) (groups_are_written U) (arrays_agree U) (arrays_are_resized U) (arrays_are_erased U)
+
+user_types_are_written : (U : Upgrade) → IsWritten U → GroupsAreWritten U
+user_types_are_written U w = record {
+  shaped = λ v t r home file rank qualified e.
+      subst (λ s. SameShape U s (shape_of U.written home (named (type_path U.program.declarations file qualified t)))) (sym (group_shape_is U v t r))
+      (user_type_same U w home file t qualified r.covers e);
+  unmade = λ t covers. is_unmade U w t covers;
+  homes = w.homes;
+}
 
 run_premises : (U : Upgrade) → IsWritten U → RunPremises U
 run_premises U w = record {
@@ -66,16 +81,16 @@ run_premises U w = record {
   resizes = λ p k l clean here. w.resizes p k l here (clean_unbroken U p k clean);
   placed = uses_are_placed U w;
   stores = stores_are_own U w;
-  owned = λ p v x clean e owned covers loud. usable U w v x e covers loud (variable_unbroken U.program U.facts.marks p v x clean e owned);
+  owned = λ p v x clean e owned covers loud. usable U w v x e covers loud (owned_sound U.program U.facts.marks p v x clean e owned);
   owned_scalars = λ p v x clean e owned covers loud. readable U w.known v x e covers (variable_unbroken U.program U.facts.marks p v x clean e owned);
   known = w.known;
   found = callees_are_found U w;
-  made = made_in_calls U (locals_are_made U);
+  makes =
+      makes_in_calls U (locals_are_made U) (arrays_are_made U) (groups_are_made U) (static_arrays_are_laid U) (static_groups_are_laid U)
+      (values_are_made U) (groups_are_given U);
   ranked = w.dimensions;
-  made_arrays = made_arrays_in_calls U (arrays_are_made U);
-  laid_arrays = laid_arrays_in_calls U (static_arrays_are_laid U);
-  made_with = made_with_in_calls U (values_are_made U);
-  read = λ p base me xs ys. variables_read U (call_pledge U p base me xs ys);
+  groups = user_types_are_written U w;
+  read = λ p base me xs ys. scalars_are_read U (call_pledge U p base me xs ys);
 }
 
 line_premises : (U : Upgrade) → IsWritten U → LinePremises U

@@ -33,7 +33,7 @@ use Rattle.run_laws.proofs.Given.{stands_itself, locks_given, locks_joined}
 use Rattle.run_matches.specs.CoveredVariables.{are_different, covers_type, belongs_to}
 use Rattle.run_matches.specs.CoveredLines.{covers_line}
 use Rattle.run_matches.specs.Covered.{covers_parameter, covers_own, is_scalar_or_loud}
-use Rattle.run_matches.specs.Frames.{FrameMatch, HasNames, SameVariable, declared_names, dim_name, result_names, static_of, SameStatic, name_of, GivenAddress, frame_pledge, is_own_of, lines_of, stands_in}
+use Rattle.run_matches.specs.Frames.{FrameMatch, HasNames, HasOwnObject, SameVariable, declared_names, dim_name, result_names, static_of, SameStatic, name_of, GivenAddress, frame_pledge, is_own_of, lines_of, stands_in}
 use Rattle.run_matches.specs.CleanLines.{or_none}
 use Rattle.run_matches.specs.Callees.{answer_owns, own_of_some, parameter_owns}
 use Rattle.run_matches.specs.Likeness.{scalar_word}
@@ -42,8 +42,7 @@ use Rattle.run_matches.specs.Match.{MemoryMatch, StoreMatch}
 use Rattle.run_matches.specs.Pledges.{IsOld, Later, NetGiven, Pledge}
 use Rattle.run_matches.specs.Runs.{IsObject, call_pledge}
 use Rattle.run_matches.specs.Sites.{Own, own_name, own_variable, owns_of, own_constant, local_numbers, static_number, static_numbers}
-use Rattle.run_matches.specs.Upgrades.{Upgrade, runnable_of, is_auto}
-use Rattle.run_statements.specs.Arrays.{ArraysAreMadeBy, StaticArraysAreLaidBy}
+use Rattle.run_matches.specs.Upgrades.{Upgrade, home_of, runnable_of, is_auto}
 use Rattle.run_statements.specs.Frames.{HasRankOf, IsReadable, IsUsable}
 use Rattle.run_statements.specs.Kept.{OwnsAreKept, own_dim}
 use Rattle.run_statements.specs.Written.{WrittenProcedure, site_scope}
@@ -52,6 +51,7 @@ use Rattle.agreeing_laws.proofs.Agreeing.{agrees_gives, right_alone, then_agrees
 use Rattle.agreeing_laws.proofs.Lasting.{later_then}
 use Rattle.agreeing_laws.proofs.Made.{below_self, below_then, more}
 use Rattle.agreeing_laws.proofs.Moves.{locks_later}
+use Rattle.agreeing_laws.proofs.OwnObjects.{own_object_later}
 use Rattle.agreeing_laws.proofs.Scalars.{object_later}
 use Rattle.expression_laws.proofs.Types.{same_of}
 use Rattle.name_laws.proofs.FrameNames.{own_names, parameter_names, params_are}
@@ -59,7 +59,7 @@ use Rattle.name_laws.proofs.Lists.{Among, all_among, among_right, flat_among, ma
 use Rattle.name_laws.proofs.Owned.{owned_is}
 use Rattle.name_laws.proofs.Owns.{number_if, own_is}
 use Rattle.run_laws.specs.Entered.{AllKeyed, AllSound, GivenVariable, LocalsMatch, OwnPlace, RunMatch, StaticMatch, next_constant, next_static, next_variable, no_locals}
-use Rattle.run_laws.specs.Premises.{ArraysHaveRanks, LocalsAreMadeBy, ValuesAreMadeBy}
+use Rattle.run_laws.specs.Premises.{ArraysHaveRanks, GroupsAreWritten, MakesAlike}
 use Rattle.run_laws.proofs.Covered.{CoveredProcedure, some_is}
 use Rattle.run_laws.proofs.Dims.{WordOf, word_of}
 use Rattle.run_laws.proofs.Heads.{HasAnswer, HasNone, Parameter, a_result, answer_names, answer_parts, no_result, parameter_belongs, parameter_is}
@@ -69,9 +69,11 @@ use Rattle.run_laws.proofs.Owns.{owns_sound}
 use Rattle.run_laws.proofs.Passing.{passing_listed}
 use Rattle.run_laws.proofs.StaticOrder.{each_next, in_order, laid_as_statics, made_in_order}
 use Rattle.run_laws.proofs.StaticKeys.{IsDeclaredOwn, StaticFound, all_keyed, static_found, static_there}
-use Rattle.run_laws.proofs.Locals.{Found, Locals, listed_behind, local_found, local_later, local_listed, local_names, local_places, local_there, locals_agree, locals_later}
-use Rattle.run_laws.proofs.Parameters.{AreParameters, Local, Parameters, local_is_made, parameters_agree, readable_type}
-use Rattle.run_laws.proofs.Standing.{different_behind, made_object, module_in_is, nothing_by, nothing_kept, plain_place, flat_owns, static_root_is}
+use Rattle.run_laws.proofs.Locals.{Found, listed_behind, local_found, local_later, local_listed, local_names, local_places, local_there, locals_later}
+use Rattle.run_laws.proofs.LocalsMade.{Locals, locals_agree}
+use Rattle.run_laws.proofs.Parameters.{AreParameters, Parameters, parameters_agree}
+use Rattle.run_laws.proofs.ParametersMade.{Local, local_is_made, readable_type}
+use Rattle.run_laws.proofs.Standing.{different_behind, made_object, module_in_is, nothing_by, nothing_kept, plain_place, ending_owns, static_root_is}
 
 none_before : (j : ℕ) → 0 + j ≡ j
 none_before j = omega arith
@@ -79,7 +81,8 @@ none_before j = omega arith
 module _ (U : Upgrade) (p : ℕ) (c : CoveredProcedure U.program p) (W : WrittenProcedure U p c.site c.procedure)
     (kept : OwnsAreKept U p c.site c.procedure W)
     (usable : (v : ℕ) (x : Variable) → slice_get U.program.declarations.vars v ≡ Some x → belongs_to p x.owner ≡ true
-    → is_scalar_or_loud U.program v x ≡ true → IsUsable U v) (answers : (h : HasAnswer U.program.declarations p c.procedure) → IsReadable U h.id.0) (ranked : ArraysHaveRanks U) where
+    → is_scalar_or_loud U.program v x ≡ true → IsUsable U v) (answers : (h : HasAnswer U.program.declarations p c.procedure) → IsReadable U h.id.0) (ranked : ArraysHaveRanks U)
+    (groups : GroupsAreWritten U) where
   abbrev D : Declarations
   D = U.program.declarations
 
@@ -156,14 +159,13 @@ module _ (U : Upgrade) (p : ℕ) (c : CoveredProcedure U.program p) (W : Written
   covered_lines : list_all (covers_line U.program p) (lines_of U p) ≡ true
   covered_lines = subst (λ ls. list_all (covers_line U.program p) ls ≡ true) (sym (ap or_none c.are_lines)) c.covers
 
-  module _ (base : Mark) (me : Option ℕ) (xs : List SourceGiven) (ys : List NetGiven) (made_alike : LocalsAreMadeBy U (call_pledge U p base me xs ys))
-      (made_arrays : ArraysAreMadeBy U (call_pledge U p base me xs ys)) (laid_arrays : StaticArraysAreLaidBy U (call_pledge U p base me xs ys))
-      (made_with : ValuesAreMadeBy U (call_pledge U p base me xs ys)) (locked : Locked) where
+  module _ (base : Mark) (me : Option ℕ) (xs : List SourceGiven) (ys : List NetGiven) (makes : MakesAlike U (call_pledge U p base me xs ys))
+      (locked : Locked) where
     abbrev K : Pledge
     K = call_pledge U p base me xs ys
 
     -- the frames that are made of their variables
-    module _ (w u : World) (lat : Later U K w u) (obj : IsObject w me) (env : Locked) (held : AllLocked U K w env) (low : Below base (mark w.src))
+    module _ (w u : World) (lat : Later U K w u) (obj : IsObject w me) (own : HasOwnObject U w p me) (env : Locked) (held : AllLocked U K w env) (low : Below base (mark w.src))
         (ks : List (ℕ × Address)) (bs : List (List ℕ × net.Address)) (m : LocalsMatch U K u all ks bs) where
       abbrev f : SourceFrame
       f = first_frame me env ks
@@ -231,6 +233,7 @@ module _ (U : Upgrade) (p : ℕ) (c : CoveredProcedure U.program p) (W : Written
         resume = refl;
         me = sym (object_later w u me lat.extends obj);
         me_made = made_object w u me lat.grows.objects obj;
+        own_object = own_object_later U K w u p me lat own;
         names = subst (λ o. HasNames o g) (sym (code_is U p c.site x W)) (local_names U S K u all ks bs m ∙ all_names);
         vars = λ v a e flag. variable_at v a e;
         statics = λ v r e flag. static_there_is v r e;
@@ -266,6 +269,9 @@ module _ (U : Upgrade) (p : ℕ) (c : CoveredProcedure U.program p) (W : Written
       }
 
     -- ---- the Statics of the entry
+
+    home : home_of U S.file ≡ Some W.code.home
+    home = groups.homes p c.site c.is_site ∙ ap (λ k. Some k) (sym W.home)
 
     sound : AllSound U S os
     sound = owns_sound U p c.site x W kept
@@ -303,7 +309,7 @@ module _ (U : Upgrade) (p : ℕ) (c : CoveredProcedure U.program p) (W : Written
     ordered G w =
         ap (λ f. then (made_each D (local_numbers os) w) f)
         (λ i more v. then (laid_as_statics D me x.module_number c.outer (static_numbers os) v i) (λ u z. G more z))
-        ∙ in_order D os (flat_owns U S os sound) G w
+        ∙ in_order D os (ending_owns U S os sound) G w
 
     -- ---- the result variable and what the lines declare
 
@@ -331,7 +337,7 @@ module _ (U : Upgrade) (p : ℕ) (c : CoveredProcedure U.program p) (W : Written
         (right_alone U K w (Locals U K os) r (then r' (λ dims t. gives [] dims t))
         (subst (λ z. Agrees U K w (Locals U K os) r z) (sym (then_gives r'))
         (subst (λ z. Agrees U K w (Locals U K os) z r') (sym (ordered (λ more w. gives [] more w) w.src ∙ then_gives (made_in_order D os w.src)))
-        (locals_agree U K made_alike made_arrays laid_arrays ranked S refl W.code to outer_home w 0 os sound keyed low start)))))
+        (locals_agree U K makes ranked groups S refl refl W.code home to outer_home w 0 os sound keyed low start)))))
     others_agree w to (inr h) low start =
         let y : Variable = h.variable in
         let r : IsReadable U h.id.0 = (answer_readable h).0 in
@@ -366,16 +372,16 @@ module _ (U : Upgrade) (p : ℕ) (c : CoveredProcedure U.program p) (W : Written
         (subst (λ z. Agrees U K w R all_made z) (sym (then_assoc made (λ a t. gives [] ((x.name, a) ∷ []) t) rest))
         (subst (λ z. Agrees U K w R z (then made (λ b t. after [] (then (dims_made U.written W.code to 0 ds t) (λ dims t. gives [] ((x.name, b) ∷ dims) t)))))
         (sym reordered)
-        (then_agrees U K w (Local U K made_alike made_with h.id.0) R (make s w.src) made
+        (then_agrees U K w (Local U K h.id.0) R (make s w.src) made
         (λ a s. then (made_in_order D os s) (λ more s. gives [] ((h.id.0, a) ∷ more) s))
         (λ b t. after [] (then (dims_made U.written W.code to 0 ds t) (λ dims t. gives [] ((x.name, b) ∷ dims) t))) start
-        (local_is_made U K made_alike made_with w h.id.0 r m.word word low start)
+        (local_is_made U K makes w h.id.0 r m.word word low start)
         (λ a b u n later.
         right_alone U K u R (then (made_in_order D os u.src) (λ more s. gives [] ((h.id.0, a) ∷ more) s))
         (then (dims_made U.written W.code to 0 ds u.net) (λ dims t. gives [] ((x.name, b) ∷ dims) t))
         (then_agrees U K u (Locals U K os) R (made_in_order D os u.src) (dims_made U.written W.code to 0 ds u.net)
         (λ more s. gives [] ((h.id.0, a) ∷ more) s) (λ dims t. gives [] ((x.name, b) ∷ dims) t) later.match
-        (locals_agree U K made_alike made_arrays laid_arrays ranked S refl W.code to outer_home u 0 os sound keyed (below_then base (mark w.src) (mark u.src) low later.grows) later.match)
+        (locals_agree U K makes ranked groups S refl refl W.code home to outer_home u 0 os sound keyed (below_then base (mark w.src) (mark u.src) low later.grows) later.match)
         (λ ks bs z ms more.
         agrees_gives U K z R ((h.id.0, a) ∷ ks) ((x.name, b) ∷ bs) more.match
         (next_variable h.id.0 y a (x.name, b) os ks bs (ap is_static h.owner) (sym h.name) (local_later U K u z h.id.0 a b later.match more n) ms))))))))))
@@ -449,11 +455,11 @@ module _ (U : Upgrade) (p : ℕ) (c : CoveredProcedure U.program p) (W : Written
     match_append u _ bs _ es _ hs (next_constant k y b os ds gs name rest) m =
         next_constant k y b (os ++ bs) (ds ++ es) (gs ++ hs) name (match_append u os bs ds es gs hs rest m)
 
-    pub entries_agree : (w0 w : World) → StoreMatch U w0 → ArgsMatch U K w0 p 0 xs ys → Later U K w0 w → IsObject w me → AllLocked U K w locked
+    pub entries_agree : (w0 w : World) → StoreMatch U w0 → ArgsMatch U K w0 p 0 xs ys → Later U K w0 w → IsObject w me → HasOwnObject U w p me → AllLocked U K w locked
         → Below base (mark w.src) → MemoryMatch U w
         → Agrees U K w (RunMatch U K p me) (entered_as (runnable_of U) p me locked xs w.src)
         (enter U.written W.number (option_map w.map.objects me) tt ys w.net)
-    entries_agree w0 w start args l obj held low h =
+    entries_agree w0 w start args l obj own held low h =
         let to = option_map w.map.objects me in
         let R = RunMatch U K p me in
         let placed = λ (j : ℕ). ap (λ o. slice_get (params_at o) (0 + j)) c.is_procedure ∙ ap (λ n. slice_get x.params n) (none_before j) in
@@ -461,9 +467,9 @@ module _ (U : Upgrade) (p : ℕ) (c : CoveredProcedure U.program p) (W : Written
         let r' = target.parameters U.written W.code.home (heads.params_of H false x.params) ys w.net in
         subst (λ z. Agrees U K w R z (enter U.written W.number to tt ys w.net)) (sym (source_entry w.src))
         (subst (λ z. Agrees U K w R (then r source_rest) z) (sym (target_entry to w.net))
-        (then_agrees U K w (Parameters U p H refl refl W.code.home K made_alike made_with w0 start parameter_sound x.params) R r r' source_rest
+        (then_agrees U K w (Parameters U p groups H refl refl W.code.home home K makes w0 start parameter_sound x.params) R r r' source_rest
         (target_rest to) h
-        (parameters_agree U p H refl refl W.code.home K made_alike made_with w0 start parameter_sound x.params c.params 0 placed xs ys args w l low h)
+        (parameters_agree U p groups H refl refl W.code.home home K makes w0 start parameter_sound x.params c.params 0 placed xs ys args w l low h)
         (λ ds gs u m later.
         then_agrees U K u (Locals U K others) R (all_others x.answer u.src) (net_others (result_of W.code) to u.net)
         (λ more w. gives [] (begun_frame me (locked_by xs ++ locked) (ds ++ more)) w) (λ more t. gives [] (net_begun to (gs ++ more)) t) later.match
@@ -471,6 +477,6 @@ module _ (U : Upgrade) (p : ℕ) (c : CoveredProcedure U.program p) (W : Written
         (λ es hs z n more.
         let lat : Later U K w z = later_then U K w u z h later more in
         agrees_gives U K z R (begun_frame me (locked_by xs ++ locked) (ds ++ es)) (net_begun to (gs ++ hs)) more.match
-        (run_match w z lat obj (locked_by xs ++ locked)
+        (run_match w z lat obj own (locked_by xs ++ locked)
         (locks_joined U K w (locked_by xs) locked (locks_later U K w0 w (locked_by xs) l (locks_given U K w0 p 0 xs ys args)) held) low (ds ++ es) (gs ++ hs)
         (match_append z (parameter_owns D x.params) others ds es gs hs (locals_later U K u z (parameter_owns D x.params) ds gs later.match more m) n))))))

@@ -1,5 +1,5 @@
 -- What a parameter by reference is bound to.
-use Rattle.std.proofs.Common.{◌≡◌, refl, sym, ap, subst, ◌∙◌, ◌&&◌, inl, inr, ℕ, suc, ℤ, Bool, true, false, nat_eq, true≢false, eq-eqb, Option, Some, List, [], ◌∷◌, ◌++◌}
+use Rattle.std.proofs.Common.{◌≡◌, refl, sym, ap, subst, ◌∙◌, ◌&&◌, inl, inr, ℕ, suc, ℤ, Bool, true, false, nat_eq, true≢false, eq-eqb, eqb-true, Option, Some, List, [], ◌∷◌, ◌++◌}
 use Rattle.vb_tree.specs.BoundTree as types
 use Rattle.vb_tree.specs.BoundTree.{Ty}
 use Rattle.vb_tree.specs.declared.declared.Owner.{Owner}
@@ -7,9 +7,9 @@ use Rattle.vb_tree.specs.declared.declared.Owner.TheVariants as owner
 use Rattle.net_tree.specs.Types.{TypeName}
 use Rattle.run_base.specs.Frames.{by_address, by_value}
 use Rattle.run_base.specs.Outcomes.{Outcome, after, gives, outside, then}
-use Rattle.run_base.specs.Positions.{Position, made, shared, whole}
+use Rattle.run_base.specs.Positions.{Position, field, made, shared, whole}
 use Rattle.vb6_run.specs.Programs.{bound_to}
-use Rattle.vb6_run.specs.Shapes.{Shape, group, array, endless, is_same_shape, simple, variable_shape, part_shape}
+use Rattle.vb6_run.specs.Shapes.{Shape, group, array, endless, is_same_shape, simple, user_shapes, variable_shape, part_shape}
 use Rattle.vb6_run.specs.Store.{Address, Memory, SourceGiven, is_address_of, item, laid, locked_by, make_with, provided, root, write, constant, Locked}
 use Rattle.vb6_run.specs.Values.{Value, elements, fields, is_makeable, scalar}
 use Rattle.net_run.specs.Program.{parameter_by}
@@ -17,18 +17,21 @@ use Rattle.net_run.specs.Shapes as shape
 use Rattle.net_run.specs.Store as net
 use Rattle.net_run.specs.Values as net_value
 use Rattle.written_trees.specs.Heads as heads
-use Rattle.run_matches.specs.Addresses.{HasParameterRank, IsTarget, Same, same_item, same_root, AllLocked, ArgsMatch, IsElement, IsScalarAt, IsVariable, address_args, no_args, source_bound, target_bound, value_args}
+use Rattle.run_matches.specs.Addresses.{HasParameterRank, IsDeclaredAt, IsDeclaredShape, IsTarget, Same, same_item, same_root, AllLocked, ArgsMatch, IsElement, IsScalarAt, IsVariable, address_args, no_args, source_bound, target_bound, value_args}
 use Rattle.run_matches.specs.Agreeing.{Agrees}
 use Rattle.run_matches.specs.CoveredVariables.{covers_type}
 use Rattle.run_matches.specs.Covered.{is_parameter_of}
 use Rattle.run_matches.specs.Frames.{GivenPlace, StandsAs}
 use Rattle.run_matches.specs.Likeness.{SameShape, same_array, same_class, same_scalar, scalar_word}
 use Rattle.run_matches.specs.Maps.{World}
-use Rattle.run_matches.specs.Pledges.{Pledge, NetGiven}
+use Rattle.run_matches.specs.Pledges.{Pledge, NetGiven, type_of_shape}
+use Rattle.run_matches.specs.SoundShapes.{IsSoundShape}
 use Rattle.run_matches.specs.Upgrades.{Upgrade, parameter_rank}
 use Rattle.run_statements.specs.Arrays.{array_shape}
-use Rattle.run_statements.specs.Frames.{HasRankOf, IsArray, IsReadable, IsUsable}
+use Rattle.run_statements.specs.Frames.{HasRankOf, IsArray, IsGroup, IsReadable, IsUsable}
 use Rattle.expression_laws.proofs.Types.{same_of}
+use Rattle.agreeing_laws.proofs.UserShapes.{covered_type_of}
+use Rattle.memory_laws.proofs.GroupsMade.{group_shape_is}
 use Rattle.memory_laws.proofs.Making.{readable_shape, readable_type}
 use Rattle.memory_laws.proofs.Reading.{ScalarImage, scalar_image}
 use Rattle.agreeing_laws.proofs.Agreeing.{agrees_outside}
@@ -69,26 +72,52 @@ array_same element bounds endless c h = absurd (true≢false (sym h))
 address_same : (s d : Shape) (a : Address) (q : Position) → a ≡ root d q → is_address_of s a ≡ true → is_same_shape s d ≡ true
 address_same s d a q e h = sym (ap (is_address_of s) e) ∙ h
 
-stands_as : (U : Upgrade) (v : ℕ) → IsUsable U v → (a : Address) (s : Shape) (q : Position) → a ≡ root s q
-    → is_address_of (variable_shape U.program.declarations v) a ≡ true → StandsAs (variable_shape U.program.declarations v) a q
-stands_as U v (inl r) a s q e h =
-    let is : variable_shape U.program.declarations v ≡ simple r.variable.ty = readable_shape U v r in
-    subst (λ d. StandsAs d a q) (sym is)
-    (inl (e ∙ ap (λ d. root d q)
-    (simple_same r.variable.ty s (readable_type U v r) (address_same (simple r.variable.ty) s a q e (subst (λ d. is_address_of d a ≡ true) is h)))))
-stands_as U v (inr x) a s q e h =
-    let r : IsArray U v x.0 = x.1 in
-    let bounds = r.known.variable.bounds in
-    let is : variable_shape U.program.declarations v ≡ array (simple x.0) bounds = array_shape_is U v x.0 r in
-    let z = array_same x.0 bounds s r.covers (address_same (array (simple x.0) bounds) s a q e (subst (λ d. is_address_of d a ≡ true) is h)) in
-    subst (λ d. StandsAs d a q) (sym is) (z.0, e ∙ ap (λ d. root d q) z.1)
-
 -- an address of a shape stands as that shape
 pub stands_itself : (s : Shape) (a : Address) (q : Position) → a ≡ root s q → StandsAs s a q
 stands_itself (simple ty) a q e = inl e
 stands_itself (group t fs) a q e = e
 stands_itself (array f bounds) a q e = (bounds, e)
 stands_itself endless a q e = e
+
+-- a user type of the number, with the fields that it declares
+group_same : (U : Upgrade) (t : ℕ) (d s : Shape) → user_shapes U.program.declarations t ≡ d → type_of_shape d ≡ types.user t → IsSoundShape U d
+    → is_same_shape d s ≡ true → IsDeclaredShape U s → s ≡ user_shapes U.program.declarations t
+group_same U t (group u fs) (group k gs) is of c h declared =
+    sym declared ∙ ap (user_shapes U.program.declarations) (sym (eqb-true u k h) ∙ the_number u t of)
+  where
+    the_number : (a b : ℕ) → types.user a ≡ types.user b → a ≡ b
+    the_number a b e = cc
+group_same U t (group u fs) (simple ty) is of c h declared = absurd (true≢false (sym h))
+group_same U t (group u fs) (array e bounds) is of c h declared = absurd (true≢false (sym h))
+group_same U t (group u fs) endless is of c h declared = absurd (true≢false (sym h))
+group_same U t (simple ty) s is of c h declared = absurd (no_scalar ty t of c)
+  where
+    no_scalar : (ty : Ty) (t : ℕ) → ty ≡ types.user t → covers_type ty ≡ true → ⊥
+    no_scalar ty t e c = true≢false (sym (subst (λ z. covers_type z ≡ true) e c))
+group_same U t (array e bounds) s is of c h declared = absurd c
+group_same U t endless s is of c h declared = absurd c
+
+stands_as : (U : Upgrade) (v : ℕ) → IsUsable U v → (a : Address) (s : Shape) (q : Position) → a ≡ root s q → IsDeclaredAt U a
+    → is_address_of (variable_shape U.program.declarations v) a ≡ true → StandsAs (variable_shape U.program.declarations v) a q
+stands_as U v (inl r) a s q e declared h =
+    let is : variable_shape U.program.declarations v ≡ simple r.variable.ty = readable_shape U v r in
+    subst (λ d. StandsAs d a q) (sym is)
+    (inl (e ∙ ap (λ d. root d q)
+    (simple_same r.variable.ty s (readable_type U v r) (address_same (simple r.variable.ty) s a q e (subst (λ d. is_address_of d a ≡ true) is h)))))
+stands_as U v (inr (inl x)) a s q e declared h =
+    let r : IsArray U v x.0 = x.1 in
+    let bounds = r.known.variable.bounds in
+    let is : variable_shape U.program.declarations v ≡ array (simple x.0) bounds = array_shape_is U v x.0 r in
+    let z = array_same x.0 bounds s r.covers (address_same (array (simple x.0) bounds) s a q e (subst (λ d. is_address_of d a ≡ true) is h)) in
+    subst (λ d. StandsAs d a q) (sym is) (z.0, e ∙ ap (λ d. root d q) z.1)
+stands_as U v (inr (inr x)) a s q e declared h =
+    let r : IsGroup U v x.0 = x.1 in
+    let d : Shape = user_shapes U.program.declarations x.0 in
+    let is : variable_shape U.program.declarations v ≡ d = group_shape_is U v x.0 r in
+    let same : s ≡ d =
+    group_same U x.0 d s refl (covered_type_of U.program.declarations x.0 r.covers) r.fields
+    (address_same d s a q e (subst (λ z. is_address_of z a ≡ true) is h)) (subst (λ z. IsDeclaredAt U z) e declared) in
+    subst (λ z. StandsAs z a q) (sym is) (stands_itself d a q (e ∙ ap (λ z. root z q) same))
 
 -- an element of an array stands as a scalar of its type
 element_stands : (U : Upgrade) (v : ℕ) → IsUsable U v → (a : Address) (x : IsElement a) → is_address_of (variable_shape U.program.declarations v) a ≡ true
@@ -99,28 +128,59 @@ element_stands U v (inl r) a x h =
     sym (ap (is_address_of (simple r.variable.ty)) x.stands) ∙ subst (λ d. is_address_of d a ≡ true) is h in
     subst (λ d. StandsAs d a x.array) (sym is)
     (inr (x.index, x.stands ∙ ap (λ d. item d x.array x.index []) (simple_same r.variable.ty (simple x.ty) (readable_type U v r) same)))
-element_stands U v (inr y) a x h =
+element_stands U v (inr (inr y)) a x h =
+    let r : IsGroup U v y.0 = y.1 in
+    absurd (no_element (user_shapes U.program.declarations y.0) (covered_type_of U.program.declarations y.0 r.covers) r.fields
+    (sym (ap (is_address_of (user_shapes U.program.declarations y.0)) x.stands)
+    ∙ subst (λ d. is_address_of d a ≡ true) (group_shape_is U v y.0 r) h))
+  where
+    no_element : (d : Shape) → type_of_shape d ≡ types.user y.0 → IsSoundShape U d → is_same_shape d (simple x.ty) ≡ true → ⊥
+    no_element (simple ty) of c e = true≢false (sym (subst (λ z. covers_type z ≡ true) of c))
+    no_element (group t fs) of c e = true≢false (sym e)
+    no_element (array f bounds) of c e = absurd c
+    no_element endless of c e = absurd c
+element_stands U v (inr (inl y)) a x h =
     let r : IsArray U v y.0 = y.1 in
     let bounds = r.known.variable.bounds in
     absurd (true≢false
     (sym (sym (ap (is_address_of (array (simple y.0) bounds)) x.stands) ∙ subst (λ d. is_address_of d a ≡ true) (array_shape_is U v y.0 r) h)))
 
+-- a scalar has no fields
+scalar_at : (U : Upgrade) (v : ℕ) (r : IsReadable U v) (a : Address) (s : Shape) (q : Position) → a ≡ root s q
+    → is_address_of (variable_shape U.program.declarations v) a ≡ true → IsDeclaredAt U a
+scalar_at U v r a s q e h =
+    let ty : Ty = r.variable.ty in
+    let same : s ≡ simple ty =
+    simple_same ty s (readable_type U v r) (address_same (simple ty) s a q e (subst (λ d. is_address_of d a ≡ true) (readable_shape U v r) h)) in
+    subst (λ z. IsDeclaredAt U z) (sym (e ∙ ap (λ d. root d q) same)) tt
+
+pub scalar_declared : (U : Upgrade) (v : ℕ) (r : IsReadable U v) (a : Address) → IsVariable U a
+    → is_address_of (variable_shape U.program.declarations v) a ≡ true → IsDeclaredAt U a
+scalar_declared U v r a (inl p) h = scalar_at U v r a p.shape (record { root = made p.place; path = p.path }) p.stands h
+scalar_declared U v r a (inr (inl k)) h = scalar_at U v r a k.of_shape (record { root = shared (k.variable ∷ []); path = k.path }) k.stands h
+scalar_declared U v r a (inr (inr k)) h = scalar_at U v r a k.of_shape (record { root = field k.object (k.variable ∷ []); path = k.path }) k.stands h
+
 module _ (U : Upgrade) (v : ℕ) (r : IsUsable U v) where
   -- an address of the parameter's shape that can be written
-  pub given_place : (a : Address) → IsTarget U a → is_address_of (variable_shape U.program.declarations v) a ≡ true → GivenPlace U v a
-  given_place a (inl (inl p)) h = record {
+  pub given_place : (a : Address) → IsTarget U a → IsDeclaredAt U a → is_address_of (variable_shape U.program.declarations v) a ≡ true → GivenPlace U v a
+  given_place a (inl (inl p)) declared h = record {
     position = record { root = made p.place; path = p.path };
-    stands = stands_as U v r a p.shape (record { root = made p.place; path = p.path }) p.stands h;
+    stands = stands_as U v r a p.shape (record { root = made p.place; path = p.path }) p.stands declared h;
     target = inl (inl p);
   }
-  given_place a (inl (inr k)) h = record {
+  given_place a (inl (inr (inl k))) declared h = record {
     position = record { root = shared (k.variable ∷ []); path = k.path };
-    stands = stands_as U v r a k.of_shape (record { root = shared (k.variable ∷ []); path = k.path }) k.stands h;
-    target = inl (inr k);
+    stands = stands_as U v r a k.of_shape (record { root = shared (k.variable ∷ []); path = k.path }) k.stands declared h;
+    target = inl (inr (inl k));
   }
-  given_place a (inr x) h = record { position = x.array; stands = element_stands U v r a x h; target = inr x }
+  given_place a (inl (inr (inr k))) declared h = record {
+    position = record { root = field k.object (k.variable ∷ []); path = k.path };
+    stands = stands_as U v r a k.of_shape (record { root = field k.object (k.variable ∷ []); path = k.path }) k.stands declared h;
+    target = inl (inr (inr k));
+  }
+  given_place a (inr x) declared h = record { position = x.array; stands = element_stands U v r a x h; target = inr x }
 
-word_itself : (ty : Ty) (t : TypeName) → covers_type ty ≡ true → scalar_word ty ≡ Some t → shape.is_same_word t t ≡ true
+pub word_itself : (ty : Ty) (t : TypeName) → covers_type ty ≡ true → scalar_word ty ≡ Some t → shape.is_same_word t t ≡ true
 word_itself types.boolean t c e = subst (λ z. shape.is_same_word z z ≡ true) (some_is e) refl
 word_itself types.byte t c e = subst (λ z. shape.is_same_word z z ≡ true) (some_is e) refl
 word_itself types.integer t c e = subst (λ z. shape.is_same_word z z ≡ true) (some_is e) refl
@@ -129,10 +189,10 @@ word_itself types.currency t c e = subst (λ z. shape.is_same_word z z ≡ true)
 word_itself types.str t c e = subst (λ z. shape.is_same_word z z ≡ true) (some_is e) refl
 word_itself _ t c e = absurd (true≢false (sym c))
 
-root_shape : (s t : Shape) (q p : Position) → root s q ≡ root t p → s ≡ t
+pub root_shape : (s t : Shape) (q p : Position) → root s q ≡ root t p → s ≡ t
 root_shape s t q p e = cc e
 
-no_item : (e s : Shape) (q p : Position) (j : ℕ) (path : List ℕ) → item e q j path ≡ root s p → ⊥
+pub no_item : (e s : Shape) (q p : Position) (j : ℕ) (path : List ℕ) → item e q j path ≡ root s p → ⊥
 no_item e s q p j path x = cc x
 
 abbrev element_in : Address → Shape
@@ -252,7 +312,8 @@ made_none {A} {B} U K w R e bounds x n k r' = by (is_makeable s)
 -- a variable locks no array
 given_unlocked : (U : Upgrade) (a : Address) (xs : List SourceGiven) → IsVariable U a → locked_by (by_address a ∷ xs) ≡ locked_by xs
 given_unlocked U a xs (inl p) = ap (λ z. locked_by (by_address z ∷ xs)) p.stands
-given_unlocked U a xs (inr k) = ap (λ z. locked_by (by_address z ∷ xs)) k.stands
+given_unlocked U a xs (inr (inl k)) = ap (λ z. locked_by (by_address z ∷ xs)) k.stands
+given_unlocked U a xs (inr (inr k)) = ap (λ z. locked_by (by_address z ∷ xs)) k.stands
 
 given_locks : (U : Upgrade) (K : Pledge) (w : World) (a : Address) (b : net.Address) (xs : List SourceGiven) → Same U K w a b → AllLocked U K w (locked_by xs)
     → AllLocked U K w (locked_by (by_address a ∷ xs))

@@ -7,7 +7,7 @@ use Rattle.net_tree.specs.Tree as net_tree
 use Rattle.net_tree.specs.Types.{TypeName}
 use Rattle.run_base.specs.Outcomes.{gives, some_of, then}
 use Rattle.run_base.specs.Positions.{shared, whole}
-use Rattle.vb6_run.specs.Shapes.{variable_shape}
+use Rattle.vb6_run.specs.Shapes.{Shape, variable_shape}
 use Rattle.net_run.specs.Members.{Code}
 use Rattle.net_run.specs.Names.{is_class}
 use Rattle.net_run.specs.Program.{dim_made, made_once, object_static, static_at, static_key}
@@ -18,11 +18,13 @@ use Rattle.written_trees.specs.Names.{Scope}
 use Rattle.written_trees.specs.Prologues.{initial, is_static, made_user, object_variable, typed_variable, variable_dim, written_variable}
 use Rattle.written_trees.specs.Types.{type_with}
 use Rattle.agreeing_laws.proofs.Outputs.{after_nothing}
-use Rattle.run_matches.specs.Likeness.{SameShape}
+use Rattle.run_matches.specs.Likeness.{SameShape, same_array, same_class, same_group, same_scalar}
 use Rattle.run_matches.specs.Sites.{own_variable}
+use Rattle.run_matches.specs.SoundShapes.{IsSoundShape}
 use Rattle.run_matches.specs.Upgrades.{Upgrade, home_of, is_unknown, type_of}
-use Rattle.run_statements.specs.Frames.{IsGroup}
+use Rattle.run_statements.specs.Frames.{HasRankOf, IsGroup}
 use Rattle.run_statements.specs.Kept.{own_dim}
+use Rattle.memory_laws.proofs.GroupsMade.{group_shape}
 use Rattle.run_laws.specs.Premises.{GroupsAreWritten}
 use Rattle.run_laws.proofs.Dims.{plain_variable}
 
@@ -117,3 +119,13 @@ module _ (U : Upgrade) (written : GroupsAreWritten U) (S : Scope) (facts : S.fac
             ap (λ e. dim_made U.written c me i e w) dim
             ∙ ap (λ b. some_of (cond b (object_static (static_key c i) me) (Some (shared (static_key c i)))) (static_at U.written c.home d) w) outer;
       }
+
+-- what is written for a user type is no array
+written_unranked : (U : Upgrade) (v : ℕ) (s : Shape) (d : shape.Shape) → IsSoundShape U s → SameShape U s d → HasRankOf U v d
+written_unranked U v _ _ c (same_scalar ty t word) = tt
+written_unranked U v _ _ c (same_class k home e) = tt
+written_unranked U v _ _ c (same_group t home member fs gs is fields) = tt
+written_unranked U v _ _ c (same_array e bounds d rank same) = absurd c
+
+pub group_unranked : (U : Upgrade) (v t : ℕ) (r : IsGroup U v t) (d : shape.Shape) → SameShape U (variable_shape U.program.declarations v) d → HasRankOf U v d
+group_unranked U v t r d same = written_unranked U v (variable_shape U.program.declarations v) d (group_shape U v t r) same

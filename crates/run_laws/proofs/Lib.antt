@@ -6,10 +6,13 @@ pub mod Usable
 pub mod StaticOrder
 pub mod StaticKeys
 pub mod Locals
+pub mod LocalsMade
 pub mod Owns
 pub mod Names
 pub mod Heads
 pub mod Given
+pub mod ParametersMade
+pub mod ParameterTypes
 pub mod Parameters
 pub mod Passing
 pub mod Standing

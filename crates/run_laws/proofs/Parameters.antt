@@ -5,7 +5,6 @@ use Rattle.std.proofs.Common.{◌≡◌, refl, sym, ap, subst, ◌∙◌, ℕ, s
 use Rattle.std.specs.Prelude.{slice_get}
 use Rattle.std.specs.List.{list_all}
 use Rattle.up_base.proofs.Lists.{all_first, all_rest}
-use Rattle.up_base.proofs.Tests.{both_true}
 use Rattle.vb_tree.specs.BoundTree as types
 use Rattle.vb_tree.specs.BoundTree.{Ty}
 use Rattle.vb_tree.specs.declared.declared.Owner.TheVariants as owner
@@ -20,24 +19,23 @@ use Rattle.net_tree.specs.Types as words
 use Rattle.net_tree.specs.Types.{TypeName}
 use Rattle.run_base.specs.Frames.{by_address, by_value}
 use Rattle.run_base.specs.Outcomes.{Outcome, after, gives, some_of, then, outside}
-use Rattle.run_base.specs.Positions.{Position, made, whole}
+use Rattle.run_base.specs.Positions.{made, whole}
 use Rattle.vb6_run.specs.Programs.{bound_to, parameters, temporary}
 use Rattle.vb6_run.specs.Shapes.{Shape, array, simple, variable_shape}
-use Rattle.vb6_run.specs.Store.{Address, Memory, SourceGiven, constant, is_address_of, make, make_with, provided, root, write}
+use Rattle.vb6_run.specs.Store.{Address, Memory, SourceGiven, constant, is_address_of, make_with, provided}
 use Rattle.vb6_run.specs.Values.{Value, elements, fields, scalar}
 use Rattle.net_run.specs.Program as target
 use Rattle.net_run.specs.Shapes as shape
 use Rattle.net_run.specs.Store as net
 use Rattle.net_run.specs.Values as net_value
 use Rattle.written_trees.specs.Heads as heads
-use Rattle.written_trees.specs.Facts.{Facts, is_array_variable}
+use Rattle.written_trees.specs.Facts.{is_array_variable}
 use Rattle.written_trees.specs.Names.{Scope}
-use Rattle.written_trees.specs.Types.{type_with}
 use Rattle.written_trees.specs.Prologues.{is_static}
-use Rattle.run_matches.specs.Addresses.{ArgsMatch, Bound, HasParameterRank, IsPlain, IsTarget, IsTypedAs, Mirrors, Same, address_args, images, mirrored, no_args, source_bound, target_bound, value_args, GivesWhole, IsElement, IsVariable, IsWhole, is_element, IsGivable}
+use Rattle.run_matches.specs.Addresses.{ArgsMatch, Bound, IsPlain, IsTarget, IsTypedAs, Mirrors, Same, address_args, images, mirrored, no_args, source_bound, target_bound, value_args, GivesWhole, IsElement, IsVariable, IsWhole, is_element, IsGivable, SuitsParameter}
 use Rattle.run_matches.specs.Agreeing.{Agrees}
 use Rattle.run_matches.specs.Callees.{own_of_some, parameter_owns}
-use Rattle.run_matches.specs.CoveredVariables.{covers_owner, covers_type}
+use Rattle.run_matches.specs.CoveredVariables.{covers_type}
 use Rattle.run_matches.specs.Covered.{covers_parameter, is_parameter_of, is_relied_id}
 use Rattle.run_matches.specs.Frames.{GivenPlace, StandsAs, is_own_of}
 use Rattle.run_matches.specs.Likeness.{LikeV, scalar_word}
@@ -45,12 +43,10 @@ use Rattle.run_matches.specs.Maps.{Below, World, mark}
 use Rattle.run_matches.specs.Match.{MemoryMatch, StoreMatch}
 use Rattle.run_matches.specs.Pledges.{Later, NetGiven, Pledge}
 use Rattle.run_matches.specs.Sites.{own_variable}
-use Rattle.run_matches.specs.Upgrades.{Upgrade, is_array_id, is_quiet_id, parameter_rank, rank_of_id, runnable_of, takes_array}
-use Rattle.run_statements.specs.Arrays.{array_shape}
-use Rattle.run_statements.specs.Frames.{HasRankOf, IsArray, IsReadable, IsUsable, MadeMatch}
-use Rattle.agreeing_laws.specs.Promises.{Yields}
+use Rattle.run_matches.specs.Upgrades.{Upgrade, is_array_id, is_quiet_id, parameter_rank, rank_of_id, runnable_of, takes_array, home_of}
+use Rattle.run_statements.specs.Frames.{HasRankOf, IsArray, IsReadable, IsUsable, IsGroup}
 use Rattle.row_laws.proofs.Composing.{then_assoc, then_gives}
-use Rattle.agreeing_laws.proofs.Agreeing.{agrees_gives, agrees_outside, agrees_weaker, agrees_yields, right_alone, then_agrees}
+use Rattle.agreeing_laws.proofs.Agreeing.{agrees_gives, agrees_outside, agrees_weaker, right_alone, then_agrees}
 use Rattle.agreeing_laws.proofs.Lasting.{later_from, weaker_self}
 use Rattle.agreeing_laws.proofs.Made.{below_then}
 use Rattle.agreeing_laws.proofs.Moves.{address_later}
@@ -59,14 +55,16 @@ use Rattle.line_laws.proofs.Bounds.{plain_later}
 use Rattle.memory_laws.proofs.Making.{readable_shape}
 use Rattle.memory_laws.proofs.Quiet.{QuietMatch, source_is_bound, target_is_bound, values_bound}
 use Rattle.run_laws.specs.Entered.{LocalMatch, LocalsMatch, next_variable, no_locals}
-use Rattle.run_laws.specs.Premises.{LocalsAreMadeBy, ValuesAreMadeBy}
 use Rattle.run_laws.proofs.Covered.{some_is}
 use Rattle.run_laws.proofs.Usable.{array_shape_is}
 use Rattle.run_laws.proofs.Dims.{WordOf, word_of}
-use Rattle.run_laws.proofs.Given.{IsNoElements, array_taken, given_place, made_none, rank_for, shape_taken, value_bound, value_taken}
+use Rattle.run_laws.proofs.Given.{IsNoElements, given_place, made_none, rank_for, value_bound, value_taken, scalar_declared}
 use Rattle.run_laws.proofs.Heads.{Parameter, parameter_is}
-use Rattle.run_laws.proofs.Keeping.{yields_after, yields_then}
-use Rattle.run_laws.proofs.Locals.{local_later, makes_next, new_place}
+use Rattle.run_laws.proofs.Locals.{local_later}
+use Rattle.run_laws.specs.Premises.{GroupsAreWritten, MakesAlike}
+use Rattle.run_laws.proofs.ParametersMade.{Local, group_value_agrees, readable_type, value_is_made}
+use Rattle.run_laws.proofs.ParameterTypes.{ParamWritten, param_written}
+
 
 none_more : (i : ℕ) → i ≡ i + 0
 none_more i = omega arith
@@ -82,68 +80,16 @@ never_static p _ h = refl
 -- a variable is no element
 whole_of : (U : Upgrade) (a : Address) → IsVariable U a → IsWhole a
 whole_of U a (inl p) = ap is_element p.stands
-whole_of U a (inr k) = ap is_element k.stands
+whole_of U a (inr (inl k)) = ap is_element k.stands
+whole_of U a (inr (inr k)) = ap is_element k.stands
 
 of_scalars_is : (U : Upgrade) (a : Address) → IsTarget U a → IsWhole a ⊎ IsElement a
 of_scalars_is U a (inl v) = inl (whole_of U a v)
 of_scalars_is U a (inr x) = inr x
 
--- ---- making
-
-makes_with_next : (s : Shape) (x : Value) (w : Memory) → Yields (λ (a : Address) (u : Memory). a ≡ root s (whole (made w.next))) (make_with s x w)
-makes_with_next s x w = by (make s w) (makes_next s w)
-  where
-    Q : Address → Memory → Type 0
-    Q a u = a ≡ root s (whole (made w.next))
-
-    by : (r : Outcome Memory Address) → Yields Q r → Yields Q (then r (λ a v. then (write [] x a v) (λ u v. gives [] a v)))
-    by (gives o a v) h = yields_after Q o (then (write [] x a v) (λ u v. gives [] a v)) (yields_then Q (write [] x a v) (λ u v. gives [] a v) (λ u v. h))
-    by r h = tt
-
-pub readable_type : (U : Upgrade) (v : ℕ) (r : IsReadable U v) → covers_type r.variable.ty ≡ true
-readable_type U v r =
-    (both_true (covers_type r.variable.ty) (not r.variable.auto)
-    (both_true (covers_owner r.variable.owner) (covers_type r.variable.ty && not r.variable.auto) r.covers).1).0
-
-module _ (U : Upgrade) (K : Pledge) (made_alike : LocalsAreMadeBy U K) (made_with : ValuesAreMadeBy U K) where
-  abbrev pub Local : (v : ℕ) → World → Address → net.Address → Type 0
-  Local v u a b = LocalMatch U K u v a b
-
-  own_local : (w : World) (v : ℕ) (ty : Ty) (t : TypeName) (r : Outcome Memory Address) (r' : Outcome net.Memory net.Address) → Below K.base (mark w.src)
-      → Yields (λ (a : Address) (u : Memory). a ≡ root (variable_shape U.program.declarations v) (whole (made w.src.next))) r
-      → Agrees U K w (MadeMatch U K v ty t) r r' → Agrees U K w (Local v) r r'
-  own_local w v ty t r r' low y h =
-      let s : Shape = variable_shape U.program.declarations v in
-      let Q : Address → Memory → Type 0 = λ a u. a ≡ root s (whole (made w.src.next)) in
-      agrees_weaker U K w (λ u a b. MadeMatch U K v ty t u a b × Q a u.src) (Local v) r r'
-      (λ u a b l m. record {
-        bound = images (not (is_quiet U.program.declarations U.known v)) a b m.0.same;
-        ranked = subst (λ d. HasRankOf U v (net.shape_at d)) (sym m.0.target_shape.1) tt;
-        standing = inl (record { place = m.0.place; own = new_place K w a s low m.1 });
-      }) (agrees_yields U K w (MadeMatch U K v ty t) Q r r' y h)
-
-  -- a variable with its first value
-  pub local_is_made : (w : World) (v : ℕ) (r : IsReadable U v) (t : TypeName) → scalar_word r.variable.ty ≡ Some t → Below K.base (mark w.src)
-      → MemoryMatch U w
-      → Agrees U K w (Local v) (make (variable_shape U.program.declarations v) w.src)
-      (net.made_with (shape.scalar t) (shape.default_of (shape.scalar t)) w.net)
-  local_is_made w v r t e low h =
-      let s : Shape = variable_shape U.program.declarations v in
-      own_local w v r.variable.ty t (make s w.src) (net.made_with (shape.scalar t) (shape.default_of (shape.scalar t)) w.net) low (makes_next s w.src)
-      (made_alike w v r t e h)
-
-  -- a variable with a value that is given
-  pub value_is_made : (w0 w : World) (v : ℕ) (r : IsReadable U v) (t : TypeName) (x : Value) (y : net_value.Value) → scalar_word r.variable.ty ≡ Some t
-      → Below K.base (mark w.src) → Later U K w0 w → LikeV U w0 x y
-      → Agrees U K w (Local v) (make_with (variable_shape U.program.declarations v) x w.src) (net.made_with (shape.scalar t) y w.net)
-  value_is_made w0 w v r t x y e low l like =
-      let s : Shape = variable_shape U.program.declarations v in
-      own_local w v r.variable.ty t (make_with s x w.src) (net.made_with (shape.scalar t) y w.net) low (makes_with_next s x w.src)
-      (made_with w0 w v r t x y e l like)
-
 -- ---- quiet parameters
 
--- a parameter is a scalar or an array
+-- a parameter is a scalar, an array or of a user type
 abbrev pub AreParameters : Upgrade → (p : ℕ) → Type 0
 AreParameters U p = (v : VarId) → Parameter U.program p v → IsUsable U v.0
 
@@ -154,71 +100,19 @@ quiet_reference F _ b h = absurd (true≢false (sym h))
 
 -- ---- one parameter
 
-abbrev param_of : Owner → List ℕ → TypeName → net_tree.Param
-param_of o name t = record { passing = heads.passing_of o; name = name; ty = t }
-
-module _ (U : Upgrade) (p : ℕ) (S : Scope) (same : S.declarations ≡ U.program.declarations) (facts : S.facts ≡ U.facts) (home : ℕ) where
+module _ (U : Upgrade) (p : ℕ) (groups : GroupsAreWritten U) (S : Scope) (same : S.declarations ≡ U.program.declarations) (facts : S.facts ≡ U.facts) (home : ℕ)
+    (here : home_of U S.file ≡ Some home) where
   abbrev D : Declarations
   D = U.program.declarations
 
   abbrev ps : List VarId
   ps = params_at (slice_get D.procs p)
 
-  -- the type of a parameter, and its shape, which what is given by reference has exactly
-  pub record ParamWritten (v : VarId) (q : Parameter U.program p v) : Type 1 where
-    pub word : TypeName
-    pub written : shape.Shape
-    pub is_param : heads.param_by S false v.0 (slice_get S.declarations.vars v.0) ≡ param_of q.variable.owner q.variable.name word ∷ []
-    pub shaped : shape.shape_of U.written home word ≡ written
-    pub taken :
-        (K : Pledge) (w : World) (a : Address) (b : net.Address) (z : Position) → Same U K w a b → StandsAs (variable_shape D v.0) a z
-        → HasRankOf U v.0 (net.shape_at b) → shape.is_same_shape (net.shape_at b) written ≡ true
+  abbrev Written : (v : VarId) → Parameter U.program p v → Type 1
+  Written v q = ParamWritten U p groups S same facts home here v q
 
-  -- what is written for a parameter
-  param_is : (v : VarId) (q : Parameter U.program p v) (t : TypeName)
-      → type_with S.declarations S.file q.variable.qualified (S.facts.rank v.0) q.variable.ty ≡ t
-      → heads.param_by S false v.0 (slice_get S.declarations.vars v.0) ≡ param_of q.variable.owner q.variable.name t ∷ []
-  param_is v q t written =
-      let y : Variable = q.variable in
-      ap (λ E. heads.param_by S false v.0 (slice_get E.vars v.0)) same
-      ∙ ap (heads.param_by S false v.0) q.is_variable
-      ∙ ap (λ z. param_of y.owner y.name z ∷ []) written
-
-  param_written : (v : VarId) (q : Parameter U.program p v) → IsUsable U v.0 → ParamWritten v q
-  param_written v q (inl r) =
-      let y : Variable = q.variable in
-      let joined : r.variable ≡ y = some_is (sym r.is_variable ∙ q.is_variable) in
-      let m : WordOf y.ty = word_of y.ty (subst (λ (z : Variable). covers_type z.ty ≡ true) joined (readable_type U v.0 r)) in
-      let word : scalar_word r.variable.ty ≡ Some m.word = ap (λ (z : Variable). scalar_word z.ty) joined ∙ m.is_word in
-      record {
-        word = m.word;
-        written = shape.scalar m.word;
-        is_param = param_is v q m.word (m.written S.declarations S.file y.qualified (S.facts.rank v.0));
-        shaped = m.shaped U.written home;
-        taken = λ K w a b z same stands ranked.
-            shape_taken U K w r.variable.ty m.word a b (readable_type U v.0 r) word same
-            (z, subst (λ d. StandsAs d a z) (readable_shape U v.0 r) stands);
-      }
-  param_written v q (inr x) =
-      let y : Variable = q.variable in
-      let element : Ty = x.0 in
-      let r : IsArray U v.0 element = x.1 in
-      let joined : r.known.variable ≡ y = some_is (sym r.known.is_variable ∙ q.is_variable) in
-      let m : WordOf element = word_of element r.covers in
-      let is : y.ty ≡ types.array element r.rank = sym (ap (λ (z : Variable). z.ty) joined) ∙ r.is_array in
-      let listed : type_with S.declarations S.file y.qualified (S.facts.rank v.0) y.ty ≡ words.array_of m.word (U.facts.rank v.0) =
-      ap (λ ty. type_with S.declarations S.file y.qualified (S.facts.rank v.0) ty) is
-      ∙ ap (λ t. words.array_of t (S.facts.rank v.0)) (m.written S.declarations S.file y.qualified (S.facts.rank v.0))
-      ∙ ap (λ (F : Facts). words.array_of m.word (F.rank v.0)) facts in
-      record {
-        word = words.array_of m.word (U.facts.rank v.0);
-        written = array_shape U v.0 m.word;
-        is_param = param_is v q (words.array_of m.word (U.facts.rank v.0)) listed;
-        shaped = m.listed U.written home (U.facts.rank v.0);
-        taken = λ K w a b z same stands ranked.
-            let at = subst (λ d. StandsAs d a z) (array_shape_is U v.0 element r) stands in
-            array_taken U K w v.0 element m.word at.0 a b z r.covers m.is_word same at.1 ranked;
-      }
+  abbrev param : (v : VarId) (q : Parameter U.program p v) → IsUsable U v.0 → Written v q
+  param v q u = param_written U p groups S same facts home here v q u
 
   -- an array is one where it is taken
   array_there : (v : VarId) (i : ℕ) (element : Ty) → IsArray U v.0 element → slice_get ps i ≡ Some v → takes_array U.program.declarations p i ≡ true
@@ -237,7 +131,7 @@ module _ (U : Upgrade) (p : ℕ) (S : Scope) (same : S.declarations ≡ U.progra
   owns_is : (v : VarId) (q : Parameter U.program p v) (vs : List VarId) → parameter_owns D (v ∷ vs) ≡ own_variable v.0 q.variable ∷ parameter_owns D vs
   owns_is v q vs = ap (λ o. own_of_some v.0 o ++ parameter_owns D vs) q.is_variable
 
-  module _ (K : Pledge) (made_alike : LocalsAreMadeBy U K) (made_with : ValuesAreMadeBy U K) (w0 : World) (start : StoreMatch U w0)
+  module _ (K : Pledge) (makes : MakesAlike U K) (w0 : World) (start : StoreMatch U w0)
       (readable : AreParameters U p) where
     -- the variables of parameters
     abbrev pub Parameters : List VarId → World → List (ℕ × Address) → List (List ℕ × net.Address) → Type 0
@@ -271,8 +165,8 @@ module _ (U : Upgrade) (p : ℕ) (S : Scope) (same : S.declarations ≡ U.progra
       -- what both bind to it
       abbrev BoundHere : World → IsUsable U v.0 → (quiet : Bool) → Owner → SourceGiven → NetGiven → Type 0
       BoundHere w u quiet o g h =
-          Agrees U K w (Local U K made_alike made_with v.0) (bound_to quiet o s g w.src)
-          (target.parameter_by (heads.passing_of o) (param_written v q u).written h w.net)
+          Agrees U K w (Local U K v.0) (bound_to quiet o s g w.src)
+          (target.parameter_by (heads.passing_of o) (param v q u).written h w.net)
 
       -- what is bound to a parameter by reference is no variable of the procedure's own
       foreign : (id : ProcId) → q.variable.owner ≡ owner.Reference id → (n : ℕ) → is_own_of U n v.0 ≡ false
@@ -297,11 +191,11 @@ module _ (U : Upgrade) (p : ℕ) (S : Scope) (same : S.declarations ≡ U.progra
             → BoundHere w (inl r) false q.variable.owner (by_value x) (by_value y)
         unfolding param_written
         scalar_agrees w x y like l low =
-            subst (λ z. Agrees U K w (Local U K made_alike made_with v.0) z (target.parameter_by (heads.passing_of q.variable.owner) (shape.scalar m.word) (by_value y) w.net))
+            subst (λ z. Agrees U K w (Local U K v.0) z (target.parameter_by (heads.passing_of q.variable.owner) (shape.scalar m.word) (by_value y) w.net))
             (sym (value_bound p q.variable.owner q.parameter s x w.src))
-            (subst (λ z. Agrees U K w (Local U K made_alike made_with v.0) (make_with s x w.src) z)
+            (subst (λ z. Agrees U K w (Local U K v.0) (make_with s x w.src) z)
             (sym (value_taken p q.variable.owner q.parameter (shape.scalar m.word) y w.net))
-            (value_is_made U K made_alike made_with w0 w v.0 r m.word x y word low l like))
+            (value_is_made U K makes w0 w v.0 r m.word x y word low l like))
 
         module _ (quiet : is_quiet D U.known v.0 ≡ true) (id : ProcId) (is : q.variable.owner ≡ owner.Reference id) where
           -- a quiet one stands for values
@@ -315,9 +209,9 @@ module _ (U : Upgrade) (p : ℕ) (S : Scope) (same : S.declarations ≡ U.progra
 
           quiet_agrees : (w : World) (z : Outcome Memory Address) (z' : Outcome net.Memory net.Address)
               → Agrees U K w (QuietMatch U K m.word) z z'
-              → Agrees U K w (Local U K made_alike made_with v.0) z z'
+              → Agrees U K w (Local U K v.0) z z'
           quiet_agrees w z z' h =
-              agrees_weaker U K w (QuietMatch U K m.word) (Local U K made_alike made_with v.0) z z'
+              agrees_weaker U K w (QuietMatch U K m.word) (Local U K v.0) z z'
               (λ u a b l n. quiet_local m.word u a b n) h
 
           -- values on both sides
@@ -347,10 +241,10 @@ module _ (U : Upgrade) (p : ℕ) (S : Scope) (same : S.declarations ≡ U.progra
           source_agrees w a k y mirrors at plain l = by (is_address_of s a) refl
             where
               by : (t : Bool) → is_address_of (variable_shape D v.0) a ≡ t
-                  → Agrees U K w (Local U K made_alike made_with v.0) (provided t (λ w. gives [] a w) w.src) (net.made_with (shape.scalar m.word) y w.net)
-              by false e = agrees_outside U K w (Local U K made_alike made_with v.0) (net.made_with (shape.scalar m.word) y w.net)
+                  → Agrees U K w (Local U K v.0) (provided t (λ w. gives [] a w) w.src) (net.made_with (shape.scalar m.word) y w.net)
+              by false e = agrees_outside U K w (Local U K v.0) (net.made_with (shape.scalar m.word) y w.net)
               by true e =
-                  let place : GivenPlace U v.0 a = given_place U v.0 (inl r) a (inl at) e in
+                  let place : GivenPlace U v.0 a = given_place U v.0 (inl r) a (inl at) (scalar_declared U v.0 r a at e) e in
                   quiet_agrees w (gives [] a w.src) (net.made_with (shape.scalar m.word) y w.net)
                   (source_is_bound U K r.variable.ty m.word (readable_type U v.0 r) word w0 w a k y start l mirrors (
                     place.position,
@@ -359,24 +253,24 @@ module _ (U : Upgrade) (p : ℕ) (S : Scope) (same : S.declarations ≡ U.progra
 
       -- variables on both sides
       address_agrees : (u : IsUsable U v.0) (id : ProcId) → q.variable.owner ≡ owner.Reference id → (quiet : Bool) (w : World) (a : Address) (b : net.Address)
-          → Same U K w0 a b → IsTarget U a → GivesWhole U p i a → IsPlain U w0 a → HasParameterRank U p i (net.shape_at b) → Later U K w0 w
+          → Same U K w0 a b → IsTarget U a → GivesWhole U p i a → IsPlain U w0 a → SuitsParameter U p i a b → Later U K w0 w
           → MemoryMatch U w
           → BoundHere w u quiet (owner.Reference id) (by_address a) (by_address b)
-      address_agrees u id is quiet w a b alike target whole plain ranked l h = by (is_address_of s a) refl
+      address_agrees u id is quiet w a b alike target whole plain suits l h = by (is_address_of s a) refl
         where
           by : (t : Bool) → is_address_of (variable_shape D v.0) a ≡ t
-              → Agrees U K w (Local U K made_alike made_with v.0) (provided t (λ w. gives [] a w) w.src)
-              (cond (shape.is_same_shape (net.shape_at b) (param_written v q u).written) (gives [] b w.net) (outside []))
+              → Agrees U K w (Local U K v.0) (provided t (λ w. gives [] a w) w.src)
+              (cond (shape.is_same_shape (net.shape_at b) (param v q u).written) (gives [] b w.net) (outside []))
           by false e =
-              agrees_outside U K w (Local U K made_alike made_with v.0)
-              (cond (shape.is_same_shape (net.shape_at b) (param_written v q u).written) (gives [] b w.net) (outside []))
+              agrees_outside U K w (Local U K v.0)
+              (cond (shape.is_same_shape (net.shape_at b) (param v q u).written) (gives [] b w.net) (outside []))
           by true e =
-              let place : GivenPlace U v.0 a = given_place U v.0 u a target e in
-              let rank : HasRankOf U v.0 (net.shape_at b) = rank_for U p i v.0 (net.shape_at b) (rank_there v i at) ranked in
-              let taken : shape.is_same_shape (net.shape_at b) (param_written v q u).written ≡ true =
-              (param_written v q u).taken K w0 a b place.position alike place.stands rank in
-              subst (λ t. Agrees U K w (Local U K made_alike made_with v.0) (gives [] a w.src) (cond t (gives [] b w.net) (outside []))) (sym taken)
-              (agrees_gives U K w (Local U K made_alike made_with v.0) a b h
+              let place : GivenPlace U v.0 a = given_place U v.0 u a target suits.1 e in
+              let rank : HasRankOf U v.0 (net.shape_at b) = rank_for U p i v.0 (net.shape_at b) (rank_there v i at) suits.0 in
+              let taken : shape.is_same_shape (net.shape_at b) (param v q u).written ≡ true =
+              (param v q u).taken K w0 a b place.position alike place.stands rank in
+              subst (λ t. Agrees U K w (Local U K v.0) (gives [] a w.src) (cond t (gives [] b w.net) (outside []))) (sym taken)
+              (agrees_gives U K w (Local U K v.0) a b h
               (record {
                 bound = images (not (is_quiet D U.known v.0)) a b (address_later U K w0 w a b l alike);
                 ranked = rank;
@@ -399,7 +293,7 @@ module _ (U : Upgrade) (p : ℕ) (S : Scope) (same : S.declarations ≡ U.progra
           → Agrees U K w (Parameters (v ∷ vs)) (parameters (runnable_of U) p i (v ∷ vs) (g ∷ xs) w.src)
           (target.parameters U.written home (heads.params_of S false (v ∷ vs)) (h ∷ ys) w.net)
       next_agrees u g h xs ys rest w l low start_w bound_here =
-          let n : ParamWritten v q = param_written v q u in
+          let n : Written v q = param v q u in
           let R = Parameters (v ∷ vs) in
           let name = q.variable.name in
           let others = heads.params_of S false vs in
@@ -414,7 +308,7 @@ module _ (U : Upgrade) (p : ℕ) (S : Scope) (same : S.declarations ≡ U.progra
           (from (then (target.parameter_by (heads.passing_of q.variable.owner) x h w.net) (λ a t. gives [] (name, a) t)))) (sym n.shaped)
           (subst (λ x. Agrees U K w R (source_from v z (suc i) vs xs) x)
           (sym (then_assoc z' (λ a t. gives [] (name, a) t) (λ b t. then (target.parameters U.written home others ys t) (λ bs t. gives [] (b ∷ bs) t))))
-          (then_agrees U K w (Local U K made_alike made_with v.0) R z z'
+          (then_agrees U K w (Local U K v.0) R z z'
           (λ a w. then (parameters (runnable_of U) p (suc i) vs xs w) (λ rest w. gives [] ((v.0, a) ∷ rest) w))
           (λ b t. after [] (then (target.parameters U.written home others ys t) (λ bs t. gives [] ((name, b) ∷ bs) t))) start_w bound_here
           (λ a b u n later.
@@ -448,18 +342,34 @@ module _ (U : Upgrade) (p : ℕ) (S : Scope) (same : S.declarations ≡ U.progra
       array_exact : (e : Ty) → IsArray U v.0 e → (runnable_of U).quiet p i ≡ false
       array_exact e r = quiet_at ∙ r.exact
 
+      group_exact : (t : ℕ) → IsGroup U v.0 t → (runnable_of U).quiet p i ≡ false
+      group_exact t r = quiet_at ∙ r.exact
+
       -- ---- one argument
 
       -- a value that is no array, at a parameter that is one
       none_agrees : (element : Ty) (r : IsArray U v.0 element) (x : Value) (w : World) (z' : Outcome net.Memory net.Address) → IsNoElements x
-          → Agrees U K w (Local U K made_alike made_with v.0) (bound_to ((runnable_of U).quiet p i) q.variable.owner s (by_value x) w.src) z'
+          → Agrees U K w (Local U K v.0) (bound_to ((runnable_of U).quiet p i) q.variable.owner s (by_value x) w.src) z'
       none_agrees element r x w z' n =
-          let R = Local U K made_alike made_with v.0 in
+          let R = Local U K v.0 in
           subst (λ t. Agrees U K w R (bound_to t q.variable.owner s (by_value x) w.src) z') (sym (array_exact element r))
           (subst (λ z. Agrees U K w R z z') (sym (value_bound p q.variable.owner q.parameter s x w.src))
           (subst (λ d. Agrees U K w R (make_with d x w.src) z') (sym (array_shape_is U v.0 element r))
           (subst (λ z. Agrees U K w R z z') (then_gives (make_with (array (simple element) r.known.variable.bounds) x w.src))
           (made_none U K w R (simple element) r.known.variable.bounds x n (λ a w. gives [] a w) z'))))
+
+      -- a value at a parameter of a user type: one of another type makes none
+      group_first : (t : ℕ) (r : IsGroup U v.0 t) (x : Value) (y : net_value.Value) → LikeV U w0 x y → IsGivable U p i x → (w : World) → Later U K w0 w
+          → Below K.base (mark w.src)
+          → BoundHere w (inr (inr (t, r))) ((runnable_of U).quiet p i) q.variable.owner (by_value x) (by_value y)
+      group_first t r x y like given w l low =
+          let R = Local U K v.0 in
+          let d : shape.Shape = (param v q (inr (inr (t, r)))).written in
+          let z' = target.parameter_by (heads.passing_of q.variable.owner) d (by_value y) w.net in
+          subst (λ b. Agrees U K w R (bound_to b q.variable.owner s (by_value x) w.src) z') (sym (group_exact t r))
+          (subst (λ z. Agrees U K w R z z') (sym (value_bound p q.variable.owner q.parameter s x w.src))
+          (subst (λ z. Agrees U K w R (make_with s x w.src) z) (sym (value_taken p q.variable.owner q.parameter d y w.net))
+          (group_value_agrees U K makes w0 w v.0 t r p i x y like given low l d (param v q (inr (inr (t, r)))).alike)))
 
       value_first : (u : IsUsable U v.0) (x : Value) (y : net_value.Value) → LikeV U w0 x y → IsGivable U p i x → (w : World) → Later U K w0 w
           → Below K.base (mark w.src) → BoundHere w u ((runnable_of U).quiet p i) q.variable.owner (by_value x) (by_value y)
@@ -470,24 +380,25 @@ module _ (U : Upgrade) (p : ℕ) (S : Scope) (same : S.declarations ≡ U.progra
           by true e =
               let o = by_reference_here e in
               subst (λ z. BoundHere w (inl r) true z (by_value x) (by_value y)) (sym o.1) (quiet_value r (sym quiet_at ∙ e) o.0 o.1 w x y like l)
-      value_first (inr r) (scalar ty z) y like none w l low =
-          none_agrees r.0 r.1 (scalar ty z) w (target.parameter_by (heads.passing_of q.variable.owner) (param_written v q (inr r)).written (by_value y) w.net) tt
-      value_first (inr r) (fields t zs) y like none w l low =
-          none_agrees r.0 r.1 (fields t zs) w (target.parameter_by (heads.passing_of q.variable.owner) (param_written v q (inr r)).written (by_value y) w.net) tt
-      value_first (inr r) (elements e dims zs) y like none w l low = absurd (true≢false (sym (array_there v i r.0 r.1 at) ∙ none))
+      value_first (inr (inr r)) x y like given w l low = group_first r.0 r.1 x y like given w l low
+      value_first (inr (inl r)) (scalar ty z) y like none w l low =
+          none_agrees r.0 r.1 (scalar ty z) w (target.parameter_by (heads.passing_of q.variable.owner) (param v q (inr (inl r))).written (by_value y) w.net) tt
+      value_first (inr (inl r)) (fields t zs) y like none w l low =
+          none_agrees r.0 r.1 (fields t zs) w (target.parameter_by (heads.passing_of q.variable.owner) (param v q (inr (inl r))).written (by_value y) w.net) tt
+      value_first (inr (inl r)) (elements e dims zs) y like none w l low = absurd (true≢false (sym (array_there v i r.0 r.1 at) ∙ none))
 
       address_first : (u : IsUsable U v.0) (a : Address) (b : net.Address) (xs : List SourceGiven) (ys : List NetGiven) → Same U K w0 a b → IsTarget U a
-          → GivesWhole U p i a → IsPlain U w0 a → HasParameterRank U p i (net.shape_at b) → Rest vs (suc i) xs ys → (w : World) → Later U K w0 w → Below K.base (mark w.src)
+          → GivesWhole U p i a → IsPlain U w0 a → SuitsParameter U p i a b → Rest vs (suc i) xs ys → (w : World) → Later U K w0 w → Below K.base (mark w.src)
           → MemoryMatch U w → (o : Owner) → q.variable.owner ≡ o → is_parameter_of p o ≡ true
           → Agrees U K w (Parameters (v ∷ vs)) (parameters (runnable_of U) p i (v ∷ vs) (by_address a ∷ xs) w.src)
           (target.parameters U.written home (heads.params_of S false (v ∷ vs)) (by_address b ∷ ys) w.net)
-      address_first u a b xs ys alike target_is whole plain ranked rest w l low h (owner.Value id) is k =
+      address_first u a b xs ys alike target_is whole plain suits rest w l low h (owner.Value id) is k =
           first_outside id is a xs w (target.parameters U.written home (heads.params_of S false (v ∷ vs)) (by_address b ∷ ys) w.net)
-      address_first u a b xs ys alike target_is whole plain ranked rest w l low h (owner.Reference id) is k =
+      address_first u a b xs ys alike target_is whole plain suits rest w l low h (owner.Reference id) is k =
           next_agrees u (by_address a) (by_address b) xs ys rest w l low h
           (subst (λ z. BoundHere w u ((runnable_of U).quiet p i) z (by_address a) (by_address b)) (sym is)
-          (address_agrees u id is ((runnable_of U).quiet p i) w a b alike target_is whole plain ranked l h))
-      address_first u a b xs ys alike target_is whole plain ranked rest w l low h _ is k = absurd (true≢false (sym k))
+          (address_agrees u id is ((runnable_of U).quiet p i) w a b alike target_is whole plain suits l h))
+      address_first u a b xs ys alike target_is whole plain suits rest w l low h _ is k = absurd (true≢false (sym k))
 
       source_first : (u : IsUsable U v.0) (a : Address) (k : shape.Shape) (y : net_value.Value) → (runnable_of U).quiet p i ≡ true
           → Mirrors U K w0 a (net.constant k y) → IsVariable U a → (w : World) → IsPlain U w a → Later U K w0 w
@@ -497,7 +408,8 @@ module _ (U : Upgrade) (p : ℕ) (S : Scope) (same : S.declarations ≡ U.progra
           subst (λ t. BoundHere w (inl r) t q.variable.owner (by_address a) (by_value y)) (sym e)
           (subst (λ z. BoundHere w (inl r) true z (by_address a) (by_value y)) (sym o.1)
           (source_agrees r (sym quiet_at ∙ e) o.0 o.1 w a k y mirrors target_is plain l))
-      source_first (inr r) a k y e mirrors target_is w plain l = absurd (true≢false (sym e ∙ array_exact r.0 r.1))
+      source_first (inr (inl r)) a k y e mirrors target_is w plain l = absurd (true≢false (sym e ∙ array_exact r.0 r.1))
+      source_first (inr (inr r)) a k y e mirrors target_is w plain l = absurd (true≢false (sym e ∙ group_exact r.0 r.1))
 
       target_first : (u : IsUsable U v.0) (x : Value) (b : net.Address) → (runnable_of U).quiet p i ≡ true → Mirrors U K w0 (constant x) b
           → IsTypedAs U x (net.shape_at b) → (w : World) → Later U K w0 w
@@ -507,7 +419,8 @@ module _ (U : Upgrade) (p : ℕ) (S : Scope) (same : S.declarations ≡ U.progra
           subst (λ t. BoundHere w (inl r) t q.variable.owner (by_value x) (by_address b)) (sym e)
           (subst (λ z. BoundHere w (inl r) true z (by_value x) (by_address b)) (sym o.1)
           (target_agrees r (sym quiet_at ∙ e) o.0 o.1 w x b mirrors typed l))
-      target_first (inr r) x b e mirrors typed w l = absurd (true≢false (sym e ∙ array_exact r.0 r.1))
+      target_first (inr (inl r)) x b e mirrors typed w l = absurd (true≢false (sym e ∙ array_exact r.0 r.1))
+      target_first (inr (inr r)) x b e mirrors typed w l = absurd (true≢false (sym e ∙ group_exact r.0 r.1))
 
     -- the parameters from one on
     pub parameters_agree : (vs : List VarId) → list_all (covers_parameter U.program p) vs ≡ true → (i : ℕ)
@@ -516,7 +429,7 @@ module _ (U : Upgrade) (p : ℕ) (S : Scope) (same : S.declarations ≡ U.progra
         agrees_gives U K w (Parameters []) [] [] m no_locals
     parameters_agree [] h i there _ ys (value_args _ x y xs others like none rest) w l low m =
         agrees_outside U K w (Parameters []) (target.parameters U.written home [] ys w.net)
-    parameters_agree [] h i there _ ys (address_args _ a b xs others same target_is whole plain ranked rest) w l low m =
+    parameters_agree [] h i there _ ys (address_args _ a b xs others same target_is whole plain suits rest) w l low m =
         agrees_outside U K w (Parameters []) (target.parameters U.written home [] ys w.net)
     parameters_agree [] h i there _ ys (source_bound _ a s y xs others is mirrors target_is made_there plain rest) w l low m =
         agrees_outside U K w (Parameters []) (target.parameters U.written home [] ys w.net)
@@ -530,9 +443,9 @@ module _ (U : Upgrade) (p : ℕ) (S : Scope) (same : S.declarations ≡ U.progra
         next_agrees v q i at vs (readable v q) (by_value x) (by_value y) xs ys
         (parameters_agree vs (all_rest (covers_parameter U.program p) v vs h) (suc i) (rest_there i v vs there) xs ys rest) w l low m
         (value_first v q i at vs (readable v q) x y like none w l low)
-    parameters_agree (v ∷ vs) h i there _ _ (address_args _ a b xs ys same target_is whole plain ranked rest) w l low m =
+    parameters_agree (v ∷ vs) h i there _ _ (address_args _ a b xs ys same target_is whole plain suits rest) w l low m =
         let q : Parameter U.program p v = parameter_is U.program p v (all_first (covers_parameter U.program p) v vs h) in
-        address_first v q i (first_there i v vs there) vs (readable v q) a b xs ys same target_is whole plain ranked
+        address_first v q i (first_there i v vs there) vs (readable v q) a b xs ys same target_is whole plain suits
         (parameters_agree vs (all_rest (covers_parameter U.program p) v vs h) (suc i) (rest_there i v vs there) xs ys rest) w l low m
         q.variable.owner refl q.parameter
     parameters_agree (v ∷ vs) h i there _ _ (source_bound _ a s y xs ys is mirrors target_is made_there plain rest) w l low m =

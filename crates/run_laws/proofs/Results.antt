@@ -38,12 +38,12 @@ use Rattle.run_statements.specs.Frames.{IsReadable, ScalarMatch}
 use Rattle.line_laws.proofs.Uses.{own_exact}
 use Rattle.run_statements.specs.Written.{WrittenProcedure}
 use Rattle.agreeing_laws.proofs.Agreeing.{agrees_gives, agrees_outside, then_agrees}
-use Rattle.expression_laws.specs.Statements.{VariablesAreReadBy}
+use Rattle.run_laws.specs.Premises.{ScalarsAreReadBy}
 use Rattle.expression_laws.proofs.Arguments.{loose_in_none, no_arrays, once_in_none}
 use Rattle.run_laws.proofs.Covered.{CoveredProcedure, not_none, same_name, some_is}
 use Rattle.run_laws.proofs.Heads.{HasAnswer, HasNone, a_result, answer_parts, no_result}
 use Rattle.run_laws.proofs.Names.{names_in_code}
-use Rattle.run_laws.proofs.Parameters.{readable_type}
+use Rattle.run_laws.proofs.ParametersMade.{readable_type}
 use Rattle.memory_laws.proofs.Making.{readable_shape}
 
 -- ---- the variable at a place, where all names differ
@@ -99,7 +99,7 @@ exact_is U K w _ _ _ e (mirrored a b m) = absurd (true≢false (sym e))
 
 module _ (U : Upgrade) (p : ℕ) (c : CoveredProcedure U.program p) (W : WrittenProcedure U p c.site c.procedure)
     (names : are_different (declared_names W.code) ≡ true) (base : Mark) (me : Option ℕ) (xs : List SourceGiven) (ys : List NetGiven)
-    (reads : VariablesAreReadBy U (call_pledge U p base me xs ys)) where
+    (reads : ScalarsAreReadBy U (call_pledge U p base me xs ys)) where
   abbrev K : Pledge
   K = call_pledge U p base me xs ys
 
@@ -181,7 +181,7 @@ module _ (U : Upgrade) (p : ℕ) (c : CoveredProcedure U.program p) (W : Written
         subst (λ b. Agrees U K w (ResultMatch U) (then (read a w.src) (λ x w. gives [] (Some x) w)) (gives [] (Some (net.looked_up b w.net)) w.net)) (sym same_address)
         (then_agrees U K w (ScalarMatch U r.variable.ty) (ResultMatch U) (read a w.src) (expressions.read s.address w.net) (λ x w. gives [] (Some x) w)
         (λ y t. gives [] (Some y) t) m
-        (reads w r.variable.ty a s.address (readable_type U h.id.0 r) m same
+        (reads w a s.address r.variable.ty (readable_type U h.id.0 r) m same
         (whole (made place.place), place.stands ∙ ap (λ d. root d (whole (made place.place))) (readable_shape U h.id.0 r)))
         (λ v y u n later.
         let like = subst (λ z. LikeV U u z y) (sym n.1) n.2 in

@@ -25,11 +25,11 @@ use Rattle.net_run.specs.Store as net
 use Rattle.run_matches.specs.Addresses.{AllLocked, ArgsMatch}
 use Rattle.run_matches.specs.Agreeing.{Agrees, ResultMatch}
 use Rattle.run_matches.specs.CleanLines.{lines_at, or_none}
-use Rattle.run_matches.specs.CoveredVariables.{are_different, belongs_to, covers_array_owner}
+use Rattle.run_matches.specs.CoveredVariables.{are_different, belongs_to, covers_array_owner, covers_group_owner}
 use Rattle.run_matches.specs.CoveredExprs.{uses_in}
 use Rattle.run_matches.specs.CoveredLines.{covers_in_block, covers_line, has_sound_label}
 use Rattle.run_matches.specs.Covered.{covers_procedure, keeps_blocks, covers_calls, is_scalar_or_loud}
-use Rattle.run_matches.specs.Frames.{lines_of, declared_names}
+use Rattle.run_matches.specs.Frames.{HasOwnObject, lines_of, declared_names}
 use Rattle.run_matches.specs.Maps.{World, mark, Below, Mark}
 use Rattle.run_matches.specs.Match.{MemoryMatch, StoreMatch}
 use Rattle.run_matches.specs.Pledges.{Later, NetGiven, Pledge}
@@ -37,6 +37,7 @@ use Rattle.run_matches.specs.Runs.{CallsAgree, IsObject, SameRun, call_pledge}
 use Rattle.run_matches.specs.Upgrades.{Upgrade, runnable_of}
 use Rattle.run_statements.specs.Arrays.{ArraysAreMade, StaticArraysAreLaid}
 use Rattle.run_statements.specs.Frames.{IsReadable, IsUsable, LocalsAreMade, ValuesAreMade}
+use Rattle.run_statements.specs.Groups.{GroupsAreGiven, GroupsAreMade, StaticGroupsAreLaid}
 use Rattle.run_statements.specs.Kept.{CanCallFrom, OwnsAreKept, SameWays}
 use Rattle.run_statements.specs.Written.{Passes, SameRuns, WrittenLine, WrittenProcedure}
 use Rattle.agreeing_laws.specs.Beside.{beside, with_steps}
@@ -46,8 +47,9 @@ use Rattle.agreeing_laws.proofs.Lasting.{later_from, weaker_self}
 use Rattle.agreeing_laws.proofs.Machines.{stepped_agrees}
 use Rattle.agreeing_laws.proofs.Made.{below_self, below_then}
 use Rattle.agreeing_laws.proofs.Moves.{locks_later}
+use Rattle.agreeing_laws.proofs.OwnObjects.{own_object_later}
 use Rattle.run_laws.specs.Entered.{RunMatch}
-use Rattle.run_laws.specs.Premises.{ArraysAreMadeInCalls, ArraysHaveRanks, LocalsAreMadeInCalls, RunPremises, StaticArraysAreLaidInCalls, ValuesAreMadeInCalls}
+use Rattle.run_laws.specs.Premises.{ArraysHaveRanks, CallsMakeAlike, RunPremises}
 use Rattle.run_laws.proofs.Covered.{CoveredProcedure, all_at, blocks_are_kept, covered_parts, form_at, form_covered, jumps_soundly, labels_are_sound, no_property, not_none, some_is, extents_given, own_covered_at, scalar_declared}
 use Rattle.run_laws.proofs.Entries.{all_names, entries_agree}
 use Rattle.line_laws.proofs.Called.{use_calls}
@@ -104,7 +106,7 @@ module _ (U : Upgrade) (h : RunPremises U) where
     answer_readable a =
         let owned : belongs_to p a.variable.owner ≡ true = ap (belongs_to p) a.owner ∙ a.own in
         h.owned_scalars p a.id.0 a.variable pass.0 a.is_variable owned
-        (scalar_declared a.variable (ap covers_array_owner a.owner) (own_covered_at U.program p a.id.0 a.variable c.variables a.is_variable owned))
+        (scalar_declared U.program.declarations a.variable (ap covers_array_owner a.owner) (ap covers_group_owner a.owner) (own_covered_at U.program p a.id.0 a.variable c.variables a.is_variable owned))
         (answer_sound U p a)
 
     -- ---- lines
@@ -171,7 +173,7 @@ module _ (U : Upgrade) (h : RunPremises U) where
         }
 
     names_differ : are_different (declared_names (written p pass).code) ≡ true
-    names_differ = subst (λ ns. are_different ns ≡ true) (all_names U p c W kept usable answer_readable ranked) c.different
+    names_differ = subst (λ ns. are_different ns ≡ true) (all_names U p c W kept usable answer_readable ranked h.groups) c.different
 
     pub body : BodyRuns U p (written p pass).number
     body = record {
@@ -195,21 +197,21 @@ module _ (U : Upgrade) (h : RunPremises U) where
 
   -- an entry, and then the rest
   entered_agrees : (n : ℕ) → Turns n → (p : ℕ) (pass : Passes U p) (base : Mark) (me : Option ℕ) (locked : Locked) (xs : List SourceGiven) (ys : List NetGiven)
-      (w0 w : World) → StoreMatch U w0 → ArgsMatch U (call_pledge U p base me xs ys) w0 p 0 xs ys → Later U (call_pledge U p base me xs ys) w0 w → IsObject w me
+      (w0 w : World) → StoreMatch U w0 → ArgsMatch U (call_pledge U p base me xs ys) w0 p 0 xs ys → Later U (call_pledge U p base me xs ys) w0 w → IsObject w me → HasOwnObject U w p me
       → AllLocked U (call_pledge U p base me xs ys) w locked → Below base (mark w.src) → MemoryMatch U w
       → Agrees U (call_pledge U p base me xs ys) w (ResultMatch U)
       (then (entered_as R p me locked xs w.src) (λ f s. go (source.machine_of R) n (runs p f) s))
       (then (target.enter N (written p pass).number (option_map w.map.objects me) tt ys w.net)
       (λ g t. go (target.machine_of N) n (runs (written p pass).number g) t))
-  entered_agrees n turns p pass base me locked xs ys w0 w start args l obj held low m =
+  entered_agrees n turns p pass base me locked xs ys w0 w start args l obj own held low m =
       let K : Pledge = call_pledge U p base me xs ys in
       let c : CoveredProcedure U.program p = parts p pass in
       let W : WrittenProcedure U p c.site c.procedure = written p pass in
       then_agrees U K w (RunMatch U K p me) (ResultMatch U) (entered_as R p me locked xs w.src)
       (target.enter N W.number (option_map w.map.objects me) tt ys w.net) (λ f s. go (source.machine_of R) n (runs p f) s)
       (λ g t. go (target.machine_of N) n (runs W.number g) t) m
-      (entries_agree U p c W (kept p pass) (usable p pass) (answer_readable p pass) (ranked p pass) base me xs ys (h.made p base me xs ys) (h.made_arrays p base me xs ys)
-      (h.laid_arrays p base me xs ys) (h.made_with p base me xs ys) locked w0 w start args l obj held low m)
+      (entries_agree U p c W (kept p pass) (usable p pass) (answer_readable p pass) (ranked p pass) h.groups base me xs ys (h.makes p base me xs ys) locked w0 w start args
+      l obj own held low m)
       (λ f g u r later. turns.rests p pass base me xs ys u f g r later.match)
 
   locked_steps : (K : Pledge) (w : World) (j : ℕ) (locked : Locked) → Later U K w (with_steps w j) → AllLocked U K w locked → AllLocked U K (with_steps w j) locked
@@ -221,7 +223,7 @@ module _ (U : Upgrade) (h : RunPremises U) where
 
   -- a call takes a step
   call_agrees : (n : ℕ) → Turns n → CallsAgree U (Passes U) (go (source.machine_of R) (suc n)) (go (target.machine_of N) (suc n))
-  call_agrees n turns p q me base locked xs ys w pass number low obj held args m =
+  call_agrees n turns p q me base locked xs ys w pass number low obj own held args m =
       let K : Pledge = call_pledge U p base me xs ys in
       let W : WrittenProcedure U p (parts p pass).site (parts p pass).procedure = written p pass in
       let does = λ (s : Memory). then (entered_as R p me locked xs s) (λ f s. go (source.machine_of R) n (runs p f) s) in
@@ -230,13 +232,13 @@ module _ (U : Upgrade) (h : RunPremises U) where
       (go (target.machine_of N) (suc n) (enters k (option_map w.map.objects me) tt ys) w.net)) (some_is (sym W.is_number ∙ number))
       (stepped_agrees U R N K w (ResultMatch U) does does' m
       (λ j e lat.
-      entered_agrees n turns p pass base me locked xs ys w (with_steps w j) m.stores args.match lat (object_at w (with_steps w j) me refl obj)
+      entered_agrees n turns p pass base me locked xs ys w (with_steps w j) m.stores args.match lat (object_at w (with_steps w j) me refl obj) (own_object_later U K w (with_steps w j) p me lat own)
       (locked_steps K w j locked lat held) (below_then base (mark w.src) (mark (with_steps w j).src) low lat.grows) lat.match))
 
   -- turn by turn
   turns_agree : (n : ℕ) → Turns n
   turns_agree zero = record {
-    calls = λ p q me base locked xs ys w pass number low obj held args m. agrees_spent U (call_pledge U p base me xs ys) w (ResultMatch U) m;
+    calls = λ p q me base locked xs ys w pass number low obj own held args m. agrees_spent U (call_pledge U p base me xs ys) w (ResultMatch U) m;
     rests = λ p pass base me xs ys w f g r m. agrees_spent U (call_pledge U p base me xs ys) w (ResultMatch U) m;
   }
   turns_agree (suc n) =
@@ -269,7 +271,8 @@ module _ (U : Upgrade) (h : RunPremises U) where
       (λ j e lat.
       let z : World = with_steps w1 j in
       entered_agrees n (turns_agree n) p pass (mark w.src) me [] xs ys w z start.stores start.args.match
-      (later_from U K K w w1 z start.stores (weaker_self w K) l lat) (object_at w z me refl start.object) tt (below_self (mark w.src)) lat.match))
+      (later_from U K K w w1 z start.stores (weaker_self w K) l lat) (object_at w z me refl start.object)
+      (own_object_later U K w1 z p me lat (own_object_later U K w w1 p me l start.own_object)) tt (below_self (mark w.src)) lat.match))
 
   -- ---- the law
 
@@ -278,16 +281,17 @@ module _ (U : Upgrade) (h : RunPremises U) where
       let pass : Passes U p = (clean, covered) in
       record { written = (written p pass).number; is_written = (written p pass).is_number; same = same_run p pass }
 
--- what is made and read under any pledge is so under that of a call
-
-pub made_in_calls : (U : Upgrade) → LocalsAreMade U → LocalsAreMadeInCalls U
-made_in_calls U made p base me xs ys = made (call_pledge U p base me xs ys)
-
-pub made_with_in_calls : (U : Upgrade) → ValuesAreMade U → ValuesAreMadeInCalls U
-made_with_in_calls U made p base me xs ys = made (call_pledge U p base me xs ys)
-
-pub made_arrays_in_calls : (U : Upgrade) → ArraysAreMade U → ArraysAreMadeInCalls U
-made_arrays_in_calls U made p base me xs ys = made (call_pledge U p base me xs ys)
-
-pub laid_arrays_in_calls : (U : Upgrade) → StaticArraysAreLaid U → StaticArraysAreLaidInCalls U
-laid_arrays_in_calls U laid p base me xs ys = laid (call_pledge U p base me xs ys)
+-- what is made alike under any pledge is so under that of a call
+pub makes_in_calls : (U : Upgrade) → LocalsAreMade U → ArraysAreMade U → GroupsAreMade U → StaticArraysAreLaid U → StaticGroupsAreLaid U → ValuesAreMade U
+    → GroupsAreGiven U → CallsMakeAlike U
+makes_in_calls U scalars arrays groups static_arrays static_groups given groups_given p base me xs ys =
+    let K : Pledge = call_pledge U p base me xs ys in
+    record {
+      scalars = scalars K;
+      arrays = arrays K;
+      groups = groups K;
+      static_arrays = static_arrays K;
+      static_groups = static_groups K;
+      scalars_given = given K;
+      groups_given = groups_given K;
+    }

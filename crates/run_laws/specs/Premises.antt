@@ -1,7 +1,7 @@
 -- What the laws on runs need of declarations, names, memories and lines.
 use Rattle.std.specs.Prelude.{◌≡◌, ℕ, suc, Bool, true, false, Option, Some, None, slice_get, List, [], ◌∷◌}
 use Rattle.std.specs.List.{Contains}
-use Rattle.vb_tree.specs.BoundTree.{user}
+use Rattle.vb_tree.specs.BoundTree.{Ty, user}
 use Rattle.bound_tree.specs.Tree.{Expr, Line, Procedure, Variable}
 use Rattle.bound_facts.specs.Clean.{IsClean}
 use Rattle.run_base.specs.Machines.{nth_line, go}
@@ -9,23 +9,25 @@ use Rattle.bound_facts.specs.Facts.{AreFacts}
 use Rattle.bound_facts.specs.Parts.{line_uses}
 use Rattle.net_tree.specs.Tree as net_tree
 use Rattle.net_tree.specs.Types.{TypeName}
-use Rattle.run_base.specs.Positions.{Key, shared, whole}
-use Rattle.vb6_run.specs.Shapes.{variable_shape}
-use Rattle.vb6_run.specs.Store.{make, SourceGiven, make_with}
+use Rattle.run_base.specs.Positions.{Key, Position, shared, whole}
+use Rattle.vb6_run.specs.Shapes.{simple, variable_shape}
+use Rattle.vb6_run.specs.Store.{Address, make, SourceGiven, make_with, read, root}
 use Rattle.vb6_run.specs.Values.{Value}
 use Rattle.vb6_run.specs.Programs as source
 use Rattle.vb6_run.specs.Programs.{lay_if_blank}
+use Rattle.net_run.specs.Expressions as expressions
 use Rattle.net_run.specs.Program as target
 use Rattle.net_run.specs.Program.{made_once}
 use Rattle.net_run.specs.Shapes as shape
 use Rattle.net_run.specs.Store as net
 use Rattle.net_run.specs.Values as net_value
+use Rattle.run_matches.specs.Addresses.{Same}
 use Rattle.run_matches.specs.Agreeing.{Agrees}
 use Rattle.run_matches.specs.CleanLines.{IsCleanLine, lines_at}
 use Rattle.written_trees.specs.Bodies.{inside_procedure}
 use Rattle.written_trees.specs.Facts.{is_array_variable}
 use Rattle.written_trees.specs.Types.{type_with}
-use Rattle.run_matches.specs.CoveredVariables.{belongs_to, covers_declared, covers_user, covers_variable, has_extents}
+use Rattle.run_matches.specs.CoveredVariables.{belongs_to, covers_declared, covers_type, covers_user, covers_variable, has_extents}
 use Rattle.run_matches.specs.CoveredExprs.{uses_in}
 use Rattle.run_matches.specs.CoveredLines.{covers_line}
 use Rattle.run_matches.specs.Covered.{IsCoveredLine, covers_procedure, is_scalar_or_loud}
@@ -38,11 +40,10 @@ use Rattle.run_matches.specs.Sites.{Site, site_of}
 use Rattle.run_matches.specs.Upgrades.{Upgrade, home_of, runnable_of, variable_key}
 use Rattle.run_statements.specs.Fitting.{FitsLine, FitsNode}
 use Rattle.run_statements.specs.Arrays.{ArraysAreMadeBy, StaticArraysAreLaidBy}
-use Rattle.run_statements.specs.Frames.{AnyUnits, AreReadable, IsGroup, IsReadable, IsUsable, MadeMatch}
+use Rattle.run_statements.specs.Frames.{AnyUnits, AreReadable, IsGroup, IsReadable, IsUsable, MadeMatch, ScalarMatch}
 use Rattle.run_statements.specs.Groups.{GroupMade, ValueMatch}
 use Rattle.run_statements.specs.Kept.{IsUnreplaced, LabelsAreFound, LinesAgree, LinesAreWritten, NamesAreOpen, OwnsAreKept, NoFurtherLines, StoresAreOwn, UsesArePlaced, CalleesAreFound}
 use Rattle.run_statements.specs.Written.{ProceduresAreWritten, WrittenProcedure, Passes, site_scope}
-use Rattle.expression_laws.specs.Statements.{VariablesAreReadBy}
 
 -- ---- clean procedures that are covered
 
@@ -160,9 +161,14 @@ pub record GroupsAreWritten (U : Upgrade) : Type 0 where
   pub homes : (p : ℕ) (s : Site) → site_of U.program.declarations p ≡ Some s → home_of U s.source_module.file ≡ Some s.home
 
 -- a result variable is read on both sides
+abbrev pub ScalarsAreReadBy : Upgrade → Pledge → Type 0
+ScalarsAreReadBy U K =
+    (w : World) (a : Address) (b : net.Address) (ty : Ty) → covers_type ty ≡ true → MemoryMatch U w → Same U K w a b
+    → ((q : Position) × (a ≡ root (simple ty) q)) → Agrees U K w (ScalarMatch U ty) (read a w.src) (expressions.read b w.net)
+
 abbrev pub ResultsAreRead : Upgrade → Type 0
 ResultsAreRead U =
-    (p : ℕ) (base : Mark) (me : Option ℕ) (xs : List SourceGiven) (ys : List NetGiven) → VariablesAreReadBy U (call_pledge U p base me xs ys)
+    (p : ℕ) (base : Mark) (me : Option ℕ) (xs : List SourceGiven) (ys : List NetGiven) → ScalarsAreReadBy U (call_pledge U p base me xs ys)
 
 -- what the lines of a clean procedure use suits the ranks of arrays
 abbrev pub CleanUsesFit : Upgrade → Type 0
