@@ -47,7 +47,6 @@ use Rattle.memory_laws.proofs.GroupsMade.{group_shape, group_shape_is}
 use Rattle.run_laws.proofs.GroupDims.{type_shaped}
 use Rattle.run_laws.proofs.ParametersMade.{readable_type}
 
-
 -- ---- user types
 
 place_is : (a b : ℕ × ℕ) → Some a ≡ Some b → (a.0 ≡ b.0) × (a.1 ≡ b.1)
@@ -159,4 +158,3 @@ module _ (U : Upgrade) (p : ℕ) (groups : GroupsAreWritten U) (S : Scope) (same
             let at = subst (λ d. StandsAs d a z) (array_shape_is U v.0 element r) stands in
             array_taken U K w v.0 element m.word at.0 a b z r.covers m.is_word same at.1 ranked;
       }
-

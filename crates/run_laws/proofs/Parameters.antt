@@ -65,7 +65,6 @@ use Rattle.run_laws.specs.Premises.{GroupsAreWritten, MakesAlike}
 use Rattle.run_laws.proofs.ParametersMade.{Local, group_value_agrees, readable_type, value_is_made}
 use Rattle.run_laws.proofs.ParameterTypes.{ParamWritten, param_written}
 
-
 none_more : (i : ℕ) → i ≡ i + 0
 none_more i = omega arith
 

@@ -43,7 +43,6 @@ use Rattle.run_matches.specs.SoundShapes.{IsSoundShape}
 use Rattle.agreeing_laws.proofs.UserShapes.{covered_type_of}
 use Rattle.memory_laws.proofs.GroupsMade.{group_shape, group_shape_is, make_with_none}
 
-
 -- ---- values of other types
 
 -- a value that is of no user type, or of another one
@@ -85,7 +84,6 @@ abbrev pub Local : Upgrade → Pledge → (v : ℕ) → World → Address → ne
 Local U K v u a b = LocalMatch U K u v a b
 
 module _ (U : Upgrade) (K : Pledge) (makes : MakesAlike U K) where
-
   own_local : (w : World) (v : ℕ) (ty : Ty) (t : TypeName) (r : Outcome Memory Address) (r' : Outcome net.Memory net.Address) → Below K.base (mark w.src)
       → Yields (λ (a : Address) (u : Memory). a ≡ root (variable_shape U.program.declarations v) (whole (made w.src.next))) r
       → Agrees U K w (MadeMatch U K v ty t) r r' → Agrees U K w (Local U K v) r r'
