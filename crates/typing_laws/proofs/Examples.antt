@@ -186,7 +186,7 @@ is_stuck = refl
 -- ---- over scalars alone no array is erased
 
 abbrev every_use : Uses
-every_use = record { scalar = λ v. true; array = λ v e. true; is_of = λ v ty. true; inward = λ p. true; exact = λ v. true; relied = λ v. true }
+every_use = record { scalar = λ v. true; array = λ v e. true; group = λ v t. true; field_type = λ t k. None; is_of = λ v ty. true; inward = λ p. true; exact = λ v. true; relied = λ v. true }
 
 abbrev array_i : Expr
 array_i = typed (array integer 1) (variable (record { 0 = 0 }) false)

@@ -1,5 +1,5 @@
 -- All forms of covered lines.
-use Rattle.std.proofs.Common.{◌≡◌, refl, sym, subst, ℕ, Bool, true, false, cond, ◌&&◌, ◌||◌, true≢false, List, [], ◌∷◌, Option, Some, None}
+use Rattle.std.proofs.Common.{◌≡◌, refl, sym, subst, ℕ, Bool, true, false, cond, ◌&&◌, true≢false, List, [], ◌∷◌, Option, Some, None}
 use Rattle.std.specs.Prelude.{slice_get}
 use Rattle.std.specs.List.{list_all}
 use Rattle.up_base.proofs.Lists.{all_first, all_rest}
@@ -24,8 +24,8 @@ use Rattle.vb6_run.specs.Expressions.{Context, declared, parts_of}
 use Rattle.vb6_run.specs.Forms.{SourceLine, form_does, idle_machine}
 use Rattle.vb6_run.specs.Lines.{condition, goes_on, goes_to, handles_by, line_of_label, redim_does, to_label, when_done}
 use Rattle.vb6_run.specs.Store.{Does, Memory, SourceFrame, set_err}
-use Rattle.run_matches.specs.CoveredExprs.{Uses, covers_array, covers_expr, covers_value, is_changeable, is_variable, uses_in}
-use Rattle.run_matches.specs.CoveredLines.{covers_called, covers_condition, covers_counter, covers_counting, covers_form, covers_items, covers_part, covers_resize, covers_resizes, covers_step, head_line, is_comparison, is_counter, is_ordered}
+use Rattle.run_matches.specs.CoveredExprs.{Uses, covers_array, covers_expr, covers_value, is_variable, uses_in}
+use Rattle.run_matches.specs.CoveredLines.{covers_called, covers_condition, covers_counter, covers_counting, covers_form, covers_items, covers_part, covers_resize, covers_resizes, covers_step, head_line, is_comparison, is_counter}
 use Rattle.bound_facts.specs.Locks.{is_same_type}
 use Rattle.run_matches.specs.Formed.{is_formed}
 use Rattle.typing_laws.specs.Scalars.{is_scalar_line, scalar_uses}
@@ -40,7 +40,7 @@ use Rattle.typing_laws.proofs.Ends.{Ends, ends_after, ends_from, ends_weaker, ke
 use Rattle.typing_laws.proofs.Frames.{frame_handling, frame_keeping, frame_later, frame_resumed}
 use Rattle.typing_laws.proofs.Lines.{Good, IsFine, IsIn, KeepsAt, assign_ends, call_statement, condition_ends, goes_by, in_later, leads, never_nowhere, print_ends, taken_same, fine_type}
 use Rattle.typing_laws.proofs.Places.{keeps_same}
-use Rattle.typing_laws.proofs.Scalars.{no_array_covered, store_covered}
+use Rattle.typing_laws.proofs.Scalars.{Stored, no_array_covered, stored_of}
 use Rattle.typing_laws.specs.Frames.{Footprint, Ground, ground}
 
 -- ---- the expressions of lines
@@ -231,11 +231,10 @@ module _ (C : Context) (F : Footprint) (X : SourceJob → Memory → Type 0) (ca
       → exprs_typed D f es ≡ true → Each (IsSuited C.runnable) (used_nodes f es)
       → covers_part C.runnable.program C.procedure f es (head_line lines C.aims.own) ≡ true → IsAimed C f → KeepsAt C F f es → Ok f es
   form_ends (source.assign target value) (to ∷ e ∷ []) c a t f ty s p g k =
-      let x = both_true (is_changeable uses to || is_ordered uses to e) (covers_expr uses to && covers_expr uses e) c in
-      let y = both_true (covers_expr uses to) (covers_expr uses e) x.1 in
-      let fine = fine_of (to ∷ e ∷ []) (and_true (covers_expr uses to) (covers_expr uses e && true) y.0 (and_true (covers_expr uses e) true y.1 refl)) f ty
+      let x : Stored all_uses to e = stored_of all_uses to e c in
+      let fine = fine_of (to ∷ e ∷ []) (and_true (covers_expr uses to) (covers_expr uses e && true) x.target (and_true (covers_expr uses e) true x.value refl)) f ty
       (exprs_suited C.runnable (to ∷ e ∷ []) s) in
-      assign_ends C F X calls mentions w h (L (source.assign target value) (to ∷ e ∷ [])) to e (store_covered all_uses to e x.0 y.0) fine.0 fine.1.0
+      assign_ends C F X calls mentions w h (L (source.assign target value) (to ∷ e ∷ [])) to e x.is_variable fine.0 fine.1.0
       (taken_same (type_at to) (type_at e) (fine_type C F X calls mentions to fine.0) (fine_type C F X calls mentions e fine.1.0) a)
       (λ l. in_assigned target value to e w l)
   form_ends (source.call callee) (e ∷ []) c a t f ty s p g k =

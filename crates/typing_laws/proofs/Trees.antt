@@ -26,7 +26,7 @@ use Rattle.vb6_run.specs.Expressions.{Context, declared, value_of, scalar_value,
 use Rattle.vb6_run.specs.Store.{Memory}
 use Rattle.run_matches.specs.CoveredVariables.{covers_type}
 use Rattle.run_matches.specs.CoveredExprs.{Uses, covers_argument, covers_array, covers_expr, covers_exprs, covers_library, covers_operator, covers_passed, covers_term, uses_in}
-use Rattle.run_matches.specs.Covered.{covers_parameter, is_referred, suits_argument, suits_array, suits_passed}
+use Rattle.run_matches.specs.Covered.{covers_parameter, is_referred, suits_argument, suits_array, suits_group, suits_passed}
 use Rattle.run_matches.specs.Formed.{are_formed, is_formed, is_formed_argument, is_row_of_call, is_row_of_one, is_row_of_two, passed_are_formed, types_of}
 use Rattle.typing_laws.specs.Scalars.{has_scalar_variables, scalar_uses}
 use Rattle.typing_laws.specs.Calls.{CallsAreSuited, CallsKeep, Each, IsSuited, SourceJob}
@@ -39,7 +39,7 @@ use Rattle.typing_laws.proofs.Expressions.{Fits, IsScalarOf, IsTerm, IsTyped, bi
 use Rattle.typing_laws.proofs.Library.{ArePlain}
 use Rattle.typing_laws.proofs.Plain.{Plain, constant_plain, same_as}
 use Rattle.typing_laws.proofs.Procedures.{Parameter, parameter_of}
-use Rattle.typing_laws.proofs.Scalars.{library_covered, no_array_covered, reference_covered}
+use Rattle.typing_laws.proofs.Scalars.{library_covered, no_array_covered, no_field, reference_covered, value_covered}
 use Rattle.typing_laws.proofs.Values.{Callee, by_value_ends, call_ends, call_value, callee_of, covered_type, given_later, input_ends, no_arguments, reference_at, reference_ends}
 use Rattle.typing_laws.specs.Frames.{Footprint, Ground, ground}
 
@@ -133,11 +133,11 @@ module _ (C : Context) (F : Footprint) (X : SourceJob → Memory → Type 0) (ca
   given_ends q i k p y at (tree.by_value e) covers typing fit suit w fits h =
       subst (λ o. Ends K (λ v g. IsGiven K v o g) (Leaves C X e w) w (argument_of C (C.runnable.quiet q i) (tree.by_value e) w)) (sym y.is_variable)
       (by_value_ends C F X calls mentions w y.variable e (C.runnable.quiet q i)
-      (fitting y.variable.ty (type_at e) y.covers (covered_type C F X calls mentions e covers)
+      (fitting y.variable.ty (type_at e) y.covers (covered_type C F X calls mentions e (value_covered all_uses e covers))
       (sym (ap (λ o. fits_parameter (tree.by_value e) o) y.is_variable) ∙ fit)) h)
   given_ends q i k p y at (tree.by_reference e) covers typing fit suit w fits h =
-      let b = both_true (takes_reference D q i) (is_referred e && suits_array D q i e) suit in
-      let r = both_true (is_referred e) (suits_array D q i e) b.1 in
+      let b = both_true (takes_reference D q i) (is_referred e && (suits_array D q i e && suits_group D q i e)) suit in
+      let r = both_true (is_referred e) (suits_array D q i e && suits_group D q i e) b.1 in
       let c : covers_expr uses e ≡ true = reference_covered all_uses e covers in
       subst (λ o. Ends K (λ v g. IsGiven K v o g) (Leaves C X e w) w (argument_of C (C.runnable.quiet q i) (tree.by_reference e) w)) (sym y.is_variable)
       (reference_ends C F X calls mentions w fits y.variable e (C.runnable.quiet q i) c typing r.0
@@ -206,7 +206,7 @@ module _ (C : Context) (F : Footprint) (X : SourceJob → Memory → Type 0) (ca
         types.0 callee.fits suited.0.suits suited.1 w fits)))
     value_ends (typed ty (call q qualified (of_object e) args)) covers formed typing suited w fits =
         absurd (true≢false (sym (both_true (covers_type ty) (false && covers_passed uses args) covers).1))
-    value_ends (typed ty (field e i)) covers formed typing suited w fits = absurd (true≢false (sym formed))
+    value_ends (typed ty (field e i)) covers formed typing suited w fits = absurd (no_field all_uses ty e i covers)
     value_ends (typed ty (element e indexes)) covers formed typing suited w fits =
         let both = both_true (covers_type ty) (covers_array uses e && covers_exprs uses indexes) covers in
         absurd (no_array_covered all_uses e (both_true (covers_array uses e) (covers_exprs uses indexes) both.1).0)
@@ -271,7 +271,7 @@ module _ (C : Context) (F : Footprint) (X : SourceJob → Memory → Type 0) (ca
 
     passed_right : (a : Argument) → covers_argument uses a ≡ true → is_formed_argument a ≡ true → is_typed_argument D a ≡ true
         → Each (IsSuited C.runnable) (nodes_of_argument a) → (w : Memory) → Fits C F w → IsRight (passed_value a) w
-    passed_right (tree.by_value e) covers formed typing suited w fits = value_ends e covers formed typing suited w fits
+    passed_right (tree.by_value e) covers formed typing suited w fits = value_ends e (value_covered all_uses e covers) formed typing suited w fits
     passed_right (tree.by_reference e) covers formed typing suited w fits = value_ends e (reference_covered all_uses e covers) formed typing suited w fits
 
   -- the arguments of a call

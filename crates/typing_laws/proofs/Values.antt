@@ -1,8 +1,8 @@
 -- All covered expressions, with calls of the library and of procedures and their arguments.
-use Rattle.std.proofs.Common.{false, ◌≡◌, refl, sym, ap, ◌∙◌, subst, ℕ, Bool, true, not, ◌&&◌, ◌||◌, true≢false, List, [], Option, Some, None, ◌⊎◌, inl, inr}
+use Rattle.std.proofs.Common.{false, ◌≡◌, refl, sym, ap, ◌∙◌, subst, ℕ, Bool, true, not, ◌&&◌, ◌||◌, true≢false, List, [], Option, Some, None}
 use Rattle.std.specs.Prelude.{slice_get, is_some}
 use Rattle.std.specs.List.{list_all}
-use Rattle.up_base.proofs.Tests.{both_true, either, not_true}
+use Rattle.up_base.proofs.Tests.{both_true, not_true}
 use Rattle.vb_tree.specs.BoundTree.{Ty}
 use Rattle.vb_tree.specs.BoundTree as types
 use Rattle.vb_tree.specs.declared.bound.LibCall.{LibCall}
@@ -19,14 +19,14 @@ use Rattle.row_laws.proofs.Composing.{then_assoc}
 use Rattle.run_base.specs.Frames.{by_value, by_address}
 use Rattle.run_base.specs.Machines.{enters}
 use Rattle.run_base.specs.Outcomes.{Outcome, gives, raises, spent, outside, after, then, first_input}
-use Rattle.written_trees.specs.Arguments.{is_conversion, is_reference_owner, takes_reference, takes_reference_at, takes_reference_of, parameter_in}
+use Rattle.written_trees.specs.Arguments.{is_reference_owner, takes_reference, takes_reference_at, takes_reference_of, parameter_in}
 use Rattle.vb6_run.specs.Expressions.{Context, Parts, at_address, no_value, declared, value_in, scalar_in, parts_of, term_parts, value_of, scalar_value, given_address, given_parts, goes_by_address, argument_of, args_of, entered, result_parts, library_call, caller, has_byte, asked_text, boxed_text}
 use Rattle.vb6_run.specs.Shapes.{simple}
 use Rattle.vb6_run.specs.Store as store
 use Rattle.vb6_run.specs.Store.{Address, root, Memory, SourceGiven}
 use Rattle.vb6_run.specs.Values.{Value, scalar}
 use Rattle.run_matches.specs.CoveredVariables.{covers_type}
-use Rattle.run_matches.specs.CoveredExprs.{Uses, covers_expr, covers_library, covers_term, is_variable, covers_array, covers_exprs, uses_in}
+use Rattle.run_matches.specs.CoveredExprs.{Uses, covers_expr, covers_library, covers_term, covers_array, covers_exprs, uses_in}
 use Rattle.run_matches.specs.Covered.{is_plain_kind, is_referred}
 use Rattle.run_matches.specs.Formed.{is_row_of_call, types_of}
 use Rattle.typing_laws.proofs.Scalars.{no_array_covered}

@@ -1,4 +1,4 @@
--- Procedures over scalars alone: of what is covered they have no arrays and no quiet parameters. These are the procedures of which the typing laws
+-- Procedures over scalars alone: of what is covered they have no arrays, no user types and no quiet parameters. These are the procedures of which the typing laws
 -- speak.
 use Rattle.std.specs.Prelude.{ℕ, Bool, true, false, cond, ◌&&◌, List, Option, Some, None, slice_get}
 use Rattle.std.specs.List.{list_all}
@@ -10,11 +10,13 @@ use Rattle.run_matches.specs.CoveredExprs.{Uses, uses_in}
 use Rattle.run_matches.specs.CoveredLines.{covers_form}
 use Rattle.run_matches.specs.Formed.{is_formed}
 
--- the same scalars, and no array: so no element, bound, ReDim or Erase is covered, and no array by reference
+-- the same scalars, and neither an array nor a user type: so no element, bound, field, ReDim or Erase is covered, and no array by reference
 abbrev pub scalars_alone : Uses → Uses
 scalars_alone uses = record {
   scalar = uses.scalar;
   array = λ v e. false;
+  group = λ v t. false;
+  field_type = λ t k. None;
   is_of = uses.is_of;
   inward = uses.inward;
   relied = uses.relied;
@@ -44,7 +46,7 @@ abbrev pub has_loud_parameters : Program → Option Procedure → Bool
 has_loud_parameters P None = true
 has_loud_parameters P (Some x) = list_all (is_loud_parameter P) x.params
 
--- no arrays and no quiet parameters: the lines of the procedure, if there is one of this number, its variables and its parameters
+-- no arrays, no user types and no quiet parameters: the lines of the procedure, if there is one of this number, its variables and its parameters
 abbrev pub has_scalars : Program → (procedure : ℕ) → Bool
 has_scalars P p =
     are_scalar_lines P p (slice_get P.bodies p) && (has_scalar_variables P p && has_loud_parameters P (slice_get P.declarations.procs p))
