@@ -108,7 +108,7 @@ module _ (R : Runnable) (p q k : ℕ) (x : Procedure) (is : slice_get R.program.
   pub ready_called : IsReady R p → IsReady R q
   ready_called h = record {
     covered = λ r c. h.covered r (chain_then _ p q r reaches_called c);
-    scalars = λ r c. h.scalars r (chain_then _ p q r reaches_called c);
+    flat = λ r c. h.flat r (chain_then _ p q r reaches_called c);
     typed = λ r c. h.typed r (chain_then _ p q r reaches_called c);
     results = λ r c. h.results r (chain_then _ p q r reaches_called c);
     loud = λ r c. h.loud r (chain_then _ p q r reaches_called c);

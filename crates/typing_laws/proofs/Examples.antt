@@ -37,7 +37,7 @@ use Rattle.run_matches.specs.CoveredExprs.{Uses}
 use Rattle.run_matches.specs.CoveredLines.{covers_form}
 use Rattle.run_matches.specs.Covered.{covers_procedure}
 use Rattle.typing_laws.specs.Edges.{IsEdge, IsLibraryEdge, least_by_minus_one, number_past_127}
-use Rattle.typing_laws.specs.Scalars.{has_scalars, scalars_alone}
+use Rattle.typing_laws.specs.Flat.{is_flat_procedure, without_groups}
 use Rattle.typing_laws.specs.Typed.{is_typed_line, is_typed_procedure}
 
 -- Sub Main()
@@ -158,7 +158,7 @@ is_outside (outside o) = true
 is_covered : covers_procedure (program integer) 0 ≡ true
 is_covered = refl
 
-is_over_scalars : has_scalars (program integer) 0 ≡ true
+is_over_scalars : is_flat_procedure (program integer) 0 ≡ true
 is_over_scalars = refl
 
 is_well_typed : is_typed_procedure (program integer) 0 ≡ true
@@ -194,7 +194,7 @@ array_i = typed (array integer 1) (variable (record { 0 = 0 }) false)
 erases : covers_form every_use (source.erase any) (array_i ∷ []) ≡ true
 erases = refl
 
-erases_no_array : covers_form (scalars_alone every_use) (source.erase any) (array_i ∷ []) ≡ false
+erases_no_array : covers_form (without_groups every_use) (source.erase any) (array_i ∷ []) ≡ false
 erases_no_array = refl
 
 -- ---- nor is a parameter quiet: one by reference is changed
@@ -204,13 +204,13 @@ takes o ls =
     let P : Program = program_of ls in
     record P { declarations = record P.declarations { vars = record variable_i { owner = o } ∷ []; procs = record procedure { params = id ∷ [] } ∷ [] } }
 
-changes : has_scalars (takes (owner.Reference main) (lines integer)) 0 ≡ true
+changes : is_flat_procedure (takes (owner.Reference main) (lines integer)) 0 ≡ true
 changes = refl
 
-is_quiet : has_scalars (takes (owner.Reference main) []) 0 ≡ false
+is_quiet : is_flat_procedure (takes (owner.Reference main) []) 0 ≡ false
 is_quiet = refl
 
-goes_by_value : has_scalars (takes (owner.Value main) []) 0 ≡ true
+goes_by_value : is_flat_procedure (takes (owner.Value main) []) 0 ≡ true
 goes_by_value = refl
 
 -- ---- a condition is a Boolean

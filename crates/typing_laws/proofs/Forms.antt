@@ -28,19 +28,20 @@ use Rattle.run_matches.specs.CoveredExprs.{Uses, covers_array, covers_expr, cove
 use Rattle.run_matches.specs.CoveredLines.{covers_called, covers_condition, covers_counter, covers_counting, covers_form, covers_items, covers_part, covers_resize, covers_resizes, covers_step, head_line, is_comparison, is_counter}
 use Rattle.bound_facts.specs.Locks.{is_same_type}
 use Rattle.run_matches.specs.Formed.{is_formed}
-use Rattle.typing_laws.specs.Scalars.{is_scalar_line, scalar_uses}
+use Rattle.typing_laws.specs.Flat.{is_flat_line, flat_uses}
 use Rattle.typing_laws.specs.Calls.{CallsAreSuited, CallsKeep, Each, IsAimed, IsSuited, SourceJob}
 use Rattle.typing_laws.specs.Frames.{code_line}
-use Rattle.typing_laws.specs.Leaving.{Leaves, LineLeaves, in_assigned, in_items, at_print, in_call, in_invoked, in_condition, unopened, exit_outside, no_label, resumes_at_head, has_condition, jumps_to, resumes}
+use Rattle.typing_laws.specs.Leaving.{Leaves, LineLeaves, in_assigned, in_target, in_items, at_print, in_call, in_invoked, in_condition, unopened, exit_outside, no_label, resumes_at_head, has_condition, jumps_to, resumes}
 use Rattle.typing_laws.specs.Typed.{assigns_typed, exprs_typed, fits_type, is_typed, is_typed_line, tests_typed}
+use Rattle.typing_laws.proofs.Assigning.{assign_ends}
 use Rattle.typing_laws.proofs.Callees.{exprs_suited}
 use Rattle.typing_laws.proofs.Choices.{case_ends, select_ends}
 use Rattle.typing_laws.proofs.Counting.{for_ends, next_ends}
 use Rattle.typing_laws.proofs.Ends.{Ends, ends_after, ends_from, ends_weaker, keeps_self, then_ends}
 use Rattle.typing_laws.proofs.Frames.{frame_handling, frame_keeping, frame_later, frame_resumed}
-use Rattle.typing_laws.proofs.Lines.{Good, IsFine, IsIn, KeepsAt, assign_ends, call_statement, condition_ends, goes_by, in_later, leads, never_nowhere, print_ends, taken_same, fine_type}
+use Rattle.typing_laws.proofs.Lines.{Good, IsFine, IsIn, KeepsAt, call_statement, condition_ends, goes_by, in_later, leads, never_nowhere, print_ends, taken_same, fine_type}
 use Rattle.typing_laws.proofs.Places.{keeps_same}
-use Rattle.typing_laws.proofs.Scalars.{Stored, no_array_covered, stored_of}
+use Rattle.typing_laws.proofs.Flat.{Stored, no_array_covered, stored_of}
 use Rattle.typing_laws.specs.Frames.{Footprint, Ground, ground}
 
 -- ---- the expressions of lines
@@ -95,7 +96,7 @@ module _ (C : Context) (F : Footprint) (X : SourceJob → Memory → Type 0) (ca
   K = ground (declared C) F
 
   abbrev uses : Uses
-  uses = scalar_uses C.runnable.program C.procedure mentions
+  uses = flat_uses C.runnable.program C.procedure mentions
 
   abbrev all_uses : Uses
   all_uses = uses_in C.runnable.program C.procedure mentions
@@ -234,9 +235,9 @@ module _ (C : Context) (F : Footprint) (X : SourceJob → Memory → Type 0) (ca
       let x : Stored all_uses to e = stored_of all_uses to e c in
       let fine = fine_of (to ∷ e ∷ []) (and_true (covers_expr uses to) (covers_expr uses e && true) x.target (and_true (covers_expr uses e) true x.value refl)) f ty
       (exprs_suited C.runnable (to ∷ e ∷ []) s) in
-      assign_ends C F X calls mentions w h (L (source.assign target value) (to ∷ e ∷ [])) to e x.is_variable fine.0 fine.1.0
+      assign_ends C F X calls mentions w h (L (source.assign target value) (to ∷ e ∷ [])) to e x.changes fine.0 fine.1.0
       (taken_same (type_at to) (type_at e) (fine_type C F X calls mentions to fine.0) (fine_type C F X calls mentions e fine.1.0) a)
-      (λ l. in_assigned target value to e w l)
+      (λ l. in_assigned target value to e w l) (λ o y v one l. in_target target value to e w v o y one l)
   form_ends (source.call callee) (e ∷ []) c a t f ty s p g k =
       call_ends (source.call callee) e c f ty (exprs_suited C.runnable (e ∷ []) s) (λ l. in_call callee e w l)
   form_ends (source.invoke callee args) (e ∷ []) c a t f ty s p g k =
@@ -262,7 +263,7 @@ module _ (C : Context) (F : Footprint) (X : SourceJob → Memory → Type 0) (ca
   form_ends source.case_else es c a t f ty s p g k = on_ends source.case_else es
   form_ends source.end_select es c a t f ty s p g k = on_ends source.end_select es
   form_ends (source.for_head counter first last step) es c a t f ty s p g k =
-      for_ends C F X calls mentions counter first last step w h es c (fine_of es (counting_covered uses es c) f ty (exprs_suited C.runnable es s)) g k
+      for_ends C F X calls mentions counter first last step w h es c (fine_of es (counting_covered uses es c) f ty (exprs_suited C.runnable es s)) p g k
   form_ends (source.next name) es c a t f ty s p g k = next_ends C F X calls mentions name es w h g lines are_lines p
   form_ends source.do_head es c a t f ty s p g k = on_ends source.do_head es
   form_ends (source.do_while x) (e ∷ []) c a t f ty s p g k =
@@ -300,14 +301,14 @@ module _ (C : Context) (F : Footprint) (X : SourceJob → Memory → Type 0) (ca
 
 pub line_ends : (C : Context) (F : Footprint) (X : SourceJob → Memory → Type 0) → CallsKeep C F X → (l : tree.Line) (lines : List tree.Line)
     → slice_get C.runnable.program.bodies C.procedure ≡ Some lines → code_line C.runnable.program C.procedure C.frame.line ≡ Some l → (w : Memory) → IsIn C F w
-    → is_scalar_line C.runnable.program C.procedure l ≡ true → is_typed_line (declared C) l ≡ true → Each (IsSuited C.runnable) (line_uses l)
+    → is_flat_line C.runnable.program C.procedure l ≡ true → is_typed_line (declared C) l ≡ true → Each (IsSuited C.runnable) (line_uses l)
     → covers_part C.runnable.program C.procedure l.source.form l.bindings.exprs (head_line lines C.aims.own) ≡ true → IsAimed C l.source.form
     → Ends (ground (declared C) F) (Good C F) (LineLeaves C X l.source.form l.bindings.exprs w) w (form_does C l.source.form l.bindings.exprs w)
 line_ends C F X calls l lines are_lines stands w h covers typing suited part aimed =
     let D : Declarations = declared C in
     let f : Form = l.source.form in
     let es : List Expr = l.bindings.exprs in
-    let uses : Uses = scalar_uses C.runnable.program C.procedure l.bindings.mentions in
+    let uses : Uses = flat_uses C.runnable.program C.procedure l.bindings.mentions in
     let a = both_true (covers_form uses f es) (list_all is_formed es) covers in
     let b = both_true (assigns_typed f es) (tests_typed f es && exprs_typed D f es) typing in
     let c = both_true (tests_typed f es) (exprs_typed D f es) b.1 in

@@ -1,4 +1,7 @@
 pub mod Plain
+pub mod Held
+pub mod Made
+pub mod Addresses
 pub mod Edges
 pub mod Outside
 pub mod Rows
@@ -6,7 +9,7 @@ pub mod Library
 pub mod Ends
 pub mod Places
 pub mod Uses
-pub mod Scalars
+pub mod Flat
 pub mod Callees
 pub mod Procedures
 pub mod Expressions
@@ -14,11 +17,13 @@ pub mod Values
 pub mod Trees
 pub mod Frames
 pub mod Lines
+pub mod Assigning
 pub mod Choices
 pub mod Counting
 pub mod Forms
 pub mod Owned
 pub mod Bindings
+pub mod Locals
 pub mod Entries
 pub mod Runs
 pub mod Joined

@@ -1,4 +1,4 @@
--- Assignments, prints, calls and conditions keep a well-typed frame well typed, or leave.
+-- Prints, calls and conditions keep a well-typed frame well typed, or leave.
 use Rattle.std.proofs.Common.{◌≡◌, refl, sym, ap, ◌∙◌, subst, ℕ, ◌^◌, ℤ, pos, negsuc, Bool, true, false, cond, ◌&&◌, true≢false, List, [], ◌∷◌, ◌++◌, Option, Some, None}
 use Rattle.std.specs.Prelude.{nat_lt, length, slice_get, ◌||◌, is_some, option_map, suc}
 use Rattle.up_base.proofs.Tests.{both_true}
@@ -32,7 +32,7 @@ use Rattle.run_matches.specs.CoveredVariables.{covers_type}
 use Rattle.run_matches.specs.CoveredExprs.{Uses, covers_expr, covers_library, covers_exprs, covers_term, is_variable, uses_in}
 use Rattle.run_matches.specs.CoveredLines.{covers_called, is_box}
 use Rattle.run_matches.specs.Formed.{are_formed, is_formed, is_row_of_call, types_of}
-use Rattle.typing_laws.specs.Scalars.{scalar_uses}
+use Rattle.typing_laws.specs.Flat.{flat_uses}
 use Rattle.typing_laws.specs.Calls.{CallsAreSuited, CallsKeep, Each, IsAimed, IsSuited, SourceJob}
 use Rattle.typing_laws.specs.Frames.{IsKeptBy, IsSound, IsTypedFrame, Keeps, Stands}
 use Rattle.typing_laws.specs.Leaving.{Leaves, ItemsLeave, in_item, behind_item, in_raised, at_raised, is_error_number}
@@ -43,7 +43,7 @@ use Rattle.typing_laws.proofs.Expressions.{Fits, IsScalarOf, IsTyped, fitting, s
 use Rattle.typing_laws.proofs.Frames.{frame_at, frame_later}
 use Rattle.typing_laws.proofs.Places.{keeps_changed, keeps_same, not_none}
 use Rattle.typing_laws.proofs.Plain.{Plain, IsPrinted, a_boolean, a_byte, an_integer, a_long, a_currency, a_text, is_covered, is_kept, is_printed, same_as, self}
-use Rattle.typing_laws.proofs.Scalars.{library_covered}
+use Rattle.typing_laws.proofs.Flat.{library_covered}
 use Rattle.typing_laws.proofs.Trees.{call_args_end, value_ends}
 use Rattle.typing_laws.proofs.Uses.{PlaceOf, Used, use_is}
 use Rattle.typing_laws.proofs.Values.{Callee, IsCalled, box_ends, call_ends, callee_of, covered_type, no_arguments}
@@ -144,24 +144,6 @@ taken_same t s c d h =
     by true e = refl
     by false e = e
 
--- a value of its type is written where a variable stands
-pub written : (C : Context) (F : Footprint) (ty : Ty) (x : VarId) (qualified : Bool) (w : Memory) (u : Used (declared C) C.procedure x)
-    (p : PlaceOf (ground (declared C) F) C.frame w x.0 u.variable.ty) (z : Value6) → Plain u.variable.ty z
-    → let_to C (typed ty (variable x qualified)) (scalar u.variable.ty z) w ≡ gives [] tt (with_held p.0 (single u.variable.ty z) w)
-written C F ty x qualified w u p z plain =
-    ap (λ r. then (then r finished) (store_at C (typed ty (variable x qualified)) (scalar u.variable.ty z))) (variable_is C F ty x qualified w w u p)
-    ∙ ap (λ (o : Option Value). after [] (some_of o (λ x w. store C.frame.env x p.0 w) w)) (is_kept u.variable.ty z plain)
-    ∙ ap (λ (h : Held). after [] (put_single h p.0 u.variable.ty z w)) p.2.holds
-    ∙ ap (λ b. after [] (provided b (λ w. gives [] tt (with_held p.0 (single u.variable.ty z) w)) w)) (self u.variable.ty u.covers)
-
--- the same at a position
-pub put_there : (C : Context) (F : Footprint) (ty : Ty) (q : Position) (w : Memory) (z : Value6) → Stands (ground (declared C) F) w q ty → Plain ty z
-    → write C.frame.env (scalar ty z) (root (simple ty) q) w ≡ gives [] tt (with_held q (single ty z) w)
-put_there C F ty q w z there plain =
-    ap (λ (o : Option Value). some_of o (λ x w. store C.frame.env x q w) w) (is_kept ty z plain)
-    ∙ ap (λ (h : Held). put_single h q ty z w) there.holds
-    ∙ ap (λ b. provided b (λ w. gives [] tt (with_held q (single ty z) w)) w) (self ty (is_covered ty z plain))
-
 error_by : (n : ℕ) (K : Ground) (E : Type 0) (w : Memory) (b : Bool) → (b ≡ false → E)
     → Ends K (λ v (p : Parts). Unit {0}) E w (cond b (raises [] n w) (outside []))
 error_by n K E w true out = keeps_self K w
@@ -175,7 +157,7 @@ module _ (C : Context) (F : Footprint) (X : SourceJob → Memory → Type 0) (ca
   K = ground (declared C) F
 
   abbrev uses : Uses
-  uses = scalar_uses C.runnable.program C.procedure mentions
+  uses = flat_uses C.runnable.program C.procedure mentions
 
   -- what is known of an expression of a line
   pub record IsFine (e : Expr) : Type 0 where
@@ -192,29 +174,6 @@ module _ (C : Context) (F : Footprint) (X : SourceJob → Memory → Type 0) (ca
 
   pub fine_scalar : (e : Expr) → IsFine e → (w : Memory) → IsIn C F w → Ends K (IsScalarOf (type_at e)) (Leaves C X e w) w (scalar_value C e w)
   fine_scalar e f w h = scalar_ends C F e (type_at e) (Leaves C X e w) w (fine_ends e f w h)
-
-  -- ---- assignments
-
-  pub assign_ends : (w : Memory) → IsIn C F w → (L : Type 0) (to e : Expr) → is_variable to ≡ true → IsFine to → IsFine e → type_at e ≡ type_at to
-      → (Leaves C X e w → L)
-      → Ends K (Good C F) L w (then (then (value_of C e w) (let_to C to)) (λ x s. goes_on C s))
-  assign_ends w h L (typed ty (variable x qualified)) e is target f same leads_ =
-      let u : Used D C.procedure x = use_is C.runnable.program C.procedure mentions x (both_true (covers_type ty) (uses.scalar x) target.covers).1 in
-      let type_is : type_at e ≡ u.variable.ty = same ∙ same_type D C.procedure ty x u target.typed in
-      subst (λ r. Ends K (Good C F) L w r) (sym (then_assoc (value_of C e w) (let_to C (typed ty (variable x qualified))) (λ x s. goes_on C s)))
-      (then_ends K (IsTyped (type_at e)) (Good C F) L w (value_of C e w) (λ y s. then (let_to C (typed ty (variable x qualified)) y s) (λ z t. goes_on C t))
-      (ends_weaker K (IsTyped (type_at e)) (Leaves C X e w) L w (value_of C e w) leads_ (fine_ends e f w h))
-      (λ o y v one k m.
-      let i : IsIn C F v = in_later C F w v k h in
-      let p : PlaceOf K C.frame v x.0 u.variable.ty = variable_place C F v (fits_in C F v i) x u in
-      let plain : Plain u.variable.ty m.0 = subst (λ t. Plain t m.0) type_is m.2 in
-      let w2 : Memory = with_held p.0 (single u.variable.ty m.0) v in
-      let change : Keeps K v w2 = keeps_changed K v p.0 u.variable.ty m.0 p.2 plain in
-      subst (λ r. Ends K (Good C F) L v r)
-      (sym (ap (λ z. then (let_to C (typed ty (variable x qualified)) z v) (λ z t. goes_on C t)) (m.1 ∙ ap (λ t. scalar t m.0) type_is)
-      ∙ ap (λ r. then r (λ (z : Unit {0}) t. goes_on C t)) (written C F ty x qualified v u p m.0 plain)))
-      (change, frame_at F C.runnable C.procedure w2 C.frame (frame_later F C.runnable C.procedure v w2 C.frame change i.frame) C.aims.after)))
-  assign_ends w h L (typed ty _) e is target f same leads_ = absurd (true≢false (sym is))
 
   -- ---- Debug.Print
 

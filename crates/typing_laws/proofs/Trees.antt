@@ -28,7 +28,7 @@ use Rattle.run_matches.specs.CoveredVariables.{covers_type}
 use Rattle.run_matches.specs.CoveredExprs.{Uses, covers_argument, covers_array, covers_expr, covers_exprs, covers_library, covers_operator, covers_passed, covers_term, uses_in}
 use Rattle.run_matches.specs.Covered.{covers_parameter, is_referred, suits_argument, suits_array, suits_group, suits_passed}
 use Rattle.run_matches.specs.Formed.{are_formed, is_formed, is_formed_argument, is_row_of_call, is_row_of_one, is_row_of_two, passed_are_formed, types_of}
-use Rattle.typing_laws.specs.Scalars.{has_scalar_variables, scalar_uses}
+use Rattle.typing_laws.specs.Flat.{has_flat_variables, flat_uses}
 use Rattle.typing_laws.specs.Calls.{CallsAreSuited, CallsKeep, Each, IsSuited, SourceJob}
 use Rattle.typing_laws.specs.Frames.{AreGiven, IsGiven}
 use Rattle.typing_laws.specs.Leaving.{Leaves, ExprsLeave, PassedLeave, in_first, in_later, in_argument, behind_argument, passed_value}
@@ -39,7 +39,7 @@ use Rattle.typing_laws.proofs.Expressions.{Fits, IsScalarOf, IsTerm, IsTyped, bi
 use Rattle.typing_laws.proofs.Library.{ArePlain}
 use Rattle.typing_laws.proofs.Plain.{Plain, constant_plain, same_as}
 use Rattle.typing_laws.proofs.Procedures.{Parameter, parameter_of}
-use Rattle.typing_laws.proofs.Scalars.{library_covered, no_array_covered, no_field, reference_covered, value_covered}
+use Rattle.typing_laws.proofs.Flat.{Referred, library_covered, no_array_covered, no_field, reference_covered, value_covered}
 use Rattle.typing_laws.proofs.Values.{Callee, by_value_ends, call_ends, call_value, callee_of, covered_type, given_later, input_ends, no_arguments, reference_at, reference_ends}
 use Rattle.typing_laws.specs.Frames.{Footprint, Ground, ground}
 
@@ -84,15 +84,13 @@ module _ (C : Context) (F : Footprint) (X : SourceJob → Memory → Type 0) (ca
 record Called (C : Context) (q : ℕ) : Type 0 where
   procedure : Procedure
   is_procedure : slice_get (declared C).procs q ≡ Some procedure
-  variables : has_scalar_variables C.runnable.program q ≡ true
-  loud : (place : ℕ) → C.runnable.quiet q place ≡ false
+  variables : has_flat_variables C.runnable.program q ≡ true
 
 abbrev called_of : (C : Context) (q : ℕ) (ty : Ty) (args : Passed) → Callee C q ty args → Called C q
 called_of C q ty args callee = record {
   procedure = callee.parts.head.procedure;
   is_procedure = callee.parts.head.is_procedure;
   variables = callee.parts.variables;
-  loud = λ place. callee.ready.loud q (empty q) place;
 }
 
 no_place : (j : ℕ) → j ≡ 0 + j
@@ -114,7 +112,7 @@ module _ (C : Context) (F : Footprint) (X : SourceJob → Memory → Type 0) (ca
   K = ground (declared C) F
 
   abbrev uses : Uses
-  uses = scalar_uses C.runnable.program C.procedure mentions
+  uses = flat_uses C.runnable.program C.procedure mentions
 
   abbrev all_uses : Uses
   all_uses = uses_in C.runnable.program C.procedure mentions
@@ -138,12 +136,12 @@ module _ (C : Context) (F : Footprint) (X : SourceJob → Memory → Type 0) (ca
   given_ends q i k p y at (tree.by_reference e) covers typing fit suit w fits h =
       let b = both_true (takes_reference D q i) (is_referred e && (suits_array D q i e && suits_group D q i e)) suit in
       let r = both_true (is_referred e) (suits_array D q i e && suits_group D q i e) b.1 in
-      let c : covers_expr uses e ≡ true = reference_covered all_uses e covers in
+      let c : Referred all_uses e = reference_covered all_uses e covers in
       subst (λ o. Ends K (λ v g. IsGiven K v o g) (Leaves C X e w) w (argument_of C (C.runnable.quiet q i) (tree.by_reference e) w)) (sym y.is_variable)
-      (reference_ends C F X calls mentions w fits y.variable e (C.runnable.quiet q i) c typing r.0
-      (fitting y.variable.ty (type_at e) y.covers (covered_type C F X calls mentions e c)
+      (reference_ends C F X calls mentions w fits y.variable e (C.runnable.quiet q i) c.covers c.passes typing r.0
+      (fitting y.variable.ty (type_at e) y.covers (covered_type C F X calls mentions e c.covers)
       (sym (ap (λ o. fits_parameter (tree.by_reference e) o) y.is_variable) ∙ fit))
-      (reference_at D q i k.procedure p y.variable k.is_procedure at y.is_variable b.0) (k.loud i) h)
+      (reference_at D q i k.procedure p y.variable k.is_procedure at y.is_variable b.0) h)
 
   mutual
     pub value_ends : (e : Expr) → covers_expr uses e ≡ true → is_formed e ≡ true → is_typed D e ≡ true → CallsAreSuited C.runnable e → (w : Memory) → Fits C F w
@@ -272,7 +270,7 @@ module _ (C : Context) (F : Footprint) (X : SourceJob → Memory → Type 0) (ca
     passed_right : (a : Argument) → covers_argument uses a ≡ true → is_formed_argument a ≡ true → is_typed_argument D a ≡ true
         → Each (IsSuited C.runnable) (nodes_of_argument a) → (w : Memory) → Fits C F w → IsRight (passed_value a) w
     passed_right (tree.by_value e) covers formed typing suited w fits = value_ends e (value_covered all_uses e covers) formed typing suited w fits
-    passed_right (tree.by_reference e) covers formed typing suited w fits = value_ends e (reference_covered all_uses e covers) formed typing suited w fits
+    passed_right (tree.by_reference e) covers formed typing suited w fits = value_ends e (reference_covered all_uses e covers).covers formed typing suited w fits
 
   -- the arguments of a call
   pub call_args_end : (ty : Ty) (q : ProcId) (args : Passed) (callee : Callee C q.0 ty args) → covers_passed uses args ≡ true → passed_are_formed args ≡ true

@@ -12,19 +12,19 @@ use Rattle.vb_tree.specs.Tree.{Module}
 use Rattle.bound_tree.specs.declared.body.Mention.{Mention}
 use Rattle.bound_tree.specs.Tree.{Variable, Declarations, Program}
 use Rattle.bound_facts.specs.Node.{auto_class, class_in}
-use Rattle.run_base.specs.Positions.{Position}
 use Rattle.written_trees.specs.Names.{module_at, is_standard_module, module_name}
 use Rattle.written_trees.specs.Placing.{Placed}
 use Rattle.vb6_run.specs.Programs.{is_module_variable}
 use Rattle.vb6_run.specs.Runnables.{declared_address, is_class_file, object_root, root_address, variable_address}
 use Rattle.run_base.specs.Positions.{shared}
-use Rattle.vb6_run.specs.Shapes.{simple, variable_shape}
-use Rattle.vb6_run.specs.Store.{Memory, SourceFrame, root}
+use Rattle.vb6_run.specs.Shapes.{variable_shape}
+use Rattle.vb6_run.specs.Store.{Address, Memory, SourceFrame, root}
 use Rattle.run_matches.specs.CoveredVariables.{belongs_to, covers_owner, covers_some, covers_type, covers_use, covers_variable, is_foreign_name, is_mention_of, is_reached}
 use Rattle.run_matches.specs.Shared.{is_alone_static, leads_to_home, leads_to_member, names_lead, placed_module}
-use Rattle.typing_laws.specs.Frames.{Ground, HasOwn, IsSound, Stands, shared_place}
-use Rattle.typing_laws.specs.Scalars.{has_scalar_variables}
-use Rattle.typing_laws.proofs.Places.{all_at, variable_shape_is}
+use Rattle.typing_laws.specs.Frames.{Footprint, HasOwn, IsPlace, IsSound, ground, shared_place}
+use Rattle.typing_laws.specs.Flat.{has_flat_variables, is_flat}
+use Rattle.typing_laws.proofs.Made.{scalar_flat, shape_of_variable}
+use Rattle.typing_laws.proofs.Places.{all_at}
 
 -- a variable that a line of a procedure uses: one of a standard module, or its own
 pub record Used (D : Declarations) (p : ℕ) (v : VarId) : Type 0 where
@@ -96,28 +96,33 @@ module_address D f v x is outer = ap (λ o. declared_address D f v o) is ∙ by 
     by (owner.Field t) h = absurd (true≢false (sym h))
 
 -- where a variable stands in a frame
-abbrev pub PlaceOf : Ground → SourceFrame → Memory → (variable : ℕ) → Ty → Type 0
-PlaceOf K f w v ty = (q : Position) × (variable_address K.declarations f v ≡ Some (root (simple ty) q)) × Stands K w q ty
+abbrev pub PlaceOf : Program → Footprint → SourceFrame → Memory → (variable : ℕ) → Variable → Type 0
+PlaceOf P F f w v x = (a : Address) × (variable_address P.declarations f v ≡ Some a) × IsPlace P F w v x a
 
-pub place_of : (K : Ground) (p : ℕ) (f : SourceFrame) (w : Memory) → IsSound K w → HasOwn K p w f → (v : VarId) (u : Used K.declarations p v)
-    → PlaceOf K f w v.0 u.variable.ty
-place_of K p f w sound own v u = by u.owned
-  where
-    by : (is_module_variable K.declarations u.variable.owner ≡ true) ⊎ (belongs_to p u.variable.owner ≡ true) → PlaceOf K f w v.0 u.variable.ty
-    by (inl h) = (
-      shared_place v.0,
-      module_address K.declarations f v.0 u.variable u.is_variable h
-          ∙ ap (λ d. Some (root d (shared_place v.0))) (variable_shape_is K.declarations v.0 u.variable u.is_variable u.covers),
-      sound.modules v.0 u.variable u.is_variable h u.covers,
-    )
-    by (inr h) = own v.0 u.variable u.is_variable h u.covers
+pub flat_place : (P : Program) (F : Footprint) (p : ℕ) (f : SourceFrame) (w : Memory) → IsSound (ground P.declarations F) w → HasOwn P F p w f → (v : ℕ) (x : Variable)
+    → slice_get P.declarations.vars v ≡ Some x → (is_module_variable P.declarations x.owner ≡ true) ⊎ (belongs_to p x.owner ≡ true) → is_flat x ≡ true
+    → PlaceOf P F f w v x
+flat_place P F p f w sound own v x is (inr h) flat = own v x is h flat
+flat_place P F p f w sound own v x is (inl h) flat = (
+  root (variable_shape P.declarations v) (shared_place v),
+  module_address P.declarations f v x is h,
+  (shape_of_variable P.declarations v x is flat, sound.modules v x is h flat),
+)
+
+pub place_of : (P : Program) (F : Footprint) (p : ℕ) (f : SourceFrame) (w : Memory) → IsSound (ground P.declarations F) w → HasOwn P F p w f → (v : VarId)
+    (u : Used P.declarations p v) → PlaceOf P F f w v.0 u.variable
+place_of P F p f w sound own v u = flat_place P F p f w sound own v.0 u.variable u.is_variable u.owned (scalar_flat u.variable u.covers)
 
 -- ---- variables of a covered procedure
 
-pub own_covered : (P : Program) (p v : ℕ) (x : Variable) → has_scalar_variables P p ≡ true → slice_get P.declarations.vars v ≡ Some x
+pub own_covered : (P : Program) (p v : ℕ) (x : Variable) → has_flat_variables P p ≡ true → slice_get P.declarations.vars v ≡ Some x
     → belongs_to p x.owner ≡ true → covers_type x.ty ≡ true
 own_covered P p v x covers is own =
     let h : cond (belongs_to p x.owner) (covers_variable x) true ≡ true =
     all_at (λ (y : Variable). cond (belongs_to p y.owner) (covers_variable y) true) P.declarations.vars v x covers is in
     let c : covers_variable x ≡ true = sym (ap (λ b. cond b (covers_variable x) true) own) ∙ h in
     (both_true (covers_type x.ty) (not x.auto) (both_true (covers_owner x.owner) (covers_type x.ty && not x.auto) c).1).0
+
+pub own_flat : (P : Program) (p v : ℕ) (x : Variable) → has_flat_variables P p ≡ true → slice_get P.declarations.vars v ≡ Some x
+    → belongs_to p x.owner ≡ true → is_flat x ≡ true
+own_flat P p v x covers is own = scalar_flat x (own_covered P p v x covers is own)

@@ -1,11 +1,12 @@
--- When a computation leaves what the tables of values have, or the lines of its procedure. Of covered expressions, lines and runs over
--- scalars alone these are the only ways to lie outside. What calls do that leave is told by X.
-use Rattle.std.specs.Prelude.{◌≡◌, ℕ, zero, suc, ℤ, pos, negsuc, Bool, true, false, ◌&&◌, nat_lt, List, [], ◌∷◌, Option, Some, None}
+-- When a computation leaves what the tables of values have, or the lines of its procedure. Of covered expressions, lines and runs
+-- that are flat these are the only ways to lie outside. What calls do that leave is told by X.
+use Rattle.std.specs.Prelude.{◌≡◌, ℕ, zero, suc, ℤ, pos, negsuc, Bool, true, false, ◌&&◌, nat_lt, List, [], ◌∷◌, Option, Some, None, slice_get}
 use Rattle.std.specs.List.{list_all}
 use Rattle.vb_tree.specs.BoundTree.{Ty}
 use Rattle.vb_tree.specs.declared.bound.LibCall.{LibCall}
 use Rattle.vb_tree.specs.declared.bound.LibCall.TheVariants as lib
 use Rattle.vb_tree.specs.declared.declared.ProcId.{ProcId}
+use Rattle.vb_tree.specs.declared.declared.VarId.{VarId}
 use Rattle.vb_tree.specs.declared.expression.BinOp.{BinOp}
 use Rattle.vb_tree.specs.declared.expression.BinOp.TheVariants as b
 use Rattle.vb_tree.specs.declared.expression.UnOp.{UnOp}
@@ -17,21 +18,23 @@ use Rattle.vb_tree.specs.declared.value.Value6.TheVariants as values
 use Rattle.vb_tree.specs.Tree.{Args, CaseItem, Exp, Form, case_value, case_range, case_is}
 use Rattle.vb_tree.specs.Tree as source
 use Rattle.bound_tree.specs.Targets.{exit_to}
-use Rattle.bound_tree.specs.Tree.{Expr, typed, call, library, unary, binary, convert, err_number, err_raise, Object, Exprs, no_exprs, next_expr, Argument, Passed, no_passed, next_passed}
+use Rattle.bound_tree.specs.Tree.{Variable, Expr, typed, variable, call, library, unary, binary, convert, err_number, err_raise, Object, Exprs, no_exprs, next_expr, Argument, Passed, no_passed, next_passed}
 use Rattle.bound_tree.specs.Tree as tree
 use Rattle.run_base.specs.Frames.{next_line, keeps_nothing, keeps_value}
 use Rattle.run_base.specs.Machines.{enters, runs, line_at, go, handled}
 use Rattle.run_base.specs.Outcomes.{Output, gives, raises, first_input}
-use Rattle.vb6_run.specs.Expressions.{Context, scalar_value, value_of, argument_of, args_of, values_of, has_byte}
+use Rattle.vb6_run.specs.Expressions.{Context, declared, scalar_value, value_of, argument_of, args_of, values_of, has_byte}
 use Rattle.vb6_run.specs.Forms.{SourceLine}
 use Rattle.vb6_run.specs.Lines.{item_text, items_text, item_fits, line_of_label}
 use Rattle.vb6_run.specs.Programs.{entered_as, line_does, machine_of}
-use Rattle.vb6_run.specs.Runnables.{Runnable}
-use Rattle.vb6_run.specs.Store.{Memory, Locked, SourceFrame, SourceGiven}
-use Rattle.vb6_run.specs.Values.{Value, scalar}
+use Rattle.vb6_run.specs.Runnables.{Runnable, declarations_of, variable_address}
+use Rattle.vb6_run.specs.Shapes.{variable_shape}
+use Rattle.vb6_run.specs.Store.{Address, Memory, Locked, SourceFrame, SourceGiven}
+use Rattle.vb6_run.specs.Values.{Value, is_makeable, scalar}
+use Rattle.run_matches.specs.CoveredVariables.{belongs_to}
 use Rattle.typing_laws.specs.Calls.{SourceJob}
 use Rattle.typing_laws.specs.Edges.{IsEdge, IsLibraryEdge, IsTooLong}
-use Rattle.typing_laws.specs.Frames.{IsTypedFrame, anywhere}
+use Rattle.typing_laws.specs.Frames.{IsGone, IsTypedFrame, anywhere}
 
 -- ---- expressions
 
@@ -71,6 +74,10 @@ mutual
     at_call :
         (ty : Ty) (p : ProcId) (qualified : Bool) (object : Object) (args : Passed) (w v : Memory) (o : List Output) (gs : List SourceGiven)
         → args_of C p.0 0 args w ≡ gives o gs v → X (enters p.0 C.frame.me C.frame.env gs) v → Leaves C X (typed ty (call p qualified object args)) w
+    -- an element that the array has no longer, in the place of a parameter that is bound to it
+    at_gone :
+        (ty : Ty) (x : VarId) (qualified : Bool) (w : Memory) (a : Address) → variable_address (declared C) C.frame x.0 ≡ Some a → IsGone a w
+        → Leaves C X (typed ty (variable x qualified)) w
     at_err_number : (ty : Ty) (w : Memory) → nat_lt w.err 65536 ≡ false → Leaves C X (typed ty err_number) w
     in_raised : (ty : Ty) (e : Expr) (w : Memory) → Leaves C X e w → Leaves C X (typed ty (err_raise e)) w
     at_raised :
@@ -178,6 +185,9 @@ resumes _ = false
 pub data LineLeaves (C : Context) (X : SourceJob → Memory → Type 0) : Form → List Expr → Memory → Type 0 where
   in_assigned :
       (target value : Exp) (to e : Expr) (w : Memory) → Leaves C X e w → LineLeaves C X (source.assign target value) (to ∷ e ∷ []) w
+  in_target :
+      (target value : Exp) (to e : Expr) (w v : Memory) (o : List Output) (x : Value) → value_of C e w ≡ gives o x v → Leaves C X to v
+      → LineLeaves C X (source.assign target value) (to ∷ e ∷ []) w
   in_items : (items : List Exp) (ended : Bool) (es : List Expr) (w : Memory) → ItemsLeave C X es w → LineLeaves C X (source.debug_print items ended) es w
   at_print :
       (items : List Exp) (ended : Bool) (es : List Expr) (w v : Memory) (o : List Output) (s : List ℕ) → items_text C es w ≡ gives o s v → IsTooLong s
@@ -236,6 +246,11 @@ pub data TurnLeaves (R : Runnable) (n : ℕ) (X : SourceJob → Memory → Type 
       (p k : ℕ) (f g : SourceFrame) (l : SourceLine) (w v : Memory) (o : List Output) → line_at (machine_of R) p f.line ≡ Some l → w.left ≡ suc k
       → handled (machine_of R) f l (line_does R (go (machine_of R) n) p f l (stepped_to k w)) ≡ gives o g v → X (runs p g) v
       → TurnLeaves R n X (runs p f) w
+  -- an array of the procedure is past the limits
+  at_entry :
+      (p k v : ℕ) (me : Option ℕ) (locked : Locked) (args : List SourceGiven) (x : Variable) (w : Memory) → w.left ≡ suc k
+      → slice_get (declarations_of R).vars v ≡ Some x → belongs_to p x.owner ≡ true → is_makeable (variable_shape (declarations_of R) v) ≡ false
+      → TurnLeaves R n X (enters p me locked args) w
   behind_entry :
       (p k : ℕ) (me : Option ℕ) (locked : Locked) (args : List SourceGiven) (f : SourceFrame) (w v : Memory) (o : List Output) → w.left ≡ suc k
       → entered_as R p me locked args (stepped_to k w) ≡ gives o f v → X (runs p f) v → TurnLeaves R n X (enters p me locked args) w
