@@ -1,5 +1,5 @@
 -- Variables at their addresses: what is read there, and what is written.
-use Rattle.std.proofs.Common.{◌≡◌, ◌⊎◌, inl, inr, refl, sym, ap, ◌∙◌, subst, ℕ, zero, suc, true, false, true≢false, List, [], Option, Some, None}
+use Rattle.std.proofs.Common.{◌≡◌, ◌⊎◌, inl, inr, refl, sym, ap, ◌∙◌, ℕ, zero, suc, true, false, true≢false, List, [], Option, Some, None}
 use Rattle.std.specs.Prelude.{option_and_then}
 use Rattle.vb_tree.specs.BoundTree as types
 use Rattle.vb_tree.specs.BoundTree.{Ty}
@@ -10,13 +10,13 @@ use Rattle.bound_tree.specs.Tree.{Program, Variable}
 use Rattle.run_base.specs.Outcomes.{Outcome, found, gives, outside, some_of}
 use Rattle.run_base.specs.Positions.{Position}
 use Rattle.written_trees.specs.Arguments.{is_reference_owner}
-use Rattle.vb6_run.specs.Shapes.{Shape, simple, array, part_shape}
+use Rattle.vb6_run.specs.Shapes.{Shape, simple}
 use Rattle.vb6_run.specs.Store.{Address, Held, Locked, Memory, constant, item, item_in, provided, put_item, put_single, read, root, single, single_in, store, table, value_if, with_held, write}
-use Rattle.vb6_run.specs.Values.{Dimension, Value, Values, count_values, if_known, kept_as, next_value, no_values, part_in, scalar, value_at, with_known_part, with_value_at}
+use Rattle.vb6_run.specs.Values.{Dimension, Value, Values, count_values, next_value, no_values, part_in, scalar, value_at, with_known_part, with_value_at}
 use Rattle.run_matches.specs.CoveredVariables.{covers_type, is_loud, is_loud_owner}
 use Rattle.run_matches.specs.Typed.{IsSized, no_elements, sized}
 use Rattle.typing_laws.specs.Frames.{Footprint, Ground, IsElement, IsGone, IsPlace, Keeps, Stands, ground}
-use Rattle.typing_laws.specs.Plain.{EachPlain, Holds, IsShapeOf, IsValue, Plain, array_shape, holds_array, holds_scalar, next_plain, none_plain, scalar_shape}
+use Rattle.typing_laws.specs.Plain.{EachPlain, IsShapeOf, IsValue, Plain, array_shape, holds_array, holds_scalar, next_plain, none_plain, scalar_shape}
 use Rattle.typing_laws.proofs.Held.{Single, Table, single_of, table_of}
 use Rattle.typing_laws.proofs.Places.{keeps_changed, not_none, some_is}
 use Rattle.typing_laws.proofs.Plain.{is_covered, is_kept, self}

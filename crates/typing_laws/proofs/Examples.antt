@@ -5,7 +5,6 @@ use Rattle.up_base.specs.declared.place.Place.{Place}
 use Rattle.vb_tree.specs.BoundTree.{Ty, array, integer, long, nothing}
 use Rattle.vb_tree.specs.declared.bound.LibCall.TheVariants as lib
 use Rattle.vb_tree.specs.declared.bound.Op6.TheVariants.{Typed}
-use Rattle.vb_tree.specs.declared.declared.Owner.{Owner}
 use Rattle.vb_tree.specs.declared.declared.Owner.TheVariants as owner
 use Rattle.vb_tree.specs.declared.declared.ProcId.{ProcId}
 use Rattle.vb_tree.specs.declared.declared.ProcKind.TheVariants as kind
@@ -196,22 +195,6 @@ erases = refl
 
 erases_no_array : covers_form (without_groups every_use) (source.erase any) (array_i ∷ []) ≡ false
 erases_no_array = refl
-
--- ---- nor is a parameter quiet: one by reference is changed
-
-abbrev takes : Owner → List Line → Program
-takes o ls =
-    let P : Program = program_of ls in
-    record P { declarations = record P.declarations { vars = record variable_i { owner = o } ∷ []; procs = record procedure { params = id ∷ [] } ∷ [] } }
-
-changes : is_flat_procedure (takes (owner.Reference main) (lines integer)) 0 ≡ true
-changes = refl
-
-is_quiet : is_flat_procedure (takes (owner.Reference main) []) 0 ≡ false
-is_quiet = refl
-
-goes_by_value : is_flat_procedure (takes (owner.Value main) []) 0 ≡ true
-goes_by_value = refl
 
 -- ---- a condition is a Boolean
 

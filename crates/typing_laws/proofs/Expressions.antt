@@ -25,7 +25,7 @@ use Rattle.bound_facts.specs.Locks.{is_same_type}
 use Rattle.bound_facts.specs.Node.{type_at, auto_class, declared_in, variable_number, is_array_type}
 use Rattle.net_meaning.specs.WrittenRows.{write_operator, write_unary, write_conversion}
 use Rattle.row_laws.proofs.Composing.{then_assoc}
-use Rattle.run_base.specs.Outcomes.{Output, Outcome, gives, outside, after, then, answered, asked, some_of, found, first_input, rest_inputs}
+use Rattle.run_base.specs.Outcomes.{Output, Outcome, gives, outside, after, then, answered, asked, some_of, first_input, rest_inputs}
 use Rattle.vb6_run.specs.Expressions.{Context, Parts, at_address, declared, value_in, scalar_in, scalar_of, answer_as, left_operand, then_row, made_for, as_new, parts_of, term_parts, value_of, scalar_value, type_shape, library_call, library_parts, library_value, values_of, value_parts, has_byte}
 use Rattle.vb6_run.specs.Runnables.{variable_address}
 use Rattle.vb6_run.specs.Store as store
@@ -45,7 +45,7 @@ use Rattle.typing_laws.proofs.Addresses.{IsRead, IsSeat, IsUnread, place_later, 
 use Rattle.typing_laws.proofs.Ends.{Ends, ends_after, ends_weaker, keeps_self, sound_later, then_ends}
 use Rattle.typing_laws.proofs.Library.{ArePlain, gives_itself, library_answer}
 use Rattle.typing_laws.proofs.Places.{keeps_same}
-use Rattle.typing_laws.proofs.Plain.{Plain, a_text, a_boolean, a_byte, an_integer, a_long, a_currency, is_covered, is_of_type, same_as, self}
+use Rattle.typing_laws.proofs.Plain.{Plain, a_text, a_boolean, a_byte, an_integer, a_long, a_currency, is_of_type, same_as}
 use Rattle.typing_laws.proofs.Rows.{IsAnswer, binary_answer, unary_answer, conversion_answer, typed_binary, typed_unary}
 use Rattle.typing_laws.proofs.Uses.{PlaceOf, Used, place_of, use_is}
 use Rattle.typing_laws.specs.Frames.{Footprint, Ground, ground}

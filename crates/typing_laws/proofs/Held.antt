@@ -1,14 +1,14 @@
 -- What variables hold, by their types.
-use Rattle.std.proofs.Common.{◌≡◌, refl, sym, ap, ◌∙◌, subst, ℕ, ℤ, true, true≢false, List}
+use Rattle.std.proofs.Common.{◌≡◌, refl, sym, subst, ℕ, true, true≢false, List}
 use Rattle.vb_tree.specs.BoundTree as types
 use Rattle.vb_tree.specs.BoundTree.{Ty}
 use Rattle.vb_tree.specs.declared.value.Value6.{Value6}
-use Rattle.vb6_run.specs.Shapes.{Shape, simple, array}
-use Rattle.vb6_run.specs.Store.{Held, blank, single, table}
+use Rattle.vb6_run.specs.Shapes.{simple}
+use Rattle.vb6_run.specs.Store.{Held, single, table}
 use Rattle.vb6_run.specs.Values.{Dimension, Values}
 use Rattle.run_matches.specs.CoveredVariables.{covers_type}
 use Rattle.run_matches.specs.Typed.{IsSized}
-use Rattle.typing_laws.specs.Plain.{EachPlain, Holds, IsShapeOf, Plain, array_shape, holds_array, holds_scalar, scalar_shape}
+use Rattle.typing_laws.specs.Plain.{EachPlain, Holds, Plain, holds_array, holds_scalar}
 use Rattle.typing_laws.proofs.Plain.{is_covered}
 
 -- a scalar of a type

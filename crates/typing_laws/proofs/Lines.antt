@@ -6,7 +6,6 @@ use Rattle.vb_tree.specs.BoundTree.{Ty, fixed, unknown}
 use Rattle.vb_tree.specs.BoundTree as types
 use Rattle.vb_tree.specs.declared.bound.LibCall.{LibCall}
 use Rattle.vb_tree.specs.declared.bound.LibCall.TheVariants as lib
-use Rattle.vb_tree.specs.declared.declared.VarId.{VarId}
 use Rattle.vb_tree.specs.declared.token.Suffix.{Suffix}
 use Rattle.vb_tree.specs.declared.value.Value6.{Value6}
 use Rattle.vb_tree.specs.declared.value.Value6.TheVariants as v
@@ -15,37 +14,34 @@ use Rattle.vb_tree.specs.Tree as source
 use Rattle.vb6_meaning.specs.NumberTexts.{print_text}
 use Rattle.bound_tree.specs.declared.body.Mention.{Mention}
 use Rattle.bound_tree.specs.Targets.{Aims, Step, heads_round, innermost, onward, otherwise_of, step_of}
-use Rattle.bound_tree.specs.Tree.{Declarations, Expr, typed, Term, variable, call, library, err_raise, err_clear, no_object, of_object, Exprs, no_exprs, next_expr}
+use Rattle.bound_tree.specs.Tree.{Declarations, Expr, typed, Term, call, library, err_raise, err_clear, no_object, of_object, Exprs, no_exprs, next_expr}
 use Rattle.bound_facts.specs.Locks.{is_same_type}
 use Rattle.bound_facts.specs.Node.{type_at}
 use Rattle.bound_facts.specs.Nodes.{nodes, nodes_of_all}
 use Rattle.row_laws.proofs.Composing.{then_assoc}
 use Rattle.run_base.specs.Frames.{Kept, keeping, to_line}
-use Rattle.run_base.specs.Outcomes.{Output, Outcome, gives, raises, outside, after, then, answered, some_of, printed}
-use Rattle.vb6_run.specs.Expressions.{Context, Parts, no_value, declared, finished, scalar_in, whole_number, raise_of, as_new, parts_of, term_parts, value_of, scalar_value, library_call}
-use Rattle.vb6_run.specs.Lines.{behind_print, branch, condition, goes_if, goes_on, item_text, items_text, print, let_to, store_at}
-use Rattle.vb6_run.specs.Store.{Address, Held, root, single, Memory, SourceFrame, provided, put_single, set_err, store, with_held, write}
-use Rattle.run_base.specs.Positions.{Position}
-use Rattle.vb6_run.specs.Shapes.{simple}
-use Rattle.vb6_run.specs.Values.{Value, scalar}
+use Rattle.run_base.specs.Outcomes.{Output, Outcome, gives, raises, outside, then, answered, printed}
+use Rattle.vb6_run.specs.Expressions.{Context, Parts, no_value, declared, scalar_in, whole_number, raise_of, as_new, parts_of, term_parts, value_of, scalar_value, library_call}
+use Rattle.vb6_run.specs.Lines.{behind_print, branch, condition, goes_if, goes_on, item_text, items_text, print}
+use Rattle.vb6_run.specs.Store.{Address, Memory, SourceFrame, set_err}
+use Rattle.vb6_run.specs.Values.{Value}
 use Rattle.run_matches.specs.CoveredVariables.{covers_type}
-use Rattle.run_matches.specs.CoveredExprs.{Uses, covers_expr, covers_library, covers_exprs, covers_term, is_variable, uses_in}
+use Rattle.run_matches.specs.CoveredExprs.{Uses, covers_expr, covers_library, covers_exprs, covers_term, uses_in}
 use Rattle.run_matches.specs.CoveredLines.{covers_called, is_box}
 use Rattle.run_matches.specs.Formed.{are_formed, is_formed, is_row_of_call, types_of}
 use Rattle.typing_laws.specs.Flat.{flat_uses}
 use Rattle.typing_laws.specs.Calls.{CallsAreSuited, CallsKeep, Each, IsAimed, IsSuited, SourceJob}
-use Rattle.typing_laws.specs.Frames.{IsKeptBy, IsSound, IsTypedFrame, Keeps, Stands}
+use Rattle.typing_laws.specs.Frames.{IsKeptBy, IsSound, IsTypedFrame, Keeps}
 use Rattle.typing_laws.specs.Leaving.{Leaves, ItemsLeave, in_item, behind_item, in_raised, at_raised, is_error_number}
 use Rattle.typing_laws.specs.Typed.{are_typed, are_typed_passed, fits_call, fits_type, is_typed, takes, taken, is_unknown}
 use Rattle.typing_laws.proofs.Callees.{both_each}
 use Rattle.typing_laws.proofs.Ends.{Ends, ends_after, ends_as, ends_weaker, keeps_self, sound_later, then_ends}
-use Rattle.typing_laws.proofs.Expressions.{Fits, IsScalarOf, IsTyped, fitting, same_type, scalar_ends, variable_is, variable_place}
+use Rattle.typing_laws.proofs.Expressions.{Fits, IsScalarOf, IsTyped, fitting, scalar_ends}
 use Rattle.typing_laws.proofs.Frames.{frame_at, frame_later}
-use Rattle.typing_laws.proofs.Places.{keeps_changed, keeps_same, not_none}
-use Rattle.typing_laws.proofs.Plain.{Plain, IsPrinted, a_boolean, a_byte, an_integer, a_long, a_currency, a_text, is_covered, is_kept, is_printed, same_as, self}
+use Rattle.typing_laws.proofs.Places.{keeps_same, not_none}
+use Rattle.typing_laws.proofs.Plain.{Plain, IsPrinted, a_boolean, a_byte, an_integer, a_long, a_currency, a_text, is_printed, same_as}
 use Rattle.typing_laws.proofs.Flat.{library_covered}
 use Rattle.typing_laws.proofs.Trees.{call_args_end, value_ends}
-use Rattle.typing_laws.proofs.Uses.{PlaceOf, Used, use_is}
 use Rattle.typing_laws.proofs.Values.{Callee, IsCalled, box_ends, call_ends, callee_of, covered_type, no_arguments}
 use Rattle.typing_laws.specs.Frames.{Footprint, Ground, ground}
 

@@ -1,5 +1,5 @@
 -- What an entry makes: the result variable, locals and Statics, each with what it begins with.
-use Rattle.std.proofs.Common.{◌≡◌, inl, inr, refl, sym, ap, subst, ◌∙◌, ℕ, suc, ◌≤◌, Bool, true, false, cond, not, ◌||◌, nat_eq, List, [], ◌∷◌, Option, Some, eqb-true, eq-eqb, true≢false, arith}
+use Rattle.std.proofs.Common.{◌≡◌, inl, inr, refl, sym, ap, subst, ◌∙◌, ℕ, ◌≤◌, Bool, true, false, cond, not, ◌||◌, nat_eq, List, [], ◌∷◌, Option, Some, eqb-true, eq-eqb, true≢false, arith}
 use Rattle.std.specs.Prelude.{slice_get}
 use Rattle.std.specs.List.{list_any}
 use Rattle.up_base.proofs.Tests.{not_true}
@@ -7,7 +7,7 @@ use Rattle.vb_tree.specs.BoundTree.{Ty}
 use Rattle.bound_tree.specs.Tree.{Variable, Declarations, Program}
 use Rattle.run_base.specs.Outcomes.{Outcome, gives, raises, spent, outside, then, some_of}
 use Rattle.run_base.specs.Positions.{Root, shared, made, field, Position, whole}
-use Rattle.vb6_run.specs.Programs.{Bindings, lay_if_blank, lay_statics, made_each}
+use Rattle.vb6_run.specs.Programs.{lay_if_blank, lay_statics, made_each}
 use Rattle.vb6_run.specs.Runnables.{is_class_file, object_root, static_root}
 use Rattle.vb6_run.specs.Shapes.{Shape, variable_shape}
 use Rattle.vb6_run.specs.Store.{Held, blank, Memory, laid, make, provided, with_held}

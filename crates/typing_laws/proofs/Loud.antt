@@ -1,19 +1,15 @@
 -- No parameter that is changed, or whose procedure acts, runs as a quiet one.
-use Rattle.std.proofs.Common.{◌≡◌, ◌⊎◌, inl, inr, refl, sym, ap, ◌∙◌, ℕ, true, false, not, ◌&&◌, true≢false, List, Option, Some, None}
+use Rattle.std.proofs.Common.{◌≡◌, ◌⊎◌, inl, inr, refl, sym, ap, ◌∙◌, ℕ, true, false, not, ◌&&◌, true≢false, Option, Some, None}
 use Rattle.std.specs.Prelude.{slice_get}
-use Rattle.std.specs.List.{list_all}
-use Rattle.up_base.proofs.Tests.{both_true, either, first_false, second_false}
+use Rattle.up_base.proofs.Tests.{either, first_false, second_false}
 use Rattle.vb_tree.specs.declared.declared.Owner.{Owner}
 use Rattle.vb_tree.specs.declared.declared.Owner.TheVariants as owner
-use Rattle.vb_tree.specs.declared.declared.VarId.{VarId}
-use Rattle.bound_tree.specs.Tree.{Procedure, Program, Variable}
+use Rattle.bound_tree.specs.Tree.{Program, Variable}
 use Rattle.reach_table.specs.Chains.{empty}
-use Rattle.bound_facts.specs.Effects.{params_at}
 use Rattle.bound_facts.specs.Facts.{AreFacts, Known, acts, is_quiet_owner, is_quiet_variable}
 use Rattle.run_matches.specs.CoveredVariables.{is_loud, is_loud_owner, is_touched}
 use Rattle.run_matches.specs.Upgrades.{Upgrade, is_quiet_id, runnable_of}
-use Rattle.typing_laws.specs.Calls.{AreLoud, AreFlat}
-use Rattle.typing_laws.proofs.Places.{all_at}
+use Rattle.typing_laws.specs.Calls.{AreLoud}
 
 module _ (P : Program) (F : Known) (known : AreFacts P F) where
   -- one by reference is touched, or its procedure acts

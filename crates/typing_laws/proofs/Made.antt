@@ -1,5 +1,5 @@
 -- What variables begin with: a scalar with its first value, and an array with as many first values as its bounds say, or none.
-use Rattle.std.proofs.Common.{◌≡◌, ◌⊎◌, inl, inr, refl, sym, ap, ◌∙◌, subst, ℕ, zero, suc, ◌<◌, ◌*◌, ℤ, pos, negsuc, ◌-ℤ◌, Bool, true, false, not, ◌&&◌, ◌||◌, List, [], ◌∷◌, map, Option, Some, None, true≢false, arith, lt-ltb}
+use Rattle.std.proofs.Common.{◌≡◌, ◌⊎◌, inl, inr, refl, sym, ap, ◌∙◌, subst, ℕ, zero, suc, ◌<◌, ◌*◌, ℤ, pos, negsuc, ◌-ℤ◌, true, false, not, ◌&&◌, ◌||◌, List, [], ◌∷◌, map, Some, true≢false, arith, lt-ltb}
 use Rattle.std.proofs.lemmas.Bool.{lt-leb}
 use Rattle.std.proofs.lemmas.Int.{ints}
 use Rattle.std.specs.Prelude.{int_le, length, nat_eq, slice_get}
@@ -13,7 +13,7 @@ use Rattle.run_base.specs.Positions.{Position}
 use Rattle.written_trees.specs.Types.{element_type}
 use Rattle.vb6_run.specs.Shapes.{Shape, simple, group, array, endless, declared_shape, shape_by, user_shapes, variable_shape}
 use Rattle.vb6_run.specs.Store.{Held, Memory, blank, laid, parts, single, table, with_held}
-use Rattle.vb6_run.specs.Values.{Value, Values, count_from, count_values, dimension_of, first_scalar, first_value, is_makeable, is_within_limits, product, repeated, scalar, size}
+use Rattle.vb6_run.specs.Values.{Value, count_from, count_values, dimension_of, first_scalar, first_value, is_makeable, is_within_limits, product, repeated, scalar, size}
 use Rattle.run_matches.specs.CoveredVariables.{covers_array_owner, covers_array_variable, covers_bounds, covers_type, is_array_of, is_in_order}
 use Rattle.run_matches.specs.Typed.{IsSized, no_elements, sized}
 use Rattle.typing_laws.specs.Flat.{is_flat}

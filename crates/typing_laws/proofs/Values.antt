@@ -32,7 +32,7 @@ use Rattle.run_matches.specs.Formed.{is_row_of_call, types_of}
 use Rattle.typing_laws.proofs.Flat.{no_array_covered}
 use Rattle.typing_laws.specs.Flat.{flat_uses}
 use Rattle.typing_laws.specs.Calls.{CallsKeep, EndsAsCall, IsReady, SourceJob}
-use Rattle.typing_laws.specs.Frames.{AreGiven, IsGiven, IsReturned, Keeps, Stands}
+use Rattle.typing_laws.specs.Frames.{AreGiven, IsGiven, IsReturned, Keeps}
 use Rattle.typing_laws.specs.Leaving.{Leaves, PassedLeave, in_library, in_arguments, at_call, at_gone, in_first}
 use Rattle.typing_laws.specs.Plain.{IsValue}
 use Rattle.typing_laws.specs.Typed.{fits_call, fits_parameters, has_type, is_typed, gives_what_it_has}
