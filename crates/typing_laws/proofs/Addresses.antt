@@ -80,7 +80,7 @@ simple_is _ _ c (array_shape e rank bounds d) = absurd (true≢false (sym c))
 
 -- ---- elements
 
-and_then_self : (o : Option Value) → option_and_then (part_in []) o ≡ o
+pub and_then_self : (o : Option Value) → option_and_then (part_in []) o ≡ o
 and_then_self None = refl
 and_then_self (Some y) = refl
 

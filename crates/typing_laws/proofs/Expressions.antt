@@ -1,5 +1,5 @@
 -- A covered expression that is well typed gives a value of its type where the variables stand, or raises an error, or leaves.
-use Rattle.std.proofs.Common.{false, ◌≡◌, refl, sym, ap, ◌∙◌, subst, ℕ, pos, ◌<◌, arith, ltb-true, le-leb, Bool, true, cond, not, ◌&&◌, ◌||◌, true≢false, List, [], ◌∷◌, Option, Some, None, ◌⊎◌, inl, inr}
+use Rattle.std.proofs.Common.{false, ◌≡◌, refl, sym, ap, ◌∙◌, subst, ℕ, pos, ◌<◌, arith, ltb-true, le-leb, Bool, true, cond, ◌&&◌, ◌||◌, true≢false, List, [], ◌∷◌, Option, Some, None, ◌⊎◌, inl, inr}
 use Rattle.std.specs.Prelude.{slice_get, is_some, nat_lt}
 use Rattle.std.specs.List.{list_all}
 use Rattle.up_base.proofs.Tests.{both_true}
@@ -40,7 +40,7 @@ use Rattle.typing_laws.specs.Edges.{IsEdge, IsLibraryEdge}
 use Rattle.typing_laws.specs.Frames.{HasOwn, IsSound, Keeps}
 use Rattle.typing_laws.specs.Leaving.{Leaves, ExprsLeave, at_operator, in_left, in_right, in_operand, in_converted, in_library, at_library, at_input, at_gone, at_err_number, in_first, in_later}
 use Rattle.typing_laws.specs.Plain.{IsValue}
-use Rattle.typing_laws.specs.Typed.{fits_type, has_type}
+use Rattle.typing_laws.specs.Typed.{fits_type, has_type, is_unknown}
 use Rattle.typing_laws.proofs.Addresses.{IsRead, IsSeat, IsUnread, place_later, read_seat, seat_of}
 use Rattle.typing_laws.proofs.Ends.{Ends, ends_after, ends_weaker, keeps_self, sound_later, then_ends}
 use Rattle.typing_laws.proofs.Library.{ArePlain, gives_itself, library_answer}
@@ -138,10 +138,22 @@ variable_is C ty x qualified w a is plain =
 pub same_type : (D : Declarations) (p : ℕ) (ty : Ty) (x : VarId) (u : Used D p x) → has_type ty (slice_get D.vars x.0) ≡ true → ty ≡ u.variable.ty
 same_type D p ty x u typing = same_as ty u.variable.ty u.covers (sym (ap (λ o. has_type ty o) u.is_variable) ∙ typing)
 
+pub known_type : (t : Ty) → covers_type t ≡ true → is_unknown t ≡ false
+known_type types.unknown c = absurd (true≢false (sym c))
+known_type _ c = refl
+
+-- types that fit, and of which neither is unknown
+pub fit_same : (s t : Ty) → is_unknown s ≡ false → is_unknown t ≡ false → fits_type s t ≡ true → is_same_type s t ≡ true
+fit_same s t a b h =
+    by (is_same_type s t) (sym (ap (λ x. is_same_type s t || (x || is_unknown t)) a ∙ ap (λ x. is_same_type s t || (false || x)) b) ∙ h)
+  where
+    by : (x : Bool) → x || (false || false) ≡ true → x ≡ true
+    by true e = refl
+    by false e = e
+
 -- types of a parameter and its argument
-pub fitting : (s t : Ty) → covers_type s ≡ true → covers_type t ≡ true → fits_type s t ≡ true → t ≡ s
-fitting s t c d h =
-    sym (same_as s t d (sym (ap (λ b. not (b && covers_type t) || is_same_type s t) c ∙ ap (λ b. not b || is_same_type s t) d) ∙ h))
+pub fitting : (s t : Ty) → is_unknown s ≡ false → covers_type t ≡ true → fits_type s t ≡ true → t ≡ s
+fitting s t a d h = sym (same_as s t d (fit_same s t a (known_type t d) h))
 
 pub no_array : (ty : Ty) → covers_type ty ≡ true → is_array_type ty ≡ false
 no_array (types.array e rank) c = absurd (true≢false (sym c))

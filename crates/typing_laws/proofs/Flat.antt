@@ -1,36 +1,38 @@
--- Over scalars alone neither an array nor a user type is covered.
+-- Without user types no field is covered, and what is named is a scalar or an array.
 use Rattle.std.proofs.Common.{◌≡◌, ◌⊎◌, inl, inr, refl, sym, ℕ, Bool, true, ◌&&◌, ◌||◌, true≢false, [], ◌∷◌}
 use Rattle.up_base.proofs.Tests.{both_true, either}
 use Rattle.vb_tree.specs.BoundTree as types
 use Rattle.vb_tree.specs.BoundTree.{Ty}
-use Rattle.vb_tree.specs.declared.bound.LibCall.{LibCall}
-use Rattle.bound_tree.specs.Tree.{Expr, typed, variable, element, field, library, Exprs, no_exprs, next_expr}
+use Rattle.vb_tree.specs.declared.declared.VarId.{VarId}
+use Rattle.bound_tree.specs.Tree.{Expr, typed, Term, variable, field}
 use Rattle.bound_tree.specs.Tree as tree
 use Rattle.bound_facts.specs.Locks.{is_same_type}
 use Rattle.bound_facts.specs.Node.{type_at}
 use Rattle.run_matches.specs.CoveredVariables.{covers_type}
-use Rattle.run_matches.specs.CoveredExprs.{Uses, covers_argument, covers_array, covers_bounded, covers_dimension, covers_expr, covers_exprs, covers_library, covers_place, covers_term, has_inner, has_scalar, is_bound, is_changeable, is_passable, is_variable}
+use Rattle.run_matches.specs.CoveredExprs.{Uses, covers_argument, covers_array, covers_expr, covers_place, has_inner, has_scalar, is_changeable, is_passable}
 use Rattle.run_matches.specs.CoveredLines.{covers_copy, covers_store, is_ordered}
 use Rattle.typing_laws.specs.Flat.{without_groups}
 
-pub no_array_covered : (u : Uses) (e : Expr) → covers_array (without_groups u) e ≡ true → ⊥
-no_array_covered u (typed (types.array e rank) (variable v qualified)) h = true≢false (sym h)
-no_array_covered u (typed (types.array e rank) _) h = true≢false (sym h)
-no_array_covered u (typed _ t) h = true≢false (sym h)
+-- an array variable
+pub record NamesArray (u : Uses) (e : Expr) : Type 0 where
+  pub element : Ty
+  pub rank : ℕ
+  pub variable : VarId
+  pub qualified : Bool
+  pub is : e ≡ typed (types.array element rank) (tree.variable variable qualified)
+  pub used : u.array variable element ≡ true
 
-no_bounds : (u : Uses) (args : Exprs) → covers_bounded (without_groups u) args ≡ true → ⊥
-no_bounds u no_exprs h = true≢false (sym h)
-no_bounds u (next_expr a rest) h = no_array_covered u a (both_true (covers_array (without_groups u) a) (covers_dimension rest) h).0
-
--- a call of the library asks for no bound
-pub library_covered : (u : Uses) (f : LibCall) (args : Exprs) → covers_term (without_groups u) (library f args) ≡ true
-    → covers_library f && covers_exprs (without_groups u) args ≡ true
-library_covered u f args h = by (either (covers_library f && covers_exprs (without_groups u) args) (is_bound f && covers_bounded (without_groups u) args) h)
-  where
-    by : (covers_library f && covers_exprs (without_groups u) args ≡ true) ⊎ (is_bound f && covers_bounded (without_groups u) args ≡ true)
-        → covers_library f && covers_exprs (without_groups u) args ≡ true
-    by (inl e) = e
-    by (inr e) = absurd (no_bounds u args (both_true (is_bound f) (covers_bounded (without_groups u) args) e).1)
+pub array_named : (u : Uses) (e : Expr) → covers_array u e ≡ true → NamesArray u e
+array_named u (typed (types.array e rank) (variable v qualified)) h = record {
+  element = e;
+  rank = rank;
+  variable = v;
+  qualified = qualified;
+  is = refl;
+  used = h;
+}
+array_named u (typed (types.array e rank) _) h = absurd (true≢false (sym h))
+array_named u (typed _ t) h = absurd (true≢false (sym h))
 
 pub no_place_covered : (u : Uses) (e : Expr) → covers_place (without_groups u) e ≡ true → ⊥
 no_place_covered u (typed (types.user t) (variable v qualified)) h = true≢false (sym h)
@@ -38,7 +40,7 @@ no_place_covered u (typed ty (field e k)) h =
     no_place_covered u e (both_true (has_inner (without_groups u) (type_at e) k ty) (covers_place (without_groups u) e) h).1
 no_place_covered u (typed _ _) h = true≢false (sym h)
 
--- what goes by value or by reference is a scalar
+-- what goes by value is a scalar
 pub value_covered : (u : Uses) (e : Expr) → covers_argument (without_groups u) (tree.by_value e) ≡ true → covers_expr (without_groups u) e ≡ true
 value_covered u e h = by (either (covers_expr (without_groups u) e) (covers_place (without_groups u) e) h)
   where
@@ -51,19 +53,20 @@ pub record Referred (u : Uses) (e : Expr) : Type 0 where
   pub passes : is_passable (without_groups u) e ≡ true
   pub covers : covers_expr (without_groups u) e ≡ true
 
-pub reference_covered : (u : Uses) (e : Expr) → covers_argument (without_groups u) (tree.by_reference e) ≡ true → Referred u e
+-- what goes by reference is a scalar or an array
+pub reference_covered : (u : Uses) (e : Expr) → covers_argument (without_groups u) (tree.by_reference e) ≡ true → Referred u e ⊎ NamesArray (without_groups u) e
 reference_covered u e h =
     by (either (is_passable (without_groups u) e && covers_expr (without_groups u) e) (covers_array (without_groups u) e || covers_place (without_groups u) e) h)
   where
-    whole : (covers_array (without_groups u) e ≡ true) ⊎ (covers_place (without_groups u) e ≡ true) → Referred u e
-    whole (inl a) = absurd (no_array_covered u e a)
+    whole : (covers_array (without_groups u) e ≡ true) ⊎ (covers_place (without_groups u) e ≡ true) → Referred u e ⊎ NamesArray (without_groups u) e
+    whole (inl a) = inr (array_named (without_groups u) e a)
     whole (inr p) = absurd (no_place_covered u e p)
 
     by : (is_passable (without_groups u) e && covers_expr (without_groups u) e ≡ true) ⊎ (covers_array (without_groups u) e || covers_place (without_groups u) e ≡ true)
-        → Referred u e
+        → Referred u e ⊎ NamesArray (without_groups u) e
     by (inl c) =
         let b = both_true (is_passable (without_groups u) e) (covers_expr (without_groups u) e) c in
-        record { passes = b.0; covers = b.1 }
+        inl (record { passes = b.0; covers = b.1 })
     by (inr a) = whole (either (covers_array (without_groups u) e) (covers_place (without_groups u) e) a)
 
 -- no field is covered
@@ -72,30 +75,9 @@ no_field u ty e k c =
     let b = both_true (covers_type ty) (has_scalar (without_groups u) (type_at e) k && covers_place (without_groups u) e) c in
     no_place_covered u e (both_true (has_scalar (without_groups u) (type_at e) k) (covers_place (without_groups u) e) b.1).1
 
-no_element : (u : Uses) (to e : Expr) → is_ordered (without_groups u) to e ≡ true → covers_expr (without_groups u) to ≡ true → ⊥
-no_element u (typed ty (element a indexes)) e o c =
-    let b = both_true (covers_type ty) (covers_array (without_groups u) a && covers_exprs (without_groups u) indexes) c in
-    no_array_covered u a (both_true (covers_array (without_groups u) a) (covers_exprs (without_groups u) indexes) b.1).0
-no_element u (typed ty _) e o c = true≢false (sym o)
-
--- what is changed is a variable
-pub changed_variable : (u : Uses) (e : Expr) → is_changeable u e ≡ true → covers_expr (without_groups u) e ≡ true → is_variable e ≡ true
-changed_variable u (typed ty (variable v qualified)) h c = refl
-changed_variable u (typed ty (field e k)) h c = absurd (no_field u ty e k c)
-changed_variable u (typed ty _) h c = absurd (true≢false (sym h))
-
--- what is stored to is a variable
-store_covered : (u : Uses) (to e : Expr) → is_changeable (without_groups u) to || is_ordered (without_groups u) to e ≡ true → covers_expr (without_groups u) to ≡ true
-    → is_changeable (without_groups u) to ≡ true
-store_covered u to e h c = by (either (is_changeable (without_groups u) to) (is_ordered (without_groups u) to e) h)
-  where
-    by : (is_changeable (without_groups u) to ≡ true) ⊎ (is_ordered (without_groups u) to e ≡ true) → is_changeable (without_groups u) to ≡ true
-    by (inl i) = i
-    by (inr o) = absurd (no_element u to e o c)
-
--- an assignment of a scalar to a variable that is changed
+-- an assignment of a scalar to a variable that is changed, or to an element
 pub record Stored (u : Uses) (to e : Expr) : Type 0 where
-  pub changes : is_changeable (without_groups u) to ≡ true
+  pub kind : (is_changeable (without_groups u) to ≡ true) ⊎ (is_ordered (without_groups u) to e ≡ true)
   pub target : covers_expr (without_groups u) to ≡ true
   pub value : covers_expr (without_groups u) e ≡ true
 
@@ -115,7 +97,7 @@ stored_of u to e h = by (either (stores && parts) (covers_copy vs to e) h)
     by (inl a) =
         let x = both_true stores parts a in
         let y = both_true (covers_expr vs to) (covers_expr vs e) x.1 in
-        record { changes = store_covered u to e x.0 y.0; target = y.0; value = y.1 }
+        record { kind = either (is_changeable vs to) (is_ordered vs to e) x.0; target = y.0; value = y.1 }
     by (inr b) =
         let x = both_true (is_changeable vs to) (is_same_type (type_at to) (type_at e) && (covers_place vs to && covers_place vs e)) b in
         let y = both_true (is_same_type (type_at to) (type_at e)) (covers_place vs to && covers_place vs e) x.1 in

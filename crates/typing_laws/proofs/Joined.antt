@@ -53,4 +53,4 @@ pub line_keeps_types : (C : Context) (F : Footprint) (n : ℕ) (l : Line) (w : M
 line_keeps_types C F n l w calls at sound t =
     let X = RunLeaves C.runnable n in
     line_result C F X l.source.form l.bindings.exprs w (form_does C l.source.form l.bindings.exprs w) t
-    (line_ends C F X calls l at.lines at.are_lines at.stands w (record { sound = sound; frame = t }) at.covers at.typed at.suited at.part at.aimed)
+    (line_ends C F X calls l at.lines at.are_lines at.stands w (record { sound = sound; frame = t }) at.covers at.typed at.suited at.part at.extents at.aimed)

@@ -1,6 +1,7 @@
 pub mod Plain
 pub mod Held
 pub mod Made
+pub mod Sizes
 pub mod Addresses
 pub mod Edges
 pub mod Outside
@@ -13,11 +14,19 @@ pub mod Flat
 pub mod Callees
 pub mod Procedures
 pub mod Expressions
+pub mod Arrays
+pub mod Elements
+pub mod Found
+pub mod Bounds
 pub mod Values
+pub mod Arguments
+pub mod Steps
 pub mod Trees
 pub mod Frames
 pub mod Lines
 pub mod Assigning
+pub mod Resizing
+pub mod Extents
 pub mod Choices
 pub mod Counting
 pub mod Forms

@@ -1,14 +1,13 @@
 -- Prints, calls and conditions keep a well-typed frame well typed, or leave.
-use Rattle.std.proofs.Common.{◌≡◌, refl, sym, ap, ◌∙◌, subst, ℕ, ◌^◌, ℤ, pos, negsuc, Bool, true, false, cond, ◌&&◌, true≢false, List, [], ◌∷◌, ◌++◌, Option, Some, None}
+use Rattle.std.proofs.Common.{◌≡◌, refl, sym, ap, ◌∙◌, subst, ℕ, ◌^◌, ℤ, pos, negsuc, Bool, true, false, cond, ◌&&◌, true≢false, List, [], ◌∷◌, ◌++◌, Option, Some, None, ◌⊎◌, inl, inr}
 use Rattle.std.specs.Prelude.{nat_lt, length, slice_get, ◌||◌, is_some, option_map, suc}
-use Rattle.up_base.proofs.Tests.{both_true}
+use Rattle.up_base.proofs.Tests.{both_true, either}
 use Rattle.vb_tree.specs.BoundTree.{Ty, fixed, unknown}
 use Rattle.vb_tree.specs.BoundTree as types
 use Rattle.vb_tree.specs.declared.bound.LibCall.{LibCall}
 use Rattle.vb_tree.specs.declared.bound.LibCall.TheVariants as lib
 use Rattle.vb_tree.specs.declared.token.Suffix.{Suffix}
 use Rattle.vb_tree.specs.declared.value.Value6.{Value6}
-use Rattle.vb_tree.specs.declared.value.Value6.TheVariants as v
 use Rattle.vb_tree.specs.Tree.{Exp, Form}
 use Rattle.vb_tree.specs.Tree as source
 use Rattle.vb6_meaning.specs.NumberTexts.{print_text}
@@ -26,7 +25,7 @@ use Rattle.vb6_run.specs.Lines.{behind_print, branch, condition, goes_if, goes_o
 use Rattle.vb6_run.specs.Store.{Address, Memory, SourceFrame, set_err}
 use Rattle.vb6_run.specs.Values.{Value}
 use Rattle.run_matches.specs.CoveredVariables.{covers_type}
-use Rattle.run_matches.specs.CoveredExprs.{Uses, covers_expr, covers_library, covers_exprs, covers_term, uses_in}
+use Rattle.run_matches.specs.CoveredExprs.{Uses, covers_expr, covers_exprs, covers_term}
 use Rattle.run_matches.specs.CoveredLines.{covers_called, is_box}
 use Rattle.run_matches.specs.Formed.{are_formed, is_formed, is_row_of_call, types_of}
 use Rattle.typing_laws.specs.Flat.{flat_uses}
@@ -39,9 +38,9 @@ use Rattle.typing_laws.proofs.Ends.{Ends, ends_after, ends_as, ends_weaker, keep
 use Rattle.typing_laws.proofs.Expressions.{Fits, IsScalarOf, IsTyped, fitting, scalar_ends}
 use Rattle.typing_laws.proofs.Frames.{frame_at, frame_later}
 use Rattle.typing_laws.proofs.Places.{keeps_same, not_none}
-use Rattle.typing_laws.proofs.Plain.{Plain, IsPrinted, a_boolean, a_byte, an_integer, a_long, a_currency, a_text, is_printed, same_as}
-use Rattle.typing_laws.proofs.Flat.{library_covered}
-use Rattle.typing_laws.proofs.Trees.{call_args_end, value_ends}
+use Rattle.typing_laws.proofs.Plain.{Plain, IsPrinted, a_boolean, is_printed, long_value, same_as}
+use Rattle.typing_laws.proofs.Found.{HasAddress}
+use Rattle.typing_laws.proofs.Trees.{address_ends, call_args_end, value_ends}
 use Rattle.typing_laws.proofs.Values.{Callee, IsCalled, box_ends, call_ends, callee_of, covered_type, no_arguments}
 use Rattle.typing_laws.specs.Frames.{Footprint, Ground, ground}
 
@@ -168,6 +167,10 @@ module _ (C : Context) (F : Footprint) (X : SourceJob → Memory → Type 0) (ca
   pub fine_ends : (e : Expr) → IsFine e → (w : Memory) → IsIn C F w → Ends K (IsTyped (type_at e)) (Leaves C X e w) w (value_of C e w)
   fine_ends e f w h = value_ends C F X calls mentions e f.covers f.formed f.typed f.suited w (fits_in C F w h)
 
+  -- where an element is
+  pub fine_address : (e : Expr) → IsFine e → (w : Memory) → IsIn C F w → HasAddress C F X e w
+  fine_address e f w h = address_ends C F X calls mentions e f.covers f.formed f.typed f.suited w (fits_in C F w h)
+
   pub fine_scalar : (e : Expr) → IsFine e → (w : Memory) → IsIn C F w → Ends K (IsScalarOf (type_at e)) (Leaves C X e w) w (scalar_value C e w)
   fine_scalar e f w h = scalar_ends C F e (type_at e) (Leaves C X e w) w (fine_ends e f w h)
 
@@ -232,17 +235,6 @@ module _ (C : Context) (F : Footprint) (X : SourceJob → Memory → Type 0) (ca
   raised L w (pos n) out = error_by n K L w (nat_lt 0 n && nat_lt n 65536) out
   raised L w (negsuc n) out = out refl
 
-  long_of : (t : Ty) (x : Value6) → Plain t x → t ≡ types.long → (z : ℤ) × (x ≡ v.Long z)
-  long_of t x p e = by types.long x refl (subst (λ s. Plain s x) e p)
-    where
-      by : (s : Ty) (y : Value6) → s ≡ types.long → Plain s y → (z : ℤ) × (y ≡ v.Long z)
-      by _ _ i (a_long z h) = (z, refl)
-      by _ _ i (a_boolean b) = absurd (cc i)
-      by _ _ i (a_byte m h) = absurd (cc i)
-      by _ _ i (an_integer z h) = absurd (cc i)
-      by _ _ i (a_currency z h) = absurd (cc i)
-      by _ _ i (a_text s) = absurd (cc i)
-
   raise_ends : (w : Memory) → IsIn C F w → (ty : Ty) (e : Expr) → IsFine e → is_same_type (type_at e) types.long ≡ true
       → Ends K Any (Leaves C X (typed ty (err_raise e)) w) w (term_parts C ty (err_raise e) w)
   raise_ends w h ty e f long =
@@ -252,7 +244,7 @@ module _ (C : Context) (F : Footprint) (X : SourceJob → Memory → Type 0) (ca
       (then_ends K (IsScalarOf (type_at e)) Any L w (scalar_value C e w) (λ x v. then (whole_number x v) raise_of)
       (ends_weaker K (IsScalarOf (type_at e)) (Leaves C X e w) L w (scalar_value C e w) (in_raised ty e w) (fine_scalar e f w h))
       (λ o x v one k p.
-      let z = long_of (type_at e) x p (same_as (type_at e) types.long refl long) in
+      let z = long_value (type_at e) x p (same_as (type_at e) types.long refl long) in
       subst (λ y. Ends K Any L v (then (whole_number y v) raise_of)) (sym z.1)
       (ends_after K Any L v [] (raise_of z.0 v) (raised L v z.0 (λ out. at_raised ty e w v o z.0 (one ∙ ap (λ y. gives o y v) z.1) out)))))
 
@@ -262,6 +254,14 @@ module _ (C : Context) (F : Footprint) (X : SourceJob → Memory → Type 0) (ca
   box_is : (f : LibCall) → is_box f ≡ true → f ≡ lib.MsgBox
   box_is lib.MsgBox h = refl
   box_is _ h = absurd (true≢false (sym h))
+
+  box_args : (f : LibCall) (args : Exprs) → is_box f ≡ true → covers_term uses (library f args) ≡ true → covers_exprs uses args ≡ true
+  box_args lib.MsgBox args h c = by (either (covers_exprs uses args) false c)
+    where
+      by : (covers_exprs uses args ≡ true) ⊎ (false ≡ true) → covers_exprs uses args ≡ true
+      by (inl e) = e
+      by (inr e) = absurd (true≢false (sym e))
+  box_args _ args h c = absurd (true≢false (sym h))
 
   box_statement : (w : Memory) → IsIn C F w → (ty : Ty) (args : Exprs) → covers_exprs uses args ≡ true → is_row_of_call lib.MsgBox (types_of args) ty ≡ true
       → are_formed args ≡ true → are_typed D args ≡ true → Each (IsSuited C.runnable) (nodes_of_all args)
@@ -298,11 +298,10 @@ module _ (C : Context) (F : Footprint) (X : SourceJob → Memory → Type 0) (ca
   call_statement w h (typed ty (library f args)) covers formed typing suited =
       let a = both_true (is_box f) (covers_term uses (library f args)) covers in
       let b = both_true (is_row_of_call f (types_of args) ty) (are_formed args) formed in
-      let c = both_true (covers_library f) (covers_exprs uses args) (library_covered (uses_in C.runnable.program C.procedure mentions) f args a.1) in
       let is : f ≡ lib.MsgBox = box_is f a.0 in
       as_statement w ty (library f args) (Leaves C X (typed ty (library f args)) w) (λ p v. refl)
       (subst (λ g. Ends K Any (Leaves C X (typed ty (library g args)) w) w (library_call C ty g args w)) (sym is)
-      (box_statement w h ty args c.1 (subst (λ g. is_row_of_call g (types_of args) ty ≡ true) is b.0) b.1 typing suited.1))
+      (box_statement w h ty args (box_args f args a.0 a.1) (subst (λ g. is_row_of_call g (types_of args) ty ≡ true) is b.0) b.1 typing suited.1))
   call_statement w h (typed ty (err_raise e)) covers formed typing suited =
       let b = both_true (is_same_type (type_at e) types.long) (is_formed e) formed in
       as_statement w ty (err_raise e) (Leaves C X (typed ty (err_raise e)) w) (λ p v. refl)

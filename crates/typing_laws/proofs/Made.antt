@@ -1,5 +1,5 @@
 -- What variables begin with: a scalar with its first value, and an array with as many first values as its bounds say, or none.
-use Rattle.std.proofs.Common.{◌≡◌, ◌⊎◌, inl, inr, refl, sym, ap, ◌∙◌, subst, ℕ, zero, suc, ◌<◌, ◌*◌, ℤ, pos, negsuc, ◌-ℤ◌, true, false, not, ◌&&◌, ◌||◌, List, [], ◌∷◌, map, Some, true≢false, arith, lt-ltb}
+use Rattle.std.proofs.Common.{◌≡◌, ◌⊎◌, inl, inr, refl, sym, ap, ◌∙◌, subst, ℕ, zero, suc, ◌<◌, ◌*◌, ℤ, pos, negsuc, ◌-ℤ◌, Bool, true, false, not, ◌&&◌, ◌||◌, List, [], ◌∷◌, map, Some, true≢false, arith, lt-ltb}
 use Rattle.std.proofs.lemmas.Bool.{lt-leb}
 use Rattle.std.proofs.lemmas.Int.{ints}
 use Rattle.std.specs.Prelude.{int_le, length, nat_eq, slice_get}
@@ -17,6 +17,7 @@ use Rattle.vb6_run.specs.Values.{Value, count_from, count_values, dimension_of, 
 use Rattle.run_matches.specs.CoveredVariables.{covers_array_owner, covers_array_variable, covers_bounds, covers_type, is_array_of, is_in_order}
 use Rattle.run_matches.specs.Typed.{IsSized, no_elements, sized}
 use Rattle.typing_laws.specs.Flat.{is_flat}
+use Rattle.typing_laws.specs.Typed.{is_unknown}
 use Rattle.typing_laws.specs.Plain.{EachPlain, Holds, IsShapeOf, Plain, array_shape, holds_array, holds_scalar, next_plain, none_plain, scalar_shape}
 use Rattle.typing_laws.proofs.Plain.{first_plain, same_as, shape_is}
 
@@ -59,6 +60,35 @@ array_of x e h =
     let c = both_true (is_array_of e x.ty) (covers_bounds x.ty x.bounds && not x.auto) b.1 in
     array_in x e x.ty refl a.0 b.0 c.0 (both_true (covers_bounds x.ty x.bounds) (not x.auto) c.1).0
 
+-- a variable that is covered as an array is flat
+pub array_type : (x : Variable) (e : Ty) → covers_array_variable e x ≡ true → (rank : ℕ) × (x.ty ≡ types.array e rank)
+array_type x e h =
+    let a = both_true (covers_array_owner x.owner) (covers_type e && (is_array_of e x.ty && (covers_bounds x.ty x.bounds && not x.auto))) h in
+    let b = both_true (covers_type e) (is_array_of e x.ty && (covers_bounds x.ty x.bounds && not x.auto)) a.1 in
+    by x.ty refl b.0 (both_true (is_array_of e x.ty) (covers_bounds x.ty x.bounds && not x.auto) b.1).0
+  where
+    second : (s t : Ty) → covers_type s ≡ true → is_same_type s t ≡ true → t ≡ s
+    second types.boolean types.boolean c h = refl
+    second types.byte types.byte c h = refl
+    second types.integer types.integer c h = refl
+    second types.long types.long c h = refl
+    second types.currency types.currency c h = refl
+    second types.str types.str c h = refl
+    second _ _ c h = cc
+
+    by : (ty : Ty) → x.ty ≡ ty → covers_type e ≡ true → is_array_of e ty ≡ true → (rank : ℕ) × (x.ty ≡ types.array e rank)
+    by (types.array f rank) is c a = (rank, is ∙ ap (λ t. types.array t rank) (second e f c a))
+    by _ is c a = absurd (true≢false (sym a))
+
+pub array_flat : (x : Variable) (e : Ty) → covers_array_variable e x ≡ true → is_flat x ≡ true
+array_flat x e h =
+    let t = array_type x e h in
+    ap (λ b. covers_type x.ty || b) (ap (λ s. covers_array_variable (element_type s) x) t.1 ∙ h) ∙ or_true (covers_type x.ty)
+  where
+    or_true : (b : Bool) → b || true ≡ true
+    or_true true = refl
+    or_true false = refl
+
 -- a flat variable is a scalar or an array
 pub flat_kinds : (x : Variable) → is_flat x ≡ true → (covers_type x.ty ≡ true) ⊎ IsArray x
 flat_kinds x h = by (either (covers_type x.ty) (covers_array_variable (element_type x.ty) x) h)
@@ -66,6 +96,18 @@ flat_kinds x h = by (either (covers_type x.ty) (covers_array_variable (element_t
     by : (covers_type x.ty ≡ true) ⊎ (covers_array_variable (element_type x.ty) x ≡ true) → (covers_type x.ty ≡ true) ⊎ IsArray x
     by (inl c) = inl c
     by (inr a) = inr (array_of x (element_type x.ty) a)
+
+-- no such variable is without a type
+pub flat_known : (x : Variable) → is_flat x ≡ true → is_unknown x.ty ≡ false
+flat_known x h = by (flat_kinds x h)
+  where
+    known : (ty : Ty) → covers_type ty ≡ true → is_unknown ty ≡ false
+    known types.unknown c = absurd (true≢false (sym c))
+    known _ c = refl
+
+    by : (covers_type x.ty ≡ true) ⊎ IsArray x → is_unknown x.ty ≡ false
+    by (inl c) = known x.ty c
+    by (inr a) = ap is_unknown a.is_type
 
 pub scalar_flat : (x : Variable) → covers_type x.ty ≡ true → is_flat x ≡ true
 scalar_flat x c = ap (λ b. b || covers_array_variable (element_type x.ty) x) c
@@ -108,7 +150,7 @@ count_repeated (suc n) x = ap suc (count_repeated n x)
 
 -- ---- bounds in order
 
-below : (low z : ℤ) (m : ℕ) → z -ℤ low ≡ negsuc m → int_le low z ≡ false
+pub below : (low z : ℤ) (m : ℕ) → z -ℤ low ≡ negsuc m → int_le low z ≡ false
 below (pos a) (pos b) m e = lt-leb a b (omega (arith, ints))
 below (pos a) (negsuc b) m e = refl
 below (negsuc a) (pos b) m e = absurd (omega (arith, ints))

@@ -1,5 +1,5 @@
 -- The parts of covered procedures.
-use Rattle.std.proofs.Common.{◌≡◌, refl, sym, ap, subst, ◌∙◌, ℕ, true, not, ◌&&◌, nat_eq, true≢false, List, Option, Some, None}
+use Rattle.std.proofs.Common.{◌≡◌, refl, sym, ap, subst, ◌∙◌, ℕ, true, cond, not, ◌&&◌, nat_eq, true≢false, List, Option, Some, None}
 use Rattle.std.specs.Prelude.{slice_get, map, is_some}
 use Rattle.std.specs.List.{list_all}
 use Rattle.std.specs.Cmp.Lexicographic.{pointwise}
@@ -15,15 +15,14 @@ use Rattle.bound_facts.specs.Locks.{is_same_type}
 use Rattle.vb6_run.specs.Forms.{body_of}
 use Rattle.vb6_run.specs.Programs.{answer_in, owned_from}
 use Rattle.vb6_run.specs.Runnables.{Runnable, is_class_file}
-use Rattle.run_matches.specs.CoveredVariables.{belongs_to, covers_type}
+use Rattle.run_matches.specs.CoveredVariables.{belongs_to, covers_declared, has_extents}
 use Rattle.run_matches.specs.CoveredLines.{covers_in_block, covers_line}
 use Rattle.run_matches.specs.Covered.{covers_all_calls, covers_body, covers_calls, covers_head, covers_kind, covers_names, covers_parameter, covers_procedure, covers_result, covers_site, covers_variables, has_answer, has_result, is_answer_of, is_parameter_of, is_plain_kind, is_result_in, is_scalar_or_loud, is_taken_in}
 use Rattle.run_matches.specs.Sites.{site_of}
 use Rattle.typing_laws.specs.Flat.{are_flat_lines, has_flat_variables, is_flat, is_flat_line}
-use Rattle.typing_laws.proofs.Made.{scalar_flat}
 use Rattle.typing_laws.specs.Calls.{IsReady}
 use Rattle.typing_laws.specs.Typed.{are_typed_lines, gives_what_it_has, is_typed_line}
-use Rattle.typing_laws.proofs.Uses.{own_covered}
+use Rattle.typing_laws.proofs.Uses.{own_flat}
 
 pub record Head (P : Program) (p : ℕ) : Type 0 where
   pub procedure : Procedure
@@ -70,6 +69,8 @@ pub record Parts (P : Program) (p : ℕ) : Type 0 where
   pub head : Head P p
   pub variables : has_flat_variables P p ≡ true
   pub body : Body P p
+  -- each ReDim of the project gives its arrays a bound
+  pub extents : has_extents P ≡ true
   -- a Function has a value of its type
   pub gives : gives_what_it_has (slice_get P.declarations.procs p) ≡ true
 
@@ -91,6 +92,7 @@ parts_of R p ready =
     record {
       head = head_in P p (slice_get D.procs p) refl b.0;
       variables = s.1;
+      extents = (both_true (list_all (λ (x : Variable). cond (belongs_to p x.owner) (covers_declared D x) true) D.vars) (has_extents P) d.0).1;
       body = body_in P p (slice_get P.bodies p) refl d.1 z.0 (ready.typed p (empty p)) s.0;
       gives = ready.results p (empty p);
     }
@@ -108,7 +110,6 @@ pub record Parameter (P : Program) (p : ℕ) (v : VarId) : Type 0 where
   pub variable : Variable
   pub is_variable : slice_get P.declarations.vars v.0 ≡ Some variable
   pub is_parameter : is_parameter_of p variable.owner ≡ true
-  pub covers : covers_type variable.ty ≡ true
   pub flat : is_flat variable ≡ true
 
 parameter_belongs : (p : ℕ) (o : Owner) → is_parameter_of p o ≡ true → belongs_to p o ≡ true
@@ -125,8 +126,7 @@ parameter_in : (P : Program) (p : ℕ) (v : VarId) (o : Option Variable) → sli
 parameter_in P p v None is c h = absurd (true≢false (sym h))
 parameter_in P p v (Some y) is c h =
     let b = both_true (is_parameter_of p y.owner) (is_scalar_or_loud P v.0 y) h in
-    let covers : covers_type y.ty ≡ true = own_covered P p v.0 y c is (parameter_belongs p y.owner b.0) in
-    record { variable = y; is_variable = is; is_parameter = b.0; covers = covers; flat = scalar_flat y covers }
+    record { variable = y; is_variable = is; is_parameter = b.0; flat = own_flat P p v.0 y c is (parameter_belongs p y.owner b.0) }
 
 pub parameter_of : (P : Program) (p : ℕ) (v : VarId) → has_flat_variables P p ≡ true → covers_parameter P p v ≡ true → Parameter P p v
 parameter_of P p v c h = parameter_in P p v (slice_get P.declarations.vars v.0) refl c h

@@ -27,7 +27,7 @@ use Rattle.typing_laws.specs.Frames.{AreGiven, IsReturned, IsSound, IsTypedFrame
 use Rattle.typing_laws.specs.Leaving.{LineLeaves, RunLeaves, TurnLeaves, at_entry, at_head, behind_entry, behind_line, context_at, started, stepped_to}
 use Rattle.typing_laws.specs.Leaving as leaving
 use Rattle.typing_laws.specs.Results.{IsRunResult}
-use Rattle.typing_laws.specs.Flat.{is_flat_line}
+use Rattle.typing_laws.specs.Flat.{is_flat, is_flat_line}
 use Rattle.typing_laws.specs.Typed.{is_typed_line}
 use Rattle.typing_laws.proofs.Callees.{line_suited}
 use Rattle.typing_laws.proofs.Ends.{Ends, ends_after, ends_from, ends_weaker, keeps_self, keeps_then, sound_later, then_ends}
@@ -35,7 +35,6 @@ use Rattle.typing_laws.proofs.Bindings.{all_given}
 use Rattle.typing_laws.proofs.Entries.{answer_belongs, entered_ends}
 use Rattle.typing_laws.proofs.Addresses.{AtRoot, at_root, root_read, simple_is}
 use Rattle.typing_laws.proofs.Held.{Single, single_of}
-use Rattle.typing_laws.proofs.Made.{scalar_flat}
 use Rattle.vb_tree.specs.declared.declared.Owner.{Owner}
 use Rattle.vb_tree.specs.declared.declared.Owner.TheVariants as owner
 use Rattle.written_trees.specs.Arguments.{is_reference_owner}
@@ -45,7 +44,7 @@ use Rattle.typing_laws.proofs.Lines.{Good, IsIn}
 use Rattle.typing_laws.proofs.Places.{all_at, keeps_same, not_none, some_is}
 use Rattle.typing_laws.proofs.Plain.{Plain}
 use Rattle.typing_laws.proofs.Procedures.{Answered, Body, Parts, answer_of_function, parts_of}
-use Rattle.typing_laws.proofs.Uses.{own_covered}
+use Rattle.typing_laws.proofs.Uses.{answer_covered, own_flat}
 use Rattle.typing_laws.specs.Frames.{Footprint, Ground, IsGiven, MayStand, anywhere, footprint_of, ground, is_given_at, is_open, shared_place}
 use Rattle.typing_laws.proofs.Frames.{frame_anywhere}
 use Rattle.run_base.specs.Positions.{Position, made, whole}
@@ -142,8 +141,9 @@ ended F R p parts f w E t =
         let x : Procedure = parts.head.procedure in
         let y : Answered D p x a = answer_of_function D p x a parts.head.result is in
         let own = answer_belongs p y.variable.owner y.is_answer in
-        let c : covers_type y.variable.ty ≡ true = own_covered R.program p a.0 y.variable parts.variables y.is_variable own in
-        let s = t.own a.0 y.variable y.is_variable own (scalar_flat y.variable c) in
+        let flat : is_flat y.variable ≡ true = own_flat R.program p a.0 y.variable parts.variables y.is_variable own in
+        let c : covers_type y.variable.ty ≡ true = answer_covered p y.variable y.is_answer flat in
+        let s = t.own a.0 y.variable y.is_variable own flat in
         let same : y.variable.ty ≡ x.result = as_result y.variable.ty x.result c y.same in
         let there : AtRoot R.program F w y.variable s.0 =
         at_root R.program F w a.0 y.variable s.0 s.2 (answers_itself p y.variable.owner y.is_answer) in
@@ -281,7 +281,7 @@ module _ (F : Footprint) (R : Runnable) where
           ends_from K (Returned parts.head.procedure) E w w1 (then (handled M f l does) (λ g w. go M n (runs p g) w)) (same_stepped k w)
           (line_goes n bodies p ready f w sound t k l at_body is does refl
           (line_ends C F (RunLeaves R n) (calls_keep n p f l calls) l.form parts.body.lines parts.body.are_lines stands w1 inside c.covers c.typed
-          (line_suited R p c.place parts.head.procedure parts.body.lines l.form parts.head.is_procedure parts.body.are_lines c.stands c.calls ready) c.part (record { all = c.all; number = c.at; aims = c.aims })))
+          (line_suited R p c.place parts.head.procedure parts.body.lines l.form parts.head.is_procedure parts.body.are_lines c.stands c.calls ready) c.part parts.extents (record { all = c.all; number = c.at; aims = c.aims })))
 
   bodies_more : (n : ℕ) → CallsEnd n → BodiesEnd n → BodiesEnd (suc n)
   bodies_more n calls bodies p ready f w sound t =

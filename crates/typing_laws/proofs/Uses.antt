@@ -1,8 +1,10 @@
 -- Variables that covered expressions use, each at an address where it stands.
-use Rattle.std.proofs.Common.{◌≡◌, ◌⊎◌, inl, inr, refl, sym, ap, ◌∙◌, ℕ, true, cond, not, ◌&&◌, nat_eq, true≢false, List, [], ◌∷◌, Option, Some, None}
+use Rattle.std.proofs.Common.{◌≡◌, ◌⊎◌, inl, inr, refl, sym, ap, ◌∙◌, ℕ, Bool, true, false, cond, not, ◌&&◌, nat_eq, true≢false, List, [], ◌∷◌, Option, Some, None}
 use Rattle.std.specs.Prelude.{slice_get, position}
 use Rattle.std.specs.List.{list_any}
 use Rattle.up_base.proofs.Tests.{both_true, not_true}
+use Rattle.vb_tree.specs.BoundTree as types
+use Rattle.vb_tree.specs.BoundTree.{Ty}
 use Rattle.vb_tree.specs.declared.declared.Owner.{Owner}
 use Rattle.vb_tree.specs.declared.declared.Owner.TheVariants as owner
 use Rattle.vb_tree.specs.declared.declared.VarId.{VarId}
@@ -18,11 +20,12 @@ use Rattle.vb6_run.specs.Runnables.{declared_address, is_class_file, object_root
 use Rattle.run_base.specs.Positions.{shared}
 use Rattle.vb6_run.specs.Shapes.{variable_shape}
 use Rattle.vb6_run.specs.Store.{Address, Memory, SourceFrame, root}
-use Rattle.run_matches.specs.CoveredVariables.{belongs_to, covers_owner, covers_some, covers_type, covers_use, covers_variable, is_foreign_name, is_mention_of, is_reached}
+use Rattle.run_matches.specs.CoveredVariables.{belongs_to, covers_array_owner, covers_array_use, covers_array_variable, covers_bounds, covers_owner, covers_some, covers_some_array, covers_type, covers_use, covers_variable, is_array_of, is_foreign_name, is_loud, is_mention_of, is_named_apart, is_reached}
+use Rattle.run_matches.specs.Covered.{is_answer_of}
 use Rattle.run_matches.specs.Shared.{is_alone_static, leads_to_home, leads_to_member, names_lead, placed_module}
 use Rattle.typing_laws.specs.Frames.{Footprint, HasOwn, IsPlace, IsSound, ground, shared_place}
 use Rattle.typing_laws.specs.Flat.{has_flat_variables, is_flat}
-use Rattle.typing_laws.proofs.Made.{scalar_flat, shape_of_variable}
+use Rattle.typing_laws.proofs.Made.{IsArray, array_flat, array_type, flat_kinds, scalar_flat, shape_of_variable}
 use Rattle.typing_laws.proofs.Places.{all_at}
 
 -- a variable that a line of a procedure uses: one of a standard module, or its own
@@ -77,6 +80,57 @@ use_is P p mentions v h =
     let o = slice_get D.vars v.0 in
     use_in D p v o refl (both_true (list_any (is_mention_of v) mentions) (covers_some D p v.0 o) h).1
 
+-- an array that a line of a procedure uses
+pub record UsedArray (D : Declarations) (p : ℕ) (v : VarId) (e : Ty) : Type 0 where
+  pub variable : Variable
+  pub is_variable : slice_get D.vars v.0 ≡ Some variable
+  pub owned : (is_module_variable D variable.owner ≡ true) ⊎ (belongs_to p variable.owner ≡ true)
+  pub flat : is_flat variable ≡ true
+  pub rank : ℕ
+  pub is_type : variable.ty ≡ types.array e rank
+  pub plain : auto_class (slice_get D.vars v.0) ≡ None
+
+array_owner : (o : Owner) → covers_array_owner o ≡ true → covers_owner o ≡ true
+array_owner (owner.Module file) h = refl
+array_owner (owner.Local p) h = refl
+array_owner (owner.Static p) h = refl
+array_owner (owner.Reference p) h = refl
+array_owner (owner.Value p) h = refl
+array_owner (owner.Answer p) h = refl
+array_owner (owner.Field t) h = absurd (true≢false (sym h))
+
+array_in : (D : Declarations) (p : ℕ) (v : VarId) (e : Ty) (o : Option Variable) → slice_get D.vars v.0 ≡ o → covers_some_array D p v.0 e o ≡ true → UsedArray D p v e
+array_in D p v e None is h = absurd (true≢false (sym h))
+array_in D p v e (Some x) is h =
+    let named = is_named_apart (slice_get D.procs p) x.name in
+    let a = both_true (is_reached D p v.0 x.name x.owner) (covers_array_variable e x && named) h in
+    let b = both_true (covers_array_variable e x) named a.1 in
+    let rest = covers_type e && (is_array_of e x.ty && (covers_bounds x.ty x.bounds && not x.auto)) in
+    let owner = both_true (covers_array_owner x.owner) rest b.0 in
+    let t = array_type x e b.0 in
+    record {
+      variable = x;
+      is_variable = is;
+      owned = owner_reached D p v.0 x.name x.owner a.0 (array_owner x.owner owner.0);
+      flat = array_flat x e b.0;
+      rank = t.0;
+      is_type = t.1;
+      plain = ap auto_class is ∙ ap (λ s. cond x.auto (class_in s) None) t.1 ∙ none_of x.auto;
+    }
+  where
+    none_of : (b : Bool) → cond {A = Option ℕ} b None None ≡ None
+    none_of true = refl
+    none_of false = refl
+
+pub array_use_is : (P : Program) (p : ℕ) (mentions : List Mention) (v : VarId) (e : Ty) → covers_array_use P p mentions v e ≡ true
+    → UsedArray P.declarations p v e × (is_loud P v.0 (slice_get P.declarations.vars v.0) ≡ true)
+array_use_is P p mentions v e h =
+    let D : Declarations = P.declarations in
+    let o = slice_get D.vars v.0 in
+    let a = both_true (list_any (is_mention_of v) mentions) (covers_some_array D p v.0 e o && is_loud P v.0 o) h in
+    let b = both_true (covers_some_array D p v.0 e o) (is_loud P v.0 o) a.1 in
+    (array_in D p v e o refl b.0, b.1)
+
 -- ---- addresses
 
 -- a variable of a standard module
@@ -114,14 +168,20 @@ place_of P F p f w sound own v u = flat_place P F p f w sound own v.0 u.variable
 
 -- ---- variables of a covered procedure
 
-pub own_covered : (P : Program) (p v : ℕ) (x : Variable) → has_flat_variables P p ≡ true → slice_get P.declarations.vars v ≡ Some x
-    → belongs_to p x.owner ≡ true → covers_type x.ty ≡ true
-own_covered P p v x covers is own =
-    let h : cond (belongs_to p x.owner) (covers_variable x) true ≡ true =
-    all_at (λ (y : Variable). cond (belongs_to p y.owner) (covers_variable y) true) P.declarations.vars v x covers is in
-    let c : covers_variable x ≡ true = sym (ap (λ b. cond b (covers_variable x) true) own) ∙ h in
-    (both_true (covers_type x.ty) (not x.auto) (both_true (covers_owner x.owner) (covers_type x.ty && not x.auto) c).1).0
-
 pub own_flat : (P : Program) (p v : ℕ) (x : Variable) → has_flat_variables P p ≡ true → slice_get P.declarations.vars v ≡ Some x
     → belongs_to p x.owner ≡ true → is_flat x ≡ true
-own_flat P p v x covers is own = scalar_flat x (own_covered P p v x covers is own)
+own_flat P p v x covers is own =
+    sym (ap (λ b. cond b (is_flat x) true) own)
+    ∙ all_at (λ (y : Variable). cond (belongs_to p y.owner) (is_flat y) true) P.declarations.vars v x covers is
+
+-- a result variable is a scalar
+pub answer_covered : (p : ℕ) (x : Variable) → is_answer_of p x.owner ≡ true → is_flat x ≡ true → covers_type x.ty ≡ true
+answer_covered p x is flat = by (flat_kinds x flat)
+  where
+    no_array : (o : Owner) → is_answer_of p o ≡ true → covers_array_owner o ≡ true → ⊥
+    no_array (owner.Answer q) h i = true≢false (sym i)
+    no_array _ h i = true≢false (sym h)
+
+    by : (covers_type x.ty ≡ true) ⊎ IsArray x → covers_type x.ty ≡ true
+    by (inl c) = c
+    by (inr a) = absurd (no_array x.owner is a.owned)

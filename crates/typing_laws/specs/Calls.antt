@@ -15,7 +15,7 @@ use Rattle.vb6_run.specs.Expressions.{Context, declared}
 use Rattle.vb6_run.specs.Runnables.{Runnable, declarations_of}
 use Rattle.vb6_run.specs.Store.{Address, Memory, Locked, SourceGiven}
 use Rattle.vb6_run.specs.Values.{Value}
-use Rattle.run_matches.specs.CoveredVariables.{is_loud}
+use Rattle.run_matches.specs.CoveredVariables.{has_extents, is_loud}
 use Rattle.run_matches.specs.CoveredLines.{covers_part, head_line}
 use Rattle.run_matches.specs.Covered.{IsCovered, suits}
 use Rattle.typing_laws.specs.Frames.{AreGiven, Footprint, Ground, IsReturned, IsSound, Keeps, code_line, ground}
@@ -91,6 +91,7 @@ pub record IsAt (C : Context) (l : Line) : Type 0 where
   pub stands : code_line C.runnable.program C.procedure C.frame.line ≡ Some l
   pub covers : is_flat_line C.runnable.program C.procedure l ≡ true
   pub part : covers_part C.runnable.program C.procedure l.source.form l.bindings.exprs (head_line lines C.aims.own) ≡ true
+  pub extents : has_extents C.runnable.program ≡ true
   pub typed : is_typed_line (declared C) l ≡ true
   pub suited : Each (IsSuited C.runnable) (line_uses l)
   pub aimed : IsAimed C l.source.form

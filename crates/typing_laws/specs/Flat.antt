@@ -5,7 +5,7 @@ use Rattle.std.specs.List.{list_all}
 use Rattle.bound_tree.specs.declared.body.Mention.{Mention}
 use Rattle.bound_tree.specs.Tree.{Variable, Line, Program}
 use Rattle.written_trees.specs.Types.{element_type}
-use Rattle.run_matches.specs.CoveredVariables.{belongs_to, covers_array_variable, covers_type, covers_variable}
+use Rattle.run_matches.specs.CoveredVariables.{belongs_to, covers_array_variable, covers_type}
 use Rattle.run_matches.specs.CoveredExprs.{Uses, uses_in}
 use Rattle.run_matches.specs.CoveredLines.{covers_form}
 use Rattle.run_matches.specs.Formed.{is_formed}
@@ -18,7 +18,7 @@ is_flat x = covers_type x.ty || covers_array_variable (element_type x.ty) x
 abbrev pub without_groups : Uses → Uses
 without_groups uses = record {
   scalar = uses.scalar;
-  array = λ v e. false;
+  array = uses.array;
   group = λ v t. false;
   field_type = λ t k. None;
   is_of = uses.is_of;
@@ -40,7 +40,7 @@ are_flat_lines P p (Some lines) = list_all (is_flat_line P p) lines
 
 -- each variable of the procedure is flat
 abbrev pub has_flat_variables : Program → (procedure : ℕ) → Bool
-has_flat_variables P p = list_all (λ (x : Variable). cond (belongs_to p x.owner) (covers_variable x) true) P.declarations.vars
+has_flat_variables P p = list_all (λ (x : Variable). cond (belongs_to p x.owner) (is_flat x) true) P.declarations.vars
 
 -- no user types: the lines of the procedure, if there is one of this number, and its variables
 abbrev pub is_flat_procedure : Program → (procedure : ℕ) → Bool
