@@ -148,8 +148,7 @@ module _ (C : Context) (F : Footprint) (X : SourceJob → Memory → Type 0) (ca
       of_array h f other is =
           let c : covers_type el ≡ true = (table_at C F w x.0 el h).covers in
           let one : f ≡ el = same_as f el c (sym (ap (λ t. is_same_type t (types.array el rank)) is) ∙ same) in
-          let ty : y.ty ≡ types.array el other = is ∙ ap (λ t. types.array t other) one in
-          (
+          let ty : y.ty ≡ types.array el other = is ∙ ap (λ t. types.array t other) one in (
             reference,
             subst (λ t. IsShapeOf t (array (simple el) h.bounds)) (sym ty) (array_shape el other h.bounds c),
             subst (λ t. Stands K w h.place t) (sym ty) (stands_with_rank K w h.place el 0 other h.stands),

@@ -83,8 +83,7 @@ table_at C F w x e h = table_of e 0 (w.held h.place) h.stands.holds
 pub array_read : (C : Context) (F : Footprint) (w : Memory) (x : ℕ) (e : Ty) (h : HasArray C F w x e)
     → (y : Value) × (read (root (array (simple e) h.bounds) h.place) w ≡ gives [] y w)
 array_read C F w x e h =
-    let t : Table e (w.held h.place) = table_at C F w x e h in
-    (
+    let t : Table e (w.held h.place) = table_at C F w x e h in (
       elements (simple e) t.dims t.values,
       ap (λ z. found (array_in (simple e) z) w) t.holds ∙ ap (λ b. found (value_if b (elements (simple e) t.dims t.values)) w) (self e t.covers),
     )

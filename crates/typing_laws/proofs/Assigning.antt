@@ -86,8 +86,7 @@ module _ (C : Context) (F : Footprint) (X : SourceJob → Memory → Type 0) (ca
         → IsWritten K m ty C.frame.env z plain b ⊎ IsUnwritten K m ty C.frame.env z plain b
         → Ends K (Good C F) L m (then (write C.frame.env (scalar ty z) b m) (λ (u : Unit {0}) n. goes_on C n))
     element_by m k b z plain f (inl r) =
-        subst (λ o. Ends K (Good C F) L m (then o (λ (u : Unit {0}) n. goes_on C n))) (sym r.writes)
-        (
+        subst (λ o. Ends K (Good C F) L m (then o (λ (u : Unit {0}) n. goes_on C n))) (sym r.writes) (
           r.keeps,
           frame_at F C.runnable C.procedure r.memory C.frame
               (frame_later F C.runnable C.procedure v r.memory C.frame (keeps_then K v m r.memory k r.keeps) i.frame) C.aims.after,

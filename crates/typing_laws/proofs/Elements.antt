@@ -92,8 +92,7 @@ module _ (C : Context) (F : Footprint) (X : SourceJob → Memory → Type 0) (ty
     placed : (o : Option ℕ) → element_place t.dims zs ≡ o → Ends K (IsFound K ty) (L w) v (item_if at (simple ty) t.values o v)
     placed None i = keeps_self K v
     placed (Some j) i =
-        let g : Element t.values j = element_there t.dims t.values zs j t.sized some i in
-        (
+        let g : Element t.values j = element_there t.dims t.values zs j t.sized some i in (
           keeps_self K v,
           record {
             place = q;

@@ -83,8 +83,7 @@ module _ (C : Context) (F : Footprint) (X : SourceJob → Memory → Type 0) (ca
 
   bound_of : (e : Expr) → covers_expr uses e ≡ true → is_typed_bound D e ≡ true → IsSound e → IsBound C F X calls mentions e
   bound_of e covers typing sound =
-      let b = both_true (fits_type types.long (type_at e)) (is_typed D e) typing in
-      (
+      let b = both_true (fits_type types.long (type_at e)) (is_typed D e) typing in (
         record { covers = covers; formed = sound.0; typed = b.1; suited = sound.1 },
         fitting types.long (type_at e) refl (covered_type C F X calls mentions e covers) b.0,
       )
@@ -98,8 +97,7 @@ module _ (C : Context) (F : Footprint) (X : SourceJob → Memory → Type 0) (ca
   extents_of [] covers typing sound = tt
   extents_of (x ∷ xs) covers typing sound =
       let c = both_true (covers_low uses x.0) (covers_value uses types.long x.1) (all_first (covers_extent uses) x xs covers) in
-      let t = both_true (is_typed_low D x.0) (is_typed_bound D x.1) (all_first (is_typed_extent D) x xs typing) in
-      (
+      let t = both_true (is_typed_low D x.0) (is_typed_bound D x.1) (all_first (is_typed_extent D) x xs typing) in (
         (
           low_of_extent x.0 c.0 t.0 sound.0.0,
           bound_of x.1 (both_true (is_same_type types.long (type_at x.1)) (covers_expr uses x.1) c.1).1 t.1 sound.0.1,
@@ -124,8 +122,7 @@ module _ (C : Context) (F : Footprint) (X : SourceJob → Memory → Type 0) (ca
       let c = both_true (covers_array uses r.array) (list_all (covers_extent uses) r.extents && (not preserve || nat_eq (length r.extents) 1))
       (all_first (covers_resize uses preserve) r rs covers) in
       let d = both_true (list_all (covers_extent uses) r.extents) (not preserve || nat_eq (length r.extents) 1) c.1 in
-      let n : NamesArray uses r.array = array_named uses r.array c.0 in
-      (
+      let n : NamesArray uses r.array = array_named uses r.array c.0 in (
         record {
           array = n;
           extents = extents_of r.extents d.0 (all_first (is_typed_resize D) r rs typing) sound.0;

@@ -65,8 +65,7 @@ module _ (C : Context) (F : Footprint) (X : SourceJob → Memory → Type 0) (ca
         let c : covers_type ty ≡ true = (both_true (covers_type ty) true covers).0 in
         let all = both_true (is_same_type (type_of_constant x) ty) (is_within x && is_literal x) formed in
         let within = both_true (is_within x) (is_literal x) all.1 in
-        let s : type_of_constant x ≡ ty = same_as (type_of_constant x) ty c all.0 in
-        (
+        let s : type_of_constant x ≡ ty = same_as (type_of_constant x) ty c all.0 in (
           term_ends C F ty (constant x origin) (Leaves C X (typed ty (constant x origin)) w) w refl
               (keeps_self K w, (x, refl, subst (λ t. Plain t x) s (constant_plain x within.0 (subst (λ t. covers_type t ≡ true) (sym s) c)))),
           tt,
@@ -75,8 +74,7 @@ module _ (C : Context) (F : Footprint) (X : SourceJob → Memory → Type 0) (ca
         (variable_ends C F X calls mentions w fits ty x qualified (both_true (covers_type ty) (uses.scalar x) covers).1 typing, tt)
     right_ends (typed ty (unary op e)) covers formed typing suited w fits =
         let both = both_true (covers_type ty) (covers_expr uses e) covers in
-        let forms = both_true (is_row_of_one ty (write_unary op (type_at e))) (is_formed e) formed in
-        (
+        let forms = both_true (is_row_of_one ty (write_unary op (type_at e))) (is_formed e) formed in (
           unary_ends C F X calls mentions w ty op e both.0 (covered_type C F X calls mentions e both.1) forms.0 (right_ends e both.1 forms.1 typing suited.1 w fits).0,
           tt,
         )
@@ -87,8 +85,7 @@ module _ (C : Context) (F : Footprint) (X : SourceJob → Memory → Type 0) (ca
         let forms = both_true (is_row_of_two op ty (write_operator op (type_at d) (type_at e))) (is_formed d && is_formed e) formed in
         let inner = both_true (is_formed d) (is_formed e) forms.1 in
         let types = both_true (is_typed D d) (is_typed D e) typing in
-        let parts = both_each (IsSuited C.runnable) (nodes d) (nodes e) suited.1 in
-        (
+        let parts = both_each (IsSuited C.runnable) (nodes d) (nodes e) suited.1 in (
           binary_ends C F X calls mentions w fits ty op d e both.0 (covered_type C F X calls mentions d operands.0) (covered_type C F X calls mentions e operands.1) operator.0
               forms.0 (λ v f. (right_ends d operands.0 inner.0 types.0 parts.0 v f).0) (λ v f. (right_ends e operands.1 inner.1 types.1 parts.1 v f).0),
           tt,
@@ -97,8 +94,7 @@ module _ (C : Context) (F : Footprint) (X : SourceJob → Memory → Type 0) (ca
         let both = both_true (covers_type ty) (covers_type to && covers_expr uses e) covers in
         let operand = both_true (covers_type to) (covers_expr uses e) both.1 in
         let forms = both_true (is_some (write_conversion (type_at e) to)) (is_formed e) formed in
-        let types = both_true (is_same_type ty to) (is_typed D e) typing in
-        (
+        let types = both_true (is_same_type ty to) (is_typed D e) typing in (
           convert_ends C F X calls mentions w ty to e both.0 operand.0 (covered_type C F X calls mentions e operand.1) forms.0 (same_as ty to operand.0 types.0)
               (right_ends e operand.1 forms.1 types.1 suited.1 w fits).0,
           tt,
@@ -110,8 +106,7 @@ module _ (C : Context) (F : Footprint) (X : SourceJob → Memory → Type 0) (ca
         let forms = both_true (is_row_of_call f (types_of (next_expr e rest)) ty) (is_formed e && are_formed rest) formed in
         let inner = both_true (is_formed e) (are_formed rest) forms.1 in
         let types = both_true (is_typed D e) (are_typed D rest) typing in
-        let parts = both_each (IsSuited C.runnable) (nodes e) (nodes_of_all rest) suited.1 in
-        (
+        let parts = both_each (IsSuited C.runnable) (nodes e) (nodes_of_all rest) suited.1 in (
           term_ends C F ty (library f (next_expr e rest)) (Leaves C X (typed ty (library f (next_expr e rest))) w) w refl
               (library_right C F X calls mentions w fits ty f e rest both.0 both.1 forms.0 (λ c v g. (right_ends e c inner.0 types.0 parts.0 v g).0)
               (λ c v g. values_end rest c inner.1 types.1 parts.1 v g)),
@@ -122,8 +117,7 @@ module _ (C : Context) (F : Footprint) (X : SourceJob → Memory → Type 0) (ca
         let types = both_true (are_typed_passed D args) (fits_call D ty args (slice_get D.procs q.0)) typing in
         let callee : Callee C q.0 ty args = callee_of C q.0 ty args (suited.0.ready q.0 refl) types.1 in
         let x : Procedure = callee.parts.head.procedure in
-        let L = Leaves C X (typed ty (call q qualified no_object args)) w in
-        (
+        let L = Leaves C X (typed ty (call q qualified no_object args)) w in (
           term_ends C F ty (call q qualified no_object args) L w refl
               (call_value C F X calls mentions w ty (call q qualified no_object args) x L both.0 callee.same
               (sym (ap gives_what_it_has callee.parts.head.is_procedure) ∙ callee.parts.gives)
