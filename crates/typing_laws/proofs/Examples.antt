@@ -2,9 +2,10 @@
 use Rattle.std.proofs.Common.{◌≡◌, refl, ℤ, pos, negsuc, Bool, true, false, List, [], ◌∷◌, ◌++◌, codes, Some, None}
 use Rattle.std.specs.Fmt.{digits}
 use Rattle.up_base.specs.declared.place.Place.{Place}
-use Rattle.vb_tree.specs.BoundTree.{Ty, integer, long, nothing}
+use Rattle.vb_tree.specs.BoundTree.{Ty, array, integer, long, nothing}
 use Rattle.vb_tree.specs.declared.bound.LibCall.TheVariants as lib
 use Rattle.vb_tree.specs.declared.bound.Op6.TheVariants.{Typed}
+use Rattle.vb_tree.specs.declared.declared.Owner.{Owner}
 use Rattle.vb_tree.specs.declared.declared.Owner.TheVariants as owner
 use Rattle.vb_tree.specs.declared.declared.ProcId.{ProcId}
 use Rattle.vb_tree.specs.declared.declared.ProcKind.TheVariants as kind
@@ -32,9 +33,11 @@ use Rattle.vb6_run.specs.Expressions.{Context, term_parts}
 use Rattle.vb6_run.specs.Programs.{empty_memory, run6}
 use Rattle.vb6_run.specs.Runnables.{Runnable}
 use Rattle.vb6_run.specs.Store.{Memory, set_err}
+use Rattle.run_matches.specs.CoveredExprs.{Uses}
+use Rattle.run_matches.specs.CoveredLines.{covers_form}
 use Rattle.run_matches.specs.Covered.{covers_procedure}
 use Rattle.typing_laws.specs.Edges.{IsEdge, IsLibraryEdge, least_by_minus_one, number_past_127}
-use Rattle.typing_laws.specs.Flat.{is_flat_procedure}
+use Rattle.typing_laws.specs.Scalars.{has_scalars, scalars_alone}
 use Rattle.typing_laws.specs.Typed.{is_typed_line, is_typed_procedure}
 
 -- Sub Main()
@@ -155,7 +158,7 @@ is_outside (outside o) = true
 is_covered : covers_procedure (program integer) 0 ≡ true
 is_covered = refl
 
-is_over_scalars : is_flat_procedure (program integer) 0 ≡ true
+is_over_scalars : has_scalars (program integer) 0 ≡ true
 is_over_scalars = refl
 
 is_well_typed : is_typed_procedure (program integer) 0 ≡ true
@@ -179,6 +182,36 @@ is_mistyped = refl
 
 is_stuck : is_outside (run6 (runnable long) 0 None [] [] 9 empty_memory) ≡ true
 is_stuck = refl
+
+-- ---- over scalars alone no array is erased
+
+abbrev every_use : Uses
+every_use = record { scalar = λ v. true; array = λ v e. true; group = λ v t. true; field_type = λ t k. None; is_of = λ v ty. true; inward = λ p. true; exact = λ v. true; relied = λ v. true }
+
+abbrev array_i : Expr
+array_i = typed (array integer 1) (variable (record { 0 = 0 }) false)
+
+erases : covers_form every_use (source.erase any) (array_i ∷ []) ≡ true
+erases = refl
+
+erases_no_array : covers_form (scalars_alone every_use) (source.erase any) (array_i ∷ []) ≡ false
+erases_no_array = refl
+
+-- ---- nor is a parameter quiet: one by reference is changed
+
+abbrev takes : Owner → List Line → Program
+takes o ls =
+    let P : Program = program_of ls in
+    record P { declarations = record P.declarations { vars = record variable_i { owner = o } ∷ []; procs = record procedure { params = id ∷ [] } ∷ [] } }
+
+changes : has_scalars (takes (owner.Reference main) (lines integer)) 0 ≡ true
+changes = refl
+
+is_quiet : has_scalars (takes (owner.Reference main) []) 0 ≡ false
+is_quiet = refl
+
+goes_by_value : has_scalars (takes (owner.Value main) []) 0 ≡ true
+goes_by_value = refl
 
 -- ---- a condition is a Boolean
 

@@ -2,7 +2,7 @@ pub mod Edges
 pub mod Plain
 pub mod Frames
 pub mod Typed
-pub mod Flat
+pub mod Scalars
 pub mod Calls
 pub mod Leaving
 pub mod Results
