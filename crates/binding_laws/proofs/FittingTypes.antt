@@ -1,14 +1,13 @@
--- What is given to a parameter, or tested, has the type that is wanted, where both are covered.
-use Rattle.std.proofs.Common.{◌≡◌, ℕ, suc, ◌+◌, Bool, true, false, cond, not, ◌&&◌, ◌||◌, refl, sym, ap, ◌∙◌, subst, true≢false, nat_eq, List, [], ◌∷◌, length, Option, Some, None, arith, ltb-true, ◌<◌}
+-- What is given to a parameter, or tested, has the type that is wanted, where both have one.
+use Rattle.std.proofs.Common.{◌≡◌, ℕ, suc, ◌+◌, Bool, true, false, cond, not, refl, sym, ap, ◌∙◌, subst, true≢false, nat_eq, List, [], ◌∷◌, length, Option, Some, None, arith, ltb-true, ◌<◌}
 use Rattle.std.specs.Prelude.{nat_lt, position, slice_get}
 use Rattle.std.specs.List.{position_or_len}
 use Rattle.up_base.proofs.Tests.{both_true}
-use Rattle.vb_tree.specs.BoundTree.{Ty, unknown}
+use Rattle.vb_tree.specs.BoundTree.{Ty}
 use Rattle.vb_tree.specs.declared.declared.ProcKind.{ProcKind}
 use Rattle.vb_tree.specs.declared.declared.ProcKind.TheVariants as kind
 use Rattle.bound_tree.specs.Tree.{Declarations, Procedure, Variable, Expr, typed, Argument, by_value, by_reference, Passed}
 use Rattle.bound_tree.specs.Tree as tree
-use Rattle.bound_facts.specs.Locks as locks
 use Rattle.bound_facts.specs.Node.{type_at}
 use Rattle.typing_rows.specs.declared.conversions.Conversion.{Conversion}
 use Rattle.typing_rows.specs.declared.conversions.Conversion.TheVariants.{Stands, To, Breaks}
@@ -19,28 +18,10 @@ use Rattle.expression_words.specs.Flaws as flaws
 use Rattle.expression_words.specs.Flaws.{Typed, known, breaks, on_known}
 use Rattle.expression_words.specs.Converting.{gives_none, fails, converted, plain, finally, by_conversion, wanted}
 use Rattle.expression_words.specs.Members.{is_kind, is_part, is_property, part, store_part, store_part_of}
-use Rattle.run_matches.specs.CoveredVariables.{covers_type}
 use Rattle.run_matches.specs.Covered.{is_plain_kind}
-use Rattle.typing_laws.specs.Typed.{fits_type, is_unknown}
 use Rattle.binding_laws.proofs.AssignedTypes.{Fits, Makes, converts_makes}
 
 -- ---- types that fit
-
-known_type : (t : Ty) → covers_type t ≡ true → is_unknown t ≡ false
-known_type unknown c = absurd (true≢false (sym c))
-known_type _ c = refl
-
-either_false : (a b c : Bool) → b ≡ false → c ≡ false → a || (b || c) ≡ true → a ≡ true
-either_false true b c h i e = refl
-either_false false b c h i e = absurd (true≢false (sym (sym (ap (λ x. x || c) h ∙ i) ∙ e)))
-
-pub fits_covered : (t s : Ty) → Fits t s → fits_type t s ≡ true
-fits_covered t s h = by (covers_type t) refl (covers_type s) refl
-  where
-    by : (a : Bool) → covers_type t ≡ a → (b : Bool) → covers_type s ≡ b → not (a && b) || locks.is_same_type t s ≡ true
-    by false e b f = refl
-    by true e false f = refl
-    by true e true f = either_false (locks.is_same_type t s) (is_unknown t) (is_unknown s) (known_type t e) (known_type s f) h
 
 abbrev pub IsFit : (wanted_type : Ty) → Typed → Type 0
 IsFit t (known e) = Fits t (type_at e)

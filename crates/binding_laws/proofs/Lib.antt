@@ -7,6 +7,7 @@ mod TypedParts
 mod TypedArguments
 mod TypedWords
 mod TypedTargets
+mod TypedBounds
 mod AssignedTypes
 mod FittingTypes
 mod TypedLines

@@ -30,7 +30,7 @@ use Rattle.expression_words.specs.ErrStatements.{raised, raised_value, raise_of,
 use Rattle.typing_laws.specs.Typed.{is_typed, are_typed, fits_parameter, fits_parameters, is_typed_argument, are_typed_passed, is_typed_object}
 use Rattle.binding_laws.specs.Typing.{HasTypes}
 use Rattle.binding_laws.proofs.AssignedTypes.{Fits, Makes, converts_makes}
-use Rattle.binding_laws.proofs.FittingTypes.{IsFit, fits_covered, wanted_fit}
+use Rattle.binding_laws.proofs.FittingTypes.{IsFit, wanted_fit}
 use Rattle.binding_laws.proofs.TypedParts.{same_self, either, over_known, over_all, AllHave, IsPreset, Takes, all_of, call_typed, preset_typed, wanted_typed}
 
 -- ---- arguments
@@ -63,7 +63,7 @@ module _ (D : Declarations) where
   either_slot v false s t h k = k
 
   by_value_slot : (v : Variable) (t : Typed) → HasTypes D t → IsFit v.ty t → IsSlot (Some v) (slot_by_value t)
-  by_value_slot v (known e) h k = (h, fits_covered v.ty (type_at e) k)
+  by_value_slot v (known e) h k = (h, k)
   by_value_slot v (flaws.unknown f) h k = tt
 
   value_passed : (v : Variable) (e : Expr) → is_typed D e ≡ true → IsSlot (Some v) (pass_value D v.ty e)
@@ -74,8 +74,8 @@ module _ (D : Declarations) where
   placed_typed v e h k = by (is_place e)
     where
       by : (b : Bool) → IsSlot (Some v) (filled (cond b (by_reference e) (by_value e)))
-      by true = (h, fits_covered v.ty (type_at e) k)
-      by false = (h, fits_covered v.ty (type_at e) k)
+      by true = (h, k)
+      by false = (h, k)
 
   array_passed : (v : Variable) (e : Expr) (c : Conversion) → is_typed D e ≡ true → Makes v.ty (type_at e) c → IsSlot (Some v) (array_slot e c)
   array_passed v e Stands h k = placed_typed v e h k
@@ -84,9 +84,9 @@ module _ (D : Declarations) where
   array_passed v e (Breaks rule) h k = tt
 
   place_passed : (v : Variable) (e : Expr) (c : Conversion) → is_typed D e ≡ true → Makes v.ty (type_at e) c → IsSlot (Some v) (place_slot D v.ty e c)
-  place_passed v e Stands h k = (h, fits_covered v.ty (type_at e) k)
+  place_passed v e Stands h k = (h, k)
   place_passed v e (To t) h k =
-      (and_true (is_same_type (ty_of t) (ty_of t)) (is_typed D e) (same_self (ty_of t)) h, fits_covered v.ty (ty_of t) k)
+      (and_true (is_same_type (ty_of t) (ty_of t)) (is_typed D e) (same_self (ty_of t)) h, k)
   place_passed v e conversions.ByDefault h k = value_passed v e h
   place_passed v e (Breaks rule) h k = tt
 

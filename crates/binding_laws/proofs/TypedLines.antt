@@ -1,5 +1,5 @@
 -- All lines of a bound project are well typed.
-use Rattle.std.proofs.Common.{◌≡◌, ℕ, ℤ, zero, suc, ◌+◌, Bool, true, false, cond, List, [], ◌∷◌, ◌++◌, map, length, Option, Some, None, refl, sym, subst, true≢false, not, ◌&&◌}
+use Rattle.std.proofs.Common.{◌≡◌, ℕ, ℤ, zero, suc, ◌+◌, Bool, true, false, cond, List, [], ◌∷◌, ◌++◌, map, length, Option, Some, None, refl, sym, ap, subst, true≢false, not, ◌&&◌}
 use Rattle.std.specs.Prelude.{◌||◌, slice_get}
 use Rattle.std.specs.List.{flat_map, list_all}
 use Rattle.up_base.proofs.Lists.{all_append, all_first, all_rest}
@@ -15,6 +15,7 @@ use Rattle.vb_tree.specs.Tree as source
 use Rattle.bound_tree.specs.Tree.{Declarations, Expr, Line, Procedure, Program}
 use Rattle.bound_facts.specs.Locks.{is_same_type}
 use Rattle.bound_facts.specs.Node.{type_at}
+use Rattle.bound_facts.specs.Parts.{resizes}
 use Rattle.typing_rows.specs.declared.cases.CaseType.{CaseType}
 use Rattle.typing_rows.specs.declared.conversions.Conversion.{Conversion}
 use Rattle.typing_rows.specs.declared.conversions.Conversion.TheVariants.{Stands, To, Breaks}
@@ -29,7 +30,7 @@ use Rattle.bound_exprs.specs.Resolved.{meaning, resolved}
 use Rattle.declarations.specs.ConstantExpressions.{currency_number, minus_of, or_resolved, plain_number, resolved_as}
 use Rattle.binder.specs.declared.parts.Task.{Task}
 use Rattle.binder.specs.declared.parts.Task.TheVariants as task
-use Rattle.binder.specs.Parts.{Part, case_parts, lookup_of, part, parts}
+use Rattle.binder.specs.Parts.{Part, case_parts, lookup_of, part, parts, redim_parts}
 use Rattle.binder.specs.Lines.{asked, flawed_where, set_value, settled, settled_at, settled_from, target_type, typed_as, typed_part, typed_parts, used, used_as}
 use Rattle.binder.specs.Bodies.{Inside, bindings, bound_body, bound_if, bound_line, bound_middles, bound_node, bound_nodes, common_type, kept_inside, scope_at}
 use Rattle.binder.specs.ImplicitLocals.{Home, Locals, homes, procedure_id, project_locals}
@@ -41,19 +42,20 @@ use Rattle.vb6_run.specs.Programs.{run6}
 use Rattle.vb6_run.specs.Runnables.{Runnable, declarations_of}
 use Rattle.vb6_run.specs.Store.{Memory, SourceGiven}
 use Rattle.run_matches.specs.Covered.{IsCovered}
-use Rattle.typing_laws.specs.Calls.{AreLoud, HaveResults, IsReady, OverScalars}
+use Rattle.typing_laws.specs.Calls.{AreLoud, HaveResults, IsReady, AreFlat}
 use Rattle.typing_laws.specs.Frames.{AreGiven, IsSound, anywhere, ground}
 use Rattle.typing_laws.specs.Leaving.{started}
 use Rattle.typing_laws.specs.Results.{IsRunResult}
 use Rattle.typing_laws.proofs.Runs.{run_result}
-use Rattle.typing_laws.specs.Typed.{are_typed_lines, assigns_typed, exprs_typed, fits_type, names_arrays, tests_typed, is_typed, is_typed_line, is_typed_procedure, is_unknown, taken, takes}
+use Rattle.typing_laws.specs.Typed.{are_typed_lines, assigns_typed, bounds_typed, exprs_typed, fits_type, names_arrays, tests_typed, is_typed, is_typed_bound, is_typed_resize, is_typed_line, is_typed_procedure, is_unknown, taken, takes}
 use Rattle.bound_tree.specs.declared.marks.Marks.{Marks}
 use Rattle.declarations.specs.Finals.{IsDeclared}
 use Rattle.binding_laws.specs.Typing.{HasTypes}
 use Rattle.binding_laws.proofs.DeclaredResults.{declared_have_results}
 use Rattle.binding_laws.proofs.AssignedTypes.{IsTaken, assigned_taken}
 use Rattle.binding_laws.proofs.TypedParts.{AllHave, over_known, wanted_typed}
-use Rattle.binding_laws.proofs.FittingTypes.{IsFit, fits_covered, over_wanted_fit}
+use Rattle.binding_laws.proofs.FittingTypes.{IsFit, over_wanted_fit}
+use Rattle.binding_laws.proofs.TypedBounds.{no_more, resizes_typed, settled_each}
 use Rattle.binding_laws.proofs.TypedTargets.{counter_typed, let_typed, set_typed, statement_typed}
 use Rattle.binding_laws.proofs.TypedWords.{HasMeaning, meaning_typed, resolved_typed, valued_typed}
 
@@ -211,7 +213,7 @@ module _ (S : Scope) where
   -- ---- conditions
 
   test_typed : (p : Part) (t : Typed) → IsFit types.boolean t → fits_type types.boolean (type_at (settled S p t)) ≡ true
-  test_typed p (known e) h = fits_covered types.boolean (type_at e) h
+  test_typed p (known e) h = h
   test_typed p (flaws.unknown f) h = refl
 
   one_tested : (cases : CaseType) (e : Exp)
@@ -229,6 +231,26 @@ module _ (S : Scope) where
   tested_typed cases (source.loop_until e) = one_tested cases e
   tested_typed cases (source.while_head e) = one_tested cases e
   tested_typed cases _ = refl
+
+  -- ---- bounds
+
+  bound_typed : (cases : CaseType) (target : Ty) (e : Exp)
+      → is_typed_bound D (settled S (part task.Bound e) (typed_part S cases target (part task.Bound e))) ≡ true
+  bound_typed cases target e = by (typed_as S cases target task.Bound e) (over_wanted_fit types.long D (resolved S e)) (task_typed cases target task.Bound e refl)
+    where
+      by : (t : Typed) → IsFit types.long t → HasTypes D t → is_typed_bound D (settled S (part task.Bound e) t) ≡ true
+      by (known x) fit h = and_true (fits_type types.long (type_at x)) (is_typed D x) fit h
+      by (flaws.unknown f) fit h = refl
+
+  bounds_have_types : (cases : CaseType) (f : Form) → bounds_typed D f (settled_from S (parts f) 0 (typed_parts S cases (parts f))) ≡ true
+  bounds_have_types cases (source.redim preserve []) = refl
+  bounds_have_types cases (source.redim preserve (i ∷ items)) =
+      let ps : List Part = flat_map redim_parts (i ∷ items) in
+      let target : Ty = target_type (typed_part S cases types.unknown (part task.Array i.array)) in
+      subst (λ es. list_all (is_typed_resize D) (resizes (i ∷ items) es) ≡ true)
+      (sym (settled_each S ps ps 0 (typed_part S cases target) (λ j. ap (λ n. slice_get ps n) (no_more j))))
+      (resizes_typed D (λ p. settled S p (typed_part S cases target p)) (bound_typed cases target) (i ∷ items))
+  bounds_have_types cases _ = refl
 
   exprs_have_types : (cases : CaseType) (f : Form) → exprs_typed D f (settled_from S (parts f) 0 (typed_parts S cases (parts f))) ≡ true
   exprs_have_types cases f = by (names_arrays f) refl
@@ -249,9 +271,11 @@ module _ (I : Inside) where
       typed_line : is_typed_line I.declarations (bound_line I k cases n l) ≡ true
       typed_line =
           let es = (bindings I cases (scope_at I k n) l.form).exprs in
-          and_true (assigns_typed l.form es) (tests_typed l.form es && exprs_typed I.declarations l.form es) (assigned_typed (scope_at I k n) cases l.form)
-          (and_true (tests_typed l.form es) (exprs_typed I.declarations l.form es) (tested_typed (scope_at I k n) cases l.form)
-          (exprs_have_types (scope_at I k n) cases l.form))
+          let bounds = bounds_typed I.declarations l.form es in
+          let exprs = exprs_typed I.declarations l.form es in
+          and_true (assigns_typed l.form es) (tests_typed l.form es && (bounds && exprs)) (assigned_typed (scope_at I k n) cases l.form)
+          (and_true (tests_typed l.form es) (bounds && exprs) (tested_typed (scope_at I k n) cases l.form)
+          (and_true bounds exprs (bounds_have_types (scope_at I k n) cases l.form) (exprs_have_types (scope_at I k n) cases l.form)))
 
       by : (b : Bool) → all_typed (cond b (bound_line I k cases n l ∷ []) [])
       by true = and_true (is_typed_line I.declarations (bound_line I k cases n l)) true typed_line refl
@@ -315,20 +339,20 @@ lines_typed D p =
     body_at D (all_declarations D) (all_bodies D) p (bodies_typed D (all_declarations D) (project_locals D) 0 (homes D.project))
 
 -- what can be run of a bound program
-pub ready_bound : (D : Declarations) (R : Runnable) (p : ℕ) → R.program ≡ bound_program D → IsCovered R.program p → OverScalars R p → HaveResults R p → AreLoud R p
+pub ready_bound : (D : Declarations) (R : Runnable) (p : ℕ) → R.program ≡ bound_program D → IsCovered R.program p → AreFlat R p → HaveResults R p → AreLoud R p
     → IsReady R p
-ready_bound D R p is covers scalars results loud = record {
+ready_bound D R p is covers flat results loud = record {
   covered = covers;
-  scalars = scalars;
+  flat = flat;
   typed = λ q c. subst (λ (P : Program). is_typed_procedure P q ≡ true) (sym is) (lines_typed D q);
   results = results;
   loud = loud;
 }
 
 pub bound_runs_leave : (P : Project) (D : Declarations) (M : Marks) (R : Runnable) (p n : ℕ) (x : Procedure) (me : Option ℕ) (args : List SourceGiven)
-    (inputs : List (List ℕ)) (w : Memory) → IsDeclared P D M → R.program ≡ bound_program D → IsCovered R.program p → OverScalars R p → AreLoud R p
+    (inputs : List (List ℕ)) (w : Memory) → IsDeclared P D M → R.program ≡ bound_program D → IsCovered R.program p → AreFlat R p → AreLoud R p
     → slice_get (declarations_of R).procs p ≡ Some x → IsSound (ground (declarations_of R) anywhere) w
     → AreGiven (ground (declarations_of R) anywhere) w x.params args
     → IsRunResult R (suc n) x args (enters p me [] args) (started inputs n w) (run6 R p me args inputs n w)
-bound_runs_leave P D M R p n x me args inputs w declared is covers scalars loud procedure sound given =
-    run_result R p n x me args inputs w (ready_bound D R p is covers scalars (declared_have_results P D M R p declared is) loud) procedure sound given
+bound_runs_leave P D M R p n x me args inputs w declared is covers flat loud procedure sound given =
+    run_result R p n x me args inputs w (ready_bound D R p is covers flat (declared_have_results P D M R p declared is) loud) procedure sound given

@@ -31,9 +31,8 @@ use Rattle.expression_words.specs.Flaws.{Typed, known, breaks, lacks, together, 
 use Rattle.expression_words.specs.Converting.{gives_none, fails, converted, id, has_preset, presets, preset_of, preset_value, with_preset, bare_result, bare_value, default_value, default_at, behind_default, plain_in, plain, finally, by_conversion, wanted}
 use Rattle.expression_words.specs.Members.{value_part, result_in, params_in, count_classes}
 use Rattle.expression_words.specs.Operators.{is_too_long, literal_of, as_operand, is_constant_expression, folds, with_value, own_term, is_comparison_of_objects, by_row, by_own_row, is_default, by_any_row, is_untranslated, combined, binary_over, by_unary_row, by_own_unary_row, by_any_unary_row, unary_over}
-use Rattle.run_matches.specs.CoveredVariables.{covers_type}
 use Rattle.run_matches.specs.Covered.{is_plain_kind}
-use Rattle.typing_laws.specs.Typed.{are_typed, are_typed_passed, fits_call, fits_parameter, fits_parameters, fits_type, is_typed, is_typed_object}
+use Rattle.typing_laws.specs.Typed.{are_typed, are_typed_passed, fits_call, fits_parameter, fits_parameters, fits_type, is_typed, is_typed_object, is_unknown}
 use Rattle.binding_laws.specs.Typing.{HasTypes}
 
 -- ---- equal types
@@ -130,11 +129,7 @@ module _ (D : Declarations) where
   IsPreset v (Some e) = (is_typed D e ≡ true) × (fits_parameter (by_value e) v ≡ true)
 
   fits_self : (ty : Ty) → fits_type ty ty ≡ true
-  fits_self ty = by (not (covers_type ty && covers_type ty)) (is_same_type ty ty) (same_self ty)
-    where
-      by : (a b : Bool) → b ≡ true → a || b ≡ true
-      by true b h = refl
-      by false b h = h
+  fits_self ty = ap (λ b. b || (is_unknown ty || is_unknown ty)) (same_self ty)
 
   value_preset : (v : Variable) (o : Option Value6) → IsPreset (Some v) (preset_value v.ty o)
   value_preset v None = tt

@@ -11,7 +11,10 @@ use Rattle.bound_facts.specs.Leading.{is_within, within}
 use Rattle.bound_facts.specs.Node.{called}
 use Rattle.bound_facts.specs.Nodes.{nodes}
 use Rattle.bound_facts.specs.Parts.{line_uses}
+use Rattle.bound_facts.specs.Bounds.{declared_ranks, rank_items, ranks}
+use Rattle.run_base.specs.Machines.{nth_line}
 use Rattle.vb6_run.specs.Runnables.{Runnable}
+use Rattle.run_matches.specs.CoveredVariables.{has_extents, has_rank}
 use Rattle.run_matches.specs.Covered.{covers_callee, covers_calls, suits, hands}
 use Rattle.run_matches.specs.Sites.{Site, site_of}
 use Rattle.typing_laws.specs.Calls.{CallsAreSuited, Each, IsReady, IsSuited}
@@ -108,7 +111,7 @@ module _ (R : Runnable) (p q k : ℕ) (x : Procedure) (is : slice_get R.program.
   pub ready_called : IsReady R p → IsReady R q
   ready_called h = record {
     covered = λ r c. h.covered r (chain_then _ p q r reaches_called c);
-    scalars = λ r c. h.scalars r (chain_then _ p q r reaches_called c);
+    flat = λ r c. h.flat r (chain_then _ p q r reaches_called c);
     typed = λ r c. h.typed r (chain_then _ p q r reaches_called c);
     results = λ r c. h.results r (chain_then _ p q r reaches_called c);
     loud = λ r c. h.loud r (chain_then _ p q r reaches_called c);
@@ -131,7 +134,7 @@ each_of : {A : Type 0} (Q : A → Type 0) (xs : List A) → ((x : A) → Among x
 each_of Q [] h = tt
 each_of Q (x ∷ xs) h = (h x (inl refl), each_of Q xs (λ y m. h y (inr m)))
 
-all_among : {A : Type 0} (f : A → Bool) (xs : List A) (x : A) → list_all f xs ≡ true → Among xs x → f x ≡ true
+pub all_among : {A : Type 0} (f : A → Bool) (xs : List A) (x : A) → list_all f xs ≡ true → Among xs x → f x ≡ true
 all_among f [] x h m = absurd m
 all_among f (y ∷ ys) x h (inl e) = ap f (sym e) ∙ (both_true (f y) (list_all f ys) h).0
 all_among f (y ∷ ys) x h (inr m) = all_among f ys x (both_true (f y) (list_all f ys) h).1 m
@@ -169,3 +172,17 @@ exprs_suited R [] h = tt
 exprs_suited R (e ∷ es) h =
     let b = both_each (IsSuited R) (nodes e) (flat_map nodes es) h in
     (b.0, exprs_suited R es b.1)
+
+-- each ReDim of a line gives its arrays a bound
+pub line_ranks : (P : Program) (p n : ℕ) (lines : List Line) (l : Line) → slice_get P.bodies p ≡ Some lines → nth_line lines n ≡ Some l → has_extents P ≡ true
+    → list_all has_rank (rank_items P.declarations p l) ≡ true
+line_ranks P p zero lines l are_lines stands h = absurd (not_none stands)
+line_ranks P p (suc k) lines l are_lines stands h =
+    all_of has_rank (rank_items P.declarations p l)
+    (λ y m. all_among has_rank (ranks P) y h
+    (among_right (declared_ranks 0 P.declarations.vars) (items_from (rank_items P.declarations) 0 P.bodies) y
+    (items_among (rank_items P.declarations) 0 p k P.bodies lines l y are_lines stands (subst (λ j. Among (rank_items P.declarations j l) y) (none_more p) m))))
+  where
+    all_of : {A : Type 0} (f : A → Bool) (xs : List A) → ((x : A) → Among xs x → f x ≡ true) → list_all f xs ≡ true
+    all_of f [] g = refl
+    all_of f (x ∷ xs) g = and_true (f x) (list_all f xs) (g x (inl refl)) (all_of f xs (λ y m. g y (inr m)))

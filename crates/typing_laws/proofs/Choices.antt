@@ -30,7 +30,7 @@ use Rattle.vb6_run.specs.Store.{Address, Memory}
 use Rattle.vb6_run.specs.Values.{Value}
 use Rattle.run_matches.specs.CoveredExprs.{Uses, covers_expr}
 use Rattle.run_matches.specs.CoveredLines.{chooses_among, covers_items, covers_line, covers_part, head_line, is_comparison}
-use Rattle.typing_laws.specs.Scalars.{scalar_uses}
+use Rattle.typing_laws.specs.Flat.{flat_uses}
 use Rattle.typing_laws.specs.Calls.{CallsKeep, Each, IsAimed, SourceJob}
 use Rattle.typing_laws.specs.Frames.{IsChoice, choice_of, numbered}
 use Rattle.typing_laws.specs.Leaving.{Leaves, CaseLeaves, LineLeaves, in_value, behind_value, in_lower, in_upper, below_range, above_range, in_comparison, behind_comparison, case_unkept, in_case, in_choice}
@@ -93,7 +93,7 @@ module _ (C : Context) (F : Footprint) (X : SourceJob → Memory → Type 0) (ca
       subst (λ a. Ends K AnyTruth (Leaves C X e w) v (then (answered a v) truth_of)) (sym t.1) (keeps_self K v, tt))
 
   abbrev uses : Uses
-  uses = scalar_uses C.runnable.program C.procedure mentions
+  uses = flat_uses C.runnable.program C.procedure mentions
 
   module _ (ty : Ty) (x : Value6) (p : Plain ty x) where
     abbrev SameTypes : List Expr → Type 0

@@ -5,6 +5,8 @@ use Rattle.std.specs.List.{list_all}
 use Rattle.up_base.proofs.Tests.{both_true}
 use Rattle.vb_tree.specs.BoundTree.{Ty}
 use Rattle.vb_tree.specs.BoundTree as types
+use Rattle.vb_tree.specs.declared.declared.Owner.{Owner}
+use Rattle.vb_tree.specs.declared.declared.Owner.TheVariants as owner
 use Rattle.vb_tree.specs.declared.declared.VarId.{VarId}
 use Rattle.vb_tree.specs.declared.expression.BinOp.TheVariants as b
 use Rattle.vb_tree.specs.declared.token.Suffix.{Suffix}
@@ -24,6 +26,8 @@ use Rattle.run_base.specs.Frames.{Kept, keeps_nothing, keeps_limit, keeps_value,
 use Rattle.run_base.specs.Machines.{nth_line}
 use Rattle.run_base.specs.Outcomes.{Outcome, gives, after, then, answered, some_of}
 use Rattle.run_base.specs.Positions.{Position}
+use Rattle.written_trees.specs.Arguments.{is_reference_owner}
+use Rattle.vb6_run.specs.Programs.{is_local_of}
 use Rattle.vb6_run.specs.Expressions.{Context, declared, value_of, address_of, finished}
 use Rattle.vb6_run.specs.Lines.{branch, counted, for_does, for_from, has_passed, keeping_limit, next_of, passed_by, step_of, sum_of}
 use Rattle.vb6_run.specs.Shapes.{Shape, simple}
@@ -31,21 +35,23 @@ use Rattle.vb6_run.specs.Store.{Address, Memory, SourceFrame, root, item, consta
 use Rattle.vb6_run.specs.Values.{Value, scalar}
 use Rattle.run_matches.specs.CoveredVariables.{covers_type}
 use Rattle.run_matches.specs.CoveredExprs.{Uses, covers_expr, covers_value, is_variable, uses_in}
-use Rattle.run_matches.specs.CoveredLines.{counts_local, covers_counter, covers_counting, covers_form, covers_line, covers_part, covers_step, head_line, is_counter}
+use Rattle.run_matches.specs.CoveredLines.{counts_local, covers_counter, covers_counting, covers_form, covers_line, covers_part, covers_step, head_line, is_counter, is_local_in}
 use Rattle.run_matches.specs.Formed.{is_formed}
-use Rattle.typing_laws.specs.Scalars.{scalar_uses}
+use Rattle.typing_laws.specs.Flat.{flat_uses}
 use Rattle.typing_laws.specs.Calls.{CallsKeep, Each, IsAimed, SourceJob}
 use Rattle.typing_laws.specs.Frames.{IsLimit, IsTypedFrame, Keeps, Stands, counter_of, numbered}
 use Rattle.typing_laws.specs.Leaving.{Leaves, CountingLeaves, LineLeaves, in_start, in_limit, in_step, in_counting, next_unkept}
-use Rattle.typing_laws.specs.Plain.{IsValue}
+use Rattle.typing_laws.specs.Plain.{Holds, IsShapeOf, IsValue, holds_scalar}
+use Rattle.typing_laws.proofs.Addresses.{AtRoot, at_root, root_read, root_written, simple_is}
+use Rattle.typing_laws.proofs.Held.{Single, single_of}
 use Rattle.typing_laws.proofs.Choices.{IsOrdered, IsTest, compared, ordered}
 use Rattle.typing_laws.proofs.Ends.{Ends, ends_after, ends_from, ends_weaker, keeps_self, sound_later, then_ends}
-use Rattle.typing_laws.proofs.Expressions.{IsTyped, read_here, same_type, variable_is, variable_place}
+use Rattle.typing_laws.proofs.Expressions.{IsTyped, same_type, variable_is, variable_place}
 use Rattle.typing_laws.proofs.Frames.{frame_later}
 use Rattle.typing_laws.proofs.Library.{integer_answer, long_answer}
-use Rattle.typing_laws.proofs.Lines.{Good, IsFine, IsIn, KeepsAt, branches, fine_ends, fine_type, fits_in, in_later, never_nowhere, never_unopened, put_there}
+use Rattle.typing_laws.proofs.Lines.{Good, IsFine, IsIn, KeepsAt, branches, fine_ends, fine_type, fits_in, in_later, never_nowhere, never_unopened}
 use Rattle.typing_laws.proofs.Places.{keeps_changed, not_none, some_is, stands_changed}
-use Rattle.typing_laws.proofs.Plain.{Plain, a_boolean, a_byte, an_integer, a_long, a_currency, a_text, same_as}
+use Rattle.typing_laws.proofs.Plain.{Plain, a_boolean, a_byte, an_integer, a_long, a_currency, a_text, is_covered, same_as}
 use Rattle.typing_laws.proofs.Rows.{IsAnswer}
 use Rattle.typing_laws.proofs.Uses.{PlaceOf, Used, use_is}
 use Rattle.typing_laws.specs.Frames.{Footprint, Ground, ground}
@@ -110,37 +116,52 @@ module _ (C : Context) (F : Footprint) (X : SourceJob → Memory → Type 0) (ca
   Fine e = IsFine C F X calls mentions e
 
   abbrev uses : Uses
-  uses = scalar_uses C.runnable.program C.procedure mentions
+  uses = flat_uses C.runnable.program C.procedure mentions
 
   some_none : (n : ℕ) → ◌≡◌ {A = Option ℕ} (Some n) None → ⊥
   some_none n e = not_none (sym e)
 
   -- ---- For
 
+  -- the counter is a local variable
+  local_owner : (id : VarId) (u : Used (declared C) C.procedure id) → is_local_in C.procedure (slice_get (declared C).vars id.0) ≡ true
+      → is_reference_owner u.variable.owner ≡ false
+  local_owner id u h = by u.variable.owner (sym (ap (λ o. is_local_in C.procedure o) u.is_variable) ∙ h)
+    where
+      by : (o : Owner) → is_local_of C.procedure o ≡ true → is_reference_owner o ≡ false
+      by (owner.Local p) h = refl
+      by _ h = absurd (true≢false (sym h))
+
   from_ends : (counter start limit : Exp) (step : Option Exp) (L : Type 0) (w : Memory) → IsIn C F w → (ty : Ty) (id : VarId) (qualified : Bool) (rest : List Expr)
-      → Fine (typed ty (variable id qualified)) → is_counter ty ≡ true
+      → Fine (typed ty (variable id qualified)) → is_local_in C.procedure (slice_get (declared C).vars id.0) ≡ true → is_counter ty ≡ true
       → KeepsAt C F (source.for_head counter start limit step) (typed ty (variable id qualified) ∷ rest) → (x y s : Value) → IsValue ty x → IsValue ty y → IsValue ty s
       → (C.aims.otherwise ≡ None → L) → Ends (ground (declared C) F) (Good C F) L w (for_from C (typed ty (variable id qualified)) x y s w)
-  from_ends counter start limit step L w h ty id qualified rest fine c keep x y s p q r out =
+  from_ends counter start limit step L w h ty id qualified rest fine local c keep x y s p q r out =
       let D : Declarations = declared C in
       let K : Ground = ground (declared C) F in
       let e : Expr = typed ty (variable id qualified) in
       let u : Used D C.procedure id = use_is C.runnable.program C.procedure mentions id (both_true (covers_type ty) (uses.scalar id) fine.covers).1 in
-      let place : PlaceOf K C.frame w id.0 u.variable.ty = variable_place C F w (fits_in C F w h) id u in
+      let place : PlaceOf C.runnable.program F C.frame w id.0 u.variable = variable_place C F w (fits_in C F w h) id u in
       let same : ty ≡ u.variable.ty = same_type D C.procedure ty id u fine.typed in
-      let there : Stands K w place.0 ty = subst (λ t. Stands K w place.0 t) (sym same) place.2 in
-      let a : Address = root (simple ty) place.0 in
-      let w2 : Memory = with_held place.0 (single ty p.0) w in
-      let change : Keeps K w w2 = keeps_changed K w place.0 ty p.0 there p.2 in
+      let at : AtRoot C.runnable.program F w u.variable place.0 = at_root C.runnable.program F w id.0 u.variable place.0 place.2 (local_owner id u local) in
+      let there : Stands K w at.position ty = subst (λ t. Stands K w at.position t) (sym same) at.stands in
+      let covers : covers_type ty ≡ true = is_covered ty p.0 p.2 in
+      let one : Single ty (w.held at.position) = single_of ty (w.held at.position) covers there.holds in
+      let a : Address = root (simple ty) at.position in
+      let new : Holds ty (single ty p.0) = holds_scalar ty p.0 p.2 in
+      let w2 : Memory = with_held at.position (single ty p.0) w in
+      let change : Keeps K w w2 = keeps_changed K w at.position ty (single ty p.0) there new in
       let C2 : Context = keeping_limit C a y s in
       let K1 = λ (b : Address) (v : Memory). then (write C.frame.env (scalar ty p.0) b v)
       (λ (z : Unit {0}) t. counted (keeping_limit C b y s) (Some C.aims.after) C.aims.otherwise (scalar ty p.0) y s t) in
       let K2 = λ (z : Unit {0}) (t : Memory). counted C2 (Some C.aims.after) C.aims.otherwise (scalar ty p.0) y s t in
+      let fits : IsShapeOf ty at.shape = subst (λ t. IsShapeOf t at.shape) (sym same) at.fits in
       let at_variable : address_of C e w ≡ gives [] a w =
-      ap (λ r. then r finished) (variable_is C F ty id qualified w w u place) ∙ ap (λ t. gives [] (root (simple t) place.0) w) (sym same) in
+      ap (λ r. then r finished) (variable_is C ty id qualified w place.0 place.1 u.plain)
+      ∙ ap (λ b. gives [] b w) (at.is ∙ ap (λ d. root d at.position) (simple_is ty at.shape covers fits)) in
       let frame : IsTypedFrame F C.runnable C.procedure w2 (keeping (keeps_limit a y s) C.frame.line C.frame) =
       keep w2 (keeps_limit a y s) C.frame.line (frame_later F C.runnable C.procedure w w2 C.frame change h.frame) (record {
-        limit = λ d is. subst (λ (z : Expr). IsLimit K w2 (type_at z) (keeps_limit a y s)) (some_is is) (refl, stands_changed K w place.0 ty p.0 there p.2, q, r);
+        limit = λ d is. subst (λ (z : Expr). IsLimit K w2 (type_at z) (keeps_limit a y s)) (some_is is) (refl, stands_changed K w at.position ty (single ty p.0) there new, q, r);
         choice = λ d is. absurd (not_none is);
       }) in
       let r2 : Outcome Memory SourceFrame = counted C2 (Some C.aims.after) C.aims.otherwise (scalar ty p.0) y s w2 in
@@ -148,7 +169,8 @@ module _ (C : Context) (F : Footprint) (X : SourceJob → Memory → Type 0) (ca
       counted_ends C2 F L w2 (record { sound = sound_later K w w2 change h.sound; frame = frame }) (Some C.aims.after) C.aims.otherwise ty (scalar ty p.0) y s c
       (p.0, refl, p.2) q r (λ e. absurd (some_none C.aims.after e)) out in
       subst (λ z. Ends K (Good C F) L w (for_from C e z y s w)) (sym p.1)
-      (subst (λ r. Ends K (Good C F) L w r) (sym (ap (λ r. then r K1) at_variable ∙ ap (λ r. after [] (then r K2)) (put_there C F ty place.0 w p.0 there p.2)))
+      (subst (λ r. Ends K (Good C F) L w r)
+      (sym (ap (λ r. then r K1) at_variable ∙ ap (λ r. after [] (then r K2)) (root_written K w ty C.frame.env p.0 p.2 at.position one.value one.holds)))
       (ends_after K (Good C F) L w [] (after [] r2) (ends_after K (Good C F) L w [] r2 (ends_from K (Good C F) L w w2 r2 change ends))))
 
   step_ends : (L : Type 0) (w : Memory) → IsIn C F w → (e : Expr) (es : List Expr) → is_counter (type_at e) ≡ true → covers_step uses (type_at e) es ≡ true
@@ -166,11 +188,11 @@ module _ (C : Context) (F : Footprint) (X : SourceJob → Memory → Type 0) (ca
 
   limits_end : (counter first last : Exp) (step : Option Exp) (w : Memory) → IsIn C F w → (ty : Ty) (id : VarId) (qualified : Bool) (start limit : Expr) (es : List Expr)
       → is_counter ty ≡ true → covers_value uses ty start ≡ true → covers_value uses ty limit ≡ true → covers_step uses ty es ≡ true
-      → Fine (typed ty (variable id qualified)) → Fine start → Fine limit → Each Fine es
+      → Fine (typed ty (variable id qualified)) → is_local_in C.procedure (slice_get (declared C).vars id.0) ≡ true → Fine start → Fine limit → Each Fine es
       → IsAimed C (source.for_head counter first last step) → KeepsAt C F (source.for_head counter first last step) (typed ty (variable id qualified) ∷ start ∷ limit ∷ es)
       → Ends (ground (declared C) F) (Good C F) (LineLeaves C X (source.for_head counter first last step) (typed ty (variable id qualified) ∷ start ∷ limit ∷ es) w) w
       (for_does C (typed ty (variable id qualified) ∷ start ∷ limit ∷ es) w)
-  limits_end counter first last step w h ty id qualified start limit es c c1 c2 c3 fine f1 f2 f3 aimed keep =
+  limits_end counter first last step w h ty id qualified start limit es c c1 c2 c3 fine local f1 f2 f3 aimed keep =
       let D : Declarations = declared C in
       let K : Ground = ground (declared C) F in
       let e : Expr = typed ty (variable id qualified) in
@@ -195,24 +217,24 @@ module _ (C : Context) (F : Footprint) (X : SourceJob → Memory → Type 0) (ca
       in_counting counter first last step (e ∷ start ∷ limit ∷ es) w
       (subst (λ (ds : List Expr). CountingLeaves C X (e ∷ start ∷ limit ∷ ds) w) (sym is) (in_step e start limit s w v u o o2 x y one two l))))
       (λ o3 s t three k3 r.
-      from_ends counter first last step L t (in_later C F u t k3 hu) ty id qualified (start ∷ limit ∷ es) fine c keep x y s
+      from_ends counter first last step L t (in_later C F u t k3 hu) ty id qualified (start ∷ limit ∷ es) fine local c keep x y s
       (subst (λ z. IsValue z x) (sym (same start f1 c1)) p) (subst (λ z. IsValue z y) (sym (same limit f2 c2)) q) r
       (λ out. never_nowhere C (source.for_head counter first last step) L aimed refl out))))
 
   pub for_ends : (counter first last : Exp) (step : Option Exp) (w : Memory) → IsIn C F w → (es : List Expr) → covers_counting uses es ≡ true → Each Fine es
-      → IsAimed C (source.for_head counter first last step) → KeepsAt C F (source.for_head counter first last step) es
+      → counts_local C.runnable.program C.procedure (source.for_head counter first last step) es ≡ true → IsAimed C (source.for_head counter first last step) → KeepsAt C F (source.for_head counter first last step) es
       → Ends (ground (declared C) F) (Good C F) (LineLeaves C X (source.for_head counter first last step) es w) w (for_does C es w)
-  for_ends counter first last step w h [] covers fine aimed keep = absurd (true≢false (sym covers))
-  for_ends counter first last step w h (e ∷ []) covers fine aimed keep = absurd (true≢false (sym covers))
-  for_ends counter first last step w h (e ∷ start ∷ []) covers fine aimed keep = absurd (true≢false (sym covers))
-  for_ends counter first last step w h (typed ty (variable id qualified) ∷ start ∷ limit ∷ es) covers fine aimed keep =
+  for_ends counter first last step w h [] covers fine local aimed keep = absurd (true≢false (sym covers))
+  for_ends counter first last step w h (e ∷ []) covers fine local aimed keep = absurd (true≢false (sym covers))
+  for_ends counter first last step w h (e ∷ start ∷ []) covers fine local aimed keep = absurd (true≢false (sym covers))
+  for_ends counter first last step w h (typed ty (variable id qualified) ∷ start ∷ limit ∷ es) covers fine local aimed keep =
       let e : Expr = typed ty (variable id qualified) in
       let a = both_true (covers_counter uses e) (covers_value uses ty start && (covers_value uses ty limit && covers_step uses ty es)) covers in
       let b = both_true (covers_value uses ty start) (covers_value uses ty limit && covers_step uses ty es) a.1 in
       let d = both_true (covers_value uses ty limit) (covers_step uses ty es) b.1 in
       let c = both_true (is_counter ty) (covers_expr uses e) a.0 in
-      limits_end counter first last step w h ty id qualified start limit es c.0 b.0 d.0 d.1 fine.0 fine.1.0 fine.1.1.0 fine.1.1.1 aimed keep
-  for_ends counter first last step w h (typed ty _ ∷ start ∷ limit ∷ es) covers fine aimed keep = absurd (true≢false (sym covers))
+      limits_end counter first last step w h ty id qualified start limit es c.0 b.0 d.0 d.1 fine.0 local fine.1.0 fine.1.1.0 fine.1.1.1 aimed keep
+  for_ends counter first last step w h (typed ty _ ∷ start ∷ limit ∷ es) covers fine local aimed keep = absurd (true≢false (sym covers))
 
   -- ---- Next
 
@@ -229,17 +251,19 @@ module _ (C : Context) (F : Footprint) (X : SourceJob → Memory → Type 0) (ca
       let D : Declarations = declared C in
       let K : Ground = ground (declared C) F in
       let a : Address = root (simple ty) q in
+      let covers : covers_type ty ≡ true = is_covered ty p.0 p.2 in
+      let one : Single ty (w.held q) = single_of ty (w.held q) covers there.holds in
       let G = λ (t : Value) (x : Value) (v : Memory). then (write C.frame.env x a v) (λ (u : Unit {0}) m. counted C C.aims.back (Some C.aims.after) x y t m) in
       subst (λ t. Ends K (Good C F) L w (next_of C (keeps_limit a y t) w)) (sym r.1)
-      (subst (λ z. Ends K (Good C F) L w (then z (λ x v. then (sum_of x (scalar ty r.0) v) (G (scalar ty r.0))))) (sym (read_here ty there.value q w there.holds there.plain))
-      (ends_after K (Good C F) L w [] (then (sum_of (scalar ty there.value) (scalar ty r.0) w) (G (scalar ty r.0)))
-      (sum_ends L w ty (G (scalar ty r.0)) (typed_row b.Add there.value r.0) (sum_answer ty there.value r.0 c there.plain r.2)
+      (subst (λ z. Ends K (Good C F) L w (then z (λ x v. then (sum_of x (scalar ty r.0) v) (G (scalar ty r.0))))) (sym (root_read K w ty q one.value one.holds one.plain))
+      (ends_after K (Good C F) L w [] (then (sum_of (scalar ty one.value) (scalar ty r.0) w) (G (scalar ty r.0)))
+      (sum_ends L w ty (G (scalar ty r.0)) (typed_row b.Add one.value r.0) (sum_answer ty one.value r.0 c one.plain r.2)
       (λ z plain.
       let w2 : Memory = with_held q (single ty z) w in
-      let change : Keeps K w w2 = keeps_changed K w q ty z there plain in
+      let change : Keeps K w w2 = keeps_changed K w q ty (single ty z) there (holds_scalar ty z plain) in
       let r2 : Outcome Memory SourceFrame = counted C C.aims.back (Some C.aims.after) (scalar ty z) y (scalar ty r.0) w2 in
       subst (λ o. Ends K (Good C F) L w (then o (λ (u : Unit {0}) m. counted C C.aims.back (Some C.aims.after) (scalar ty z) y (scalar ty r.0) m)))
-      (sym (put_there C F ty q w z there plain))
+      (sym (root_written K w ty C.frame.env z plain q one.value one.holds))
       (ends_after K (Good C F) L w [] r2
       (ends_from K (Good C F) L w w2 r2 change
       (counted_ends C F L w2 (in_later C F w w2 change h) C.aims.back (Some C.aims.after) ty (scalar ty z) y (scalar ty r.0) c (z, refl, plain) p (r.0, refl, r.2) out

@@ -3,6 +3,7 @@ use Rattle.std.proofs.Common.{◌≡◌, refl, sym, ◌∙◌, subst, ◌≤◌,
 use Rattle.vb_tree.specs.BoundTree.{Ty}
 use Rattle.run_base.specs.Outcomes.{Output, Outcome, gives, raises, spent, outside, after, then}
 use Rattle.vb6_run.specs.Store.{Memory}
+use Rattle.typing_laws.specs.Plain.{Holds}
 use Rattle.typing_laws.specs.Frames.{Ground, IsBlankStatic, IsSound, Keeps, Stands, shared_place}
 use Rattle.run_base.specs.Positions.{Root, shared, made, field, Position}
 use Rattle.run_matches.specs.Maps.{IsMade, mark}
@@ -22,13 +23,13 @@ then_others : (K : Ground) (w v u : Memory) → Keeps K w v → Keeps K v u → 
 then_others K w v u h k q m s b =
     let same : v.held q ≡ w.held q = h.others q m s b in
     k.others q (made_later K w v h q.root m)
-    (λ ty z. s ty (record { value = z.value; holds = sym same ∙ z.holds; plain = z.plain; made = m; allowed = z.allowed }))
+    (λ ty z. s ty (record { holds = subst (λ h. Holds ty h) same z.holds; made = m; allowed = z.allowed }))
     (λ z. b (record {
       number = z.number;
       variable = z.variable;
       is_variable = z.is_variable;
       static = z.static;
-      covers = z.covers;
+      flat = z.flat;
       place = z.place;
       is_blank = sym same ∙ z.is_blank;
     }))

@@ -1,11 +1,11 @@
 -- A small procedure is well typed and isn't outside; with a use of another type it is neither.
-use Rattle.std.proofs.Common.{◌≡◌, refl, ℤ, pos, negsuc, Bool, true, false, List, [], ◌∷◌, ◌++◌, codes, Some, None}
+use Rattle.std.proofs.Common.{◌≡◌, refl, ℕ, ℤ, pos, negsuc, Bool, true, false, List, [], ◌∷◌, ◌++◌, codes, Option, Some, None}
+use Rattle.std.specs.Prelude.{slice_get}
 use Rattle.std.specs.Fmt.{digits}
 use Rattle.up_base.specs.declared.place.Place.{Place}
 use Rattle.vb_tree.specs.BoundTree.{Ty, array, integer, long, nothing}
 use Rattle.vb_tree.specs.declared.bound.LibCall.TheVariants as lib
 use Rattle.vb_tree.specs.declared.bound.Op6.TheVariants.{Typed}
-use Rattle.vb_tree.specs.declared.declared.Owner.{Owner}
 use Rattle.vb_tree.specs.declared.declared.Owner.TheVariants as owner
 use Rattle.vb_tree.specs.declared.declared.ProcId.{ProcId}
 use Rattle.vb_tree.specs.declared.declared.ProcKind.TheVariants as kind
@@ -27,17 +27,18 @@ use Rattle.vb6_meaning.specs.Values.{operate}
 use Rattle.bound_tree.specs.declared.body.Mention.TheVariants as mention
 use Rattle.bound_tree.specs.declared.expression.Origin.TheVariants.{Literal}
 use Rattle.bound_tree.specs.RuleSets.{none}
-use Rattle.bound_tree.specs.Tree.{Variable, Procedure, Expr, typed, constant, variable, err_number, Line, Program}
+use Rattle.bound_tree.specs.Tree.{Variable, Procedure, Expr, typed, constant, variable, element, Exprs, no_exprs, next_expr, err_number, Line, Program}
+use Rattle.run_base.specs.Frames.{by_value}
 use Rattle.run_base.specs.Outcomes.{Outcome, gives, raises, spent, outside, outputs, printed}
 use Rattle.vb6_run.specs.Expressions.{Context, term_parts}
 use Rattle.vb6_run.specs.Programs.{empty_memory, run6}
 use Rattle.vb6_run.specs.Runnables.{Runnable}
 use Rattle.vb6_run.specs.Store.{Memory, set_err}
-use Rattle.run_matches.specs.CoveredExprs.{Uses}
-use Rattle.run_matches.specs.CoveredLines.{covers_form}
+use Rattle.vb6_run.specs.Values.{scalar}
+use Rattle.run_matches.specs.CoveredVariables.{is_loud}
 use Rattle.run_matches.specs.Covered.{covers_procedure}
 use Rattle.typing_laws.specs.Edges.{IsEdge, IsLibraryEdge, least_by_minus_one, number_past_127}
-use Rattle.typing_laws.specs.Scalars.{has_scalars, scalars_alone}
+use Rattle.typing_laws.specs.Flat.{is_flat_procedure}
 use Rattle.typing_laws.specs.Typed.{is_typed_line, is_typed_procedure}
 
 -- Sub Main()
@@ -158,8 +159,8 @@ is_outside (outside o) = true
 is_covered : covers_procedure (program integer) 0 ≡ true
 is_covered = refl
 
-is_over_scalars : has_scalars (program integer) 0 ≡ true
-is_over_scalars = refl
+is_flat_as_well : is_flat_procedure (program integer) 0 ≡ true
+is_flat_as_well = refl
 
 is_well_typed : is_typed_procedure (program integer) 0 ≡ true
 is_well_typed = refl
@@ -183,35 +184,102 @@ is_mistyped = refl
 is_stuck : is_outside (run6 (runnable long) 0 None [] [] 9 empty_memory) ≡ true
 is_stuck = refl
 
--- ---- over scalars alone no array is erased
+-- ---- arrays
 
-abbrev every_use : Uses
-every_use = record { scalar = λ v. true; array = λ v e. true; group = λ v t. true; field_type = λ t k. None; is_of = λ v ty. true; inward = λ p. true; exact = λ v. true; relied = λ v. true }
+-- the same with an array
+--     Dim i(1 To 2) As Integer
+abbrev with_array : List Line → Program
+with_array ls =
+    let P : Program = program_of ls in
+    record P {
+      declarations = record P.declarations { vars = record variable_i { ty = array integer 1; named = array integer 1; bounds = (pos 1, pos 2) ∷ [] } ∷ [] };
+    }
+
+abbrev runs_array : ℤ → List Line → Runnable
+runs_array low ls = record { program = with_array ls; quiet = λ p i. false; low = λ a d. low }
 
 abbrev array_i : Expr
-array_i = typed (array integer 1) (variable (record { 0 = 0 }) false)
+array_i = typed (array integer 1) (variable id false)
 
-erases : covers_form every_use (source.erase any) (array_i ∷ []) ≡ true
-erases = refl
+abbrev long_number : ℤ → Expr
+long_number z = typed long (constant (v.Long z) Literal)
 
-erases_no_array : covers_form (scalars_alone every_use) (source.erase any) (array_i ∷ []) ≡ false
-erases_no_array = refl
+abbrev at : Exprs → Expr
+at indexes = typed integer (element array_i indexes)
 
--- ---- nor is a parameter quiet: one by reference is changed
+abbrev one_index : ℤ → Exprs
+one_index z = next_expr (long_number z) no_exprs
 
-abbrev takes : Owner → List Line → Program
-takes o ls =
-    let P : Program = program_of ls in
-    record P { declarations = record P.declarations { vars = record variable_i { owner = o } ∷ []; procs = record procedure { params = id ∷ [] } ∷ [] } }
+--     i(1) = 1
+--     Debug.Print i(1)
+abbrev fills : Exprs → List Line
+fills indexes =
+    code (source.assign any any) (at indexes ∷ number (pos 1) ∷ [])
+    ∷ code (source.debug_print [] false) (at indexes ∷ [])
+    ∷ []
 
-changes : has_scalars (takes (owner.Reference main) (lines integer)) 0 ≡ true
-changes = refl
+array_covered : covers_procedure (with_array (fills (one_index (pos 1)))) 0 ≡ true
+array_covered = refl
 
-is_quiet : has_scalars (takes (owner.Reference main) []) 0 ≡ false
+array_flat : is_flat_procedure (with_array (fills (one_index (pos 1)))) 0 ≡ true
+array_flat = refl
+
+array_typed : is_typed_procedure (with_array (fills (one_index (pos 1)))) 0 ≡ true
+array_typed = refl
+
+prints_element : outputs (run6 (runs_array (pos 1) (fills (one_index (pos 1)))) 0 None [] [] 9 empty_memory) ≡ printed (codes " 1 " ++ 13 ∷ 10 ∷ []) ∷ []
+unfolding digits
+prints_element = refl
+
+-- an index out of bounds raises 9
+abbrev raised_by : {A : Type 0} → Outcome Memory A → Option ℕ
+raised_by (raises o n w) = Some n
+raised_by _ = None
+
+past_bounds : raised_by (run6 (runs_array (pos 1) (fills (one_index (pos 3)))) 0 None [] [] 9 empty_memory) ≡ Some 9
+past_bounds = refl
+
+-- but what another number of indexes does isn't known, nor what an array does with other lower bounds than its ties give it
+two_indexes : is_outside (run6 (runs_array (pos 1) (fills (next_expr (long_number (pos 1)) (one_index (pos 1))))) 0 None [] [] 9 empty_memory) ≡ true
+two_indexes = refl
+
+other_bounds : is_outside (run6 (runs_array (pos 0) (fills (one_index (pos 1)))) 0 None [] [] 9 empty_memory) ≡ true
+other_bounds = refl
+
+-- a fixed array isn't erased
+abbrev erases : List Line
+erases = code (source.erase any) (array_i ∷ []) ∷ []
+
+erases_flat : is_flat_procedure (with_array erases) 0 ≡ true
+erases_flat = refl
+
+erases_fixed_array : is_outside (run6 (runs_array (pos 1) erases) 0 None [] [] 9 empty_memory) ≡ true
+erases_fixed_array = refl
+
+-- ---- a quiet parameter
+
+-- Sub Main(i As Integer)
+--     Dim j As Integer
+--     j = i
+-- End Sub
+abbrev quiet_program : Program
+quiet_program =
+    let P : Program = program_of (code (source.assign any any) (typed integer (variable (record { 0 = 1 }) false) ∷ use_as integer ∷ []) ∷ []) in
+    record P {
+      declarations = record P.declarations {
+        vars = record variable_i { owner = owner.Reference main } ∷ record variable_i { name = codes "j" } ∷ [];
+        procs = record procedure { params = id ∷ [] } ∷ [];
+      };
+    }
+
+is_quiet : is_loud quiet_program 0 (slice_get quiet_program.declarations.vars 0) ≡ false
 is_quiet = refl
 
-goes_by_value : has_scalars (takes (owner.Value main) []) 0 ≡ true
-goes_by_value = refl
+-- it is bound to the value that it is given, which is read there
+reads_value :
+    is_outside (run6 (record { program = quiet_program; quiet = λ p i. true; low = λ a d. pos 0 }) 0 None (by_value (scalar integer (v.Int (pos 1))) ∷ []) [] 9 empty_memory)
+    ≡ false
+reads_value = refl
 
 -- ---- a condition is a Boolean
 

@@ -1,5 +1,5 @@
 -- A covered expression that is well typed gives a value of its type where the variables stand, or raises an error, or leaves.
-use Rattle.std.proofs.Common.{false, ◌≡◌, refl, sym, ap, ◌∙◌, subst, ℕ, pos, ◌<◌, arith, ltb-true, le-leb, Bool, true, cond, not, ◌&&◌, ◌||◌, true≢false, List, [], ◌∷◌, Option, None}
+use Rattle.std.proofs.Common.{false, ◌≡◌, refl, sym, ap, ◌∙◌, subst, ℕ, pos, ◌<◌, arith, ltb-true, le-leb, Bool, true, cond, ◌&&◌, ◌||◌, true≢false, List, [], ◌∷◌, Option, Some, None, ◌⊎◌, inl, inr}
 use Rattle.std.specs.Prelude.{slice_get, is_some, nat_lt}
 use Rattle.std.specs.List.{list_all}
 use Rattle.up_base.proofs.Tests.{both_true}
@@ -25,27 +25,27 @@ use Rattle.bound_facts.specs.Locks.{is_same_type}
 use Rattle.bound_facts.specs.Node.{type_at, auto_class, declared_in, variable_number, is_array_type}
 use Rattle.net_meaning.specs.WrittenRows.{write_operator, write_unary, write_conversion}
 use Rattle.row_laws.proofs.Composing.{then_assoc}
-use Rattle.run_base.specs.Outcomes.{Output, Outcome, gives, outside, after, then, answered, asked, some_of, found, first_input, rest_inputs}
-use Rattle.run_base.specs.Positions.{Position}
+use Rattle.run_base.specs.Outcomes.{Output, Outcome, gives, outside, after, then, answered, asked, some_of, first_input, rest_inputs}
 use Rattle.vb6_run.specs.Expressions.{Context, Parts, at_address, declared, value_in, scalar_in, scalar_of, answer_as, left_operand, then_row, made_for, as_new, parts_of, term_parts, value_of, scalar_value, type_shape, library_call, library_parts, library_value, values_of, value_parts, has_byte}
-use Rattle.vb6_run.specs.Shapes.{simple}
+use Rattle.vb6_run.specs.Runnables.{variable_address}
 use Rattle.vb6_run.specs.Store as store
-use Rattle.vb6_run.specs.Store.{Address, root, Memory, SourceGiven, Does, provided, read, single_in, value_if}
+use Rattle.vb6_run.specs.Store.{Address, Memory, SourceGiven, Does, provided, read}
 use Rattle.vb6_run.specs.Values.{Value, scalar, is_of_shape}
 use Rattle.run_matches.specs.CoveredVariables.{covers_type}
 use Rattle.run_matches.specs.CoveredExprs.{Uses, covers_operator}
 use Rattle.run_matches.specs.Formed.{is_call, is_row_of_call, is_row_of_one, is_row_of_two, types_of}
-use Rattle.typing_laws.specs.Scalars.{scalar_uses}
+use Rattle.typing_laws.specs.Flat.{flat_uses}
 use Rattle.typing_laws.specs.Calls.{CallsKeep, SourceJob}
 use Rattle.typing_laws.specs.Edges.{IsEdge, IsLibraryEdge}
 use Rattle.typing_laws.specs.Frames.{HasOwn, IsSound, Keeps}
-use Rattle.typing_laws.specs.Leaving.{Leaves, ExprsLeave, at_operator, in_left, in_right, in_operand, in_converted, in_library, at_library, at_input, at_err_number, in_first, in_later}
+use Rattle.typing_laws.specs.Leaving.{Leaves, ExprsLeave, at_operator, in_left, in_right, in_operand, in_converted, in_library, at_library, at_input, at_gone, at_err_number, in_first, in_later}
 use Rattle.typing_laws.specs.Plain.{IsValue}
-use Rattle.typing_laws.specs.Typed.{fits_type, has_type}
+use Rattle.typing_laws.specs.Typed.{fits_type, has_type, is_unknown}
+use Rattle.typing_laws.proofs.Addresses.{IsRead, IsSeat, IsUnread, place_later, read_seat, seat_of}
 use Rattle.typing_laws.proofs.Ends.{Ends, ends_after, ends_weaker, keeps_self, sound_later, then_ends}
 use Rattle.typing_laws.proofs.Library.{ArePlain, gives_itself, library_answer}
 use Rattle.typing_laws.proofs.Places.{keeps_same}
-use Rattle.typing_laws.proofs.Plain.{Plain, a_text, a_boolean, a_byte, an_integer, a_long, a_currency, is_covered, is_of_type, same_as, self}
+use Rattle.typing_laws.proofs.Plain.{Plain, a_text, a_boolean, a_byte, an_integer, a_long, a_currency, is_of_type, same_as}
 use Rattle.typing_laws.proofs.Rows.{IsAnswer, binary_answer, unary_answer, conversion_answer, typed_binary, typed_unary}
 use Rattle.typing_laws.proofs.Uses.{PlaceOf, Used, place_of, use_is}
 use Rattle.typing_laws.specs.Frames.{Footprint, Ground, ground}
@@ -67,16 +67,11 @@ pub value_here : (C : Context) (ty : Ty) (t : Term) (z : Value6) (w : Memory) �
     → value_in C (typed ty t) (at_address (store.constant (scalar ty z))) w ≡ gives [] (scalar ty z) w
 value_here C ty t z w p = ap (λ b. after [] (provided b (λ v. gives [] (scalar ty z) v) w)) (is_of_type (declared C) ty z p)
 
-pub read_here : (ty : Ty) (z : Value6) (q : Position) (w : Memory) → w.held q ≡ store.single ty z → Plain ty z
-    → read (root (simple ty) q) w ≡ gives [] (scalar ty z) w
-read_here ty z q w holds p =
-    ap (λ h. found (single_in ty h) w) holds ∙ ap (λ b. found (value_if b (scalar ty z)) w) (self ty (is_covered ty z p))
-
--- the value at a position
-pub value_there : (C : Context) (ty : Ty) (t : Term) (z : Value6) (q : Position) (w : Memory) → w.held q ≡ store.single ty z → Plain ty z
-    → value_in C (typed ty t) (at_address (root (simple ty) q)) w ≡ gives [] (scalar ty z) w
-value_there C ty t z q w holds p =
-    ap (λ (r : Outcome Memory Value). then (after [] r) (λ x v. provided (is_of_shape (type_shape (declared C) ty) x) (λ v. gives [] x v) v)) (read_here ty z q w holds p)
+-- a value that is read
+pub value_read : (C : Context) (ty : Ty) (t : Term) (z : Value6) (a : Address) (w : Memory) → read a w ≡ gives [] (scalar ty z) w → Plain ty z
+    → value_in C (typed ty t) (at_address a) w ≡ gives [] (scalar ty z) w
+value_read C ty t z a w reads p =
+    ap (λ (r : Outcome Memory Value). then (after [] r) (λ x v. provided (is_of_shape (type_shape (declared C) ty) x) (λ v. gives [] x v) v)) reads
     ∙ value_here C ty t z w p
 
 -- ---- terms
@@ -120,35 +115,45 @@ or_true false = refl
 
 pub record Fits (C : Context) (F : Footprint) (w : Memory) : Type 0 where
   pub sound : IsSound (ground (declared C) F) w
-  pub own : HasOwn (ground (declared C) F) C.procedure w C.frame
+  pub own : HasOwn C.runnable.program F C.procedure w C.frame
 
 pub fits_later : (C : Context) (F : Footprint) (w v : Memory) → Keeps (ground (declared C) F) w v → Fits C F w → Fits C F v
 fits_later C F w v k f = record {
   sound = sound_later (ground (declared C) F) w v k f.sound;
-  own = λ n x is b c. let h = f.own n x is b c in (h.0, h.1, k.places h.0 x.ty h.2);
+  own = λ n x is b c. let h = f.own n x is b c in (h.0, h.1, place_later C.runnable.program F w v n x h.0 k h.2);
 }
 
 pub variable_place : (C : Context) (F : Footprint) (w : Memory) → Fits C F w → (x : VarId) (u : Used (declared C) C.procedure x)
-    → PlaceOf (ground (declared C) F) C.frame w x.0 u.variable.ty
-variable_place C F w f x u = place_of (ground (declared C) F) C.procedure C.frame w f.sound f.own x u
+    → PlaceOf C.runnable.program F C.frame w x.0 u.variable
+variable_place C F w f x u = place_of C.runnable.program F C.procedure C.frame w f.sound f.own x u
 
 -- the parts of a variable that is used
-pub variable_is : (C : Context) (F : Footprint) (ty : Ty) (x : VarId) (qualified : Bool) (w v : Memory) (u : Used (declared C) C.procedure x)
-    (p : PlaceOf (ground (declared C) F) C.frame v x.0 u.variable.ty)
-    → parts_of C (typed ty (variable x qualified)) w ≡ gives [] (at_address (root (simple u.variable.ty) p.0)) w
-variable_is C F ty x qualified w v u p =
-    let a : Address = root (simple u.variable.ty) p.0 in
-    ap (λ (o : Option Address). then (some_of o (λ a w. gives [] (at_address a) w) w) (λ p w. made_for C (auto_class (slice_get (declared C).vars x.0)) p w)) p.1
-    ∙ ap (λ (m : Option ℕ). after [] (made_for C m (at_address a) w)) u.plain
+pub variable_is : (C : Context) (ty : Ty) (x : VarId) (qualified : Bool) (w : Memory) (a : Address) → variable_address (declared C) C.frame x.0 ≡ Some a
+    → auto_class (slice_get (declared C).vars x.0) ≡ None → parts_of C (typed ty (variable x qualified)) w ≡ gives [] (at_address a) w
+variable_is C ty x qualified w a is plain =
+    ap (λ (o : Option Address). then (some_of o (λ a w. gives [] (at_address a) w) w) (λ p w. made_for C (auto_class (slice_get (declared C).vars x.0)) p w)) is
+    ∙ ap (λ (m : Option ℕ). after [] (made_for C m (at_address a) w)) plain
 
 -- the use of a variable has its type
 pub same_type : (D : Declarations) (p : ℕ) (ty : Ty) (x : VarId) (u : Used D p x) → has_type ty (slice_get D.vars x.0) ≡ true → ty ≡ u.variable.ty
 same_type D p ty x u typing = same_as ty u.variable.ty u.covers (sym (ap (λ o. has_type ty o) u.is_variable) ∙ typing)
 
+pub known_type : (t : Ty) → covers_type t ≡ true → is_unknown t ≡ false
+known_type types.unknown c = absurd (true≢false (sym c))
+known_type _ c = refl
+
+-- types that fit, and of which neither is unknown
+pub fit_same : (s t : Ty) → is_unknown s ≡ false → is_unknown t ≡ false → fits_type s t ≡ true → is_same_type s t ≡ true
+fit_same s t a b h =
+    by (is_same_type s t) (sym (ap (λ x. is_same_type s t || (x || is_unknown t)) a ∙ ap (λ x. is_same_type s t || (false || x)) b) ∙ h)
+  where
+    by : (x : Bool) → x || (false || false) ≡ true → x ≡ true
+    by true e = refl
+    by false e = e
+
 -- types of a parameter and its argument
-pub fitting : (s t : Ty) → covers_type s ≡ true → covers_type t ≡ true → fits_type s t ≡ true → t ≡ s
-fitting s t c d h =
-    sym (same_as s t d (sym (ap (λ b. not (b && covers_type t) || is_same_type s t) c ∙ ap (λ b. not b || is_same_type s t) d) ∙ h))
+pub fitting : (s t : Ty) → is_unknown s ≡ false → covers_type t ≡ true → fits_type s t ≡ true → t ≡ s
+fitting s t a d h = sym (same_as s t d (fit_same s t a (known_type t d) h))
 
 pub no_array : (ty : Ty) → covers_type ty ≡ true → is_array_type ty ≡ false
 no_array (types.array e rank) c = absurd (true≢false (sym c))
@@ -180,21 +185,29 @@ module _ (C : Context) (F : Footprint) (X : SourceJob → Memory → Type 0) (ca
   K = ground (declared C) F
 
   abbrev uses : Uses
-  uses = scalar_uses C.runnable.program C.procedure mentions
+  uses = flat_uses C.runnable.program C.procedure mentions
 
   pub variable_ends : (w : Memory) → Fits C F w → (ty : Ty) (x : VarId) (qualified : Bool) → uses.scalar x ≡ true → has_type ty (slice_get D.vars x.0) ≡ true
       → Ends K (IsTyped ty) (Leaves C X (typed ty (variable x qualified)) w) w (value_of C (typed ty (variable x qualified)) w)
   variable_ends w fits ty x qualified used typing =
       let u : Used D C.procedure x = use_is C.runnable.program C.procedure mentions x used in
-      let p : PlaceOf K C.frame w x.0 u.variable.ty = variable_place C F w fits x u in
+      let p : PlaceOf C.runnable.program F C.frame w x.0 u.variable = variable_place C F w fits x u in
       let e : Expr = typed ty (variable x qualified) in
       let s : ty ≡ u.variable.ty = same_type D C.procedure ty x u typing in
-      let plain : Plain ty p.2.value = subst (λ t. Plain t p.2.value) (sym s) p.2.plain in
-      subst (λ r. Ends K (IsTyped ty) (Leaves C X e w) w r)
-      (sym (ap (λ r. then r (value_in C e)) (variable_is C F ty x qualified w w u p)
-      ∙ ap (λ r. after [] r) (ap (λ (t : Ty). value_in C e (at_address (root (simple t) p.0)) w) (sym s)
-      ∙ value_there C ty (variable x qualified) p.2.value p.0 w (p.2.holds ∙ ap (λ t. store.single t p.2.value) (sym s)) plain)))
-      (keeps_self K w, (p.2.value, refl, plain))
+      let seat : IsSeat K w ty p.0 = subst (λ t. IsSeat K w t p.0) (sym s) (seat_of C.runnable.program F w x.0 u.variable p.0 p.2) in
+      subst (λ r. Ends K (IsTyped ty) (Leaves C X e w) w r) (sym (ap (λ r. then r (value_in C e)) (variable_is C ty x qualified w p.0 p.1 u.plain)))
+      (ends_after K (IsTyped ty) (Leaves C X e w) w [] (value_in C e (at_address p.0) w)
+      (by p.0 p.1 (read_seat K w ty p.0 (subst (λ t. covers_type t ≡ true) (sym s) u.covers) seat)))
+    where
+      by : (a : Address) → variable_address D C.frame x.0 ≡ Some a → IsRead K w ty a ⊎ IsUnread K w ty a
+          → Ends K (IsTyped ty) (Leaves C X (typed ty (variable x qualified)) w) w (value_in C (typed ty (variable x qualified)) (at_address a) w)
+      by a is (inl r) =
+          subst (λ o. Ends K (IsTyped ty) (Leaves C X (typed ty (variable x qualified)) w) w o)
+          (sym (value_read C ty (variable x qualified) r.value a w r.reads r.plain)) (keeps_self K w, (r.value, refl, r.plain))
+      by a is (inr n) =
+          subst (λ o. Ends K (IsTyped ty) (Leaves C X (typed ty (variable x qualified)) w) w
+          (then (after [] o) (λ x v. provided (is_of_shape (type_shape (declared C) ty) x) (λ v. gives [] x v) v))) (sym n.1)
+          (at_gone ty x qualified w a is n.0)
 
   -- ---- operators and conversions over operands of covered types
 

@@ -2,6 +2,7 @@
 use Rattle.std.proofs.Common.{◌≡◌, refl, sym, ap, subst, ◌∙◌, ℕ, Bool, true, false, cond, nat_eq, true≢false, List, Option, Some, None, eqb-true}
 use Rattle.std.specs.Prelude.{slice_get}
 use Rattle.std.specs.Map.{lookup}
+use Rattle.vb_tree.specs.BoundTree as types
 use Rattle.vb_tree.specs.BoundTree.{Ty}
 use Rattle.vb_tree.specs.declared.declared.Owner.{Owner}
 use Rattle.vb_tree.specs.declared.declared.Owner.TheVariants as owner
@@ -18,7 +19,8 @@ use Rattle.vb6_run.specs.Programs.{machine_of}
 use Rattle.vb6_run.specs.Runnables.{Runnable, declarations_of, declared_address, module_root, owned_address, root_address, static_root, variable_address}
 use Rattle.vb6_run.specs.Store.{Address, Memory, SourceFrame, root, item, constant}
 use Rattle.vb6_run.specs.Values.{Value}
-use Rattle.typing_laws.specs.Frames.{HasOwn, IsKeptBy, IsLimit, IsTypedFrame, Keeps, code_line}
+use Rattle.typing_laws.specs.Frames.{HasOwn, IsKeptBy, IsLimit, IsPlace, IsTypedFrame, Keeps, code_line}
+use Rattle.typing_laws.proofs.Addresses.{place_later}
 use Rattle.typing_laws.proofs.Places.{some_is}
 use Rattle.typing_laws.specs.Frames.{Footprint, Ground, Stands, anywhere, ground}
 use Rattle.run_base.specs.Positions.{Position}
@@ -57,7 +59,7 @@ kept_later K w v f es k l h = record { limit = λ e is. limit_later K w v (type_
 
 pub frame_later : (F : Footprint) (R : Runnable) (p : ℕ) (w v : Memory) (f : SourceFrame) → Keeps (ground (declarations_of R) F) w v → IsTypedFrame F R p w f → IsTypedFrame F R p v f
 frame_later F R p w v f k t = record {
-  own = λ n x is b c. let h = t.own n x is b c in (h.0, h.1, k.places h.0 x.ty h.2);
+  own = λ n x is b c. let h = t.own n x is b c in (h.0, h.1, place_later R.program F w v n x h.0 k h.2);
   kept = λ h m is. kept_later (ground (declarations_of R) F) w v m.source.form m.bindings.exprs (f.kept h) k (t.kept h m is);
   error = t.error;
 }
@@ -68,7 +70,7 @@ module _ (F : Footprint) (R : Runnable) (p : ℕ) (w : Memory) (f : SourceFrame)
   abbrev K : Ground
   K = ground (declarations_of R) F
 
-  own_on : (g : SourceFrame) → g.vars ≡ f.vars → g.me ≡ f.me → HasOwn (ground (declarations_of R) F) p w g
+  own_on : (g : SourceFrame) → g.vars ≡ f.vars → g.me ≡ f.me → HasOwn R.program F p w g
   own_on g vars me n x is b c =
       let h = t.own n x is b c in
       (h.0, address_same (declarations_of R) f g vars me n ∙ h.1, h.2)
@@ -106,7 +108,7 @@ module _ (F : Footprint) (R : Runnable) (p : ℕ) (w : Memory) (f : SourceFrame)
 -- wherever what is written may stand
 pub frame_anywhere : (F : Footprint) (R : Runnable) (p : ℕ) (w : Memory) (f : SourceFrame) → IsTypedFrame F R p w f → IsTypedFrame anywhere R p w f
 frame_anywhere F R p w f t = record {
-  own = λ n x is b c. let h = t.own n x is b c in (h.0, h.1, stands_anywhere h.0 x.ty h.2);
+  own = λ n x is b c. let h = t.own n x is b c in (h.0, h.1, place_anywhere n x h.0 h.2);
   kept = λ h m is. record {
     limit = λ e i. limit_anywhere (type_at e) (f.kept h) ((t.kept h m is).limit e i);
     choice = (t.kept h m is).choice;
@@ -115,7 +117,12 @@ frame_anywhere F R p w f t = record {
 }
   where
     stands_anywhere : (q : Position) (ty : Ty) → Stands (ground (declarations_of R) F) w q ty → Stands (ground (declarations_of R) anywhere) w q ty
-    stands_anywhere q ty s = record { value = s.value; holds = s.holds; plain = s.plain; made = s.made; allowed = refl }
+    stands_anywhere q ty s = record { holds = s.holds; made = s.made; allowed = refl }
+
+    place_anywhere : (v : ℕ) (x : Variable) (a : Address) → IsPlace R.program F w v x a → IsPlace R.program anywhere w v x a
+    place_anywhere v x (root d q) h = (h.0, stands_anywhere q x.ty h.1)
+    place_anywhere v x (item e q j path) h = (h.0, (h.1.0, h.1.1, stands_anywhere q (types.array x.ty 0) h.1.2))
+    place_anywhere v x (constant y) h = h
 
     limit_anywhere : (ty : Ty) (k : Kept Value Address) → IsLimit (ground (declarations_of R) F) w ty k → IsLimit (ground (declarations_of R) anywhere) w ty k
     limit_anywhere ty keeps_nothing h = h

@@ -15,7 +15,7 @@ use Rattle.typing_laws.specs.Calls.{CallsAreSuited, CallsKeep, IsAt, SourceJob}
 use Rattle.typing_laws.specs.Frames.{Footprint, HasOwn, IsSound, IsTypedFrame, ground}
 use Rattle.typing_laws.specs.Leaving.{Leaves, LineLeaves, RunLeaves}
 use Rattle.typing_laws.specs.Results.{IsLineResult, IsResult}
-use Rattle.typing_laws.specs.Scalars.{scalar_uses}
+use Rattle.typing_laws.specs.Flat.{flat_uses}
 use Rattle.typing_laws.specs.Typed.{is_typed}
 use Rattle.typing_laws.proofs.Ends.{Ends}
 use Rattle.typing_laws.proofs.Expressions.{IsScalarOf, scalar_ends}
@@ -32,8 +32,8 @@ expression_result C F X e w (spent o v) h = h
 expression_result C F X e w (outside o) h = h
 
 pub expression_has_type : (C : Context) (F : Footprint) (n : ℕ) (mentions : List Mention) (e : Expr) (w : Memory) → CallsKeep C F (RunLeaves C.runnable n)
-    → covers_expr (scalar_uses C.runnable.program C.procedure mentions) e ≡ true → is_formed e ≡ true → is_typed (declared C) e ≡ true
-    → CallsAreSuited C.runnable e → IsSound (ground (declared C) F) w → HasOwn (ground (declared C) F) C.procedure w C.frame → IsResult C F (RunLeaves C.runnable n) e w (scalar_value C e w)
+    → covers_expr (flat_uses C.runnable.program C.procedure mentions) e ≡ true → is_formed e ≡ true → is_typed (declared C) e ≡ true
+    → CallsAreSuited C.runnable e → IsSound (ground (declared C) F) w → HasOwn C.runnable.program F C.procedure w C.frame → IsResult C F (RunLeaves C.runnable n) e w (scalar_value C e w)
 expression_has_type C F n mentions e w calls covers formed typed suited sound own =
     let X = RunLeaves C.runnable n in
     expression_result C F X e w (scalar_value C e w)
@@ -53,4 +53,4 @@ pub line_keeps_types : (C : Context) (F : Footprint) (n : ℕ) (l : Line) (w : M
 line_keeps_types C F n l w calls at sound t =
     let X = RunLeaves C.runnable n in
     line_result C F X l.source.form l.bindings.exprs w (form_does C l.source.form l.bindings.exprs w) t
-    (line_ends C F X calls l at.lines at.are_lines at.stands w (record { sound = sound; frame = t }) at.covers at.typed at.suited at.part at.aimed)
+    (line_ends C F X calls l at.lines at.are_lines at.stands w (record { sound = sound; frame = t }) at.covers at.typed at.suited at.part at.extents at.aimed)

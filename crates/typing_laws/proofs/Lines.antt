@@ -1,51 +1,46 @@
--- Assignments, prints, calls and conditions keep a well-typed frame well typed, or leave.
-use Rattle.std.proofs.Common.{◌≡◌, refl, sym, ap, ◌∙◌, subst, ℕ, ◌^◌, ℤ, pos, negsuc, Bool, true, false, cond, ◌&&◌, true≢false, List, [], ◌∷◌, ◌++◌, Option, Some, None}
+-- Prints, calls and conditions keep a well-typed frame well typed, or leave.
+use Rattle.std.proofs.Common.{◌≡◌, refl, sym, ap, ◌∙◌, subst, ℕ, ◌^◌, ℤ, pos, negsuc, Bool, true, false, cond, ◌&&◌, true≢false, List, [], ◌∷◌, ◌++◌, Option, Some, None, ◌⊎◌, inl, inr}
 use Rattle.std.specs.Prelude.{nat_lt, length, slice_get, ◌||◌, is_some, option_map, suc}
-use Rattle.up_base.proofs.Tests.{both_true}
+use Rattle.up_base.proofs.Tests.{both_true, either}
 use Rattle.vb_tree.specs.BoundTree.{Ty, fixed, unknown}
 use Rattle.vb_tree.specs.BoundTree as types
 use Rattle.vb_tree.specs.declared.bound.LibCall.{LibCall}
 use Rattle.vb_tree.specs.declared.bound.LibCall.TheVariants as lib
-use Rattle.vb_tree.specs.declared.declared.VarId.{VarId}
 use Rattle.vb_tree.specs.declared.token.Suffix.{Suffix}
 use Rattle.vb_tree.specs.declared.value.Value6.{Value6}
-use Rattle.vb_tree.specs.declared.value.Value6.TheVariants as v
 use Rattle.vb_tree.specs.Tree.{Exp, Form}
 use Rattle.vb_tree.specs.Tree as source
 use Rattle.vb6_meaning.specs.NumberTexts.{print_text}
 use Rattle.bound_tree.specs.declared.body.Mention.{Mention}
 use Rattle.bound_tree.specs.Targets.{Aims, Step, heads_round, innermost, onward, otherwise_of, step_of}
-use Rattle.bound_tree.specs.Tree.{Declarations, Expr, typed, Term, variable, call, library, err_raise, err_clear, no_object, of_object, Exprs, no_exprs, next_expr}
+use Rattle.bound_tree.specs.Tree.{Declarations, Expr, typed, Term, call, library, err_raise, err_clear, no_object, of_object, Exprs, no_exprs, next_expr}
 use Rattle.bound_facts.specs.Locks.{is_same_type}
 use Rattle.bound_facts.specs.Node.{type_at}
 use Rattle.bound_facts.specs.Nodes.{nodes, nodes_of_all}
 use Rattle.row_laws.proofs.Composing.{then_assoc}
 use Rattle.run_base.specs.Frames.{Kept, keeping, to_line}
-use Rattle.run_base.specs.Outcomes.{Output, Outcome, gives, raises, outside, after, then, answered, some_of, printed}
-use Rattle.vb6_run.specs.Expressions.{Context, Parts, no_value, declared, finished, scalar_in, whole_number, raise_of, as_new, parts_of, term_parts, value_of, scalar_value, library_call}
-use Rattle.vb6_run.specs.Lines.{behind_print, branch, condition, goes_if, goes_on, item_text, items_text, print, let_to, store_at}
-use Rattle.vb6_run.specs.Store.{Address, Held, root, single, Memory, SourceFrame, provided, put_single, set_err, store, with_held, write}
-use Rattle.run_base.specs.Positions.{Position}
-use Rattle.vb6_run.specs.Shapes.{simple}
-use Rattle.vb6_run.specs.Values.{Value, scalar}
+use Rattle.run_base.specs.Outcomes.{Output, Outcome, gives, raises, outside, then, answered, printed}
+use Rattle.vb6_run.specs.Expressions.{Context, Parts, no_value, declared, scalar_in, whole_number, raise_of, as_new, parts_of, term_parts, value_of, scalar_value, library_call}
+use Rattle.vb6_run.specs.Lines.{behind_print, branch, condition, goes_if, goes_on, item_text, items_text, print}
+use Rattle.vb6_run.specs.Store.{Address, Memory, SourceFrame, set_err}
+use Rattle.vb6_run.specs.Values.{Value}
 use Rattle.run_matches.specs.CoveredVariables.{covers_type}
-use Rattle.run_matches.specs.CoveredExprs.{Uses, covers_expr, covers_library, covers_exprs, covers_term, is_variable, uses_in}
+use Rattle.run_matches.specs.CoveredExprs.{Uses, covers_expr, covers_exprs, covers_term}
 use Rattle.run_matches.specs.CoveredLines.{covers_called, is_box}
 use Rattle.run_matches.specs.Formed.{are_formed, is_formed, is_row_of_call, types_of}
-use Rattle.typing_laws.specs.Scalars.{scalar_uses}
+use Rattle.typing_laws.specs.Flat.{flat_uses}
 use Rattle.typing_laws.specs.Calls.{CallsAreSuited, CallsKeep, Each, IsAimed, IsSuited, SourceJob}
-use Rattle.typing_laws.specs.Frames.{IsKeptBy, IsSound, IsTypedFrame, Keeps, Stands}
+use Rattle.typing_laws.specs.Frames.{IsKeptBy, IsSound, IsTypedFrame, Keeps}
 use Rattle.typing_laws.specs.Leaving.{Leaves, ItemsLeave, in_item, behind_item, in_raised, at_raised, is_error_number}
 use Rattle.typing_laws.specs.Typed.{are_typed, are_typed_passed, fits_call, fits_type, is_typed, takes, taken, is_unknown}
 use Rattle.typing_laws.proofs.Callees.{both_each}
 use Rattle.typing_laws.proofs.Ends.{Ends, ends_after, ends_as, ends_weaker, keeps_self, sound_later, then_ends}
-use Rattle.typing_laws.proofs.Expressions.{Fits, IsScalarOf, IsTyped, fitting, same_type, scalar_ends, variable_is, variable_place}
+use Rattle.typing_laws.proofs.Expressions.{Fits, IsScalarOf, IsTyped, fitting, scalar_ends}
 use Rattle.typing_laws.proofs.Frames.{frame_at, frame_later}
-use Rattle.typing_laws.proofs.Places.{keeps_changed, keeps_same, not_none}
-use Rattle.typing_laws.proofs.Plain.{Plain, IsPrinted, a_boolean, a_byte, an_integer, a_long, a_currency, a_text, is_covered, is_kept, is_printed, same_as, self}
-use Rattle.typing_laws.proofs.Scalars.{library_covered}
-use Rattle.typing_laws.proofs.Trees.{call_args_end, value_ends}
-use Rattle.typing_laws.proofs.Uses.{PlaceOf, Used, use_is}
+use Rattle.typing_laws.proofs.Places.{keeps_same, not_none}
+use Rattle.typing_laws.proofs.Plain.{Plain, IsPrinted, a_boolean, is_printed, long_value, same_as}
+use Rattle.typing_laws.proofs.Found.{HasAddress}
+use Rattle.typing_laws.proofs.Trees.{address_ends, call_args_end, value_ends}
 use Rattle.typing_laws.proofs.Values.{Callee, IsCalled, box_ends, call_ends, callee_of, covered_type, no_arguments}
 use Rattle.typing_laws.specs.Frames.{Footprint, Ground, ground}
 
@@ -144,24 +139,6 @@ taken_same t s c d h =
     by true e = refl
     by false e = e
 
--- a value of its type is written where a variable stands
-pub written : (C : Context) (F : Footprint) (ty : Ty) (x : VarId) (qualified : Bool) (w : Memory) (u : Used (declared C) C.procedure x)
-    (p : PlaceOf (ground (declared C) F) C.frame w x.0 u.variable.ty) (z : Value6) → Plain u.variable.ty z
-    → let_to C (typed ty (variable x qualified)) (scalar u.variable.ty z) w ≡ gives [] tt (with_held p.0 (single u.variable.ty z) w)
-written C F ty x qualified w u p z plain =
-    ap (λ r. then (then r finished) (store_at C (typed ty (variable x qualified)) (scalar u.variable.ty z))) (variable_is C F ty x qualified w w u p)
-    ∙ ap (λ (o : Option Value). after [] (some_of o (λ x w. store C.frame.env x p.0 w) w)) (is_kept u.variable.ty z plain)
-    ∙ ap (λ (h : Held). after [] (put_single h p.0 u.variable.ty z w)) p.2.holds
-    ∙ ap (λ b. after [] (provided b (λ w. gives [] tt (with_held p.0 (single u.variable.ty z) w)) w)) (self u.variable.ty u.covers)
-
--- the same at a position
-pub put_there : (C : Context) (F : Footprint) (ty : Ty) (q : Position) (w : Memory) (z : Value6) → Stands (ground (declared C) F) w q ty → Plain ty z
-    → write C.frame.env (scalar ty z) (root (simple ty) q) w ≡ gives [] tt (with_held q (single ty z) w)
-put_there C F ty q w z there plain =
-    ap (λ (o : Option Value). some_of o (λ x w. store C.frame.env x q w) w) (is_kept ty z plain)
-    ∙ ap (λ (h : Held). put_single h q ty z w) there.holds
-    ∙ ap (λ b. provided b (λ w. gives [] tt (with_held q (single ty z) w)) w) (self ty (is_covered ty z plain))
-
 error_by : (n : ℕ) (K : Ground) (E : Type 0) (w : Memory) (b : Bool) → (b ≡ false → E)
     → Ends K (λ v (p : Parts). Unit {0}) E w (cond b (raises [] n w) (outside []))
 error_by n K E w true out = keeps_self K w
@@ -175,7 +152,7 @@ module _ (C : Context) (F : Footprint) (X : SourceJob → Memory → Type 0) (ca
   K = ground (declared C) F
 
   abbrev uses : Uses
-  uses = scalar_uses C.runnable.program C.procedure mentions
+  uses = flat_uses C.runnable.program C.procedure mentions
 
   -- what is known of an expression of a line
   pub record IsFine (e : Expr) : Type 0 where
@@ -190,31 +167,12 @@ module _ (C : Context) (F : Footprint) (X : SourceJob → Memory → Type 0) (ca
   pub fine_ends : (e : Expr) → IsFine e → (w : Memory) → IsIn C F w → Ends K (IsTyped (type_at e)) (Leaves C X e w) w (value_of C e w)
   fine_ends e f w h = value_ends C F X calls mentions e f.covers f.formed f.typed f.suited w (fits_in C F w h)
 
+  -- where an element is
+  pub fine_address : (e : Expr) → IsFine e → (w : Memory) → IsIn C F w → HasAddress C F X e w
+  fine_address e f w h = address_ends C F X calls mentions e f.covers f.formed f.typed f.suited w (fits_in C F w h)
+
   pub fine_scalar : (e : Expr) → IsFine e → (w : Memory) → IsIn C F w → Ends K (IsScalarOf (type_at e)) (Leaves C X e w) w (scalar_value C e w)
   fine_scalar e f w h = scalar_ends C F e (type_at e) (Leaves C X e w) w (fine_ends e f w h)
-
-  -- ---- assignments
-
-  pub assign_ends : (w : Memory) → IsIn C F w → (L : Type 0) (to e : Expr) → is_variable to ≡ true → IsFine to → IsFine e → type_at e ≡ type_at to
-      → (Leaves C X e w → L)
-      → Ends K (Good C F) L w (then (then (value_of C e w) (let_to C to)) (λ x s. goes_on C s))
-  assign_ends w h L (typed ty (variable x qualified)) e is target f same leads_ =
-      let u : Used D C.procedure x = use_is C.runnable.program C.procedure mentions x (both_true (covers_type ty) (uses.scalar x) target.covers).1 in
-      let type_is : type_at e ≡ u.variable.ty = same ∙ same_type D C.procedure ty x u target.typed in
-      subst (λ r. Ends K (Good C F) L w r) (sym (then_assoc (value_of C e w) (let_to C (typed ty (variable x qualified))) (λ x s. goes_on C s)))
-      (then_ends K (IsTyped (type_at e)) (Good C F) L w (value_of C e w) (λ y s. then (let_to C (typed ty (variable x qualified)) y s) (λ z t. goes_on C t))
-      (ends_weaker K (IsTyped (type_at e)) (Leaves C X e w) L w (value_of C e w) leads_ (fine_ends e f w h))
-      (λ o y v one k m.
-      let i : IsIn C F v = in_later C F w v k h in
-      let p : PlaceOf K C.frame v x.0 u.variable.ty = variable_place C F v (fits_in C F v i) x u in
-      let plain : Plain u.variable.ty m.0 = subst (λ t. Plain t m.0) type_is m.2 in
-      let w2 : Memory = with_held p.0 (single u.variable.ty m.0) v in
-      let change : Keeps K v w2 = keeps_changed K v p.0 u.variable.ty m.0 p.2 plain in
-      subst (λ r. Ends K (Good C F) L v r)
-      (sym (ap (λ z. then (let_to C (typed ty (variable x qualified)) z v) (λ z t. goes_on C t)) (m.1 ∙ ap (λ t. scalar t m.0) type_is)
-      ∙ ap (λ r. then r (λ (z : Unit {0}) t. goes_on C t)) (written C F ty x qualified v u p m.0 plain)))
-      (change, frame_at F C.runnable C.procedure w2 C.frame (frame_later F C.runnable C.procedure v w2 C.frame change i.frame) C.aims.after)))
-  assign_ends w h L (typed ty _) e is target f same leads_ = absurd (true≢false (sym is))
 
   -- ---- Debug.Print
 
@@ -277,17 +235,6 @@ module _ (C : Context) (F : Footprint) (X : SourceJob → Memory → Type 0) (ca
   raised L w (pos n) out = error_by n K L w (nat_lt 0 n && nat_lt n 65536) out
   raised L w (negsuc n) out = out refl
 
-  long_of : (t : Ty) (x : Value6) → Plain t x → t ≡ types.long → (z : ℤ) × (x ≡ v.Long z)
-  long_of t x p e = by types.long x refl (subst (λ s. Plain s x) e p)
-    where
-      by : (s : Ty) (y : Value6) → s ≡ types.long → Plain s y → (z : ℤ) × (y ≡ v.Long z)
-      by _ _ i (a_long z h) = (z, refl)
-      by _ _ i (a_boolean b) = absurd (cc i)
-      by _ _ i (a_byte m h) = absurd (cc i)
-      by _ _ i (an_integer z h) = absurd (cc i)
-      by _ _ i (a_currency z h) = absurd (cc i)
-      by _ _ i (a_text s) = absurd (cc i)
-
   raise_ends : (w : Memory) → IsIn C F w → (ty : Ty) (e : Expr) → IsFine e → is_same_type (type_at e) types.long ≡ true
       → Ends K Any (Leaves C X (typed ty (err_raise e)) w) w (term_parts C ty (err_raise e) w)
   raise_ends w h ty e f long =
@@ -297,16 +244,21 @@ module _ (C : Context) (F : Footprint) (X : SourceJob → Memory → Type 0) (ca
       (then_ends K (IsScalarOf (type_at e)) Any L w (scalar_value C e w) (λ x v. then (whole_number x v) raise_of)
       (ends_weaker K (IsScalarOf (type_at e)) (Leaves C X e w) L w (scalar_value C e w) (in_raised ty e w) (fine_scalar e f w h))
       (λ o x v one k p.
-      let z = long_of (type_at e) x p (same_as (type_at e) types.long refl long) in
+      let z = long_value (type_at e) x p (same_as (type_at e) types.long refl long) in
       subst (λ y. Ends K Any L v (then (whole_number y v) raise_of)) (sym z.1)
       (ends_after K Any L v [] (raise_of z.0 v) (raised L v z.0 (λ out. at_raised ty e w v o z.0 (one ∙ ap (λ y. gives o y v) z.1) out)))))
-
-  no_box : (b : Bool) → b ≡ false → b ≡ true → ⊥
-  no_box b e i = true≢false (sym i ∙ e)
 
   box_is : (f : LibCall) → is_box f ≡ true → f ≡ lib.MsgBox
   box_is lib.MsgBox h = refl
   box_is _ h = absurd (true≢false (sym h))
+
+  box_args : (f : LibCall) (args : Exprs) → is_box f ≡ true → covers_term uses (library f args) ≡ true → covers_exprs uses args ≡ true
+  box_args lib.MsgBox args h c = by (either (covers_exprs uses args) false c)
+    where
+      by : (covers_exprs uses args ≡ true) ⊎ (false ≡ true) → covers_exprs uses args ≡ true
+      by (inl e) = e
+      by (inr e) = absurd (true≢false (sym e))
+  box_args _ args h c = absurd (true≢false (sym h))
 
   box_statement : (w : Memory) → IsIn C F w → (ty : Ty) (args : Exprs) → covers_exprs uses args ≡ true → is_row_of_call lib.MsgBox (types_of args) ty ≡ true
       → are_formed args ≡ true → are_typed D args ≡ true → Each (IsSuited C.runnable) (nodes_of_all args)
@@ -343,11 +295,10 @@ module _ (C : Context) (F : Footprint) (X : SourceJob → Memory → Type 0) (ca
   call_statement w h (typed ty (library f args)) covers formed typing suited =
       let a = both_true (is_box f) (covers_term uses (library f args)) covers in
       let b = both_true (is_row_of_call f (types_of args) ty) (are_formed args) formed in
-      let c = both_true (covers_library f) (covers_exprs uses args) (library_covered (uses_in C.runnable.program C.procedure mentions) f args a.1) in
       let is : f ≡ lib.MsgBox = box_is f a.0 in
       as_statement w ty (library f args) (Leaves C X (typed ty (library f args)) w) (λ p v. refl)
       (subst (λ g. Ends K Any (Leaves C X (typed ty (library g args)) w) w (library_call C ty g args w)) (sym is)
-      (box_statement w h ty args c.1 (subst (λ g. is_row_of_call g (types_of args) ty ≡ true) is b.0) b.1 typing suited.1))
+      (box_statement w h ty args (box_args f args a.0 a.1) (subst (λ g. is_row_of_call g (types_of args) ty ≡ true) is b.0) b.1 typing suited.1))
   call_statement w h (typed ty (err_raise e)) covers formed typing suited =
       let b = both_true (is_same_type (type_at e) types.long) (is_formed e) formed in
       as_statement w ty (err_raise e) (Leaves C X (typed ty (err_raise e)) w) (λ p v. refl)

@@ -4,17 +4,14 @@ use Rattle.std.specs.Prelude.{slice_get}
 use Rattle.std.specs.List.{list_all}
 use Rattle.up_base.proofs.Lists.{all_first, all_rest}
 use Rattle.up_base.proofs.Tests.{both_true}
-use Rattle.vb_tree.specs.BoundTree.{Ty, unknown}
-use Rattle.vb_tree.specs.declared.value.Value6.{Value6}
-use Rattle.bound_tree.specs.Tree.{Variable, Declarations}
+use Rattle.vb_tree.specs.BoundTree.{Ty}
+use Rattle.bound_tree.specs.Tree.{Variable}
 use Rattle.run_base.specs.Positions.{Root, shared, made, field, Position, whole, is_same_path, is_same_root, is_same_position, updated}
-use Rattle.vb6_run.specs.Shapes.{simple, declared_shape, user_shapes, variable_shape}
-use Rattle.vb6_run.specs.Store.{Held, blank, single, table, parts, Memory, with_held}
-use Rattle.vb6_run.specs.Values.{first_scalar}
-use Rattle.run_matches.specs.CoveredVariables.{covers_type}
+use Rattle.vb6_run.specs.Store.{Held, blank, Memory, with_held}
 use Rattle.run_matches.specs.Maps.{IsMade, mark}
 use Rattle.typing_laws.specs.Frames.{Ground, IsBlankStatic, Keeps, MayStand, Stands, is_static, shared_place}
-use Rattle.typing_laws.proofs.Plain.{Plain, shape_is}
+use Rattle.typing_laws.specs.Plain.{Holds, holds_array, holds_scalar}
+use Rattle.typing_laws.proofs.Held.{same_kind}
 
 -- ---- positions
 
@@ -68,32 +65,28 @@ all_at f (y ∷ xs) (suc k) x h e = all_at f xs k x (all_rest f y xs h) e
 
 -- ---- what a position holds
 
-abbrev pub type_in : Held → Ty
-type_in blank = unknown
-type_in (single ty x) = ty
-type_in (table e dims xs) = unknown
-type_in parts = unknown
+pub held_blank : (ty : Ty) (h : Held) → Holds ty h → h ≡ blank → ⊥
+held_blank _ _ (holds_scalar ty z p) e = cc e
+held_blank _ _ (holds_array e rank dims xs c n p) i = cc i
 
-pub not_blank : (ty : Ty) (x : Value6) → blank ≡ single ty x → ⊥
-not_blank ty x e = cc e
+-- ---- a position that is given what a variable of a type holds
 
--- ---- a position that is given a value
-
--- what stands there has the type of the value already
-module _ (K : Ground) (w u : Memory) (q : Position) (t : Ty) (y : Value6) (plain : Plain t y)
-    (held : (r : Position) → u.held r ≡ updated w.held q (single t y) r) (made_still : (r : Root) → IsMade (mark w) r → IsMade (mark u) r)
+-- what stands there holds things of that kind
+module _ (K : Ground) (w u : Memory) (q : Position) (t : Ty) (h : Held) (holds : Holds t h)
+    (held : (r : Position) → u.held r ≡ updated w.held q h r) (made_still : (r : Root) → IsMade (mark w) r → IsMade (mark u) r)
     (made_there : IsMade (mark u) q.root) (allowed : K.footprint q ≡ true) (next : w.next ≤ u.next)
-    (objects : u.next_object ≡ w.next_object) (classes : u.class_of ≡ w.class_of) (only : (ty : Ty) → Stands K w q ty → t ≡ ty)
-    (static : (k : ℕ) (x : Variable) → slice_get K.declarations.vars k ≡ Some x → is_static x.owner ≡ true → q ≡ shared_place k → w.held q ≡ blank → t ≡ x.ty)
+    (objects : u.next_object ≡ w.next_object) (classes : u.class_of ≡ w.class_of) (only : (ty : Ty) → Stands K w q ty → Holds ty h)
+    (static : (k : ℕ) (x : Variable) → slice_get K.declarations.vars k ≡ Some x → is_static x.owner ≡ true → q ≡ shared_place k → w.held q ≡ blank → Holds x.ty h)
     (written : IsMade (mark w) q.root → ((ty : Ty) → Stands K w q ty → ⊥) → (IsBlankStatic K w q → ⊥) → ⊥) where
-  pub stands_there : Stands K u q t
-  stands_there = record {
-    value = y;
-    holds = held q ∙ ap (λ b. cond b (single t y) (w.held q)) (self_same q);
-    plain = plain;
+  stands_at : (ty : Ty) → Holds ty h → Stands K u q ty
+  stands_at ty k = record {
+    holds = subst (λ z. Holds ty z) (sym (held q ∙ ap (λ b. cond b h (w.held q)) (self_same q))) k;
     made = made_there;
     allowed = allowed;
   }
+
+  pub stands_there : Stands K u q t
+  stands_there = stands_at t holds
 
   stands_on : (r : Position) (ty : Ty) → Stands K w r ty → Stands K u r ty
   stands_on r ty s = by (is_same_position q r) refl
@@ -101,18 +94,9 @@ module _ (K : Ground) (w u : Memory) (q : Position) (t : Ty) (y : Value6) (plain
       by : (b : Bool) → is_same_position q r ≡ b → Stands K u r ty
       by true e =
           let one : q ≡ r = same_position q r e in
-          let same : t ≡ ty = only ty (subst (λ z. Stands K w z ty) (sym one) s) in
-          record {
-            value = y;
-            holds = held r ∙ ap (λ b. cond b (single t y) (w.held r)) e ∙ ap (λ z. single z y) same;
-            plain = subst (λ z. Plain z y) same plain;
-            made = made_still r.root s.made;
-            allowed = s.allowed;
-          }
+          subst (λ z. Stands K u z ty) one (stands_at ty (only ty (subst (λ z. Stands K w z ty) (sym one) s)))
       by false e = record {
-        value = s.value;
-        holds = held r ∙ ap (λ b. cond b (single t y) (w.held r)) e ∙ s.holds;
-        plain = s.plain;
+        holds = subst (λ z. Holds ty z) (sym (held r ∙ ap (λ b. cond b h (w.held r)) e)) s.holds;
         made = made_still r.root s.made;
         allowed = s.allowed;
       }
@@ -125,9 +109,8 @@ module _ (K : Ground) (w u : Memory) (q : Position) (t : Ty) (y : Value6) (plain
       by : (b : Bool) → is_same_position q (shared_place k) ≡ b → MayStand K u (shared_place k) x.ty
       by true d =
           let one : q ≡ shared_place k = same_position q (shared_place k) d in
-          let same : t ≡ x.ty = static k x is st one (ap w.held one ∙ e) in
-          inr (subst (λ z. Stands K u (shared_place k) z) same (subst (λ z. Stands K u z t) one stands_there))
-      by false d = inl (held (shared_place k) ∙ ap (λ b. cond b (single t y) (w.held (shared_place k))) d ∙ e)
+          inr (subst (λ z. Stands K u z x.ty) one (stands_at x.ty (static k x is st one (ap w.held one ∙ e))))
+      by false d = inl (held (shared_place k) ∙ ap (λ b. cond b h (w.held (shared_place k))) d ∙ e)
 
   pub keeps_put : Keeps K w u
   keeps_put = record {
@@ -145,24 +128,24 @@ module _ (K : Ground) (w u : Memory) (q : Position) (t : Ty) (y : Value6) (plain
           let one : r ≡ q = sym (same_position q r e) in
           absurd (written (subst (λ (z : Position). IsMade (mark w) z.root) one m) (subst (λ z. (ty : Ty) → Stands K w z ty → ⊥) one s)
           (subst (λ z. IsBlankStatic K w z → ⊥) one b))
-      by r m s b false e = held r ∙ ap (λ b. cond b (single t y) (w.held r)) e
+      by r m s b false e = held r ∙ ap (λ b. cond b h (w.held r)) e
 
--- a value of the type that stands there
-module _ (K : Ground) (w : Memory) (q : Position) (t : Ty) (y : Value6) (s : Stands K w q t) (plain : Plain t y) where
-  only_that : (ty : Ty) → Stands K w q ty → t ≡ ty
-  only_that ty z = ap type_in (sym s.holds ∙ z.holds)
+-- a thing of the kind that stands there
+module _ (K : Ground) (w : Memory) (q : Position) (t : Ty) (h : Held) (s : Stands K w q t) (holds : Holds t h) where
+  only_that : (ty : Ty) → Stands K w q ty → Holds ty h
+  only_that ty z = same_kind t ty (w.held q) h s.holds z.holds holds
 
-  no_static : (k : ℕ) (x : Variable) → slice_get K.declarations.vars k ≡ Some x → is_static x.owner ≡ true → q ≡ shared_place k → w.held q ≡ blank → t ≡ x.ty
-  no_static k x is st e b = absurd (not_blank t s.value (sym b ∙ s.holds))
+  no_static : (k : ℕ) (x : Variable) → slice_get K.declarations.vars k ≡ Some x → is_static x.owner ≡ true → q ≡ shared_place k → w.held q ≡ blank → Holds x.ty h
+  no_static k x is st e b = absurd (held_blank t (w.held q) s.holds b)
 
   still : w.next ≤ w.next
   still = omega arith
 
-  pub keeps_changed : Keeps K w (with_held q (single t y) w)
-  keeps_changed = keeps_put K w (with_held q (single t y) w) q t y plain (λ r. refl) (λ r m. m) s.made s.allowed still refl refl only_that no_static (λ m n b. n t s)
+  pub keeps_changed : Keeps K w (with_held q h w)
+  keeps_changed = keeps_put K w (with_held q h w) q t h holds (λ r. refl) (λ r m. m) s.made s.allowed still refl refl only_that no_static (λ m n b. n t s)
 
-  pub stands_changed : Stands K (with_held q (single t y) w) q t
-  stands_changed = stands_there K w (with_held q (single t y) w) q t y plain (λ r. refl) (λ r m. m) s.made s.allowed still refl refl only_that no_static (λ m n b. n t s)
+  pub stands_changed : Stands K (with_held q h w) q t
+  stands_changed = stands_there K w (with_held q h w) q t h holds (λ r. refl) (λ r m. m) s.made s.allowed still refl refl only_that no_static (λ m n b. n t s)
 
 -- ---- memories that hold the same
 
@@ -174,9 +157,7 @@ made_same w v places objects (field o k) h = subst (λ z. o < z) (sym objects) h
 module _ (K : Ground) (w v : Memory) (held : v.held ≡ w.held) (places : v.next ≡ w.next) (objects : v.next_object ≡ w.next_object) where
   stands_same : (q : Position) (ty : Ty) → Stands K w q ty → Stands K v q ty
   stands_same q ty s = record {
-    value = s.value;
-    holds = ap (λ (h : Position → Held). h q) held ∙ s.holds;
-    plain = s.plain;
+    holds = subst (λ z. Holds ty z) (sym (ap (λ (h : Position → Held). h q) held)) s.holds;
     made = made_same w v places objects q.root s.made;
     allowed = s.allowed;
   }
@@ -197,20 +178,20 @@ module _ (K : Ground) (w v : Memory) (held : v.held ≡ w.held) (places : v.next
 
 -- ---- a place of its own
 
--- the memory in which the next place was made for a scalar
-abbrev pub made_next : Ty → Memory → Memory
-made_next ty w = with_held (whole (made w.next)) (single ty (first_scalar ty)) (record w { next = suc w.next })
+-- the memory in which the next place was made
+abbrev pub made_next : Held → Memory → Memory
+made_next h w = with_held (whole (made w.next)) h (record w { next = suc w.next })
 
-made_more : (w : Memory) (ty : Ty) (r : Root) → IsMade (mark w) r → IsMade (mark (made_next ty w)) r
-made_more w ty (shared k) h = tt
-made_more w ty (made n) h = omega (arith, h)
-made_more w ty (field o k) h = h
+made_more : (w : Memory) (h : Held) (r : Root) → IsMade (mark w) r → IsMade (mark (made_next h w)) r
+made_more w h (shared k) m = tt
+made_more w h (made n) m = omega (arith, m)
+made_more w h (field o k) m = m
 
-module _ (K : Ground) (w : Memory) (ty : Ty) (plain : Plain ty (first_scalar ty)) (allowed : K.footprint (whole (made w.next)) ≡ true) where
+module _ (K : Ground) (w : Memory) (ty : Ty) (h : Held) (holds : Holds ty h) (allowed : K.footprint (whole (made w.next)) ≡ true) where
   abbrev place : Position
   place = whole (made w.next)
 
-  nothing_stands : (t : Ty) → Stands K w place t → ty ≡ t
+  nothing_stands : (t : Ty) → Stands K w place t → Holds t h
   nothing_stands t s =
       let l : w.next < w.next = s.made in
       absurd (omega (arith, l))
@@ -220,7 +201,7 @@ module _ (K : Ground) (w : Memory) (ty : Ty) (plain : Plain ty (first_scalar ty)
   place_number (shared k) = 0
   place_number (field o k) = 0
 
-  no_shared : (k : ℕ) (x : Variable) → slice_get K.declarations.vars k ≡ Some x → is_static x.owner ≡ true → place ≡ shared_place k → w.held place ≡ blank → ty ≡ x.ty
+  no_shared : (k : ℕ) (x : Variable) → slice_get K.declarations.vars k ≡ Some x → is_static x.owner ≡ true → place ≡ shared_place k → w.held place ≡ blank → Holds x.ty h
   no_shared k x is st e b =
       let n : suc w.next ≡ 0 = ap (λ (q : Position). place_number q.root) e in
       absurd (omega (arith, n))
@@ -234,15 +215,10 @@ module _ (K : Ground) (w : Memory) (ty : Ty) (plain : Plain ty (first_scalar ty)
   unmade : w.next < w.next → ⊥
   unmade l = omega (arith, l)
 
-  pub keeps_made : Keeps K w (made_next ty w)
+  pub keeps_made : Keeps K w (made_next h w)
   keeps_made =
-      keeps_put K w (made_next ty w) place ty (first_scalar ty) plain (λ r. refl) (made_more w ty) last_made allowed longer refl refl nothing_stands no_shared (λ m n b. unmade m)
+      keeps_put K w (made_next h w) place ty h holds (λ r. refl) (made_more w h) last_made allowed longer refl refl nothing_stands no_shared (λ m n b. unmade m)
 
-  pub stands_made : Stands K (made_next ty w) place ty
+  pub stands_made : Stands K (made_next h w) place ty
   stands_made =
-      stands_there K w (made_next ty w) place ty (first_scalar ty) plain (λ r. refl) (made_more w ty) last_made allowed longer refl refl nothing_stands no_shared (λ m n b. unmade m)
-
--- ---- shapes
-
-pub variable_shape_is : (D : Declarations) (v : ℕ) (x : Variable) → slice_get D.vars v ≡ Some x → covers_type x.ty ≡ true → variable_shape D v ≡ simple x.ty
-variable_shape_is D v x is covers = ap (declared_shape (user_shapes D)) is ∙ shape_is (user_shapes D) x.bounds x.ty covers
+      stands_there K w (made_next h w) place ty h holds (λ r. refl) (made_more w h) last_made allowed longer refl refl nothing_stands no_shared (λ m n b. unmade m)

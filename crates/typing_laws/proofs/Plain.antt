@@ -1,11 +1,13 @@
 -- Scalars of covered types, by the six types.
-use Rattle.std.proofs.Common.{◌≡◌, refl, sym, ap, ℕ, suc, ℤ, pos, negsuc, neg_ℤ, true, false, List, [], arith, true≢false, nat_eq, Some}
+use Rattle.std.proofs.Common.{◌≡◌, refl, sym, ap, subst, ℕ, suc, ℤ, pos, negsuc, neg_ℤ, true, false, List, [], arith, true≢false, nat_eq, Some}
 use Rattle.std.specs.Prelude.{◌*ℤ◌, ◌*◌}
 use Rattle.vb_tree.specs.BoundTree as types
 use Rattle.vb_tree.specs.BoundTree.{Ty}
 use Rattle.vb_tree.specs.declared.value.Value6.{Value6}
 use Rattle.vb_tree.specs.declared.value.Value6.TheVariants as v
 use Rattle.vb6_meaning.specs.Answers.{gives}
+use Rattle.vb6_meaning.specs.declared.number.NumberKind.TheVariants as kinds
+use Rattle.vb6_meaning.specs.Kinds.{fits}
 use Rattle.vb6_meaning.specs.NumberTexts.{text_of, print_text}
 use Rattle.bound_tree.specs.Tree.{Declarations}
 use Rattle.bound_facts.specs.Locks.{is_same_type}
@@ -132,6 +134,17 @@ shape_is users bounds types.str c = refl
 shape_is users bounds _ c = absurd (true≢false (sym c))
 
 -- ---- what holds of such a value
+
+pub long_value : (t : Ty) (x : Value6) → Plain t x → t ≡ types.long → (z : ℤ) × (x ≡ v.Long z) × (fits kinds.Long z ≡ true)
+long_value t x p e = by types.long x refl (subst (λ s. Plain s x) e p)
+  where
+    by : (s : Ty) (y : Value6) → s ≡ types.long → Plain s y → (z : ℤ) × (y ≡ v.Long z) × (fits kinds.Long z ≡ true)
+    by _ _ i (a_long z h) = (z, refl, h)
+    by _ _ i (a_boolean b) = absurd (cc i)
+    by _ _ i (a_byte m h) = absurd (cc i)
+    by _ _ i (an_integer z h) = absurd (cc i)
+    by _ _ i (a_currency z h) = absurd (cc i)
+    by _ _ i (a_text s) = absurd (cc i)
 
 pub is_of_type : (D : Declarations) (ty : Ty) (x : Value6) → Plain ty x → is_of_shape (type_shape D ty) (scalar ty x) ≡ true
 is_of_type D _ _ (a_boolean b) = refl

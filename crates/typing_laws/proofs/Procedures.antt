@@ -1,5 +1,5 @@
 -- The parts of covered procedures.
-use Rattle.std.proofs.Common.{◌≡◌, refl, sym, ap, subst, ◌∙◌, ℕ, true, not, ◌&&◌, nat_eq, true≢false, List, Option, Some, None}
+use Rattle.std.proofs.Common.{◌≡◌, refl, sym, ap, subst, ◌∙◌, ℕ, true, cond, not, ◌&&◌, nat_eq, true≢false, List, Option, Some, None}
 use Rattle.std.specs.Prelude.{slice_get, map, is_some}
 use Rattle.std.specs.List.{list_all}
 use Rattle.std.specs.Cmp.Lexicographic.{pointwise}
@@ -15,14 +15,14 @@ use Rattle.bound_facts.specs.Locks.{is_same_type}
 use Rattle.vb6_run.specs.Forms.{body_of}
 use Rattle.vb6_run.specs.Programs.{answer_in, owned_from}
 use Rattle.vb6_run.specs.Runnables.{Runnable, is_class_file}
-use Rattle.run_matches.specs.CoveredVariables.{belongs_to, covers_type}
+use Rattle.run_matches.specs.CoveredVariables.{belongs_to, covers_declared, has_extents}
 use Rattle.run_matches.specs.CoveredLines.{covers_in_block, covers_line}
 use Rattle.run_matches.specs.Covered.{covers_all_calls, covers_body, covers_calls, covers_head, covers_kind, covers_names, covers_parameter, covers_procedure, covers_result, covers_site, covers_variables, has_answer, has_result, is_answer_of, is_parameter_of, is_plain_kind, is_result_in, is_scalar_or_loud, is_taken_in}
 use Rattle.run_matches.specs.Sites.{site_of}
-use Rattle.typing_laws.specs.Scalars.{are_scalar_lines, has_loud_parameters, has_scalar_variables, is_scalar_line}
+use Rattle.typing_laws.specs.Flat.{are_flat_lines, has_flat_variables, is_flat, is_flat_line}
 use Rattle.typing_laws.specs.Calls.{IsReady}
 use Rattle.typing_laws.specs.Typed.{are_typed_lines, gives_what_it_has, is_typed_line}
-use Rattle.typing_laws.proofs.Uses.{own_covered}
+use Rattle.typing_laws.proofs.Uses.{own_flat}
 
 pub record Head (P : Program) (p : ℕ) : Type 0 where
   pub procedure : Procedure
@@ -53,13 +53,13 @@ head_of P p h =
 pub record Body (P : Program) (p : ℕ) : Type 0 where
   pub lines : List Line
   pub are_lines : slice_get P.bodies p ≡ Some lines
-  pub covers : list_all (is_scalar_line P p) lines ≡ true
+  pub covers : list_all (is_flat_line P p) lines ≡ true
   pub blocks : list_all (covers_in_block P p lines) (body_of lines) ≡ true
   pub calls : list_all (covers_calls P p) lines ≡ true
   pub typed : list_all (is_typed_line P.declarations) lines ≡ true
 
 body_in : (P : Program) (p : ℕ) (o : Option (List Line)) → slice_get P.bodies p ≡ o → covers_body P p o ≡ true → covers_all_calls P p o ≡ true
-    → are_typed_lines P.declarations o ≡ true → are_scalar_lines P p o ≡ true → Body P p
+    → are_typed_lines P.declarations o ≡ true → are_flat_lines P p o ≡ true → Body P p
 body_in P p None is h c t s = absurd (true≢false (sym h))
 body_in P p (Some lines) is h c t s =
     let b = both_true (list_all (covers_line P p) lines) (list_all (covers_in_block P p lines) (body_of lines)) h in
@@ -67,8 +67,10 @@ body_in P p (Some lines) is h c t s =
 
 pub record Parts (P : Program) (p : ℕ) : Type 0 where
   pub head : Head P p
-  pub variables : has_scalar_variables P p ≡ true
+  pub variables : has_flat_variables P p ≡ true
   pub body : Body P p
+  -- each ReDim of the project gives its arrays a bound
+  pub extents : has_extents P ≡ true
   -- a Function has a value of its type
   pub gives : gives_what_it_has (slice_get P.declarations.procs p) ≡ true
 
@@ -86,11 +88,11 @@ parts_of R p ready =
     let b = both_true head (at && (covers_variables P p && body)) a.1 in
     let c = both_true at (covers_variables P p && body) b.1 in
     let d = both_true (covers_variables P p) body c.1 in
-    let loud = has_loud_parameters P (slice_get D.procs p) in
-    let s = both_true (are_scalar_lines P p (slice_get P.bodies p)) (has_scalar_variables P p && loud) (ready.scalars p (empty p)) in
+    let s = both_true (are_flat_lines P p (slice_get P.bodies p)) (has_flat_variables P p) (ready.flat p (empty p)) in
     record {
       head = head_in P p (slice_get D.procs p) refl b.0;
-      variables = (both_true (has_scalar_variables P p) loud s.1).0;
+      variables = s.1;
+      extents = (both_true (list_all (λ (x : Variable). cond (belongs_to p x.owner) (covers_declared D x) true) D.vars) (has_extents P) d.0).1;
       body = body_in P p (slice_get P.bodies p) refl d.1 z.0 (ready.typed p (empty p)) s.0;
       gives = ready.results p (empty p);
     }
@@ -108,7 +110,7 @@ pub record Parameter (P : Program) (p : ℕ) (v : VarId) : Type 0 where
   pub variable : Variable
   pub is_variable : slice_get P.declarations.vars v.0 ≡ Some variable
   pub is_parameter : is_parameter_of p variable.owner ≡ true
-  pub covers : covers_type variable.ty ≡ true
+  pub flat : is_flat variable ≡ true
 
 parameter_belongs : (p : ℕ) (o : Owner) → is_parameter_of p o ≡ true → belongs_to p o ≡ true
 parameter_belongs p (owner.Value q) h = h
@@ -119,19 +121,14 @@ parameter_belongs p (owner.Static q) h = absurd (true≢false (sym h))
 parameter_belongs p (owner.Answer q) h = absurd (true≢false (sym h))
 parameter_belongs p (owner.Field q) h = absurd (true≢false (sym h))
 
-parameter_in : (P : Program) (p : ℕ) (v : VarId) (o : Option Variable) → slice_get P.declarations.vars v.0 ≡ o → has_scalar_variables P p ≡ true
+parameter_in : (P : Program) (p : ℕ) (v : VarId) (o : Option Variable) → slice_get P.declarations.vars v.0 ≡ o → has_flat_variables P p ≡ true
     → is_taken_in P p v.0 o ≡ true → Parameter P p v
 parameter_in P p v None is c h = absurd (true≢false (sym h))
 parameter_in P p v (Some y) is c h =
     let b = both_true (is_parameter_of p y.owner) (is_scalar_or_loud P v.0 y) h in
-    record {
-      variable = y;
-      is_variable = is;
-      is_parameter = b.0;
-      covers = own_covered P p v.0 y c is (parameter_belongs p y.owner b.0);
-    }
+    record { variable = y; is_variable = is; is_parameter = b.0; flat = own_flat P p v.0 y c is (parameter_belongs p y.owner b.0) }
 
-pub parameter_of : (P : Program) (p : ℕ) (v : VarId) → has_scalar_variables P p ≡ true → covers_parameter P p v ≡ true → Parameter P p v
+pub parameter_of : (P : Program) (p : ℕ) (v : VarId) → has_flat_variables P p ≡ true → covers_parameter P p v ≡ true → Parameter P p v
 parameter_of P p v c h = parameter_in P p v (slice_get P.declarations.vars v.0) refl c h
 
 -- ---- results

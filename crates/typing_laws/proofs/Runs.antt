@@ -1,5 +1,5 @@
 -- A run of a procedure that can be run keeps the types of what stands, and is outside only where a turn of it leaves.
-use Rattle.std.proofs.Common.{◌≡◌, refl, sym, ap, ◌∙◌, subst, ℕ, zero, suc, Bool, true, false, cond, List, [], ◌∷◌, map, Option, Some, None}
+use Rattle.std.proofs.Common.{◌≡◌, refl, sym, ap, ◌∙◌, subst, ℕ, zero, suc, Bool, true, false, cond, true≢false, List, [], ◌∷◌, map, Option, Some, None}
 use Rattle.std.specs.Prelude.{slice_get, is_some}
 use Rattle.vb_tree.specs.BoundTree.{Ty}
 use Rattle.vb_tree.specs.BoundTree as types
@@ -16,31 +16,35 @@ use Rattle.vb6_run.specs.Expressions.{Context}
 use Rattle.vb6_run.specs.Forms.{SourceLine, SourceMachine, body_of, form_does, with_aims}
 use Rattle.vb6_run.specs.Lines.{source_lines}
 use Rattle.vb6_run.specs.Programs.{answer_of, entered_as, line_does, machine_of, result_of, run6}
-use Rattle.vb6_run.specs.Runnables.{Runnable, declarations_of}
-use Rattle.vb6_run.specs.Store.{Locked, Memory, SourceFrame, SourceGiven, read, set_err}
+use Rattle.vb6_run.specs.Runnables.{Runnable, declarations_of, variable_address}
+use Rattle.vb6_run.specs.Store.{Address, Locked, Memory, SourceFrame, SourceGiven, read, set_err}
 use Rattle.vb6_run.specs.Values.{Value, scalar}
 use Rattle.run_matches.specs.CoveredVariables.{covers_type}
 use Rattle.run_matches.specs.CoveredLines.{covers_in_block, covers_part, head_line}
-use Rattle.run_matches.specs.Covered.{covers_calls}
+use Rattle.run_matches.specs.Covered.{covers_calls, is_answer_of}
 use Rattle.typing_laws.specs.Calls.{CallsKeep, EndsAsCall, IsReady, SourceJob}
-use Rattle.typing_laws.specs.Frames.{AreGiven, IsReturned, IsSound, IsTypedFrame, Keeps, Stands, code_line, numbered}
-use Rattle.typing_laws.specs.Leaving.{LineLeaves, RunLeaves, TurnLeaves, at_head, behind_entry, behind_line, context_at, started, stepped_to}
+use Rattle.typing_laws.specs.Frames.{AreGiven, IsPlace, IsReturned, IsSound, IsTypedFrame, Keeps, Stands, code_line, numbered}
+use Rattle.typing_laws.specs.Leaving.{LineLeaves, RunLeaves, TurnLeaves, at_entry, at_head, behind_entry, behind_line, context_at, started, stepped_to}
 use Rattle.typing_laws.specs.Leaving as leaving
 use Rattle.typing_laws.specs.Results.{IsRunResult}
-use Rattle.typing_laws.specs.Scalars.{is_scalar_line}
+use Rattle.typing_laws.specs.Flat.{is_flat, is_flat_line}
 use Rattle.typing_laws.specs.Typed.{is_typed_line}
 use Rattle.typing_laws.proofs.Callees.{line_suited}
 use Rattle.typing_laws.proofs.Ends.{Ends, ends_after, ends_from, ends_weaker, keeps_self, keeps_then, sound_later, then_ends}
 use Rattle.typing_laws.proofs.Bindings.{all_given}
 use Rattle.typing_laws.proofs.Entries.{answer_belongs, entered_ends}
-use Rattle.typing_laws.proofs.Expressions.{read_here}
+use Rattle.typing_laws.proofs.Addresses.{AtRoot, at_root, root_read, simple_is}
+use Rattle.typing_laws.proofs.Held.{Single, single_of}
+use Rattle.vb_tree.specs.declared.declared.Owner.{Owner}
+use Rattle.vb_tree.specs.declared.declared.Owner.TheVariants as owner
+use Rattle.written_trees.specs.Arguments.{is_reference_owner}
 use Rattle.typing_laws.proofs.Forms.{line_ends}
 use Rattle.typing_laws.proofs.Frames.{frame_at, frame_caught, frame_later}
 use Rattle.typing_laws.proofs.Lines.{Good, IsIn}
 use Rattle.typing_laws.proofs.Places.{all_at, keeps_same, not_none, some_is}
 use Rattle.typing_laws.proofs.Plain.{Plain}
 use Rattle.typing_laws.proofs.Procedures.{Answered, Body, Parts, answer_of_function, parts_of}
-use Rattle.typing_laws.proofs.Uses.{own_covered}
+use Rattle.typing_laws.proofs.Uses.{answer_covered, own_flat}
 use Rattle.typing_laws.specs.Frames.{Footprint, Ground, IsGiven, MayStand, anywhere, footprint_of, ground, is_given_at, is_open, shared_place}
 use Rattle.typing_laws.proofs.Frames.{frame_anywhere}
 use Rattle.run_base.specs.Positions.{Position, made, whole}
@@ -77,7 +81,7 @@ record Known (P : Program) (p n : ℕ) (lines : List tree.Line) (l : SourceLine)
   place : ℕ
   stands : slice_get lines place ≡ Some l.form
   number : n ≡ suc place
-  covers : is_scalar_line P p l.form ≡ true
+  covers : is_flat_line P p l.form ≡ true
   typed : is_typed_line P.declarations l.form ≡ true
   calls : covers_calls P p l.form ≡ true
   part : covers_part P p l.form.source.form l.form.bindings.exprs (head_line lines l.aims.own) ≡ true
@@ -95,7 +99,7 @@ known_line P p body (suc k) l e =
       place = k;
       stands = m;
       number = refl;
-      covers = all_at (is_scalar_line P p) ls k l.form body.covers m;
+      covers = all_at (is_flat_line P p) ls k l.form body.covers m;
       typed = all_at (is_typed_line P.declarations) ls k l.form body.typed m;
       calls = all_at (covers_calls P p) ls k l.form body.calls m;
       part = all_at (covers_in_block P p ls) (body_of ls) k l body.blocks e;
@@ -116,6 +120,32 @@ as_call K X x job w (raises o n v) h = h
 as_call K X x job w (spent o v) h = h
 as_call K X x job w (outside o) h = h
 
+answers_itself : (p : ℕ) (o : Owner) → is_answer_of p o ≡ true → is_reference_owner o ≡ false
+answers_itself p (owner.Answer q) h = refl
+answers_itself p _ h = absurd (true≢false (sym h))
+
+module _ (F : Footprint) (R : Runnable) (x : Procedure) (w : Memory) (E : Type 0) where
+  as_result : (s u : Ty) → covers_type s ≡ true → is_same_type s u ≡ true → s ≡ u
+  as_result types.boolean types.boolean d e = refl
+  as_result types.byte types.byte d e = refl
+  as_result types.integer types.integer d e = refl
+  as_result types.long types.long d e = refl
+  as_result types.currency types.currency d e = refl
+  as_result types.str types.str d e = refl
+  as_result _ _ d e = cc
+
+  -- the value of a result variable
+  returned_at : (y : Variable) (a : Address) → covers_type y.ty ≡ true → y.ty ≡ x.result → AtRoot R.program F w y a
+      → Ends (ground (declarations_of R) F) (Returned x) E w (then (read a w) (λ z v. gives [] (Some z) v))
+  returned_at y a c same there =
+      let K : Ground = ground (declarations_of R) F in
+      let one : Single y.ty (w.held there.position) = single_of y.ty (w.held there.position) c there.stands.holds in
+      let reads : read a w ≡ gives [] (scalar y.ty one.value) w =
+      ap (λ b. read b w) (there.is ∙ ap (λ d. root d there.position) (simple_is y.ty there.shape c there.fits))
+      ∙ root_read K w y.ty there.position one.value one.holds one.plain in
+      subst (λ r. Ends K (Returned x) E w (then r (λ z v. gives [] (Some z) v))) (sym reads)
+      (keeps_self K w, (one.value, ap (λ u. scalar u one.value) same, subst (λ u. Plain u one.value) same one.plain))
+
 -- a procedure that has come to its end
 ended : (F : Footprint) (R : Runnable) (p : ℕ) (parts : Parts R.program p) (f : SourceFrame) (w : Memory) (E : Type 0) → IsTypedFrame F R p w f
     → Ends (ground (declarations_of R) F) (Returned parts.head.procedure) E w (result_of R p f w)
@@ -125,30 +155,23 @@ ended F R p parts f w E t =
     let x : Procedure = parts.head.procedure in
     subst (λ o. Ends K (Returned x) E w (some_of o (λ x w. answer_of R f x.answer w) w)) (sym parts.head.is_procedure) (by x.answer refl)
   where
+    at : (a : VarId) (y : Variable) (b : Address) → is_answer_of p y.owner ≡ true → is_flat y ≡ true → is_same_type y.ty parts.head.procedure.result ≡ true
+        → variable_address (declarations_of R) f a.0 ≡ Some b → IsPlace R.program F w a.0 y b
+        → Ends (ground (declarations_of R) F) (Returned parts.head.procedure) E w (answer_of R f (Some a) w)
+    at a y b own flat same is place =
+        let c : covers_type y.ty ≡ true = answer_covered p y own flat in
+        subst (λ o. Ends (ground (declarations_of R) F) (Returned parts.head.procedure) E w (some_of o (λ a w. then (read a w) (λ x w. gives [] (Some x) w)) w)) (sym is)
+        (returned_at F R parts.head.procedure w E y b c (as_result F R parts.head.procedure w E y.ty parts.head.procedure.result c same)
+        (at_root R.program F w a.0 y b place (answers_itself p y.owner own)))
+
     by : (o : Option VarId) → parts.head.procedure.answer ≡ o → Ends (ground (declarations_of R) F) (Returned parts.head.procedure) E w (answer_of R f o w)
     by None is = (keeps_self (ground (declarations_of R) F) w, ap is_some is)
     by (Some a) is =
-        let D : Declarations = declarations_of R in
-        let K : Ground = ground D F in
-        let x : Procedure = parts.head.procedure in
-        let y : Answered D p x a = answer_of_function D p x a parts.head.result is in
+        let y : Answered (declarations_of R) p parts.head.procedure a = answer_of_function (declarations_of R) p parts.head.procedure a parts.head.result is in
         let own = answer_belongs p y.variable.owner y.is_answer in
-        let c : covers_type y.variable.ty ≡ true = own_covered R.program p a.0 y.variable parts.variables y.is_variable own in
-        let s = t.own a.0 y.variable y.is_variable own c in
-        let there : Stands K w s.0 y.variable.ty = s.2 in
-        let same : y.variable.ty ≡ x.result = as_result y.variable.ty x.result c y.same in
-        subst (λ o. Ends K (Returned x) E w (some_of o (λ a w. then (read a w) (λ x w. gives [] (Some x) w)) w)) (sym s.1)
-        (subst (λ r. Ends K (Returned x) E w (then r (λ x w. gives [] (Some x) w))) (sym (read_here y.variable.ty there.value s.0 w there.holds there.plain))
-        (keeps_self K w, (there.value, ap (λ u. scalar u there.value) same, subst (λ u. Plain u there.value) same there.plain)))
-      where
-        as_result : (s u : Ty) → covers_type s ≡ true → is_same_type s u ≡ true → s ≡ u
-        as_result types.boolean types.boolean d e = refl
-        as_result types.byte types.byte d e = refl
-        as_result types.integer types.integer d e = refl
-        as_result types.long types.long d e = refl
-        as_result types.currency types.currency d e = refl
-        as_result types.str types.str d e = refl
-        as_result _ _ d e = cc
+        let flat : is_flat y.variable ≡ true = own_flat R.program p a.0 y.variable parts.variables y.is_variable own in
+        let s = t.own a.0 y.variable y.is_variable own flat in
+        at a y.variable s.0 y.is_answer flat y.same s.1 s.2
 
 module _ (F : Footprint) (R : Runnable) where
   abbrev D : Declarations
@@ -269,7 +292,7 @@ module _ (F : Footprint) (R : Runnable) where
           ends_from K (Returned parts.head.procedure) E w w1 (then (handled M f l does) (λ g w. go M n (runs p g) w)) (same_stepped k w)
           (line_goes n bodies p ready f w sound t k l at_body is does refl
           (line_ends C F (RunLeaves R n) (calls_keep n p f l calls) l.form parts.body.lines parts.body.are_lines stands w1 inside c.covers c.typed
-          (line_suited R p c.place parts.head.procedure parts.body.lines l.form parts.head.is_procedure parts.body.are_lines c.stands c.calls ready) c.part (record { all = c.all; number = c.at; aims = c.aims })))
+          (line_suited R p c.place parts.head.procedure parts.body.lines l.form parts.head.is_procedure parts.body.are_lines c.stands c.calls ready) c.part parts.extents (record { all = c.all; number = c.at; aims = c.aims })))
 
   bodies_more : (n : ℕ) → CallsEnd n → BodiesEnd n → BodiesEnd (suc n)
   bodies_more n calls bodies p ready f w sound t =
@@ -293,7 +316,8 @@ module _ (F : Footprint) (R : Runnable) where
           let sound1 : IsSound K w1 = sound_later K w w1 (same_stepped k w) sound in
           ends_from K (Returned x) E w w1 (then (entered_as R q me locked gs w1) (λ f w. go M n (runs q f) w)) (same_stepped k w)
           (then_ends K (λ u f. IsTypedFrame F R q u f) (Returned x) E w1 (entered_as R q me locked gs w1) (λ f w. go M n (runs q f) w)
-          (entered_ends R q me locked gs w1 F E ready x is sound1 (all_given K w w1 x.params gs (same_stepped k w) given))
+          (entered_ends R q me locked gs w1 F E ready x is sound1 (all_given K w w1 x.params gs (same_stepped k w) given)
+          (λ v y at own large. at_entry q k v me locked gs y w left at own large))
           (λ o f v one keeps t.
           ends_weaker K (Returned x) (RunLeaves R n (runs q f) v) E v (go M n (runs q f) v) (λ h. behind_entry q k me locked gs f w v o left one h)
           (subst (λ (z : Procedure). Ends K (Returned z) (RunLeaves R n (runs q f) v) v (go M n (runs q f) v)) same_procedure
@@ -333,14 +357,23 @@ given_within D w all (g ∷ gs) among (v ∷ vs) h = (
       h.0,
       h.1,
       record {
-        value = h.2.value;
         holds = h.2.holds;
-        plain = h.2.plain;
         made = h.2.made;
         allowed = last_or (is_open w.next q.root) (list_any (is_given_at q) all) (m q (self_same q));
       },
     )
-    by (Some y) (by_address (item e q j path)) m h = h
+    by (Some y) (by_address (item e q j path)) m h = (
+      h.0,
+      (
+        h.1.0,
+        h.1.1,
+        record {
+          holds = h.1.2.holds;
+          made = h.1.2.made;
+          allowed = last_or (is_open w.next q.root) (list_any (is_given_at q) all) (m q (self_same q));
+        },
+      ),
+    )
     by (Some y) (by_address (constant x)) m h = h
 
 -- so does what is shared, and what isn't made yet
@@ -353,7 +386,7 @@ sound_within D w gs s = record {
 }
   where
     within : (v : ℕ) (ty : Ty) → Stands (ground D anywhere) w (shared_place v) ty → Stands (ground D (footprint_of w gs)) w (shared_place v) ty
-    within v ty s = record { value = s.value; holds = s.holds; plain = s.plain; made = s.made; allowed = refl }
+    within v ty s = record { holds = s.holds; made = s.made; allowed = refl }
 
     may : (v : ℕ) (ty : Ty) → MayStand (ground D anywhere) w (shared_place v) ty → MayStand (ground D (footprint_of w gs)) w (shared_place v) ty
     may v ty (inl e) = inl e

@@ -12,12 +12,13 @@ use Rattle.vb6_run.specs.Programs.{empty_memory, is_module_variable, lay_module_
 use Rattle.vb6_run.specs.Shapes.{Shape, simple, group, array, endless, Shapes, no_shapes, next_shape, variable_shape}
 use Rattle.vb6_run.specs.Store.{Held, Memory, all_laid, blank, laid, parts, provided, single, with_held}
 use Rattle.vb6_run.specs.Values.{first_scalar, is_makeable}
-use Rattle.run_matches.specs.CoveredVariables.{covers_type}
 use Rattle.run_matches.specs.Typed.{EndsIn}
+use Rattle.typing_laws.specs.Flat.{is_flat}
+use Rattle.typing_laws.specs.Plain.{Holds}
 use Rattle.typing_laws.specs.Frames.{Ground, IsSound, Stands, anywhere, ground, is_static, shared_place}
 use Rattle.typing_laws.proofs.Owned.{OwnedAt, owned_at, owned_of}
-use Rattle.typing_laws.proofs.Places.{same_position, self_same, some_is, variable_shape_is}
-use Rattle.typing_laws.proofs.Plain.{first_plain}
+use Rattle.typing_laws.proofs.Made.{first_held, first_of_variable, laid_is, shape_of_variable}
+use Rattle.typing_laws.proofs.Places.{same_position, self_same, some_is}
 
 -- ---- what is laid elsewhere
 
@@ -66,56 +67,59 @@ module _ (D : Declarations) where
 
   -- the rest follows where a variable is laid
   behind_one : (P : Memory → Type 0) (j : ℕ) (ks : List ℕ) (w : Memory)
-      → EndsIn P (lay_module_variables D ks (laid (variable_shape D j) (shared_place j) w)) → EndsIn P (lay_module_variables D (j ∷ ks) w)
-  behind_one P j ks w h = by (is_makeable (variable_shape D j))
+      → (is_makeable (variable_shape D j) ≡ true → EndsIn P (lay_module_variables D ks (laid (variable_shape D j) (shared_place j) w)))
+      → EndsIn P (lay_module_variables D (j ∷ ks) w)
+  behind_one P j ks w h = by (is_makeable (variable_shape D j)) refl
     where
-      by : (b : Bool)
+      by : (b : Bool) → is_makeable (variable_shape D j) ≡ b
           → EndsIn P (then (provided b (λ w. gives [] (tt {0}) (laid (variable_shape D j) (shared_place j) w)) w) (λ (u : Unit {0}) w. lay_module_variables D ks w))
-      by true = ends_after P [] (lay_module_variables D ks (laid (variable_shape D j) (shared_place j) w)) h
-      by false = tt
+      by true e = ends_after P [] (lay_module_variables D ks (laid (variable_shape D j) (shared_place j) w)) (h e)
+      by false e = tt
 
-  module _ (k : ℕ) (x : Variable) (is : slice_get D.vars k ≡ Some x) (c : covers_type x.ty ≡ true) where
+  module _ (k : ℕ) (x : Variable) (is : slice_get D.vars k ≡ Some x) (c : is_flat x ≡ true) where
     abbrev Here : Memory → Type 0
     Here w = Stands K w (shared_place k) x.ty
 
-    laid_here : (w : Memory) → Here (laid (variable_shape D k) (shared_place k) w)
-    laid_here w = subst (λ s. Here (laid s (shared_place k) w)) (sym (variable_shape_is D k x is c)) (record {
-      value = first_scalar x.ty;
-      holds = ap (λ b. cond b (single x.ty (first_scalar x.ty)) (w.held (shared_place k))) (self_same (shared_place k));
-      plain = first_plain x.ty c;
-      made = tt;
-      allowed = refl;
-    })
+    laid_here : (w : Memory) → is_makeable (variable_shape D k) ≡ true → Here (laid (variable_shape D k) (shared_place k) w)
+    laid_here w m =
+        let h : Held = first_held (variable_shape D k) in
+        subst Here (sym (laid_is x.ty (variable_shape D k) (shared_place k) w (shape_of_variable D k x is c))) (record {
+          holds = subst (λ z. Holds x.ty z) (sym (ap (λ b. cond b h (w.held (shared_place k))) (self_same (shared_place k)))) (first_of_variable D k x is c m);
+          made = tt;
+          allowed = refl;
+        })
 
     still_here : (j : ℕ) (w : Memory) → nat_eq k j ≡ false → Here w → Here (laid (variable_shape D j) (shared_place j) w)
     still_here j w e s = record {
-      value = s.value;
-      holds = laid_elsewhere (variable_shape D j) (shared_place j) (shared_place k) w (apart_by j k e) ∙ s.holds;
-      plain = s.plain;
+      holds = subst (λ z. Holds x.ty z) (sym (laid_elsewhere (variable_shape D j) (shared_place j) (shared_place k) w (apart_by j k e))) s.holds;
       made = tt;
       allowed = refl;
     }
 
+    -- the variable itself, which may be laid again
+    laid_as : (j : ℕ) (w : Memory) → nat_eq k j ≡ true → is_makeable (variable_shape D j) ≡ true → Here (laid (variable_shape D j) (shared_place j) w)
+    laid_as j w e m =
+        let same : j ≡ k = sym (eqb-true k j e) in
+        subst (λ n. Here (laid (variable_shape D n) (shared_place n) w)) (sym same) (laid_here w (subst (λ n. is_makeable (variable_shape D n) ≡ true) same m))
+
     stays_here : (ks : List ℕ) (w : Memory) → Here w → EndsIn Here (lay_module_variables D ks w)
     stays_here [] w s = s
-    stays_here (j ∷ ks) w s = behind_one Here j ks w (stays_here ks (laid (variable_shape D j) (shared_place j) w) (by (nat_eq k j) refl))
+    stays_here (j ∷ ks) w s = behind_one Here j ks w (λ m. stays_here ks (laid (variable_shape D j) (shared_place j) w) (by (nat_eq k j) refl m))
       where
-        by : (b : Bool) → nat_eq k j ≡ b → Here (laid (variable_shape D j) (shared_place j) w)
-        by true e = subst (λ n. Here (laid (variable_shape D n) (shared_place n) w)) (eqb-true k j e) (laid_here w)
-        by false e = still_here j w e s
+        by : (b : Bool) → nat_eq k j ≡ b → is_makeable (variable_shape D j) ≡ true → Here (laid (variable_shape D j) (shared_place j) w)
+        by true e m = laid_as j w e m
+        by false e m = still_here j w e s
 
     made_here : (ks : List ℕ) (w : Memory) → list_any (nat_eq k) ks ≡ true → EndsIn Here (lay_module_variables D ks w)
     made_here [] w h = absurd (true≢false (sym h))
     made_here (j ∷ ks) w h =
-        behind_one Here j ks w (by (nat_eq k j) refl h (λ i. made_here ks (laid (variable_shape D j) (shared_place j) w) i))
+        behind_one Here j ks w (λ m. by (nat_eq k j) refl m h (λ i. made_here ks (laid (variable_shape D j) (shared_place j) w) i))
       where
-        by : (b : Bool) → nat_eq k j ≡ b → b || list_any (nat_eq k) ks ≡ true
+        by : (b : Bool) → nat_eq k j ≡ b → is_makeable (variable_shape D j) ≡ true → b || list_any (nat_eq k) ks ≡ true
             → (list_any (nat_eq k) ks ≡ true → EndsIn Here (lay_module_variables D ks (laid (variable_shape D j) (shared_place j) w)))
             → EndsIn Here (lay_module_variables D ks (laid (variable_shape D j) (shared_place j) w))
-        by true e h more =
-            stays_here ks (laid (variable_shape D j) (shared_place j) w)
-            (subst (λ n. Here (laid (variable_shape D n) (shared_place n) w)) (eqb-true k j e) (laid_here w))
-        by false e h more = more h
+        by true e m h more = stays_here ks (laid (variable_shape D j) (shared_place j) w) (laid_as j w e m)
+        by false e m h more = more h
 
   -- what isn't laid is blank
   abbrev IsBlank : ℕ → Memory → Type 0
@@ -126,7 +130,7 @@ module _ (D : Declarations) where
   stays_blank k (j ∷ ks) w h b =
       let both = neither (nat_eq k j) (list_any (nat_eq k) ks) h in
       behind_one (IsBlank k) j ks w
-      (stays_blank k ks (laid (variable_shape D j) (shared_place j) w) both.1
+      (λ m. stays_blank k ks (laid (variable_shape D j) (shared_place j) w) both.1
       (laid_elsewhere (variable_shape D j) (shared_place j) (shared_place k) w (apart_by j k both.0) ∙ b))
 
   -- ---- the start

@@ -1,29 +1,34 @@
 -- Runs of covered procedures keep well-typed stores well typed.
-use Rattle.std.proofs.Common.{◌≡◌, ◌⊎◌, inl, inr, refl, sym, ap, ◌∙◌, subst, ℕ, suc, ◌<◌, Bool, true, false, true≢false, List, [], ◌∷◌, Option, Some, None}
+use Rattle.std.proofs.Common.{◌≡◌, ◌⊎◌, inl, inr, refl, sym, ap, ◌∙◌, subst, ℕ, suc, ◌<◌, ℤ, Bool, true, false, true≢false, List, [], ◌∷◌, Option, Some, None}
 use Rattle.std.specs.Prelude.{slice_get}
 use Rattle.vb_tree.specs.BoundTree.{Ty}
 use Rattle.vb_tree.specs.BoundTree as types
 use Rattle.vb_tree.specs.declared.value.Value6.{Value6}
 use Rattle.vb_tree.specs.declared.value.Value6.TheVariants as v
 use Rattle.bound_tree.specs.Tree.{Procedure, Variable}
+use Rattle.bound_facts.specs.Locks.{is_same_type}
 use Rattle.run_base.specs.Machines.{enters}
 use Rattle.run_base.specs.Outcomes.{Outcome, gives, raises, spent, outside}
 use Rattle.run_base.specs.Positions.{Root, shared, made, field, Position, whole, inner}
 use Rattle.vb6_run.specs.Programs.{run6}
-use Rattle.vb6_run.specs.Shapes.{Shape, simple, group, array, endless, Shapes, no_shapes, next_shape, variable_shape}
-use Rattle.vb6_run.specs.Store.{Held, Memory, SourceGiven, blank, parts, single}
-use Rattle.vb6_run.specs.Values.{Value, Values}
+use Rattle.vb6_run.specs.Shapes.{Shape, simple, group, array, endless, Shapes, no_shapes, next_shape, is_same_shape, variable_shape}
+use Rattle.vb6_run.specs.Store.{Held, Memory, SourceGiven, blank, parts, single, table}
+use Rattle.vb6_run.specs.Values.{Dimension, Value, Values, next_value, scalar}
 use Rattle.run_matches.specs.CoveredVariables.{covers_type}
 use Rattle.run_matches.specs.Maps.{IsMade, Map, mark, root_variable}
-use Rattle.run_matches.specs.Typed.{AllHeld, AreOf, EachOf, EndsIn, FieldsHeld, IsHeld, IsObjectOf, IsOf, IsScalar, SourceTyped, held_parts, held_single, held_table, next_each, next_of, none_each, none_of, of_elements, of_fields, of_scalar}
+use Rattle.run_matches.specs.Typed.{AllHeld, AreOf, EachOf, EndsIn, FieldsHeld, IsHeld, IsObjectOf, IsOf, IsScalar, IsSized, SourceTyped, held_parts, held_single, held_table, next_each, next_of, none_each, none_of, of_elements, of_fields, of_scalar}
 use Rattle.run_matches.specs.Upgrades.{Upgrade, runnable_of}
 use Rattle.typing_laws.specs.Calls.{IsReady, SourceJob}
 use Rattle.typing_laws.specs.Frames.{AreGiven, Ground, IsBlankStatic, IsSound, Keeps, MayStand, Stands, anywhere, footprint_of, ground, is_static, shared_place}
+use Rattle.typing_laws.specs.Flat.{is_flat}
 use Rattle.typing_laws.specs.Leaving.{started}
+use Rattle.typing_laws.specs.Plain.{EachPlain, Holds, IsShapeOf, array_shape, holds_array, holds_scalar, next_plain, none_plain, scalar_shape}
 use Rattle.typing_laws.specs.Results.{IsRunResult}
 use Rattle.typing_laws.proofs.Ends.{keeps_then}
-use Rattle.typing_laws.proofs.Places.{keeps_same, some_is, type_in, variable_shape_is}
-use Rattle.typing_laws.proofs.Plain.{is_covered, plain_of, scalar_of}
+use Rattle.typing_laws.proofs.Held.{Single, Table, single_of, table_of}
+use Rattle.typing_laws.proofs.Made.{shape_of_variable}
+use Rattle.typing_laws.proofs.Places.{held_blank, keeps_same, some_is}
+use Rattle.typing_laws.proofs.Plain.{is_covered, plain_of, same_as, scalar_of, self}
 use Rattle.typing_laws.proofs.Runs.{run_result}
 
 -- ---- values by objects that are the same
@@ -57,13 +62,52 @@ module _ (w u : Memory) (objects : u.next_object ≡ w.next_object) (classes : u
   held_in _ _ (held_table e f bounds dims xs same size h) = held_table e f bounds dims xs same size (each_in e xs h)
   held_in _ _ (held_parts t fs) = held_parts t fs
 
+-- ---- arrays of scalars
+
+-- elements of a scalar type
+each_plain : (s : Memory) (e : Ty) (xs : Values) → covers_type e ≡ true → EachOf s (simple e) xs → EachPlain e xs
+each_plain s e _ c (none_each d) = none_plain e
+each_plain s e _ c (next_each d x xs h more) = first x h (each_plain s e xs c more)
+  where
+    first : (x : Value) → IsOf s (simple e) x → EachPlain e xs → EachPlain e (next_value x xs)
+    first _ (of_scalar ty z i) rest = next_plain e z xs (plain_of s e z c i) rest
+
+each_of : (s : Memory) (e : Ty) (xs : Values) → EachPlain e xs → EachOf s (simple e) xs
+each_of s _ _ (none_plain e) = none_each (simple e)
+each_of s _ _ (next_plain e z xs p more) = next_each (simple e) (scalar e z) xs (of_scalar e z (scalar_of s e z p)) (each_of s e xs more)
+
+-- the elements of an array are scalars of a covered type
+abbrev IsCoveredElement : Shape → Type 0
+IsCoveredElement (simple ty) = covers_type ty ≡ true
+IsCoveredElement _ = ⊥
+
+same_element : (ty e : Ty) → is_same_type ty e ≡ true → covers_type e ≡ true → covers_type ty ≡ true
+same_element ty e same c = ap covers_type (same_as ty e c same) ∙ c
+
+element_covered : (d : Shape) (e : Ty) → is_same_shape d (simple e) ≡ true → covers_type e ≡ true → IsCoveredElement d
+element_covered (simple ty) e same c = same_element ty e same c
+element_covered (group t fs) e same c = true≢false (sym same)
+element_covered (array d bounds) e same c = true≢false (sym same)
+element_covered endless e same c = true≢false (sym same)
+
+standing_table : (t : Ty) (d f : Shape) (dims : List Dimension) (xs : Values) → is_same_shape d f ≡ true → Holds t (table f dims xs) → IsCoveredElement d
+standing_table _ d _ _ _ same (holds_array e rank dims xs c n p) = element_covered d e same c
+
 -- ---- what stays
 
 not_single : (ty : Ty) (x : Value6) → single ty x ≡ blank → ⊥
 not_single ty x e = cc e
 
-no_parts : (ty : Ty) (x : Value6) → parts ≡ single ty x → ⊥
-no_parts ty x h = cc h
+no_parts : (t : Ty) → Holds t parts → ⊥
+no_parts t h = by t parts h refl
+  where
+    by : (t : Ty) (g : Held) → Holds t g → g ≡ parts → ⊥
+    by _ _ (holds_scalar ty z p) e = cc e
+    by _ _ (holds_array e rank dims xs c n p) i = cc i
+
+-- a scalar that stands is of its own type
+standing_single : (t ty : Ty) (x : Value6) → Holds t (single ty x) → covers_type ty ≡ true
+standing_single _ _ _ (holds_scalar ty z p) = is_covered ty z p
 
 module _ (K : Ground) (w u : Memory) (keeps : Keeps K w u) (shares : (k : ℕ) → K.footprint (shared_place k) ≡ true) where
   -- where nothing of a covered type stands
@@ -72,6 +116,17 @@ module _ (K : Ground) (w u : Memory) (keeps : Keeps K w u) (shares : (k : ℕ) �
 
   by_same : (d : Shape) (q : Position) → IsHeld w d (w.held q) → u.held q ≡ w.held q → IsHeld u d (u.held q)
   by_same d q h e = held_in w u keeps.objects keeps.classes d (u.held q) (subst (λ z. IsHeld w d z) (sym e) h)
+
+  single_held : (ty : Ty) (q : Position) → covers_type ty ≡ true → Stands K u q ty → IsHeld u (simple ty) (u.held q)
+  single_held ty q c s =
+      let one : Single ty (u.held q) = single_of ty (u.held q) c s.holds in
+      subst (λ z. IsHeld u (simple ty) z) (sym one.holds) (held_single ty one.value (scalar_of u ty one.value one.plain))
+
+  table_held : (e : Ty) (rank : ℕ) (bounds : List (ℤ × ℤ)) (q : Position) → Stands K u q (types.array e rank) → IsHeld u (array (simple e) bounds) (u.held q)
+  table_held e rank bounds q s =
+      let t : Table e (u.held q) = table_of e rank (u.held q) s.holds in
+      subst (λ z. IsHeld u (array (simple e) bounds) z) (sym t.holds)
+      (held_table (simple e) (simple e) bounds t.dims t.values (self e t.covers) t.sized (each_of u e t.values t.plain))
 
   single_later : (ty : Ty) (x : Value6) (q : Position) → IsMade (mark w) q.root → w.held q ≡ single ty x → IsScalar w ty x → IsHeld u (simple ty) (u.held q)
   single_later ty x q m e h = by (covers_type ty) refl (K.footprint q) refl
@@ -82,26 +137,64 @@ module _ (K : Ground) (w u : Memory) (keeps : Keeps K w u) (shares : (k : ℕ) �
       held : IsHeld w (simple ty) (w.held q)
       held = subst (λ z. IsHeld w (simple ty) z) (sym e) (held_single ty x h)
 
-      standing : Stands K u q ty → IsHeld u (simple ty) (u.held q)
-      standing s = subst (λ z. IsHeld u (simple ty) z) (sym s.holds) (held_single ty s.value (scalar_of u ty s.value s.plain))
-
       by : (c : Bool) → covers_type ty ≡ c → (f : Bool) → K.footprint q ≡ f → IsHeld u (simple ty) (u.held q)
       by true c true f =
-          standing (keeps.places q ty (record { value = x; holds = e; plain = plain_of w ty x c h; made = m; allowed = f }))
+          single_held ty q c
+          (keeps.places q ty (record { holds = subst (λ z. Holds ty z) (sym e) (holds_scalar ty x (plain_of w ty x c h)); made = m; allowed = f }))
       by true c false f = by_same (simple ty) q held (same_there q m (λ t s. true≢false (sym s.allowed ∙ f)) filled)
       by false c f is =
           by_same (simple ty) q held
-          (same_there q m
-          (λ t s. true≢false (sym (is_covered t s.value s.plain) ∙ ap covers_type (ap type_in (sym s.holds ∙ e)) ∙ c)) filled)
+          (same_there q m (λ t s. true≢false (sym (standing_single t ty x (subst (λ z. Holds t z) e s.holds)) ∙ c)) filled)
+
+  -- an array whose elements are scalars of a covered type, or no such array
+  table_later : (d f : Shape) (bounds : List (ℤ × ℤ)) (dims : List Dimension) (xs : Values) (q : Position) → IsMade (mark w) q.root → w.held q ≡ table f dims xs
+      → is_same_shape d f ≡ true → IsSized dims xs → EachOf w d xs → IsHeld u (array d bounds) (u.held q)
+  table_later d f bounds dims xs q m e same size each = by d f e same each
+    where
+      filled : w.held q ≡ blank → ⊥
+      filled b = absurd (cc (sym e ∙ b))
+
+      stays : (d f : Shape) → w.held q ≡ table f dims xs → is_same_shape d f ≡ true → EachOf w d xs → ((t : Ty) → Stands K w q t → ⊥) → IsHeld u (array d bounds) (u.held q)
+      stays d f e same each n =
+          by_same (array d bounds) q (subst (λ z. IsHeld w (array d bounds) z) (sym e) (held_table d f bounds dims xs same size each)) (same_there q m n filled)
+
+      no_element : (d f : Shape) → w.held q ≡ table f dims xs → is_same_shape d f ≡ true → (t : Ty) → Stands K w q t → IsCoveredElement d
+      no_element d f e same t s = standing_table t d f dims xs same (subst (λ z. Holds t z) e s.holds)
+
+      scalars : (ty e : Ty) → w.held q ≡ table (simple e) dims xs → is_same_type ty e ≡ true → EachOf w (simple ty) xs → (c : Bool) → covers_type ty ≡ c
+          → (f : Bool) → K.footprint q ≡ f → IsHeld u (array (simple ty) bounds) (u.held q)
+      scalars ty e is same each false c f g =
+          stays (simple ty) (simple e) is same each (λ t s. true≢false (sym (no_element (simple ty) (simple e) is same t s) ∙ c))
+      scalars ty e is same each true c false g = stays (simple ty) (simple e) is same each (λ t s. true≢false (sym s.allowed ∙ g))
+      scalars ty e is same each true c true g =
+          let one : e ≡ ty = second ty e c same in
+          let holds : Holds (types.array ty 0) (w.held q) =
+          subst (λ z. Holds (types.array ty 0) z) (sym (is ∙ ap (λ (t : Ty). table (simple t) dims xs) one))
+          (holds_array ty 0 dims xs c size (each_plain w ty xs c each)) in
+          table_held ty 0 bounds q (keeps.places q (types.array ty 0) (record { holds = holds; made = m; allowed = g }))
+        where
+          second : (s t : Ty) → covers_type s ≡ true → is_same_type s t ≡ true → t ≡ s
+          second types.boolean types.boolean c h = refl
+          second types.byte types.byte c h = refl
+          second types.integer types.integer c h = refl
+          second types.long types.long c h = refl
+          second types.currency types.currency c h = refl
+          second types.str types.str c h = refl
+          second _ _ c h = cc
+
+      by : (d f : Shape) → w.held q ≡ table f dims xs → is_same_shape d f ≡ true → EachOf w d xs → IsHeld u (array d bounds) (u.held q)
+      by (simple ty) (simple e) is same each = scalars ty e is same each (covers_type ty) refl (K.footprint q) refl
+      by (group t fs) f is same each = stays (group t fs) f is same each (λ t2 s. no_element (group t fs) f is same t2 s)
+      by (array d others) f is same each = stays (array d others) f is same each (λ t s. no_element (array d others) f is same t s)
+      by endless f is same each = absurd (true≢false (sym same))
+      by (simple ty) _ is same each = absurd (true≢false (sym same))
 
   here : (d : Shape) (h : Held) (q : Position) → IsMade (mark w) q.root → w.held q ≡ h → IsHeld w d h → IsHeld u d (u.held q)
   here _ _ q m e (held_single ty x h) = single_later ty x q m e h
-  here _ _ q m e (held_table d f bounds dims xs same size h) =
-      by_same (array d bounds) q (subst (λ z. IsHeld w (array d bounds) z) (sym e) (held_table d f bounds dims xs same size h))
-      (same_there q m (λ t s. absurd (cc (sym e ∙ s.holds))) (λ b. absurd (cc (sym e ∙ b))))
+  here _ _ q m e (held_table d f bounds dims xs same size h) = table_later d f bounds dims xs q m e same size h
   here _ _ q m e (held_parts t fs) =
       by_same (group t fs) q (subst (λ z. IsHeld w (group t fs) z) (sym e) (held_parts t fs))
-      (same_there q m (λ ty s. no_parts ty s.value (sym e ∙ s.holds)) (λ b. absurd (cc (sym e ∙ b))))
+      (same_there q m (λ ty s. no_parts ty (subst (λ z. Holds ty z) e s.holds)) (λ b. absurd (cc (sym e ∙ b))))
 
   mutual
     all_in : (d : Shape) (q : Position) → IsMade (mark w) q.root → AllHeld w d q → AllHeld u d q
@@ -134,7 +227,7 @@ module _ (K : Ground) (w u : Memory) (keeps : Keeps K w u) (shares : (k : ℕ) �
   Later x r = (u.held (whole r) ≡ blank) ⊎ AllHeld u (variable_shape K.declarations x) (whole r)
 
   stays_blank : (x : ℕ) (r : Root) → IsMade (mark w) r → w.held (whole r) ≡ blank → (IsBlankStatic K w (whole r) → ⊥) → Later x r
-  stays_blank x r m e b = inl (keeps.others (whole r) m (λ ty s. absurd (not_single ty s.value (sym s.holds ∙ e))) b ∙ e)
+  stays_blank x r m e b = inl (keeps.others (whole r) m (λ ty s. held_blank ty (w.held (whole r)) s.holds e) b ∙ e)
 
   no_number : (k : ℕ) → 0 ≡ suc k → ⊥
   no_number k e = cc e
@@ -145,7 +238,7 @@ module _ (K : Ground) (w u : Memory) (keeps : Keeps K w u) (shares : (k : ℕ) �
     where
       same_number : (k : ℕ) (z : IsBlankStatic K w (shared_place k)) → k ≡ z.number
       same_number k z = let n : suc k ≡ suc z.number = ap (λ (q : Position). number_at q.root) z.place in cc n
-  static_later k e (Some y) is = by (is_static y.owner) refl (covers_type y.ty) refl
+  static_later k e (Some y) is = by (is_static y.owner) refl (is_flat y) refl
     where
       same_variable : (z : IsBlankStatic K w (shared_place k)) → y ≡ z.variable
       same_variable z =
@@ -153,16 +246,21 @@ module _ (K : Ground) (w u : Memory) (keeps : Keeps K w u) (shares : (k : ℕ) �
           let i : k ≡ z.number = cc n in
           some_is (sym is ∙ ap (λ n. slice_get K.declarations.vars n) i ∙ z.is_variable)
 
-      standing : covers_type y.ty ≡ true → MayStand K u (shared_place k) y.ty → Later k (shared (k ∷ []))
-      standing c (inl b) = inl b
-      standing c (inr s) =
-          inr (subst (λ d. AllHeld u d (shared_place k)) (sym (variable_shape_is K.declarations k y is c))
-          (subst (λ z. IsHeld u (simple y.ty) z) (sym s.holds) (held_single y.ty s.value (scalar_of u y.ty s.value s.plain))))
+      stood : (d : Shape) → IsShapeOf y.ty d → Stands K u (shared_place k) y.ty → AllHeld u d (shared_place k)
+      stood d g t = by y.ty d g t
+        where
+          by : (ty : Ty) (d : Shape) → IsShapeOf ty d → Stands K u (shared_place k) ty → AllHeld u d (shared_place k)
+          by _ _ (scalar_shape ty c) s = single_held ty (shared_place k) c s
+          by _ _ (array_shape e rank bounds c) s = table_held e rank bounds (shared_place k) s
 
-      by : (a : Bool) → is_static y.owner ≡ a → (c : Bool) → covers_type y.ty ≡ c → Later k (shared (k ∷ []))
+      standing : is_flat y ≡ true → MayStand K u (shared_place k) y.ty → Later k (shared (k ∷ []))
+      standing c (inl b) = inl b
+      standing c (inr s) = inr (stood (variable_shape K.declarations k) (shape_of_variable K.declarations k y is c) s)
+
+      by : (a : Bool) → is_static y.owner ≡ a → (c : Bool) → is_flat y ≡ c → Later k (shared (k ∷ []))
       by true a true c = standing c (keeps.statics k y is a c (inl e))
       by true a false c =
-          stays_blank k (shared (k ∷ [])) tt e (λ z. true≢false (sym z.covers ∙ ap (λ (x : Variable). covers_type x.ty) (sym (same_variable z)) ∙ c))
+          stays_blank k (shared (k ∷ [])) tt e (λ z. true≢false (sym z.flat ∙ ap is_flat (sym (same_variable z)) ∙ c))
       by false a b c =
           stays_blank k (shared (k ∷ [])) tt e (λ z. true≢false (sym z.static ∙ ap (λ (x : Variable). is_static x.owner) (sym (same_variable z)) ∙ a))
 

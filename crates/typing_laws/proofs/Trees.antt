@@ -1,19 +1,16 @@
 -- The induction over expressions and their arguments.
-use Rattle.std.proofs.Common.{false, ◌≡◌, refl, sym, ap, ◌∙◌, subst, ℕ, suc, ◌+◌, arith, true, ◌&&◌, true≢false, List, [], ◌∷◌, Some}
+use Rattle.std.proofs.Common.{false, ◌≡◌, refl, sym, ap, ◌∙◌, subst, ℕ, suc, ℤ, true, ◌&&◌, true≢false, List, [], ◌∷◌}
 use Rattle.std.specs.Prelude.{slice_get, is_some}
 use Rattle.std.specs.List.{list_all}
 use Rattle.up_base.proofs.Lists.{all_first, all_rest}
 use Rattle.up_base.proofs.Tests.{both_true}
 use Rattle.vb_tree.specs.BoundTree.{Ty}
 use Rattle.vb_tree.specs.BoundTree as types
-use Rattle.vb_tree.specs.declared.bound.LibCall.{LibCall}
-use Rattle.vb_tree.specs.declared.bound.LibCall.TheVariants as lib
 use Rattle.vb_tree.specs.declared.declared.ProcId.{ProcId}
 use Rattle.vb_tree.specs.declared.declared.VarId.{VarId}
 use Rattle.bound_tree.specs.declared.body.Mention.{Mention}
 use Rattle.bound_tree.specs.Tree.{Declarations, Procedure, Program, Variable, Expr, typed, Term, constant, variable, field, element, call, library, unary, binary, convert, new_object, me, with_object, err_number, err_raise, err_clear, is_same, loose, Object, no_object, of_object, Exprs, no_exprs, next_expr, Argument, Passed, no_passed, next_passed}
 use Rattle.bound_tree.specs.Tree as tree
-use Rattle.reach_table.specs.Chains.{empty}
 use Rattle.bound_facts.specs.Locks.{is_same_type}
 use Rattle.bound_facts.specs.Node.{type_at}
 use Rattle.bound_facts.specs.Nodes.{nodes, nodes_of_all, nodes_of_argument, nodes_of_passed}
@@ -21,90 +18,29 @@ use Rattle.net_meaning.specs.WrittenLiterals.{is_within, type_of_constant}
 use Rattle.net_meaning.specs.WrittenRows.{write_operator, write_unary, write_conversion}
 use Rattle.row_laws.specs.Constants.{is_literal}
 use Rattle.run_base.specs.Outcomes.{gives, then}
-use Rattle.written_trees.specs.Arguments.{takes_reference}
-use Rattle.vb6_run.specs.Expressions.{Context, declared, value_of, scalar_value, argument_of, args_of, library_call, values_of}
+use Rattle.vb6_run.specs.Expressions.{Context, declared, value_of, scalar_value, whole_number, indexes_of, argument_of, args_of, values_of}
 use Rattle.vb6_run.specs.Store.{Memory}
 use Rattle.run_matches.specs.CoveredVariables.{covers_type}
-use Rattle.run_matches.specs.CoveredExprs.{Uses, covers_argument, covers_array, covers_expr, covers_exprs, covers_library, covers_operator, covers_passed, covers_term, uses_in}
-use Rattle.run_matches.specs.Covered.{covers_parameter, is_referred, suits_argument, suits_array, suits_group, suits_passed}
-use Rattle.run_matches.specs.Formed.{are_formed, is_formed, is_formed_argument, is_row_of_call, is_row_of_one, is_row_of_two, passed_are_formed, types_of}
-use Rattle.typing_laws.specs.Scalars.{has_scalar_variables, scalar_uses}
+use Rattle.run_matches.specs.CoveredExprs.{Uses, covers_argument, covers_array, covers_expr, covers_exprs, covers_operator, covers_passed, covers_term, uses_in}
+use Rattle.run_matches.specs.Covered.{covers_parameter, suits_argument, suits_passed}
+use Rattle.run_matches.specs.Formed.{are_formed, are_longs, has_elements, is_formed, is_formed_argument, is_row_of_call, is_row_of_one, is_row_of_two, passed_are_formed, types_of}
+use Rattle.typing_laws.specs.Flat.{flat_uses}
 use Rattle.typing_laws.specs.Calls.{CallsAreSuited, CallsKeep, Each, IsSuited, SourceJob}
 use Rattle.typing_laws.specs.Frames.{AreGiven, IsGiven}
 use Rattle.typing_laws.specs.Leaving.{Leaves, ExprsLeave, PassedLeave, in_first, in_later, in_argument, behind_argument, passed_value}
 use Rattle.typing_laws.specs.Typed.{are_typed, are_typed_passed, fits_call, fits_parameter, fits_parameters, is_typed, is_typed_argument, gives_what_it_has}
 use Rattle.typing_laws.proofs.Callees.{both_each}
-use Rattle.typing_laws.proofs.Ends.{Ends, ends_weaker, keeps_self, then_ends}
-use Rattle.typing_laws.proofs.Expressions.{Fits, IsScalarOf, IsTerm, IsTyped, binary_ends, convert_ends, fits_later, fitting, scalar_ends, term_ends, unary_ends, value_call_ends, variable_ends, number_ends}
+use Rattle.typing_laws.proofs.Ends.{Ends, ends_after, ends_weaker, keeps_self, then_ends}
+use Rattle.typing_laws.proofs.Expressions.{Fits, IsScalarOf, IsTyped, binary_ends, convert_ends, fits_later, scalar_ends, term_ends, unary_ends, variable_ends, number_ends}
 use Rattle.typing_laws.proofs.Library.{ArePlain}
-use Rattle.typing_laws.proofs.Plain.{Plain, constant_plain, same_as}
+use Rattle.typing_laws.proofs.Plain.{Plain, constant_plain, long_value, same_as}
 use Rattle.typing_laws.proofs.Procedures.{Parameter, parameter_of}
-use Rattle.typing_laws.proofs.Scalars.{library_covered, no_array_covered, no_field, reference_covered, value_covered}
-use Rattle.typing_laws.proofs.Values.{Callee, by_value_ends, call_ends, call_value, callee_of, covered_type, given_later, input_ends, no_arguments, reference_at, reference_ends}
+use Rattle.typing_laws.proofs.Flat.{array_named, no_field}
+use Rattle.typing_laws.proofs.Elements.{AreIndexes}
+use Rattle.typing_laws.proofs.Found.{HasAddress, IsRight, element_value}
+use Rattle.typing_laws.proofs.Values.{Callee, call_ends, call_value, callee_of, covered_type, given_later}
 use Rattle.typing_laws.specs.Frames.{Footprint, Ground, ground}
-
--- ---- calls of the library
-
-module _ (C : Context) (F : Footprint) (X : SourceJob → Memory → Type 0) (calls : CallsKeep C F X) (mentions : List Mention) (w : Memory) (fits : Fits C F w) (ty : Ty) (e : Expr)
-    (rest : Exprs) (c : covers_type ty ≡ true)
-    (h : (v : Memory) → Fits C F v → Ends (ground (declared C) F) (IsTyped (type_at e)) (Leaves C X e v) v (value_of C e v))
-    (i : (v : Memory) → Fits C F v → Ends (ground (declared C) F) (λ u xs. ArePlain (types_of rest) xs) (ExprsLeave C X rest v) v (values_of C rest v)) where
-  nothing_covered : is_same_type types.nothing ty ≡ true → ⊥
-  nothing_covered e = true≢false (sym c ∙ sym (ap covers_type (same_as types.nothing ty c e)))
-
-  library_ends : (f : LibCall) → covers_library f ≡ true → is_row_of_call f (types_of (next_expr e rest)) ty ≡ true
-      → Ends (ground (declared C) F) (IsTerm ty) (Leaves C X (typed ty (library f (next_expr e rest))) w) w (library_call C ty f (next_expr e rest) w)
-  library_ends lib.Len l row = value_call_ends C F X calls mentions w fits ty lib.Len e rest c refl (λ p v. refl) row h i
-  library_ends lib.Left l row = value_call_ends C F X calls mentions w fits ty lib.Left e rest c refl (λ p v. refl) row h i
-  library_ends lib.Right l row = value_call_ends C F X calls mentions w fits ty lib.Right e rest c refl (λ p v. refl) row h i
-  library_ends lib.Mid l row = value_call_ends C F X calls mentions w fits ty lib.Mid e rest c refl (λ p v. refl) row h i
-  library_ends lib.Trim l row = value_call_ends C F X calls mentions w fits ty lib.Trim e rest c refl (λ p v. refl) row h i
-  library_ends lib.LTrim l row = value_call_ends C F X calls mentions w fits ty lib.LTrim e rest c refl (λ p v. refl) row h i
-  library_ends lib.RTrim l row = value_call_ends C F X calls mentions w fits ty lib.RTrim e rest c refl (λ p v. refl) row h i
-  library_ends lib.UCase l row = value_call_ends C F X calls mentions w fits ty lib.UCase e rest c refl (λ p v. refl) row h i
-  library_ends lib.LCase l row = value_call_ends C F X calls mentions w fits ty lib.LCase e rest c refl (λ p v. refl) row h i
-  library_ends lib.Space l row = value_call_ends C F X calls mentions w fits ty lib.Space e rest c refl (λ p v. refl) row h i
-  library_ends lib.Chr l row = value_call_ends C F X calls mentions w fits ty lib.Chr e rest c refl (λ p v. refl) row h i
-  library_ends lib.Asc l row = value_call_ends C F X calls mentions w fits ty lib.Asc e rest c refl (λ p v. refl) row h i
-  library_ends lib.InStr l row = value_call_ends C F X calls mentions w fits ty lib.InStr e rest c refl (λ p v. refl) row h i
-  library_ends lib.Abs l row = value_call_ends C F X calls mentions w fits ty lib.Abs e rest c refl (λ p v. refl) row h i
-  library_ends lib.CBool l row = value_call_ends C F X calls mentions w fits ty lib.CBool e rest c refl (λ p v. refl) row h i
-  library_ends lib.CByte l row = value_call_ends C F X calls mentions w fits ty lib.CByte e rest c refl (λ p v. refl) row h i
-  library_ends lib.CInt l row = value_call_ends C F X calls mentions w fits ty lib.CInt e rest c refl (λ p v. refl) row h i
-  library_ends lib.CLng l row = value_call_ends C F X calls mentions w fits ty lib.CLng e rest c refl (λ p v. refl) row h i
-  library_ends lib.CCur l row = value_call_ends C F X calls mentions w fits ty lib.CCur e rest c refl (λ p v. refl) row h i
-  library_ends lib.CStr l row = value_call_ends C F X calls mentions w fits ty lib.CStr e rest c refl (λ p v. refl) row h i
-  library_ends lib.IsEmpty l row = absurd (true≢false (sym l))
-  library_ends lib.UBound l row = absurd (true≢false (sym l))
-  library_ends lib.LBound l row = absurd (true≢false (sym l))
-  library_ends lib.MsgBox l row = absurd (nothing_covered (both_true (is_same_type types.nothing ty) _ row).0)
-  library_ends lib.InputBox l row = input_ends C F X calls mentions w fits ty e rest c row (h w fits)
-
--- what is known of a callee whose arguments are evaluated
-record Called (C : Context) (q : ℕ) : Type 0 where
-  procedure : Procedure
-  is_procedure : slice_get (declared C).procs q ≡ Some procedure
-  variables : has_scalar_variables C.runnable.program q ≡ true
-  loud : (place : ℕ) → C.runnable.quiet q place ≡ false
-
-abbrev called_of : (C : Context) (q : ℕ) (ty : Ty) (args : Passed) → Callee C q ty args → Called C q
-called_of C q ty args callee = record {
-  procedure = callee.parts.head.procedure;
-  is_procedure = callee.parts.head.is_procedure;
-  variables = callee.parts.variables;
-  loud = λ place. callee.ready.loud q (empty q) place;
-}
-
-no_place : (j : ℕ) → j ≡ 0 + j
-no_place j = omega arith
-
-first_place : (i : ℕ) → i + 0 ≡ i
-first_place i = omega arith
-
-next_place : (i j : ℕ) → i + suc j ≡ suc i + j
-next_place i j = omega arith
-
--- ---- all expressions
+use Rattle.typing_laws.proofs.Steps.{Called, StandFrom, all_longs, called_of, element_found, first_place, given_ends, library_right, long_then, longs_all, more_indexes, next_place, no_library, no_place}
 
 module _ (C : Context) (F : Footprint) (X : SourceJob → Memory → Type 0) (calls : CallsKeep C F X) (mentions : List Mention) where
   abbrev D : Declarations
@@ -114,111 +50,130 @@ module _ (C : Context) (F : Footprint) (X : SourceJob → Memory → Type 0) (ca
   K = ground (declared C) F
 
   abbrev uses : Uses
-  uses = scalar_uses C.runnable.program C.procedure mentions
+  uses = flat_uses C.runnable.program C.procedure mentions
 
   abbrev all_uses : Uses
   all_uses = uses_in C.runnable.program C.procedure mentions
 
-  abbrev IsRight : Expr → Memory → Type 0
-  IsRight e w = Ends K (IsTyped (type_at e)) (Leaves C X e w) w (value_of C e w)
-
-  -- parameters from one place on stand among those of the procedure
-  abbrev StandFrom : Procedure → (place : ℕ) → List VarId → Type 0
-  StandFrom x i vs = (j : ℕ) → slice_get vs j ≡ slice_get x.params (i + j)
-
-  given_ends : (q i : ℕ) (k : Called C q) (p : VarId) (y : Parameter C.runnable.program q p) → slice_get k.procedure.params i ≡ Some p → (a : Argument)
-      → covers_argument uses a ≡ true → is_typed_argument D a ≡ true → fits_parameter a (slice_get D.vars p.0) ≡ true → suits_argument D q i a ≡ true
-      → (w : Memory) → Fits C F w → IsRight (passed_value a) w
-      → Ends K (λ v g. IsGiven K v (slice_get D.vars p.0) g) (Leaves C X (passed_value a) w) w (argument_of C (C.runnable.quiet q i) a w)
-  given_ends q i k p y at (tree.by_value e) covers typing fit suit w fits h =
-      subst (λ o. Ends K (λ v g. IsGiven K v o g) (Leaves C X e w) w (argument_of C (C.runnable.quiet q i) (tree.by_value e) w)) (sym y.is_variable)
-      (by_value_ends C F X calls mentions w y.variable e (C.runnable.quiet q i)
-      (fitting y.variable.ty (type_at e) y.covers (covered_type C F X calls mentions e (value_covered all_uses e covers))
-      (sym (ap (λ o. fits_parameter (tree.by_value e) o) y.is_variable) ∙ fit)) h)
-  given_ends q i k p y at (tree.by_reference e) covers typing fit suit w fits h =
-      let b = both_true (takes_reference D q i) (is_referred e && (suits_array D q i e && suits_group D q i e)) suit in
-      let r = both_true (is_referred e) (suits_array D q i e && suits_group D q i e) b.1 in
-      let c : covers_expr uses e ≡ true = reference_covered all_uses e covers in
-      subst (λ o. Ends K (λ v g. IsGiven K v o g) (Leaves C X e w) w (argument_of C (C.runnable.quiet q i) (tree.by_reference e) w)) (sym y.is_variable)
-      (reference_ends C F X calls mentions w fits y.variable e (C.runnable.quiet q i) c typing r.0
-      (fitting y.variable.ty (type_at e) y.covers (covered_type C F X calls mentions e c)
-      (sym (ap (λ o. fits_parameter (tree.by_reference e) o) y.is_variable) ∙ fit))
-      (reference_at D q i k.procedure p y.variable k.is_procedure at y.is_variable b.0) (k.loud i) h)
+  abbrev Right : Expr → Memory → Type 0
+  Right e w = IsRight C F X e w
 
   mutual
-    pub value_ends : (e : Expr) → covers_expr uses e ≡ true → is_formed e ≡ true → is_typed D e ≡ true → CallsAreSuited C.runnable e → (w : Memory) → Fits C F w
-        → IsRight e w
-    value_ends (typed ty (constant x origin)) covers formed typing suited w fits =
+    right_ends : (e : Expr) → covers_expr uses e ≡ true → is_formed e ≡ true → is_typed D e ≡ true → CallsAreSuited C.runnable e → (w : Memory) → Fits C F w
+        → Right e w
+    right_ends (typed ty (constant x origin)) covers formed typing suited w fits =
         let c : covers_type ty ≡ true = (both_true (covers_type ty) true covers).0 in
         let all = both_true (is_same_type (type_of_constant x) ty) (is_within x && is_literal x) formed in
         let within = both_true (is_within x) (is_literal x) all.1 in
-        let s : type_of_constant x ≡ ty = same_as (type_of_constant x) ty c all.0 in
-        term_ends C F ty (constant x origin) (Leaves C X (typed ty (constant x origin)) w) w refl
-        (keeps_self K w, (x, refl, subst (λ t. Plain t x) s (constant_plain x within.0 (subst (λ t. covers_type t ≡ true) (sym s) c))))
-    value_ends (typed ty (variable x qualified)) covers formed typing suited w fits =
-        variable_ends C F X calls mentions w fits ty x qualified (both_true (covers_type ty) (uses.scalar x) covers).1 typing
-    value_ends (typed ty (unary op e)) covers formed typing suited w fits =
+        let s : type_of_constant x ≡ ty = same_as (type_of_constant x) ty c all.0 in (
+          term_ends C F ty (constant x origin) (Leaves C X (typed ty (constant x origin)) w) w refl
+              (keeps_self K w, (x, refl, subst (λ t. Plain t x) s (constant_plain x within.0 (subst (λ t. covers_type t ≡ true) (sym s) c)))),
+          tt,
+        )
+    right_ends (typed ty (variable x qualified)) covers formed typing suited w fits =
+        (variable_ends C F X calls mentions w fits ty x qualified (both_true (covers_type ty) (uses.scalar x) covers).1 typing, tt)
+    right_ends (typed ty (unary op e)) covers formed typing suited w fits =
         let both = both_true (covers_type ty) (covers_expr uses e) covers in
-        let forms = both_true (is_row_of_one ty (write_unary op (type_at e))) (is_formed e) formed in
-        unary_ends C F X calls mentions w ty op e both.0 (covered_type C F X calls mentions e both.1) forms.0 (value_ends e both.1 forms.1 typing suited.1 w fits)
-    value_ends (typed ty (binary op d e)) covers formed typing suited w fits =
+        let forms = both_true (is_row_of_one ty (write_unary op (type_at e))) (is_formed e) formed in (
+          unary_ends C F X calls mentions w ty op e both.0 (covered_type C F X calls mentions e both.1) forms.0 (right_ends e both.1 forms.1 typing suited.1 w fits).0,
+          tt,
+        )
+    right_ends (typed ty (binary op d e)) covers formed typing suited w fits =
         let both = both_true (covers_type ty) (covers_operator op && (covers_expr uses d && covers_expr uses e)) covers in
         let operator = both_true (covers_operator op) (covers_expr uses d && covers_expr uses e) both.1 in
         let operands = both_true (covers_expr uses d) (covers_expr uses e) operator.1 in
         let forms = both_true (is_row_of_two op ty (write_operator op (type_at d) (type_at e))) (is_formed d && is_formed e) formed in
         let inner = both_true (is_formed d) (is_formed e) forms.1 in
         let types = both_true (is_typed D d) (is_typed D e) typing in
-        let parts = both_each (IsSuited C.runnable) (nodes d) (nodes e) suited.1 in
-        binary_ends C F X calls mentions w fits ty op d e both.0 (covered_type C F X calls mentions d operands.0) (covered_type C F X calls mentions e operands.1) operator.0 forms.0
-        (λ v f. value_ends d operands.0 inner.0 types.0 parts.0 v f) (λ v f. value_ends e operands.1 inner.1 types.1 parts.1 v f)
-    value_ends (typed ty (convert to e)) covers formed typing suited w fits =
+        let parts = both_each (IsSuited C.runnable) (nodes d) (nodes e) suited.1 in (
+          binary_ends C F X calls mentions w fits ty op d e both.0 (covered_type C F X calls mentions d operands.0) (covered_type C F X calls mentions e operands.1) operator.0
+              forms.0 (λ v f. (right_ends d operands.0 inner.0 types.0 parts.0 v f).0) (λ v f. (right_ends e operands.1 inner.1 types.1 parts.1 v f).0),
+          tt,
+        )
+    right_ends (typed ty (convert to e)) covers formed typing suited w fits =
         let both = both_true (covers_type ty) (covers_type to && covers_expr uses e) covers in
         let operand = both_true (covers_type to) (covers_expr uses e) both.1 in
         let forms = both_true (is_some (write_conversion (type_at e) to)) (is_formed e) formed in
-        let types = both_true (is_same_type ty to) (is_typed D e) typing in
-        convert_ends C F X calls mentions w ty to e both.0 operand.0 (covered_type C F X calls mentions e operand.1) forms.0 (same_as ty to operand.0 types.0)
-        (value_ends e operand.1 forms.1 types.1 suited.1 w fits)
-    value_ends (typed ty (library f no_exprs)) covers formed typing suited w fits =
-        let known = both_true (covers_library f) true (library_covered all_uses f no_exprs (both_true (covers_type ty) (covers_term uses (library f no_exprs)) covers).1) in
-        absurd (no_arguments f ty known.0 (both_true (is_row_of_call f [] ty) true formed).0)
-    value_ends (typed ty (library f (next_expr e rest))) covers formed typing suited w fits =
+        let types = both_true (is_same_type ty to) (is_typed D e) typing in (
+          convert_ends C F X calls mentions w ty to e both.0 operand.0 (covered_type C F X calls mentions e operand.1) forms.0 (same_as ty to operand.0 types.0)
+              (right_ends e operand.1 forms.1 types.1 suited.1 w fits).0,
+          tt,
+        )
+    right_ends (typed ty (library f no_exprs)) covers formed typing suited w fits =
+        absurd (no_library C F X calls mentions f ty (both_true (covers_type ty) (covers_term uses (library f no_exprs)) covers).1 (both_true (is_row_of_call f [] ty) true formed).0)
+    right_ends (typed ty (library f (next_expr e rest))) covers formed typing suited w fits =
         let both = both_true (covers_type ty) (covers_term uses (library f (next_expr e rest))) covers in
-        let known = both_true (covers_library f) (covers_expr uses e && covers_exprs uses rest) (library_covered all_uses f (next_expr e rest) both.1) in
-        let operands = both_true (covers_expr uses e) (covers_exprs uses rest) known.1 in
         let forms = both_true (is_row_of_call f (types_of (next_expr e rest)) ty) (is_formed e && are_formed rest) formed in
         let inner = both_true (is_formed e) (are_formed rest) forms.1 in
         let types = both_true (is_typed D e) (are_typed D rest) typing in
-        let parts = both_each (IsSuited C.runnable) (nodes e) (nodes_of_all rest) suited.1 in
-        term_ends C F ty (library f (next_expr e rest)) (Leaves C X (typed ty (library f (next_expr e rest))) w) w refl
-        (library_ends C F X calls mentions w fits ty e rest both.0 (λ v g. value_ends e operands.0 inner.0 types.0 parts.0 v g)
-        (λ v g. values_end rest operands.1 inner.1 types.1 parts.1 v g) f known.0 forms.0)
-    value_ends (typed ty (call q qualified no_object args)) covers formed typing suited w fits =
+        let parts = both_each (IsSuited C.runnable) (nodes e) (nodes_of_all rest) suited.1 in (
+          term_ends C F ty (library f (next_expr e rest)) (Leaves C X (typed ty (library f (next_expr e rest))) w) w refl
+              (library_right C F X calls mentions w fits ty f e rest both.0 both.1 forms.0 (λ c v g. (right_ends e c inner.0 types.0 parts.0 v g).0)
+              (λ c v g. values_end rest c inner.1 types.1 parts.1 v g)),
+          tt,
+        )
+    right_ends (typed ty (call q qualified no_object args)) covers formed typing suited w fits =
         let both = both_true (covers_type ty) (covers_passed uses args) covers in
         let types = both_true (are_typed_passed D args) (fits_call D ty args (slice_get D.procs q.0)) typing in
         let callee : Callee C q.0 ty args = callee_of C q.0 ty args (suited.0.ready q.0 refl) types.1 in
         let x : Procedure = callee.parts.head.procedure in
-        let L = Leaves C X (typed ty (call q qualified no_object args)) w in
-        term_ends C F ty (call q qualified no_object args) L w refl
-        (call_value C F X calls mentions w ty (call q qualified no_object args) x L both.0 callee.same
-        (sym (ap gives_what_it_has callee.parts.head.is_procedure) ∙ callee.parts.gives)
-        (call_ends C F X calls mentions w fits ty q qualified args callee
-        (passed_end q.0 (called_of C q.0 ty args callee) x.params 0 (λ j. ap (λ n. slice_get x.params n) (no_place j)) callee.parts.head.params args both.1 formed
-        types.0 callee.fits suited.0.suits suited.1 w fits)))
-    value_ends (typed ty (call q qualified (of_object e) args)) covers formed typing suited w fits =
+        let L = Leaves C X (typed ty (call q qualified no_object args)) w in (
+          term_ends C F ty (call q qualified no_object args) L w refl
+              (call_value C F X calls mentions w ty (call q qualified no_object args) x L both.0 callee.same
+              (sym (ap gives_what_it_has callee.parts.head.is_procedure) ∙ callee.parts.gives)
+              (call_ends C F X calls mentions w fits ty q qualified args callee
+              (passed_end q.0 (called_of C q.0 ty args callee) x.params 0 (λ j. ap (λ n. slice_get x.params n) (no_place j)) callee.parts.head.params args both.1 formed
+              types.0 callee.fits suited.0.suits suited.1 w fits))),
+          tt,
+        )
+    right_ends (typed ty (call q qualified (of_object e) args)) covers formed typing suited w fits =
         absurd (true≢false (sym (both_true (covers_type ty) (false && covers_passed uses args) covers).1))
-    value_ends (typed ty (field e i)) covers formed typing suited w fits = absurd (no_field all_uses ty e i covers)
-    value_ends (typed ty (element e indexes)) covers formed typing suited w fits =
-        let both = both_true (covers_type ty) (covers_array uses e && covers_exprs uses indexes) covers in
-        absurd (no_array_covered all_uses e (both_true (covers_array uses e) (covers_exprs uses indexes) both.1).0)
-    value_ends (typed ty (new_object class)) covers formed typing suited w fits = absurd (true≢false (sym formed))
-    value_ends (typed ty me) covers formed typing suited w fits = absurd (true≢false (sym formed))
-    value_ends (typed ty (with_object r)) covers formed typing suited w fits = absurd (true≢false (sym formed))
-    value_ends (typed ty err_number) covers formed typing suited w fits =
-        number_ends C F X w ty (same_as types.long ty (both_true (covers_type ty) true covers).0 formed)
-    value_ends (typed ty (err_raise e)) covers formed typing suited w fits = absurd (true≢false (sym (both_true (covers_type ty) false covers).1))
-    value_ends (typed ty err_clear) covers formed typing suited w fits = absurd (true≢false (sym (both_true (covers_type ty) false covers).1))
-    value_ends (typed ty (is_same d e)) covers formed typing suited w fits = absurd (true≢false (sym formed))
-    value_ends (typed ty (loose e rules)) covers formed typing suited w fits = absurd (true≢false (sym formed))
+    right_ends (typed ty (field e i)) covers formed typing suited w fits = absurd (no_field all_uses ty e i covers)
+    right_ends (typed ty (element a indexes)) covers formed typing suited w fits =
+        let both = both_true (covers_type ty) (covers_array uses a && covers_exprs uses indexes) covers in
+        let operands = both_true (covers_array uses a) (covers_exprs uses indexes) both.1 in
+        let forms = both_true (has_elements (type_at a) ty) (are_longs (types_of indexes) && are_formed indexes) formed in
+        let inner = both_true (are_longs (types_of indexes)) (are_formed indexes) forms.1 in
+        let types = both_true (is_typed D a) (are_typed D indexes) typing in
+        let parts = both_each (IsSuited C.runnable) (nodes a) (nodes_of_all indexes) suited.1 in
+        let found : HasAddress C F X (typed ty (element a indexes)) w =
+        element_found C F X calls mentions w fits ty a indexes both.0 (array_named uses a operands.0) forms.0 inner.0
+        (indexes_end indexes operands.1 inner.1 types.1 parts.1 (longs_all (types_of indexes) inner.0) w fits) in
+        (element_value C F X ty a indexes w both.0 found, found)
+    right_ends (typed ty (new_object class)) covers formed typing suited w fits = absurd (true≢false (sym formed))
+    right_ends (typed ty me) covers formed typing suited w fits = absurd (true≢false (sym formed))
+    right_ends (typed ty (with_object r)) covers formed typing suited w fits = absurd (true≢false (sym formed))
+    right_ends (typed ty err_number) covers formed typing suited w fits =
+        (number_ends C F X w ty (same_as types.long ty (both_true (covers_type ty) true covers).0 formed), tt)
+    right_ends (typed ty (err_raise e)) covers formed typing suited w fits = absurd (true≢false (sym (both_true (covers_type ty) false covers).1))
+    right_ends (typed ty err_clear) covers formed typing suited w fits = absurd (true≢false (sym (both_true (covers_type ty) false covers).1))
+    right_ends (typed ty (is_same d e)) covers formed typing suited w fits = absurd (true≢false (sym formed))
+    right_ends (typed ty (loose e rules)) covers formed typing suited w fits = absurd (true≢false (sym formed))
+
+    indexes_end : (es : Exprs) → covers_exprs uses es ≡ true → are_formed es ≡ true → are_typed D es ≡ true → Each (IsSuited C.runnable) (nodes_of_all es)
+        → all_longs (types_of es) ≡ true → (w : Memory) → Fits C F w → Ends K (λ v zs. AreIndexes es zs) (ExprsLeave C X es w) w (indexes_of C es w)
+    indexes_end no_exprs covers formed typing suited longs w fits = (keeps_self K w, tt)
+    indexes_end (next_expr e rest) covers formed typing suited longs w fits =
+        let operands = both_true (covers_expr uses e) (covers_exprs uses rest) covers in
+        let inner = both_true (is_formed e) (are_formed rest) formed in
+        let typings = both_true (is_typed D e) (are_typed D rest) typing in
+        let parts = both_each (IsSuited C.runnable) (nodes e) (nodes_of_all rest) suited in
+        let long = both_true (is_same_type types.long (type_at e)) (all_longs (types_of rest)) longs in
+        let More = λ (z : ℤ) (v : Memory). then (indexes_of C rest v) (λ zs u. gives [] (z ∷ zs) u) in
+        let L : Type 0 = ExprsLeave C X (next_expr e rest) w in
+        let Q = λ (v : Memory) (zs : List ℤ). AreIndexes (next_expr e rest) zs in
+        subst (λ r. Ends K Q L w r) (sym (long_then C F X calls mentions e w More))
+        (then_ends K (IsScalarOf (type_at e)) Q L w (scalar_value C e w) (λ x v. then (whole_number x v) More)
+        (ends_weaker K (IsScalarOf (type_at e)) (Leaves C X e w) L w (scalar_value C e w) (in_first e rest w)
+        (scalar_ends C F e (type_at e) (Leaves C X e w) w (right_ends e operands.0 inner.0 typings.0 parts.0 w fits).0))
+        (λ o x v one k p.
+        let z = long_value (type_at e) x p (sym (same_as types.long (type_at e) (covered_type C F X calls mentions e operands.0) long.0)) in
+        subst (λ y. Ends K Q L v (then (whole_number y v) More)) (sym z.1)
+        (ends_after K Q L v [] (More z.0 v)
+        (then_ends K (λ u zs. AreIndexes rest zs) Q L v (indexes_of C rest v) (λ zs u. gives [] (z.0 ∷ zs) u)
+        (ends_weaker K (λ u zs. AreIndexes rest zs) (ExprsLeave C X rest v) L v (indexes_of C rest v) (in_later e rest w v o x one)
+        (indexes_end rest operands.1 inner.1 typings.1 parts.1 long.1 v (fits_later C F w v k fits)))
+        (λ o2 zs u two l q. (keeps_self K u, more_indexes z.0 zs))))))
 
     pub values_end : (es : Exprs) → covers_exprs uses es ≡ true → are_formed es ≡ true → are_typed D es ≡ true → Each (IsSuited C.runnable) (nodes_of_all es)
         → (w : Memory) → Fits C F w → Ends K (λ v xs. ArePlain (types_of es) xs) (ExprsLeave C X es w) w (values_of C es w)
@@ -231,7 +186,7 @@ module _ (C : Context) (F : Footprint) (X : SourceJob → Memory → Type 0) (ca
         then_ends K (IsScalarOf (type_at e)) (λ v xs. ArePlain (types_of (next_expr e rest)) xs) (ExprsLeave C X (next_expr e rest) w) w (scalar_value C e w)
         (λ x v. then (values_of C rest v) (λ xs u. gives [] (x ∷ xs) u))
         (ends_weaker K (IsScalarOf (type_at e)) (Leaves C X e w) (ExprsLeave C X (next_expr e rest) w) w (scalar_value C e w) (in_first e rest w)
-        (scalar_ends C F e (type_at e) (Leaves C X e w) w (value_ends e operands.0 inner.0 types.0 parts.0 w fits)))
+        (scalar_ends C F e (type_at e) (Leaves C X e w) w (right_ends e operands.0 inner.0 types.0 parts.0 w fits).0))
         (λ o x v one k p.
         then_ends K (λ u xs. ArePlain (types_of rest) xs) (λ v xs. ArePlain (types_of (next_expr e rest)) xs) (ExprsLeave C X (next_expr e rest) w) v (values_of C rest v)
         (λ xs u. gives [] (x ∷ xs) u)
@@ -239,7 +194,7 @@ module _ (C : Context) (F : Footprint) (X : SourceJob → Memory → Type 0) (ca
         (in_later e rest w v o x one) (values_end rest operands.1 inner.1 types.1 parts.1 v (fits_later C F w v k fits)))
         (λ o2 xs u two l q. (keeps_self K u, (p, q))))
 
-    passed_end : (q : ℕ) (k : Called C q) (vs : List VarId) (i : ℕ) → StandFrom k.procedure i vs → list_all (covers_parameter C.runnable.program q) vs ≡ true
+    passed_end : (q : ℕ) (k : Called C q) (vs : List VarId) (i : ℕ) → StandFrom C F X calls mentions k.procedure i vs → list_all (covers_parameter C.runnable.program q) vs ≡ true
         → (args : Passed) → covers_passed uses args ≡ true → passed_are_formed args ≡ true → are_typed_passed D args ≡ true → fits_parameters D vs args ≡ true
         → suits_passed D q i args ≡ true → Each (IsSuited C.runnable) (nodes_of_passed args) → (w : Memory) → Fits C F w
         → Ends K (λ v gs. AreGiven K v vs gs) (PassedLeave C X q i args w) w (args_of C q i args w)
@@ -260,8 +215,8 @@ module _ (C : Context) (F : Footprint) (X : SourceJob → Memory → Type 0) (ca
         (λ g v. then (args_of C q (suc i) rest v) (λ gs u. gives [] (g ∷ gs) u))
         (ends_weaker K (λ v g. IsGiven K v (slice_get D.vars p.0) g) (Leaves C X (passed_value a) w) L w (argument_of C (C.runnable.quiet q i) a w)
         (in_argument q i a rest w)
-        (given_ends q i k p y (ap (λ j. slice_get k.procedure.params j) (sym (first_place i)) ∙ sym (stand 0)) a cs.0 ts.0 gs.0 ss.0 w fits
-        (passed_right a cs.0 fs.0 ts.0 ns.0 w fits)))
+        (given_ends C F X calls mentions q i k p y (ap (λ j. slice_get k.procedure.params j) (sym (first_place i)) ∙ sym (stand 0)) a cs.0 ts.0 gs.0 ss.0 w fits
+        (passed_right a fs.0 ts.0 ns.0 w fits)))
         (λ o g v one l good.
         then_ends K (λ u hs. AreGiven K u vs hs) (λ v gs. AreGiven K v (p ∷ vs) gs) L v (args_of C q (suc i) rest v) (λ hs u. gives [] (g ∷ hs) u)
         (ends_weaker K (λ u hs. AreGiven K u vs hs) (PassedLeave C X q (suc i) rest v) L v (args_of C q (suc i) rest v) (behind_argument q i a rest w v o g one)
@@ -269,10 +224,19 @@ module _ (C : Context) (F : Footprint) (X : SourceJob → Memory → Type 0) (ca
         (all_rest (covers_parameter C.runnable.program q) p vs params) rest cs.1 fs.1 ts.1 gs.1 ss.1 ns.1 v (fits_later C F w v l fits)))
         (λ o2 hs u two m more. (keeps_self K u, (given_later K v u (slice_get D.vars p.0) g m good, more))))
 
-    passed_right : (a : Argument) → covers_argument uses a ≡ true → is_formed_argument a ≡ true → is_typed_argument D a ≡ true
-        → Each (IsSuited C.runnable) (nodes_of_argument a) → (w : Memory) → Fits C F w → IsRight (passed_value a) w
-    passed_right (tree.by_value e) covers formed typing suited w fits = value_ends e (value_covered all_uses e covers) formed typing suited w fits
-    passed_right (tree.by_reference e) covers formed typing suited w fits = value_ends e (reference_covered all_uses e covers) formed typing suited w fits
+    passed_right : (a : Argument) → is_formed_argument a ≡ true → is_typed_argument D a ≡ true → Each (IsSuited C.runnable) (nodes_of_argument a)
+        → (w : Memory) → Fits C F w → covers_expr uses (passed_value a) ≡ true → Right (passed_value a) w
+    passed_right (tree.by_value e) formed typing suited w fits c = right_ends e c formed typing suited w fits
+    passed_right (tree.by_reference e) formed typing suited w fits c = right_ends e c formed typing suited w fits
+
+  pub value_ends : (e : Expr) → covers_expr uses e ≡ true → is_formed e ≡ true → is_typed D e ≡ true → CallsAreSuited C.runnable e → (w : Memory) → Fits C F w
+      → Ends K (IsTyped (type_at e)) (Leaves C X e w) w (value_of C e w)
+  value_ends e covers formed typing suited w fits = (right_ends e covers formed typing suited w fits).0
+
+  -- where an element is
+  pub address_ends : (e : Expr) → covers_expr uses e ≡ true → is_formed e ≡ true → is_typed D e ≡ true → CallsAreSuited C.runnable e → (w : Memory) → Fits C F w
+      → HasAddress C F X e w
+  address_ends e covers formed typing suited w fits = (right_ends e covers formed typing suited w fits).1
 
   -- the arguments of a call
   pub call_args_end : (ty : Ty) (q : ProcId) (args : Passed) (callee : Callee C q.0 ty args) → covers_passed uses args ≡ true → passed_are_formed args ≡ true

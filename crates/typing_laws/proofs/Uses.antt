@@ -1,8 +1,9 @@
 -- Variables that covered expressions use, each at an address where it stands.
-use Rattle.std.proofs.Common.{◌≡◌, ◌⊎◌, inl, inr, refl, sym, ap, ◌∙◌, ℕ, true, cond, not, ◌&&◌, nat_eq, true≢false, List, [], ◌∷◌, Option, Some, None}
+use Rattle.std.proofs.Common.{◌≡◌, ◌⊎◌, inl, inr, refl, sym, ap, ◌∙◌, ℕ, Bool, true, false, cond, not, ◌&&◌, nat_eq, true≢false, List, [], ◌∷◌, Option, Some, None}
 use Rattle.std.specs.Prelude.{slice_get, position}
 use Rattle.std.specs.List.{list_any}
 use Rattle.up_base.proofs.Tests.{both_true, not_true}
+use Rattle.vb_tree.specs.BoundTree as types
 use Rattle.vb_tree.specs.BoundTree.{Ty}
 use Rattle.vb_tree.specs.declared.declared.Owner.{Owner}
 use Rattle.vb_tree.specs.declared.declared.Owner.TheVariants as owner
@@ -12,19 +13,20 @@ use Rattle.vb_tree.specs.Tree.{Module}
 use Rattle.bound_tree.specs.declared.body.Mention.{Mention}
 use Rattle.bound_tree.specs.Tree.{Variable, Declarations, Program}
 use Rattle.bound_facts.specs.Node.{auto_class, class_in}
-use Rattle.run_base.specs.Positions.{Position}
 use Rattle.written_trees.specs.Names.{module_at, is_standard_module, module_name}
 use Rattle.written_trees.specs.Placing.{Placed}
 use Rattle.vb6_run.specs.Programs.{is_module_variable}
 use Rattle.vb6_run.specs.Runnables.{declared_address, is_class_file, object_root, root_address, variable_address}
 use Rattle.run_base.specs.Positions.{shared}
-use Rattle.vb6_run.specs.Shapes.{simple, variable_shape}
-use Rattle.vb6_run.specs.Store.{Memory, SourceFrame, root}
-use Rattle.run_matches.specs.CoveredVariables.{belongs_to, covers_owner, covers_some, covers_type, covers_use, covers_variable, is_foreign_name, is_mention_of, is_reached}
+use Rattle.vb6_run.specs.Shapes.{variable_shape}
+use Rattle.vb6_run.specs.Store.{Address, Memory, SourceFrame, root}
+use Rattle.run_matches.specs.CoveredVariables.{belongs_to, covers_array_owner, covers_array_use, covers_array_variable, covers_bounds, covers_owner, covers_some, covers_some_array, covers_type, covers_use, covers_variable, is_array_of, is_foreign_name, is_loud, is_mention_of, is_named_apart, is_reached}
+use Rattle.run_matches.specs.Covered.{is_answer_of}
 use Rattle.run_matches.specs.Shared.{is_alone_static, leads_to_home, leads_to_member, names_lead, placed_module}
-use Rattle.typing_laws.specs.Frames.{Ground, HasOwn, IsSound, Stands, shared_place}
-use Rattle.typing_laws.specs.Scalars.{has_scalar_variables}
-use Rattle.typing_laws.proofs.Places.{all_at, variable_shape_is}
+use Rattle.typing_laws.specs.Frames.{Footprint, HasOwn, IsPlace, IsSound, ground, shared_place}
+use Rattle.typing_laws.specs.Flat.{has_flat_variables, is_flat}
+use Rattle.typing_laws.proofs.Made.{IsArray, array_flat, array_type, flat_kinds, scalar_flat, shape_of_variable}
+use Rattle.typing_laws.proofs.Places.{all_at}
 
 -- a variable that a line of a procedure uses: one of a standard module, or its own
 pub record Used (D : Declarations) (p : ℕ) (v : VarId) : Type 0 where
@@ -78,6 +80,57 @@ use_is P p mentions v h =
     let o = slice_get D.vars v.0 in
     use_in D p v o refl (both_true (list_any (is_mention_of v) mentions) (covers_some D p v.0 o) h).1
 
+-- an array that a line of a procedure uses
+pub record UsedArray (D : Declarations) (p : ℕ) (v : VarId) (e : Ty) : Type 0 where
+  pub variable : Variable
+  pub is_variable : slice_get D.vars v.0 ≡ Some variable
+  pub owned : (is_module_variable D variable.owner ≡ true) ⊎ (belongs_to p variable.owner ≡ true)
+  pub flat : is_flat variable ≡ true
+  pub rank : ℕ
+  pub is_type : variable.ty ≡ types.array e rank
+  pub plain : auto_class (slice_get D.vars v.0) ≡ None
+
+array_owner : (o : Owner) → covers_array_owner o ≡ true → covers_owner o ≡ true
+array_owner (owner.Module file) h = refl
+array_owner (owner.Local p) h = refl
+array_owner (owner.Static p) h = refl
+array_owner (owner.Reference p) h = refl
+array_owner (owner.Value p) h = refl
+array_owner (owner.Answer p) h = refl
+array_owner (owner.Field t) h = absurd (true≢false (sym h))
+
+array_in : (D : Declarations) (p : ℕ) (v : VarId) (e : Ty) (o : Option Variable) → slice_get D.vars v.0 ≡ o → covers_some_array D p v.0 e o ≡ true → UsedArray D p v e
+array_in D p v e None is h = absurd (true≢false (sym h))
+array_in D p v e (Some x) is h =
+    let named = is_named_apart (slice_get D.procs p) x.name in
+    let a = both_true (is_reached D p v.0 x.name x.owner) (covers_array_variable e x && named) h in
+    let b = both_true (covers_array_variable e x) named a.1 in
+    let rest = covers_type e && (is_array_of e x.ty && (covers_bounds x.ty x.bounds && not x.auto)) in
+    let owner = both_true (covers_array_owner x.owner) rest b.0 in
+    let t = array_type x e b.0 in
+    record {
+      variable = x;
+      is_variable = is;
+      owned = owner_reached D p v.0 x.name x.owner a.0 (array_owner x.owner owner.0);
+      flat = array_flat x e b.0;
+      rank = t.0;
+      is_type = t.1;
+      plain = ap auto_class is ∙ ap (λ s. cond x.auto (class_in s) None) t.1 ∙ none_of x.auto;
+    }
+  where
+    none_of : (b : Bool) → cond {A = Option ℕ} b None None ≡ None
+    none_of true = refl
+    none_of false = refl
+
+pub array_use_is : (P : Program) (p : ℕ) (mentions : List Mention) (v : VarId) (e : Ty) → covers_array_use P p mentions v e ≡ true
+    → UsedArray P.declarations p v e × (is_loud P v.0 (slice_get P.declarations.vars v.0) ≡ true)
+array_use_is P p mentions v e h =
+    let D : Declarations = P.declarations in
+    let o = slice_get D.vars v.0 in
+    let a = both_true (list_any (is_mention_of v) mentions) (covers_some_array D p v.0 e o && is_loud P v.0 o) h in
+    let b = both_true (covers_some_array D p v.0 e o) (is_loud P v.0 o) a.1 in
+    (array_in D p v e o refl b.0, b.1)
+
 -- ---- addresses
 
 -- a variable of a standard module
@@ -96,28 +149,39 @@ module_address D f v x is outer = ap (λ o. declared_address D f v o) is ∙ by 
     by (owner.Field t) h = absurd (true≢false (sym h))
 
 -- where a variable stands in a frame
-abbrev pub PlaceOf : Ground → SourceFrame → Memory → (variable : ℕ) → Ty → Type 0
-PlaceOf K f w v ty = (q : Position) × (variable_address K.declarations f v ≡ Some (root (simple ty) q)) × Stands K w q ty
+abbrev pub PlaceOf : Program → Footprint → SourceFrame → Memory → (variable : ℕ) → Variable → Type 0
+PlaceOf P F f w v x = (a : Address) × (variable_address P.declarations f v ≡ Some a) × IsPlace P F w v x a
 
-pub place_of : (K : Ground) (p : ℕ) (f : SourceFrame) (w : Memory) → IsSound K w → HasOwn K p w f → (v : VarId) (u : Used K.declarations p v)
-    → PlaceOf K f w v.0 u.variable.ty
-place_of K p f w sound own v u = by u.owned
-  where
-    by : (is_module_variable K.declarations u.variable.owner ≡ true) ⊎ (belongs_to p u.variable.owner ≡ true) → PlaceOf K f w v.0 u.variable.ty
-    by (inl h) = (
-      shared_place v.0,
-      module_address K.declarations f v.0 u.variable u.is_variable h
-          ∙ ap (λ d. Some (root d (shared_place v.0))) (variable_shape_is K.declarations v.0 u.variable u.is_variable u.covers),
-      sound.modules v.0 u.variable u.is_variable h u.covers,
-    )
-    by (inr h) = own v.0 u.variable u.is_variable h u.covers
+pub flat_place : (P : Program) (F : Footprint) (p : ℕ) (f : SourceFrame) (w : Memory) → IsSound (ground P.declarations F) w → HasOwn P F p w f → (v : ℕ) (x : Variable)
+    → slice_get P.declarations.vars v ≡ Some x → (is_module_variable P.declarations x.owner ≡ true) ⊎ (belongs_to p x.owner ≡ true) → is_flat x ≡ true
+    → PlaceOf P F f w v x
+flat_place P F p f w sound own v x is (inr h) flat = own v x is h flat
+flat_place P F p f w sound own v x is (inl h) flat = (
+  root (variable_shape P.declarations v) (shared_place v),
+  module_address P.declarations f v x is h,
+  (shape_of_variable P.declarations v x is flat, sound.modules v x is h flat),
+)
+
+pub place_of : (P : Program) (F : Footprint) (p : ℕ) (f : SourceFrame) (w : Memory) → IsSound (ground P.declarations F) w → HasOwn P F p w f → (v : VarId)
+    (u : Used P.declarations p v) → PlaceOf P F f w v.0 u.variable
+place_of P F p f w sound own v u = flat_place P F p f w sound own v.0 u.variable u.is_variable u.owned (scalar_flat u.variable u.covers)
 
 -- ---- variables of a covered procedure
 
-pub own_covered : (P : Program) (p v : ℕ) (x : Variable) → has_scalar_variables P p ≡ true → slice_get P.declarations.vars v ≡ Some x
-    → belongs_to p x.owner ≡ true → covers_type x.ty ≡ true
-own_covered P p v x covers is own =
-    let h : cond (belongs_to p x.owner) (covers_variable x) true ≡ true =
-    all_at (λ (y : Variable). cond (belongs_to p y.owner) (covers_variable y) true) P.declarations.vars v x covers is in
-    let c : covers_variable x ≡ true = sym (ap (λ b. cond b (covers_variable x) true) own) ∙ h in
-    (both_true (covers_type x.ty) (not x.auto) (both_true (covers_owner x.owner) (covers_type x.ty && not x.auto) c).1).0
+pub own_flat : (P : Program) (p v : ℕ) (x : Variable) → has_flat_variables P p ≡ true → slice_get P.declarations.vars v ≡ Some x
+    → belongs_to p x.owner ≡ true → is_flat x ≡ true
+own_flat P p v x covers is own =
+    sym (ap (λ b. cond b (is_flat x) true) own)
+    ∙ all_at (λ (y : Variable). cond (belongs_to p y.owner) (is_flat y) true) P.declarations.vars v x covers is
+
+-- a result variable is a scalar
+pub answer_covered : (p : ℕ) (x : Variable) → is_answer_of p x.owner ≡ true → is_flat x ≡ true → covers_type x.ty ≡ true
+answer_covered p x is flat = by (flat_kinds x flat)
+  where
+    no_array : (o : Owner) → is_answer_of p o ≡ true → covers_array_owner o ≡ true → ⊥
+    no_array (owner.Answer q) h i = true≢false (sym i)
+    no_array _ h i = true≢false (sym h)
+
+    by : (covers_type x.ty ≡ true) ⊎ IsArray x → covers_type x.ty ≡ true
+    by (inl c) = c
+    by (inr a) = absurd (no_array x.owner is a.owned)

@@ -11,36 +11,32 @@ use Rattle.vb_tree.specs.declared.declared.ProcId.{ProcId}
 use Rattle.vb_tree.specs.declared.declared.VarId.{VarId}
 use Rattle.vb_tree.specs.declared.value.Value6.{Value6}
 use Rattle.bound_tree.specs.declared.body.Mention.{Mention}
-use Rattle.bound_tree.specs.Tree.{Declarations, Procedure, Program, Variable, Expr, typed, Term, constant, variable, field, element, call, library, unary, binary, convert, new_object, me, with_object, err_number, err_raise, err_clear, is_same, loose, Object, no_object, of_object, Exprs, no_exprs, next_expr, Argument, Passed, no_passed, next_passed}
-use Rattle.bound_tree.specs.Tree as tree
+use Rattle.bound_tree.specs.Tree.{Declarations, Procedure, Program, Variable, Expr, typed, Term, call, library, no_object, Exprs, next_expr, Passed}
 use Rattle.bound_facts.specs.Locks.{is_same_type}
-use Rattle.bound_facts.specs.Node.{type_at, is_array_type}
+use Rattle.bound_facts.specs.Node.{type_at}
 use Rattle.row_laws.proofs.Composing.{then_assoc}
 use Rattle.run_base.specs.Frames.{by_value, by_address}
 use Rattle.run_base.specs.Machines.{enters}
-use Rattle.run_base.specs.Outcomes.{Outcome, gives, raises, spent, outside, after, then, first_input}
+use Rattle.run_base.specs.Outcomes.{Outcome, gives, raises, spent, outside, then, first_input}
 use Rattle.written_trees.specs.Arguments.{is_reference_owner, takes_reference, takes_reference_at, takes_reference_of, parameter_in}
-use Rattle.vb6_run.specs.Expressions.{Context, Parts, at_address, no_value, declared, value_in, scalar_in, parts_of, term_parts, value_of, scalar_value, given_address, given_parts, goes_by_address, argument_of, args_of, entered, result_parts, library_call, caller, has_byte, asked_text, boxed_text}
-use Rattle.vb6_run.specs.Shapes.{simple}
+use Rattle.vb6_run.specs.Expressions.{Context, Parts, no_value, declared, scalar_in, parts_of, term_parts, value_of, scalar_value, args_of, entered, result_parts, library_call, caller, has_byte, asked_text, boxed_text}
 use Rattle.vb6_run.specs.Store as store
 use Rattle.vb6_run.specs.Store.{Address, root, Memory, SourceGiven}
 use Rattle.vb6_run.specs.Values.{Value, scalar}
 use Rattle.run_matches.specs.CoveredVariables.{covers_type}
-use Rattle.run_matches.specs.CoveredExprs.{Uses, covers_expr, covers_library, covers_term, covers_array, covers_exprs, uses_in}
-use Rattle.run_matches.specs.Covered.{is_plain_kind, is_referred}
+use Rattle.run_matches.specs.CoveredExprs.{Uses, covers_expr, covers_library, covers_term}
+use Rattle.run_matches.specs.Covered.{is_plain_kind}
 use Rattle.run_matches.specs.Formed.{is_row_of_call, types_of}
-use Rattle.typing_laws.proofs.Scalars.{no_array_covered}
-use Rattle.typing_laws.specs.Scalars.{scalar_uses}
+use Rattle.typing_laws.specs.Flat.{flat_uses}
 use Rattle.typing_laws.specs.Calls.{CallsKeep, EndsAsCall, IsReady, SourceJob}
-use Rattle.typing_laws.specs.Frames.{AreGiven, IsGiven, IsReturned, Keeps, Stands}
+use Rattle.typing_laws.specs.Frames.{AreGiven, IsGiven, IsReturned, Keeps}
 use Rattle.typing_laws.specs.Leaving.{Leaves, PassedLeave, in_library, in_arguments, at_call, in_first}
-use Rattle.typing_laws.specs.Plain.{IsValue}
-use Rattle.typing_laws.specs.Typed.{fits_call, fits_parameters, has_type, is_typed, gives_what_it_has}
+use Rattle.typing_laws.specs.Typed.{fits_call, fits_parameters, gives_what_it_has}
+use Rattle.typing_laws.proofs.Addresses.{seat_later}
 use Rattle.typing_laws.proofs.Ends.{Ends, ends_after, ends_weaker, keeps_self, then_ends}
-use Rattle.typing_laws.proofs.Expressions.{Fits, IsScalarOf, IsTerm, IsTyped, asked_ends, first_text, fits_later, no_array, or_true, same_type, scalar_ends, text_of, variable_is, variable_place}
+use Rattle.typing_laws.proofs.Expressions.{Fits, IsScalarOf, IsTerm, IsTyped, asked_ends, first_text, fits_later, scalar_ends, text_of}
 use Rattle.typing_laws.proofs.Plain.{Plain, same_as}
 use Rattle.typing_laws.proofs.Procedures.{Parts as ProcedureParts, covers_plain, parts_of as procedure_parts}
-use Rattle.typing_laws.proofs.Uses.{PlaceOf, Used, use_is}
 use Rattle.typing_laws.specs.Frames.{Footprint, Ground, ground}
 
 -- ---- arguments that stay
@@ -49,7 +45,7 @@ pub given_later : (K : Ground) (w v : Memory) (o : Option Variable) (g : SourceG
 given_later K w v None g k h = h
 given_later K w v (Some y) (by_value x) k h = h
 given_later K w v (Some y) (by_address (root d q)) k h = (h.0, h.1, k.places q y.ty h.2)
-given_later K w v (Some y) (by_address (store.item e q j path)) k h = h
+given_later K w v (Some y) (by_address (store.item e q j path)) k h = (h.0, seat_later K w v y.ty (store.item e q j path) k h.1)
 given_later K w v (Some y) (by_address (store.constant x)) k h = h
 
 no : false ≡ true → ⊥
@@ -135,7 +131,7 @@ module _ (C : Context) (F : Footprint) (X : SourceJob → Memory → Type 0) (ca
   P = C.runnable.program
 
   abbrev uses : Uses
-  uses = scalar_uses C.runnable.program C.procedure mentions
+  uses = flat_uses C.runnable.program C.procedure mentions
 
   pub covered_type : (e : Expr) → covers_expr uses e ≡ true → covers_type (type_at e) ≡ true
   covered_type (typed ty t) h = (both_true (covers_type ty) (covers_term uses t) h).0
@@ -247,79 +243,3 @@ module _ (C : Context) (F : Footprint) (X : SourceJob → Memory → Type 0) (ca
       by (raises o n v) h = h
       by (spent o v) h = h
       by (outside o) h = h
-
-  -- ---- one argument
-
-  abbrev GoodGiven : Option Variable → Memory → SourceGiven → Type 0
-  GoodGiven o v g = IsGiven K v o g
-
-  value_given : (y : Variable) (t : Ty) (x : Value) (v : Memory) → t ≡ y.ty → IsValue t x → IsGiven K v (Some y) (by_value x)
-  value_given y t x v e h = (h.0, h.1 ∙ ap (λ s. scalar s h.0) e, subst (λ s. Plain s h.0) e h.2)
-
-  pub by_value_ends : (w : Memory) (y : Variable) (e : Expr) (quiet : Bool) → type_at e ≡ y.ty
-      → Ends K (IsTyped (type_at e)) (Leaves C X e w) w (value_of C e w)
-      → Ends K (GoodGiven (Some y)) (Leaves C X e w) w (argument_of C quiet (tree.by_value e) w)
-  by_value_ends w y e quiet same h =
-      then_ends K (IsTyped (type_at e)) (GoodGiven (Some y)) (Leaves C X e w) w (value_of C e w) (λ x v. gives [] (by_value x) v) h
-      (λ o x v one k p. (keeps_self K v, value_given y (type_at e) x v same p))
-
-  -- a variable goes by its address
-  variable_given : (w : Memory) → Fits C F w → (y : Variable) (ty : Ty) (x : VarId) (qualified quiet : Bool) → uses.scalar x ≡ true
-      → has_type ty (slice_get D.vars x.0) ≡ true → ty ≡ y.ty → is_reference_owner y.owner ≡ true → quiet ≡ false
-      → Ends K (GoodGiven (Some y)) (Leaves C X (typed ty (variable x qualified)) w) w (argument_of C quiet (tree.by_reference (typed ty (variable x qualified))) w)
-  variable_given w fits y ty x qualified quiet used typing same reference loud =
-      let u : Used D C.procedure x = use_is P C.procedure mentions x used in
-      let p : PlaceOf K C.frame w x.0 u.variable.ty = variable_place C F w fits x u in
-      let e : Expr = typed ty (variable x qualified) in
-      let one : u.variable.ty ≡ y.ty = sym (same_type D C.procedure ty x u typing) ∙ same in
-      subst (λ r. Ends K (GoodGiven (Some y)) (Leaves C X e w) w r)
-      (sym (ap (λ r. then r (given_parts C quiet e (goes_by_address e))) (variable_is C F ty x qualified w w u p)
-      ∙ ap (λ b. after [] (given_parts C quiet e b (at_address (root (simple u.variable.ty) p.0)) w)) (or_true (is_array_type ty))
-      ∙ ap (λ b. after [] (after [] (given_address b (root (simple u.variable.ty) p.0) w))) loud))
-      (keeps_self K w, (reference, ap simple one, subst (λ t. Stands K w p.0 t) one p.2))
-
-  -- what is converted goes as a temporary
-  converted_given : (w : Memory) (y : Variable) (ty to : Ty) (e : Expr) (quiet : Bool) → covers_type ty ≡ true → ty ≡ y.ty
-      → Ends K (IsTyped ty) (Leaves C X (typed ty (convert to e)) w) w (value_of C (typed ty (convert to e)) w)
-      → Ends K (GoodGiven (Some y)) (Leaves C X (typed ty (convert to e)) w) w (argument_of C quiet (tree.by_reference (typed ty (convert to e))) w)
-  converted_given w y ty to e quiet c same h =
-      let d : Expr = typed ty (convert to e) in
-      subst (λ r. Ends K (GoodGiven (Some y)) (Leaves C X d w) w r)
-      (then_assoc (parts_of C d w) (value_in C d) (λ x v. gives [] (by_value x) v)
-      ∙ sym (ap (λ b. then (parts_of C d w) (given_parts C quiet d (b || false))) (no_array ty c)))
-      (then_ends K (IsTyped ty) (GoodGiven (Some y)) (Leaves C X d w) w (value_of C d w) (λ x v. gives [] (by_value x) v) h
-      (λ o x v one k p. (keeps_self K v, value_given y ty x v same p)))
-
-  no_reference : (ty : Ty) (t : Term) → is_referred (typed ty t) ≡ false → is_referred (typed ty t) ≡ true → ⊥
-  no_reference ty t a h = true≢false (sym h ∙ a)
-
-  -- no element is covered here
-  no_element_given : (ty : Ty) (e : Expr) (i : Exprs) → covers_expr uses (typed ty (element e i)) ≡ true → ⊥
-  no_element_given ty e i covers =
-      no_array_covered (uses_in C.runnable.program C.procedure mentions) e
-      (both_true (covers_array uses e) (covers_exprs uses i) (both_true (covers_type ty) (covers_array uses e && covers_exprs uses i) covers).1).0
-
-  pub reference_ends : (w : Memory) → Fits C F w → (y : Variable) (e : Expr) (quiet : Bool) → covers_expr uses e ≡ true → is_typed D e ≡ true → is_referred e ≡ true
-      → type_at e ≡ y.ty → is_reference_owner y.owner ≡ true → quiet ≡ false
-      → Ends K (IsTyped (type_at e)) (Leaves C X e w) w (value_of C e w)
-      → Ends K (GoodGiven (Some y)) (Leaves C X e w) w (argument_of C quiet (tree.by_reference e) w)
-  reference_ends w fits y (typed ty (variable x qualified)) quiet covers typing referred same reference loud h =
-      variable_given w fits y ty x qualified quiet (both_true (covers_type ty) (uses.scalar x) covers).1 typing same reference loud
-  reference_ends w fits y (typed ty (convert to e)) quiet covers typing referred same reference loud h =
-      converted_given w y ty to e quiet (both_true (covers_type ty) (covers_type to && covers_expr uses e) covers).0 same h
-  reference_ends w fits y (typed ty (constant x origin)) quiet covers typing referred same reference loud h = absurd (no_reference ty (constant x origin) refl referred)
-  reference_ends w fits y (typed ty (call q qualified of args)) quiet covers typing referred same reference loud h =
-      absurd (no_reference ty (call q qualified of args) refl referred)
-  reference_ends w fits y (typed ty (library f args)) quiet covers typing referred same reference loud h = absurd (no_reference ty (library f args) refl referred)
-  reference_ends w fits y (typed ty (unary op e)) quiet covers typing referred same reference loud h = absurd (no_reference ty (unary op e) refl referred)
-  reference_ends w fits y (typed ty (binary op d e)) quiet covers typing referred same reference loud h = absurd (no_reference ty (binary op d e) refl referred)
-  reference_ends w fits y (typed ty (field e i)) quiet covers typing referred same reference loud h = absurd (no_reference ty (field e i) refl referred)
-  reference_ends w fits y (typed ty (element e i)) quiet covers typing referred same reference loud h = absurd (no_element_given ty e i covers)
-  reference_ends w fits y (typed ty (new_object c)) quiet covers typing referred same reference loud h = absurd (no_reference ty (new_object c) refl referred)
-  reference_ends w fits y (typed ty me) quiet covers typing referred same reference loud h = absurd (no_reference ty me refl referred)
-  reference_ends w fits y (typed ty (with_object r)) quiet covers typing referred same reference loud h = absurd (no_reference ty (with_object r) refl referred)
-  reference_ends w fits y (typed ty err_number) quiet covers typing referred same reference loud h = absurd (no_reference ty err_number refl referred)
-  reference_ends w fits y (typed ty (err_raise e)) quiet covers typing referred same reference loud h = absurd (no_reference ty (err_raise e) refl referred)
-  reference_ends w fits y (typed ty err_clear) quiet covers typing referred same reference loud h = absurd (no_reference ty err_clear refl referred)
-  reference_ends w fits y (typed ty (is_same d e)) quiet covers typing referred same reference loud h = absurd (no_reference ty (is_same d e) refl referred)
-  reference_ends w fits y (typed ty (loose e r)) quiet covers typing referred same reference loud h = absurd (no_reference ty (loose e r) refl referred)

@@ -1,10 +1,10 @@
--- Memories and frames in which each variable of a covered type holds a value of its type.
+-- Memories and frames in which each scalar of a covered type holds a value of its type, and each array of such a type elements of it.
 use Rattle.std.specs.Prelude.{◌≡◌, ◌⊎◌, ℕ, ◌≤◌, Bool, true, false, List, [], ◌∷◌, Option, Some, None, slice_get, is_some, nat_le, ◌||◌}
+use Rattle.vb_tree.specs.BoundTree as types
 use Rattle.vb_tree.specs.BoundTree.{Ty}
 use Rattle.vb_tree.specs.declared.declared.Owner.{Owner}
 use Rattle.vb_tree.specs.declared.declared.Owner.TheVariants as owner
 use Rattle.vb_tree.specs.declared.declared.VarId.{VarId}
-use Rattle.vb_tree.specs.declared.value.Value6.{Value6}
 use Rattle.vb_tree.specs.Tree.{Form}
 use Rattle.vb_tree.specs.Tree as source
 use Rattle.bound_tree.specs.Tree.{Variable, Procedure, Declarations, Program, Expr}
@@ -18,12 +18,13 @@ use Rattle.run_base.specs.Positions.{Root, shared, made, field, Position, is_sam
 use Rattle.vb6_run.specs.Forms.{SourceLine}
 use Rattle.vb6_run.specs.Programs.{is_module_variable, machine_of}
 use Rattle.vb6_run.specs.Runnables.{Runnable, declarations_of, variable_address}
-use Rattle.vb6_run.specs.Shapes.{simple}
-use Rattle.vb6_run.specs.Store.{Address, blank, single, root, item, constant, Memory, SourceFrame, SourceGiven}
+use Rattle.vb6_run.specs.Shapes.{Shape, simple}
+use Rattle.vb6_run.specs.Store.{Address, blank, root, item, item_in, constant, Memory, SourceFrame, SourceGiven}
 use Rattle.vb6_run.specs.Values.{Value}
-use Rattle.run_matches.specs.CoveredVariables.{belongs_to, covers_type}
+use Rattle.run_matches.specs.CoveredVariables.{belongs_to, is_loud}
 use Rattle.run_matches.specs.Maps.{IsMade, mark}
-use Rattle.typing_laws.specs.Plain.{Plain, IsValue}
+use Rattle.typing_laws.specs.Flat.{is_flat}
+use Rattle.typing_laws.specs.Plain.{Holds, IsShapeOf, IsValue}
 
 -- ---- places
 
@@ -42,11 +43,9 @@ pub record Ground : Type 0 where
 abbrev pub ground : Declarations → Footprint → Ground
 ground D F = record { declarations = D; footprint = F }
 
--- a position of the footprint that was made and holds a value of a covered type
+-- a position of the footprint that was made and holds what a variable of a type does
 pub record Stands (K : Ground) (w : Memory) (q : Position) (ty : Ty) : Type 0 where
-  pub value : Value6
-  pub holds : w.held q ≡ single ty value
-  pub plain : Plain ty value
+  pub holds : Holds ty (w.held q)
   pub made : IsMade (mark w) q.root
   pub allowed : K.footprint q ≡ true
 
@@ -67,30 +66,31 @@ pub record IsBlankStatic (K : Ground) (w : Memory) (q : Position) : Type 0 where
   pub variable : Variable
   pub is_variable : slice_get K.declarations.vars number ≡ Some variable
   pub static : is_static variable.owner ≡ true
-  pub covers : covers_type variable.ty ≡ true
+  pub flat : is_flat variable ≡ true
   pub place : q ≡ shared_place number
   pub is_blank : w.held q ≡ blank
 
 -- ---- memories
 
--- Each variable of a standard module that has a covered type holds a value of it, and each Static that or nothing. The footprint has their
--- positions, and all that isn't made yet.
+-- Each scalar and each array of scalars of a standard module holds what it is declared for, and each Static that or nothing. The footprint
+-- has their positions, and all that isn't made yet.
 pub record IsSound (K : Ground) (w : Memory) : Type 0 where
   pub modules :
-      (v : ℕ) (x : Variable) → slice_get K.declarations.vars v ≡ Some x → is_module_variable K.declarations x.owner ≡ true → covers_type x.ty ≡ true
+      (v : ℕ) (x : Variable) → slice_get K.declarations.vars v ≡ Some x → is_module_variable K.declarations x.owner ≡ true → is_flat x ≡ true
       → Stands K w (shared_place v) x.ty
   pub statics :
-      (v : ℕ) (x : Variable) → slice_get K.declarations.vars v ≡ Some x → is_static x.owner ≡ true → covers_type x.ty ≡ true
+      (v : ℕ) (x : Variable) → slice_get K.declarations.vars v ≡ Some x → is_static x.owner ≡ true → is_flat x ≡ true
       → MayStand K w (shared_place v) x.ty
   pub shares : (v : ℕ) → K.footprint (shared_place v) ≡ true
   pub fresh : (n : ℕ) → w.next ≤ n → K.footprint (whole (made n)) ≡ true
 
--- Between two memories each position of the footprint that holds a value of a covered type goes on to hold one of the same type, and what
--- else was made holds what it held, but for Statics that are made now.
+-- Between two memories each position of the footprint that holds a scalar of a covered type goes on to hold one of the same type, and each
+-- that holds an array of such elements goes on to hold one, allocated or not. What else was made holds what it held, but for Statics that
+-- are made now.
 pub record Keeps (K : Ground) (w v : Memory) : Type 0 where
   pub places : (q : Position) (ty : Ty) → Stands K w q ty → Stands K v q ty
   pub statics :
-      (k : ℕ) (x : Variable) → slice_get K.declarations.vars k ≡ Some x → is_static x.owner ≡ true → covers_type x.ty ≡ true
+      (k : ℕ) (x : Variable) → slice_get K.declarations.vars k ≡ Some x → is_static x.owner ≡ true → is_flat x ≡ true
       → MayStand K w (shared_place k) x.ty → MayStand K v (shared_place k) x.ty
   pub others :
       (q : Position) → IsMade (mark w) q.root → ((ty : Ty) → Stands K w q ty → ⊥) → (IsBlankStatic K w q → ⊥) → v.held q ≡ w.held q
@@ -100,11 +100,28 @@ pub record Keeps (K : Ground) (w v : Memory) : Type 0 where
 
 -- ---- frames
 
--- each variable of a procedure that has a covered type stands at an address of the frame
-abbrev pub HasOwn : Ground → (procedure : ℕ) → Memory → SourceFrame → Type 0
-HasOwn K p w f =
-    (v : ℕ) (x : Variable) → slice_get K.declarations.vars v ≡ Some x → belongs_to p x.owner ≡ true → covers_type x.ty ≡ true
-    → (q : Position) × (variable_address K.declarations f v ≡ Some (root (simple x.ty) q)) × Stands K w q x.ty
+-- an element of an array of scalars of a type; the array may have been made anew without it
+abbrev pub IsElement : Ground → Memory → Ty → (element : Shape) → (array : Position) → (path : List ℕ) → Type 0
+IsElement K w ty e q path = (e ≡ simple ty) × (path ≡ []) × Stands K w q (types.array ty 0)
+
+-- the array has no such element any more
+abbrev pub IsGone : Address → Memory → Type 0
+IsGone (root d q) w = ⊥
+IsGone (item e q j path) w = item_in (w.held q) j path ≡ None
+IsGone (constant y) w = ⊥
+
+-- An address at which a variable stands: a position; an element to which a parameter by reference is bound; or a value, to which a quiet
+-- one is bound.
+abbrev pub IsPlace : Program → Footprint → Memory → (variable : ℕ) → Variable → Address → Type 0
+IsPlace P F w v x (root d q) = IsShapeOf x.ty d × Stands (ground P.declarations F) w q x.ty
+IsPlace P F w v x (item e q j path) = (is_reference_owner x.owner ≡ true) × IsElement (ground P.declarations F) w x.ty e q path
+IsPlace P F w v x (constant y) = (is_loud P v (Some x) ≡ false) × IsValue x.ty y
+
+-- each scalar and each array of scalars of a procedure stands at an address of the frame
+abbrev pub HasOwn : Program → Footprint → (procedure : ℕ) → Memory → SourceFrame → Type 0
+HasOwn P F p w f =
+    (v : ℕ) (x : Variable) → slice_get P.declarations.vars v ≡ Some x → belongs_to p x.owner ≡ true → is_flat x ≡ true
+    → (a : Address) × (variable_address P.declarations f v ≡ Some a) × IsPlace P F w v x a
 
 -- what a For keeps of its counter: the address, the limit and the step; a Select Case keeps its value
 abbrev pub IsLimit : Ground → Memory → Ty → Kept Value Address → Type 0
@@ -145,18 +162,18 @@ code_line P p n = numbered (slice_get P.bodies p) n
 
 -- a frame whose variables stand, whose heads keep what they do, and whose error, if one is handled, was at a line
 pub record IsTypedFrame (F : Footprint) (R : Runnable) (p : ℕ) (w : Memory) (f : SourceFrame) : Type 0 where
-  pub own : HasOwn (ground (declarations_of R) F) p w f
+  pub own : HasOwn R.program F p w f
   pub kept : (h : ℕ) (m : tree.Line) → code_line R.program p h ≡ Some m → IsKeptBy (ground (declarations_of R) F) w m.source.form m.bindings.exprs (f.kept h)
   pub error : f.active ≡ true → (l : SourceLine) × (line_at (machine_of R) p f.resume ≡ Some l)
 
 -- ---- calls
 
--- a value of the parameter's type; or, by reference, the address of a variable that holds one
+-- a value of the parameter's type; or, by reference, the address of a variable that holds what the parameter stands for, or of an element
 abbrev pub IsGiven : Ground → Memory → Option Variable → SourceGiven → Type 0
 IsGiven K w None g = ⊥
 IsGiven K w (Some y) (by_value x) = IsValue y.ty x
-IsGiven K w (Some y) (by_address (root d q)) = (is_reference_owner y.owner ≡ true) × (d ≡ simple y.ty) × Stands K w q y.ty
-IsGiven K w (Some y) (by_address (item e q j path)) = ⊥
+IsGiven K w (Some y) (by_address (root d q)) = (is_reference_owner y.owner ≡ true) × IsShapeOf y.ty d × Stands K w q y.ty
+IsGiven K w (Some y) (by_address (item e q j path)) = (is_reference_owner y.owner ≡ true) × IsElement K w y.ty e q path
 IsGiven K w (Some y) (by_address (constant x)) = ⊥
 
 -- one argument for each parameter
@@ -182,7 +199,7 @@ is_open next (field o k) = false
 abbrev pub is_given_at : Position → SourceGiven → Bool
 is_given_at q (by_value x) = false
 is_given_at q (by_address (root d r)) = is_same_position r q
-is_given_at q (by_address (item e r j path)) = false
+is_given_at q (by_address (item e r j path)) = is_same_position r q
 is_given_at q (by_address (constant x)) = false
 
 -- A run may write to variables of modules and Statics, to what it makes, and to what it is given by reference.

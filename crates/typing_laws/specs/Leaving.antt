@@ -1,11 +1,12 @@
--- When a computation leaves what the tables of values have, or the lines of its procedure. Of covered expressions, lines and runs over
--- scalars alone these are the only ways to lie outside. What calls do that leave is told by X.
-use Rattle.std.specs.Prelude.{◌≡◌, ℕ, zero, suc, ℤ, pos, negsuc, Bool, true, false, ◌&&◌, nat_lt, List, [], ◌∷◌, Option, Some, None}
+-- When a computation leaves what the tables of values have, what arrays may be, or the lines of its procedure. Of covered expressions, lines
+-- and runs without user types these are the only ways to lie outside. What calls do that leave is told by X.
+use Rattle.std.specs.Prelude.{◌≡◌, ℕ, zero, suc, ℤ, pos, negsuc, ◌-ℤ◌, Bool, true, false, ◌&&◌, nat_lt, List, [], ◌∷◌, Option, Some, None, slice_get}
 use Rattle.std.specs.List.{list_all}
 use Rattle.vb_tree.specs.BoundTree.{Ty}
 use Rattle.vb_tree.specs.declared.bound.LibCall.{LibCall}
 use Rattle.vb_tree.specs.declared.bound.LibCall.TheVariants as lib
 use Rattle.vb_tree.specs.declared.declared.ProcId.{ProcId}
+use Rattle.vb_tree.specs.declared.declared.VarId.{VarId}
 use Rattle.vb_tree.specs.declared.expression.BinOp.{BinOp}
 use Rattle.vb_tree.specs.declared.expression.BinOp.TheVariants as b
 use Rattle.vb_tree.specs.declared.expression.UnOp.{UnOp}
@@ -14,24 +15,30 @@ use Rattle.vb_tree.specs.declared.form_parts.Label6.{Label6}
 use Rattle.vb_tree.specs.declared.token.Suffix.{Suffix}
 use Rattle.vb_tree.specs.declared.value.Value6.{Value6}
 use Rattle.vb_tree.specs.declared.value.Value6.TheVariants as values
-use Rattle.vb_tree.specs.Tree.{Args, CaseItem, Exp, Form, case_value, case_range, case_is}
+use Rattle.vb_tree.specs.Tree.{Args, CaseItem, Exp, Form, ReDimItem, case_value, case_range, case_is}
 use Rattle.vb_tree.specs.Tree as source
 use Rattle.bound_tree.specs.Targets.{exit_to}
-use Rattle.bound_tree.specs.Tree.{Expr, typed, call, library, unary, binary, convert, err_number, err_raise, Object, Exprs, no_exprs, next_expr, Argument, Passed, no_passed, next_passed}
+use Rattle.bound_tree.specs.Tree.{Variable, Expr, typed, variable, element, call, library, unary, binary, convert, err_number, err_raise, Object, Exprs, no_exprs, next_expr, Argument, Passed, no_passed, next_passed}
 use Rattle.bound_tree.specs.Tree as tree
+use Rattle.bound_facts.specs.Parts.{Extent, Resize, resizes}
 use Rattle.run_base.specs.Frames.{next_line, keeps_nothing, keeps_value}
 use Rattle.run_base.specs.Machines.{enters, runs, line_at, go, handled}
 use Rattle.run_base.specs.Outcomes.{Output, gives, raises, first_input}
-use Rattle.vb6_run.specs.Expressions.{Context, scalar_value, value_of, argument_of, args_of, values_of, has_byte}
+use Rattle.vb6_run.specs.Expressions.{Context, declared, scalar_value, value_of, address_of, dimension_in, indexes_of, lows_at, argument_of, args_of, values_of, has_byte}
 use Rattle.vb6_run.specs.Forms.{SourceLine}
-use Rattle.vb6_run.specs.Lines.{item_text, items_text, item_fits, line_of_label}
+use Rattle.vb6_run.specs.Lines.{dimensions_of, low_of, redim_does, item_text, items_text, item_fits, line_of_label}
 use Rattle.vb6_run.specs.Programs.{entered_as, line_does, machine_of}
-use Rattle.vb6_run.specs.Runnables.{Runnable}
-use Rattle.vb6_run.specs.Store.{Memory, Locked, SourceFrame, SourceGiven}
-use Rattle.vb6_run.specs.Values.{Value, scalar}
+use Rattle.vb6_run.specs.Runnables.{Runnable, declarations_of, variable_address}
+use Rattle.vb6_run.specs.Shapes.{Shape, variable_shape}
+use Rattle.vb6_run.specs.Arrays.{bound_at, dynamic_array, has_lows, have_long_lows, is_long, takes_indexes, upper}
+use Rattle.run_base.specs.Positions.{Position}
+use Rattle.run_matches.specs.CoveredExprs.{is_bound}
+use Rattle.vb6_run.specs.Store.{Address, root, table, Memory, Locked, SourceFrame, SourceGiven}
+use Rattle.vb6_run.specs.Values.{Dimension, Value, Values, is_makeable, is_small, is_within_limits, scalar}
+use Rattle.run_matches.specs.CoveredVariables.{belongs_to}
 use Rattle.typing_laws.specs.Calls.{SourceJob}
 use Rattle.typing_laws.specs.Edges.{IsEdge, IsLibraryEdge, IsTooLong}
-use Rattle.typing_laws.specs.Frames.{IsTypedFrame, anywhere}
+use Rattle.typing_laws.specs.Frames.{IsGone, IsTypedFrame, anywhere}
 
 -- ---- expressions
 
@@ -44,9 +51,19 @@ abbrev pub passed_value : Argument → Expr
 passed_value (tree.by_value e) = e
 passed_value (tree.by_reference e) = e
 
+-- an array that is named, with the dimensions that it has then or later
+pub record IsNamed (C : Context) (a : Expr) (w v : Memory) (dims : List Dimension) : Type 0 where
+  pub shape : Shape
+  pub place : Position
+  pub element : Shape
+  pub values : Values
+  pub named : address_of C a w ≡ gives [] (root shape place) w
+  pub holds : v.held place ≡ table element dims values
+
 mutual
   -- an operator or a call of the library at an edge of its row, an input that has no text, an Err number that no error has, Err.Raise of a
-  -- number that is none of an error, or a call that leaves, in the expression or in a part of it that is reached
+  -- number that is none of an error, an array that isn't as its ties and its indexes want it, or a call that leaves, in the expression or
+  -- in a part of it that is reached
   pub data Leaves (C : Context) (X : SourceJob → Memory → Type 0) : Expr → Memory → Type 0 where
     at_operator :
         (ty : Ty) (op : BinOp) (d e : Expr) (w v u : Memory) (o p : List Output) (x y : Value6) → scalar_value C d w ≡ gives o x v
@@ -71,6 +88,45 @@ mutual
     at_call :
         (ty : Ty) (p : ProcId) (qualified : Bool) (object : Object) (args : Passed) (w v : Memory) (o : List Output) (gs : List SourceGiven)
         → args_of C p.0 0 args w ≡ gives o gs v → X (enters p.0 C.frame.me C.frame.env gs) v → Leaves C X (typed ty (call p qualified object args)) w
+    -- an element that the array has no longer, in the place of a parameter that is bound to it
+    at_gone :
+        (ty : Ty) (x : VarId) (qualified : Bool) (w : Memory) (a : Address) → variable_address (declared C) C.frame x.0 ≡ Some a → IsGone a w
+        → Leaves C X (typed ty (variable x qualified)) w
+    in_indexes :
+        (ty : Ty) (a : Expr) (indexes : Exprs) (w : Memory) → ExprsLeave C X indexes w → Leaves C X (typed ty (element a indexes)) w
+    -- an element of an array with other lower bounds than its ties give it
+    other_lows :
+        (ty : Ty) (a : Expr) (indexes : Exprs) (w v : Memory) (o : List Output) (zs : List ℤ) (dims : List Dimension)
+        → indexes_of C indexes w ≡ gives o zs v → IsNamed C a w v dims → has_lows (lows_at C a) dims ≡ false → Leaves C X (typed ty (element a indexes)) w
+    -- an element of an array with a lower bound that is no Long
+    low_past_long :
+        (ty : Ty) (a : Expr) (indexes : Exprs) (w v : Memory) (o : List Output) (zs : List ℤ) (dims : List Dimension)
+        → indexes_of C indexes w ≡ gives o zs v → IsNamed C a w v dims → have_long_lows dims ≡ false → Leaves C X (typed ty (element a indexes)) w
+    -- an element by another number of indexes than the array has
+    other_rank :
+        (ty : Ty) (a : Expr) (indexes : Exprs) (w v : Memory) (o : List Output) (zs : List ℤ) (dims : List Dimension)
+        → indexes_of C indexes w ≡ gives o zs v → IsNamed C a w v dims → takes_indexes dims zs ≡ false → Leaves C X (typed ty (element a indexes)) w
+    -- UBound or LBound of a dimension that is no constant from 1 on
+    no_dimension :
+        (ty : Ty) (f : LibCall) (a : Expr) (rest : Exprs) (w : Memory) → is_bound f ≡ true → dimension_in rest ≡ None
+        → Leaves C X (typed ty (library f (next_expr a rest))) w
+    -- of an array with other lower bounds than its ties give it
+    bound_by_other_lows :
+        (ty : Ty) (f : LibCall) (a : Expr) (rest : Exprs) (w : Memory) (dims : List Dimension) → is_bound f ≡ true → IsNamed C a w w dims
+        → has_lows (lows_at C a) dims ≡ false → Leaves C X (typed ty (library f (next_expr a rest))) w
+    -- of an array with a lower bound that is no Long
+    bound_by_past_long :
+        (ty : Ty) (f : LibCall) (a : Expr) (rest : Exprs) (w : Memory) (dims : List Dimension) → is_bound f ≡ true → IsNamed C a w w dims
+        → have_long_lows dims ≡ false → Leaves C X (typed ty (library f (next_expr a rest))) w
+    -- of a dimension above the rank
+    above_rank :
+        (ty : Ty) (f : LibCall) (a : Expr) (rest : Exprs) (w : Memory) (k : ℕ) (dims : List Dimension) → is_bound f ≡ true → IsNamed C a w w dims
+        → dimension_in rest ≡ Some k → slice_get dims k ≡ None → Leaves C X (typed ty (library f (next_expr a rest))) w
+    -- an upper bound that is no Long
+    high_past_long :
+        (ty : Ty) (a : Expr) (rest : Exprs) (w : Memory) (k : ℕ) (dims : List Dimension) (d : Dimension) → IsNamed C a w w dims
+        → dimension_in rest ≡ Some k → slice_get dims k ≡ Some d → is_long (bound_at upper d) ≡ false
+        → Leaves C X (typed ty (library lib.UBound (next_expr a rest))) w
     at_err_number : (ty : Ty) (w : Memory) → nat_lt w.err 65536 ≡ false → Leaves C X (typed ty err_number) w
     in_raised : (ty : Ty) (e : Expr) (w : Memory) → Leaves C X e w → Leaves C X (typed ty (err_raise e)) w
     at_raised :
@@ -138,6 +194,47 @@ pub data CountingLeaves (C : Context) (X : SourceJob → Memory → Type 0) : Li
       (e start limit step : Expr) (w v u : Memory) (o p : List Output) (x y : Value) → value_of C start w ≡ gives o x v
       → value_of C limit v ≡ gives p y u → Leaves C X step u → CountingLeaves C X (e ∷ start ∷ limit ∷ step ∷ []) w
 
+-- a bound of a ReDim, where those before it have values
+pub data ExtentsLeave (C : Context) (X : SourceJob → Memory → Type 0) : List Extent → Memory → Type 0 where
+  in_low : (e high : Expr) (xs : List Extent) (w : Memory) → Leaves C X e w → ExtentsLeave C X ((Some e, high) ∷ xs) w
+  in_high :
+      (low : Option Expr) (e : Expr) (xs : List Extent) (w v : Memory) (o : List Output) (z : ℤ) → low_of C low w ≡ gives o z v → Leaves C X e v
+      → ExtentsLeave C X ((low, e) ∷ xs) w
+  -- a lower bound that is no Long
+  no_long_low :
+      (low : Option Expr) (e : Expr) (xs : List Extent) (w v u : Memory) (o p : List Output) (z : ℤ) (x : Value6) → low_of C low w ≡ gives o z v
+      → scalar_value C e v ≡ gives p x u → is_long z ≡ false → ExtentsLeave C X ((low, e) ∷ xs) w
+  -- a dimension past the limits
+  past_limit :
+      (low : Option Expr) (e : Expr) (xs : List Extent) (w v u : Memory) (o p : List Output) (z h : ℤ) (n : ℕ) → low_of C low w ≡ gives o z v
+      → scalar_value C e v ≡ gives p (values.Long h) u → h -ℤ z ≡ pos n → is_small (suc n) ≡ false → ExtentsLeave C X ((low, e) ∷ xs) w
+  behind_extent :
+      (low : Option Expr) (e : Expr) (xs : List Extent) (w v u : Memory) (o p : List Output) (z : ℤ) (x : Value6) → low_of C low w ≡ gives o z v
+      → scalar_value C e v ≡ gives p x u → ExtentsLeave C X xs u → ExtentsLeave C X ((low, e) ∷ xs) w
+
+-- one of the arrays of a ReDim, where those before it are made
+pub data ResizesLeave (C : Context) (X : SourceJob → Memory → Type 0) (preserve : Bool) : List Resize → Memory → Type 0 where
+  in_extents : (r : Resize) (rs : List Resize) (w : Memory) → ExtentsLeave C X r.extents w → ResizesLeave C X preserve (r ∷ rs) w
+  -- a fixed array is made anew
+  resizes_fixed :
+      (r : Resize) (rs : List Resize) (w v : Memory) (o : List Output) (dims : List Dimension) (a : Address) → dimensions_of C r.extents w ≡ gives o dims v
+      → address_of C r.array v ≡ gives [] a v → dynamic_array a ≡ None → ResizesLeave C X preserve (r ∷ rs) w
+  -- with other lower bounds than its ties give it
+  new_lows :
+      (r : Resize) (rs : List Resize) (w v : Memory) (o : List Output) (dims : List Dimension) → dimensions_of C r.extents w ≡ gives o dims v
+      → has_lows (lows_at C r.array) dims ≡ false → ResizesLeave C X preserve (r ∷ rs) w
+  -- with more elements than an array may have
+  too_large :
+      (r : Resize) (rs : List Resize) (w v : Memory) (o : List Output) (dims : List Dimension) → dimensions_of C r.extents w ≡ gives o dims v
+      → is_within_limits dims ≡ false → ResizesLeave C X preserve (r ∷ rs) w
+  -- Preserve of an array of several dimensions
+  preserves_several :
+      (r : Resize) (rs : List Resize) (w v : Memory) (o : List Output) (dims : List Dimension) (c d : Dimension) (old : List Dimension) → preserve ≡ true
+      → dimensions_of C r.extents w ≡ gives o dims v → IsNamed C r.array v v (c ∷ d ∷ old) → ResizesLeave C X preserve (r ∷ rs) w
+  behind_array :
+      (r : Resize) (rs : List Resize) (w v : Memory) (o : List Output) → redim_does C preserve (r ∷ []) w ≡ gives o tt v → ResizesLeave C X preserve rs v
+      → ResizesLeave C X preserve (r ∷ rs) w
+
 -- ---- lines
 
 -- a line that goes by one condition
@@ -173,11 +270,14 @@ resumes source.resume = true
 resumes source.resume_next = true
 resumes _ = false
 
--- An expression of the line leaves, a printed text is too long, or the line leads nowhere: the end of a loop without its head, a Case or a Next
--- whose head wasn't run, an Exit outside of its block, a jump to a label that isn't there, and a Resume to a head of a block.
+-- An expression of the line leaves, a printed text is too long, an array can't be made anew or erased, or the line leads nowhere: the end of a
+-- loop without its head, a Case or a Next whose head wasn't run, an Exit outside of its block, a jump to a label that isn't there, and a Resume to a head of a block.
 pub data LineLeaves (C : Context) (X : SourceJob → Memory → Type 0) : Form → List Expr → Memory → Type 0 where
   in_assigned :
       (target value : Exp) (to e : Expr) (w : Memory) → Leaves C X e w → LineLeaves C X (source.assign target value) (to ∷ e ∷ []) w
+  in_target :
+      (target value : Exp) (to e : Expr) (w v : Memory) (o : List Output) (x : Value) → value_of C e w ≡ gives o x v → Leaves C X to v
+      → LineLeaves C X (source.assign target value) (to ∷ e ∷ []) w
   in_items : (items : List Exp) (ended : Bool) (es : List Expr) (w : Memory) → ItemsLeave C X es w → LineLeaves C X (source.debug_print items ended) es w
   at_print :
       (items : List Exp) (ended : Bool) (es : List Expr) (w v : Memory) (o : List Output) (s : List ℕ) → items_text C es w ≡ gives o s v → IsTooLong s
@@ -193,6 +293,13 @@ pub data LineLeaves (C : Context) (X : SourceJob → Memory → Type 0) : Form �
   in_counting :
       (counter start limit : Exp) (step : Option Exp) (es : List Expr) (w : Memory) → CountingLeaves C X es w
       → LineLeaves C X (source.for_head counter start limit step) es w
+  in_redim :
+      (preserve : Bool) (items : List ReDimItem) (es : List Expr) (w : Memory) → ResizesLeave C X preserve (resizes items es) w
+      → LineLeaves C X (source.redim preserve items) es w
+  -- a fixed array is erased
+  erases_fixed :
+      (target : Exp) (e : Expr) (w : Memory) (a : Address) → address_of C e w ≡ gives [] a w → dynamic_array a ≡ None
+      → LineLeaves C X (source.erase target) (e ∷ []) w
   unopened : (f : Form) (es : List Expr) (w : Memory) → goes_back f ≡ true → C.aims.back ≡ None → LineLeaves C X f es w
   case_unkept :
       (items : List CaseItem) (es : List Expr) (w : Memory) (h : ℕ) → C.aims.own ≡ Some h → C.frame.kept h ≡ keeps_nothing
@@ -236,6 +343,11 @@ pub data TurnLeaves (R : Runnable) (n : ℕ) (X : SourceJob → Memory → Type 
       (p k : ℕ) (f g : SourceFrame) (l : SourceLine) (w v : Memory) (o : List Output) → line_at (machine_of R) p f.line ≡ Some l → w.left ≡ suc k
       → handled (machine_of R) f l (line_does R (go (machine_of R) n) p f l (stepped_to k w)) ≡ gives o g v → X (runs p g) v
       → TurnLeaves R n X (runs p f) w
+  -- an array of the procedure is past the limits
+  at_entry :
+      (p k v : ℕ) (me : Option ℕ) (locked : Locked) (args : List SourceGiven) (x : Variable) (w : Memory) → w.left ≡ suc k
+      → slice_get (declarations_of R).vars v ≡ Some x → belongs_to p x.owner ≡ true → is_makeable (variable_shape (declarations_of R) v) ≡ false
+      → TurnLeaves R n X (enters p me locked args) w
   behind_entry :
       (p k : ℕ) (me : Option ℕ) (locked : Locked) (args : List SourceGiven) (f : SourceFrame) (w v : Memory) (o : List Output) → w.left ≡ suc k
       → entered_as R p me locked args (stepped_to k w) ≡ gives o f v → X (runs p f) v → TurnLeaves R n X (enters p me locked args) w

@@ -2,7 +2,7 @@ pub mod Edges
 pub mod Plain
 pub mod Frames
 pub mod Typed
-pub mod Scalars
+pub mod Flat
 pub mod Calls
 pub mod Leaving
 pub mod Results

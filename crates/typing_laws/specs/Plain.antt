@@ -1,4 +1,4 @@
--- Scalars of covered types, within the limits of their types.
+-- Scalars of covered types, within the limits of their types, and arrays of them.
 use Rattle.std.specs.Prelude.{◌≡◌, ℕ, ℤ, pos, Bool, true, List}
 use Rattle.vb_tree.specs.BoundTree as types
 use Rattle.vb_tree.specs.BoundTree.{Ty}
@@ -6,7 +6,11 @@ use Rattle.vb_tree.specs.declared.value.Value6.{Value6}
 use Rattle.vb_tree.specs.declared.value.Value6.TheVariants as v
 use Rattle.vb6_meaning.specs.declared.number.NumberKind.TheVariants as kinds
 use Rattle.vb6_meaning.specs.Kinds.{fits}
-use Rattle.vb6_run.specs.Values.{Value, scalar}
+use Rattle.vb6_run.specs.Shapes.{Shape, simple, array}
+use Rattle.vb6_run.specs.Store.{Held, single, table}
+use Rattle.vb6_run.specs.Values.{Dimension, Value, scalar, Values, no_values, next_value}
+use Rattle.run_matches.specs.CoveredVariables.{covers_type}
+use Rattle.run_matches.specs.Typed.{IsSized}
 
 -- a value of a covered type, within the limits of the type
 pub data Plain : Ty → Value6 → Type 0 where
@@ -20,3 +24,20 @@ pub data Plain : Ty → Value6 → Type 0 where
 -- the same with its type
 abbrev pub IsValue : Ty → Value → Type 0
 IsValue ty x = (z : Value6) × (x ≡ scalar ty z) × Plain ty z
+
+-- elements of a type
+pub data EachPlain : Ty → Values → Type 0 where
+  none_plain : (ty : Ty) → EachPlain ty no_values
+  next_plain : (ty : Ty) (z : Value6) (xs : Values) → Plain ty z → EachPlain ty xs → EachPlain ty (next_value (scalar ty z) xs)
+
+-- what a variable of a type holds: a scalar, or an array of scalars
+pub data Holds : Ty → Held → Type 0 where
+  holds_scalar : (ty : Ty) (z : Value6) → Plain ty z → Holds ty (single ty z)
+  holds_array :
+      (e : Ty) (rank : ℕ) (dims : List Dimension) (xs : Values) → covers_type e ≡ true → IsSized dims xs → EachPlain e xs
+      → Holds (types.array e rank) (table (simple e) dims xs)
+
+-- the shapes of variables of a type: a scalar, or an array with any bounds
+pub data IsShapeOf : Ty → Shape → Type 0 where
+  scalar_shape : (ty : Ty) → covers_type ty ≡ true → IsShapeOf ty (simple ty)
+  array_shape : (e : Ty) (rank : ℕ) (bounds : List (ℤ × ℤ)) → covers_type e ≡ true → IsShapeOf (types.array e rank) (array (simple e) bounds)

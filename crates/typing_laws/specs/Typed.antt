@@ -1,6 +1,6 @@
 -- Which bound expressions and lines are well typed: the use of a variable has the variable's type, a conversion gives the type to which it
 -- goes, a call has the type of its Function and gives each parameter an argument of its type, what is assigned has the type that its
--- target takes, and a condition is a Boolean. That operators and constants have the types of their rows is told by `is_formed`.
+-- target takes, a condition is a Boolean, and a bound of a ReDim a Long. That operators and constants have the types of their rows is told by `is_formed`.
 use Rattle.std.specs.Prelude.{ℕ, Bool, true, false, not, ◌&&◌, ◌||◌, Option, Some, None, is_some, List, [], ◌∷◌, slice_get}
 use Rattle.std.specs.List.{list_all}
 use Rattle.vb_tree.specs.BoundTree as types
@@ -12,6 +12,7 @@ use Rattle.bound_tree.specs.Tree.{Variable, Procedure, Declarations, Program, Ex
 use Rattle.bound_tree.specs.Tree as tree
 use Rattle.bound_facts.specs.Locks.{is_same_type}
 use Rattle.bound_facts.specs.Node.{type_at}
+use Rattle.bound_facts.specs.Parts.{Extent, Resize, resizes}
 use Rattle.run_matches.specs.CoveredVariables.{covers_type}
 use Rattle.run_matches.specs.Covered.{is_plain_kind}
 
@@ -21,9 +22,13 @@ abbrev pub has_type : Ty → Option Variable → Bool
 has_type ty None = false
 has_type ty (Some x) = is_same_type ty x.ty
 
--- where both are covered, the types of a parameter and its argument are one
+abbrev pub is_unknown : Ty → Bool
+is_unknown types.unknown = true
+is_unknown _ = false
+
+-- Where both have one, the types of a parameter and its argument are the same; of arrays the element types are compared.
 abbrev pub fits_type : Ty → Ty → Bool
-fits_type s t = not (covers_type s && covers_type t) || is_same_type s t
+fits_type s t = is_same_type s t || (is_unknown s || is_unknown t)
 
 abbrev pub given_type : Argument → Ty
 given_type (tree.by_value e) = type_at e
@@ -91,10 +96,6 @@ abbrev pub taken : Ty → Ty
 taken (types.fixed units) = types.str
 taken t = t
 
-abbrev pub is_unknown : Ty → Bool
-is_unknown types.unknown = true
-is_unknown _ = false
-
 -- what has no type takes any value, and a value without a type goes anywhere: such a line breaks a rule
 abbrev pub takes : (target value : Ty) → Bool
 takes t s = is_same_type (taken t) s || (is_unknown t || is_unknown s)
@@ -133,10 +134,29 @@ names_arrays _ = false
 abbrev pub exprs_typed : Declarations → Form → List Expr → Bool
 exprs_typed D f es = names_arrays f || list_all (is_typed D) es
 
+-- a bound of a ReDim is a Long
+abbrev pub is_typed_bound : Declarations → Expr → Bool
+is_typed_bound D e = fits_type types.long (type_at e) && is_typed D e
+
+abbrev pub is_typed_low : Declarations → Option Expr → Bool
+is_typed_low D None = true
+is_typed_low D (Some e) = is_typed_bound D e
+
+abbrev pub is_typed_extent : Declarations → Extent → Bool
+is_typed_extent D x = is_typed_low D x.0 && is_typed_bound D x.1
+
+abbrev pub is_typed_resize : Declarations → Resize → Bool
+is_typed_resize D r = list_all (is_typed_extent D) r.extents
+
+abbrev pub bounds_typed : Declarations → Form → List Expr → Bool
+bounds_typed D (source.redim preserve items) es = list_all (is_typed_resize D) (resizes items es)
+bounds_typed D _ es = true
+
 abbrev pub is_typed_line : Declarations → tree.Line → Bool
 is_typed_line D l =
     assigns_typed l.source.form l.bindings.exprs
-    && (tests_typed l.source.form l.bindings.exprs && exprs_typed D l.source.form l.bindings.exprs)
+    && (tests_typed l.source.form l.bindings.exprs
+    && (bounds_typed D l.source.form l.bindings.exprs && exprs_typed D l.source.form l.bindings.exprs))
 
 -- ---- procedures
 

@@ -24,12 +24,12 @@ ghost use Rattle.run_matches.specs.Maps.{Map, mark};
 ghost use Rattle.run_matches.specs.Formed.{is_formed};
 ghost use Rattle.run_matches.specs.Typed.{EndsIn, IsScalar, SourceTyped};
 ghost use Rattle.run_matches.specs.Upgrades.{Upgrade, runnable_of};
-ghost use Rattle.typing_laws.specs.Calls.{AreLoud, CallsAreSuited, CallsKeep, IsAt, IsReady, OverScalars};
+ghost use Rattle.typing_laws.specs.Calls.{AreLoud, CallsAreSuited, CallsKeep, IsAt, IsReady};
 ghost use Rattle.typing_laws.specs.Edges.{IsEdge, IsLibraryEdge};
 ghost use Rattle.typing_laws.specs.Frames.{AreGiven, Footprint, HasOwn, IsSound, IsTypedFrame, anywhere, ground};
 ghost use Rattle.typing_laws.specs.Inert.{ChangesNothing, is_inert};
 ghost use Rattle.typing_laws.specs.Leaving.{RunLeaves, started};
-ghost use Rattle.typing_laws.specs.Scalars.{scalar_uses};
+ghost use Rattle.typing_laws.specs.Flat.{flat_uses};
 ghost use Rattle.typing_laws.specs.Results.{IsLineResult, IsResult, IsRunResult};
 ghost use Rattle.typing_laws.specs.Typed.{is_typed};
 
@@ -45,14 +45,14 @@ pub fn library_edges_are_outside()
     ensures { (f : LibCall) (xs : List Value6) → IsLibraryEdge f xs → call f xs ≡ outside }
 {}
 
-/// A law: in a frame whose variables stand a covered expression over scalars alone that is well typed gives a value of its type, raises an error
-/// or runs out of steps, and keeps the types of what stands, where its calls do. It is outside only where it leaves the tables, or where a run that
-/// it calls does.
+/// A law: in a frame whose variables stand a covered expression over scalars and arrays of scalars that is well typed gives a value of its type,
+/// raises an error or runs out of steps, and keeps the types of what stands, where its calls do. It is outside only where it leaves the tables, where
+/// an array isn't as its ties and indexes want it, or where a run that it calls leaves.
 #[tactic(auto, using(crate::proofs::Joined::expression_has_type))]
 pub fn expressions_have_types()
     ensures { (C : Context) (F : Footprint) (n : ℕ) (mentions : List Mention) (e : Expr) (w : Memory) → CallsKeep C F (RunLeaves C.runnable n)
-        → covers_expr (scalar_uses C.runnable.program C.procedure mentions) e ≡ true → is_formed e ≡ true → is_typed (declared C) e ≡ true
-        → CallsAreSuited C.runnable e → IsSound (ground (declared C) F) w → HasOwn (ground (declared C) F) C.procedure w C.frame
+        → covers_expr (flat_uses C.runnable.program C.procedure mentions) e ≡ true → is_formed e ≡ true → is_typed (declared C) e ≡ true
+        → CallsAreSuited C.runnable e → IsSound (ground (declared C) F) w → HasOwn C.runnable.program F C.procedure w C.frame
         → IsResult C F (RunLeaves C.runnable n) e w (scalar_value C e w) }
 {}
 
@@ -64,8 +64,8 @@ pub fn inert_expressions_change_nothing()
         → covers_expr (uses_in C.runnable.program C.procedure mentions) e ≡ true → is_inert e ≡ true → ChangesNothing w (scalar_value C e w) }
 {}
 
-/// A law: a covered line over scalars alone that is well typed leaves a well-typed frame well typed and keeps the types of what stands, where its
-/// calls do. It is outside only where it leaves.
+/// A law: a covered line over scalars and arrays of scalars that is well typed leaves a well-typed frame well typed and keeps the types of what stands,
+/// where its calls do. It is outside only where it leaves.
 #[tactic(auto, using(crate::proofs::Joined::line_keeps_types))]
 pub fn lines_keep_types()
     ensures { (C : Context) (F : Footprint) (n : ℕ) (l : Line) (w : Memory) → CallsKeep C F (RunLeaves C.runnable n) → IsAt C l → IsSound (ground (declared C) F) w
@@ -73,21 +73,21 @@ pub fn lines_keep_types()
         → IsLineResult C F (RunLeaves C.runnable n) l.source.form l.bindings.exprs w (form_does C l.source.form l.bindings.exprs w) }
 {}
 
-/// A law: by what is known of an upgraded program no parameter of a procedure over scalars alone, or of what it reaches, is quiet.
-pub fn scalars_are_loud()
-    ensures { (U : Upgrade) (p : ℕ) → AreFacts U.program U.known → OverScalars (runnable_of U) p → AreLoud (runnable_of U) p }
+/// A law: by what is known of an upgraded program no parameter that is changed, or whose procedure acts, runs as a quiet one.
+pub fn no_loud_is_quiet()
+    ensures { (U : Upgrade) (p : ℕ) → AreFacts U.program U.known → AreLoud (runnable_of U) p }
 {}
 
-/// A law: a program starts in a memory in which the variables of its standard modules have values of their types.
+/// A law: a program starts in a memory in which the scalars and the arrays of scalars of its standard modules have values of their types.
 pub fn starts_are_sound()
     ensures { (D : Declarations) (o : List Output) (w : Memory)
         → lay_module_variables D (owned_from (is_module_variable D) 0 D.vars) empty_memory ≡ gives o tt w → IsSound (ground D anywhere) w }
 {}
 
-/// A law: a run of a covered procedure that is over scalars alone and well typed with all that it reaches, from any memory in which the variables
-/// of modules have values of their types, with arguments of the types of its parameters and any number of steps, writes to variables of modules,
-/// Statics, what it is given by reference and what it makes alone, keeps the types of what stands there, gives a value of its own type, and is
-/// outside only where one of the lines that it goes over leaves.
+/// A law: a run of a covered procedure that is flat, which is to say over scalars and arrays of scalars, and well typed with all that it reaches,
+/// from any memory in which the variables of modules have values of their types, with arguments of the types of its parameters and any number of
+/// steps, writes to variables of modules, Statics, what it is given by reference and what it makes alone, keeps the types of what stands there, gives
+/// a value of its own type, and is outside only where one of the lines or entries that it goes over leaves.
 #[tactic(auto, using(crate::proofs::Runs::run_result))]
 pub fn runs_leave_at_edges()
     ensures { (R : Runnable) (p n : ℕ) (x : Procedure) (me : Option ℕ) (args : List SourceGiven) (inputs : List (List ℕ)) (w : Memory) → IsReady R p

@@ -1,11 +1,11 @@
-//! That the source's meaning has a value for each covered procedure over scalars alone whose lines are well typed, up to where it leaves the
-//! tables.
+//! That the source's meaning has a value for each covered procedure over scalars and arrays of scalars whose lines are well typed, up to where
+//! it leaves the tables.
 #![tactic(auto)]
 
 mod laws;
 
 pub use laws::{
     edges_are_outside, expressions_have_types, inert_expressions_change_nothing,
-    library_edges_are_outside, lines_keep_types, runs_keep_types, runs_leave_at_edges,
-    scalars_are_loud, starts_are_sound,
+    library_edges_are_outside, lines_keep_types, no_loud_is_quiet, runs_keep_types,
+    runs_leave_at_edges, starts_are_sound,
 };

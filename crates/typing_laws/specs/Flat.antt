@@ -1,0 +1,47 @@
+-- Flat procedures: over scalars and arrays of scalars. Of what is covered they have no user types. These are the procedures of which the
+-- typing laws speak.
+use Rattle.std.specs.Prelude.{ℕ, Bool, true, false, cond, ◌&&◌, ◌||◌, List, Option, Some, None, slice_get}
+use Rattle.std.specs.List.{list_all}
+use Rattle.bound_tree.specs.declared.body.Mention.{Mention}
+use Rattle.bound_tree.specs.Tree.{Variable, Line, Program}
+use Rattle.written_trees.specs.Types.{element_type}
+use Rattle.run_matches.specs.CoveredVariables.{belongs_to, covers_array_variable, covers_type}
+use Rattle.run_matches.specs.CoveredExprs.{Uses, uses_in}
+use Rattle.run_matches.specs.CoveredLines.{covers_form}
+use Rattle.run_matches.specs.Formed.{is_formed}
+
+-- a scalar or an array of scalars
+abbrev pub is_flat : Variable → Bool
+is_flat x = covers_type x.ty || covers_array_variable (element_type x.ty) x
+
+-- the same scalars and arrays, and no user type: so no field is covered
+abbrev pub without_groups : Uses → Uses
+without_groups uses = record {
+  scalar = uses.scalar;
+  array = uses.array;
+  group = λ v t. false;
+  field_type = λ t k. None;
+  is_of = uses.is_of;
+  inward = uses.inward;
+  relied = uses.relied;
+  exact = uses.exact;
+}
+
+abbrev pub flat_uses : Program → (procedure : ℕ) → List Mention → Uses
+flat_uses P p mentions = without_groups (uses_in P p mentions)
+
+-- a code line of a procedure that is covered so, whose expressions are well formed
+abbrev pub is_flat_line : Program → (procedure : ℕ) → Line → Bool
+is_flat_line P p l = covers_form (flat_uses P p l.bindings.mentions) l.source.form l.bindings.exprs && list_all is_formed l.bindings.exprs
+
+abbrev pub are_flat_lines : Program → (procedure : ℕ) → Option (List Line) → Bool
+are_flat_lines P p None = true
+are_flat_lines P p (Some lines) = list_all (is_flat_line P p) lines
+
+-- each variable of the procedure is flat
+abbrev pub has_flat_variables : Program → (procedure : ℕ) → Bool
+has_flat_variables P p = list_all (λ (x : Variable). cond (belongs_to p x.owner) (is_flat x) true) P.declarations.vars
+
+-- no user types: the lines of the procedure, if there is one of this number, and its variables
+abbrev pub is_flat_procedure : Program → (procedure : ℕ) → Bool
+is_flat_procedure P p = are_flat_lines P p (slice_get P.bodies p) && has_flat_variables P p
