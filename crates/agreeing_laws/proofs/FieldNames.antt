@@ -4,7 +4,6 @@ use Rattle.std.specs.Cmp.Lexicographic.{pointwise}
 use Rattle.std.specs.List.{list_all, list_any}
 use Rattle.up_base.specs.Names.{is_same_name, lower_case}
 use Rattle.up_base.proofs.Tests.{and_true, both_true}
-use Rattle.vb_tree.specs.BoundTree as types
 use Rattle.vb_tree.specs.declared.declared.VarId.{VarId}
 use Rattle.bound_facts.specs.Members.{at_option, type_fields, field_of}
 use Rattle.bound_tree.specs.declared.declared.TypeDecl.{TypeDecl}

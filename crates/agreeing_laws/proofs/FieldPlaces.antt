@@ -1,5 +1,5 @@
 -- A field of a place of a user type is a place on both sides, to which the path leads that is written for it.
-use Rattle.std.proofs.Common.{◌≡◌, refl, sym, ap, subst, ◌∙◌, inl, inr, ℕ, zero, suc, Bool, true, false, cond, List, [], ◌∷◌, ◌++◌, append_assoc, append-nil, Option, Some, None, option_map}
+use Rattle.std.proofs.Common.{◌≡◌, refl, ap, subst, ◌∙◌, inl, inr, ℕ, zero, suc, Bool, true, false, cond, List, [], ◌∷◌, Option, Some, None, option_map}
 use Rattle.std.specs.Prelude.{slice_get}
 use Rattle.vb_tree.specs.BoundTree.{Ty}
 use Rattle.vb_tree.specs.BoundTree as types
@@ -7,18 +7,16 @@ use Rattle.bound_tree.specs.Tree.{Declarations, Variable, Expr, typed, Term, fie
 use Rattle.bound_facts.specs.Members.{field_of}
 use Rattle.bound_facts.specs.Node.{auto_class, class_in, variable_number}
 use Rattle.net_tree.specs.Tree.{path}
-use Rattle.row_laws.proofs.Composing.{after_nil}
-use Rattle.run_base.specs.Outcomes.{after, gives, then, some_of}
+use Rattle.run_base.specs.Outcomes.{after, gives, outside, then, some_of}
 use Rattle.run_base.specs.Positions.{Position, Root, inner}
 use Rattle.vb6_run.specs.Expressions as source
 use Rattle.vb6_run.specs.Expressions.{Context, Parts, at_address}
 use Rattle.vb6_run.specs.Runnables.{declarations_of}
 use Rattle.vb6_run.specs.Shapes.{Shape, simple, group, Shapes, no_shapes, next_shape, shape_at, shape_by, user_shapes}
 use Rattle.vb6_run.specs.Store.{Address, root, item, Memory, field_address}
-use Rattle.net_run.specs.Expressions as written
 use Rattle.net_run.specs.Making.{Jobs}
 use Rattle.net_run.specs.Names as net_names
-use Rattle.net_run.specs.Names.{at_place, path_start}
+use Rattle.net_run.specs.Names.{at_place}
 use Rattle.net_run.specs.Shapes as shape
 use Rattle.net_run.specs.Store as net
 use Rattle.written_trees.specs.Exprs.{exp_of, made_if, member_of}
@@ -31,6 +29,7 @@ use Rattle.run_matches.specs.Pledges.{Pledge}
 use Rattle.run_matches.specs.SoundShapes.{AreSoundShapes, IsField, IsSoundShape}
 use Rattle.run_matches.specs.Upgrades.{Upgrade, field_name, is_flagged_some, runnable_of, type_of_some}
 use Rattle.agreeing_laws.proofs.FieldNames.{is_first_named, name_itself}
+use Rattle.agreeing_laws.proofs.Members.{LeadsTo, member_leads}
 use Rattle.agreeing_laws.proofs.Fields.{GroupImage, SameField, group_parts, same_of_field}
 use Rattle.agreeing_laws.proofs.UserShapes.{FieldShape, field_shape_is}
 
@@ -101,6 +100,23 @@ no_object ty (Some y) e none = ap (λ z. cond y.auto z None) (ap class_in (the_t
     none_both true = refl
     none_both false = refl
 
+-- ---- what is written
+
+field_class : (U : Upgrade) (s j : ℕ) (fty : Ty) → IsField U s j fty → class_in fty ≡ None
+    → auto_class (variable_number U.program.declarations.vars (field_of U.program.declarations (types.user s) j)) ≡ None
+field_class U s j fty i none =
+    ap (λ o. auto_class (variable_number U.program.declarations.vars o)) i.declares ∙ no_object fty (slice_get U.program.declarations.vars i.variable) i.is_type none
+
+-- a field is written as a member
+field_exp : (U : Upgrade) (T : Scope) → T.declarations ≡ U.program.declarations → (s j : ℕ) (fty : Ty) (tm : Term) (ty : Ty) → IsField U s j fty → class_in fty ≡ None
+    → exp_of T (typed ty (field (typed (types.user s) tm) j))
+    ≡ member_of (typed (types.user s) tm) (exp_of T (typed (types.user s) tm)) (field_name U s j)
+field_exp U T declared s j fty tm ty i none =
+    let e : Expr = typed (types.user s) tm in
+    ap (λ (E : Declarations). made_if E (auto_class (variable_number E.vars (field_of E (types.user s) j)))
+    (member_of e (exp_of T e) (variable_name E (field_of E (types.user s) j)))) declared
+    ∙ ap (λ o. made_if U.program.declarations o (member_of e (exp_of T e) (field_name U s j))) (field_class U s j fty i none)
+
 -- ---- places
 
 module _ (U : Upgrade) (K : Pledge) (w : World) (C : Context) (S : net_names.Scope) (oracle : Jobs) (T : Scope) (r : Root) where
@@ -110,7 +126,7 @@ module _ (U : Upgrade) (K : Pledge) (w : World) (C : Context) (S : net_names.Sco
   abbrev shape_in : Ty → Shape
   shape_in ty = shape_by (user_shapes U.program.declarations) [] ty
 
-  -- a place of a type in the variable at a root, whatever the memory; the path that is written for it leads to its image
+  -- a place of a type in the variable at a root, whatever the memory; what is written for it leads to its image
   pub record PlaceFound (ty : Ty) (e : Expr) : Type 0 where
     pub position : Position
     pub address : net.Address
@@ -120,18 +136,7 @@ module _ (U : Upgrade) (K : Pledge) (w : World) (C : Context) (S : net_names.Sco
     pub covers : covers_field_type (covers_user D) ty ≡ true
     pub same : Same U K w (root (shape_in ty) position) address
     pub target : IsTarget U (root (shape_in ty) position)
-    pub names : List (List ℕ)
-    pub is_exp : exp_of T e ≡ path names
-    pub behind : (name : List ℕ) → member_of e (path names) name ≡ path (names ++ name ∷ [])
-    pub leads :
-        (more : List (List ℕ)) (t : net.Memory)
-        → written.started S oracle (path_start S false (names ++ more)) t ≡ written.members_from S oracle (at_place address) more t
-
-  pub place_reached : (ty : Ty) (e : Expr) (x : PlaceFound ty e) (t : net.Memory)
-      → written.reach S oracle false (exp_of T e) t ≡ gives [] (at_place x.address) t
-  place_reached ty e x t =
-      ap (λ z. written.reach S oracle false z t) x.is_exp
-      ∙ ap (λ z. written.started S oracle (path_start S false z) t) (sym (append-nil x.names)) ∙ x.leads [] t
+    pub written : LeadsTo S oracle T e address
 
   module _ (runs : C.runnable ≡ runnable_of U) (declared : T.declarations ≡ U.program.declarations) (s j : ℕ) (tm : Term) (fty ty : Ty)
       (i : IsField U s j fty) (none : class_in fty ≡ None) (x : PlaceFound (types.user s) (typed (types.user s) tm)) where
@@ -140,9 +145,6 @@ module _ (U : Upgrade) (K : Pledge) (w : World) (C : Context) (S : net_names.Sco
 
     abbrev the_field : Expr
     the_field = typed ty (field e j)
-
-    field_class : auto_class (variable_number D.vars (field_of D (types.user s) j)) ≡ None
-    field_class = ap (λ o. auto_class (variable_number D.vars o)) i.declares ∙ no_object fty (slice_get D.vars i.variable) i.is_type none
 
     shaped : FieldShape D s j fty
     shaped = field_shape_is D s j i.variable fty x.covers i.declares i.is_type
@@ -167,29 +169,15 @@ module _ (U : Upgrade) (K : Pledge) (w : World) (C : Context) (S : net_names.Sco
     abbrev there : net.Address
     there = net.root inside.shape (inner (moved_at U w.map x.position) j)
 
-    field_exp : exp_of T the_field ≡ path (x.names ++ name ∷ [])
-    field_exp =
-        ap (λ (E : Declarations). made_if E (auto_class (variable_number E.vars (field_of E (types.user s) j)))
-        (member_of e (exp_of T e) (variable_name E (field_of E (types.user s) j)))) declared
-        ∙ ap (λ o. made_if D o (member_of e (exp_of T e) name)) field_class
-        ∙ ap (λ z. member_of e z name) x.is_exp ∙ x.behind name
-
     reached : (t : net.Memory) → net_names.member_at S x.address name t ≡ at_place there
     reached t =
         ap (λ b. net_names.member_at S b name t) image.stands
         ∙ ap (λ o. at_place (net.inner_of (net.root (shape.structured image.home image.member image.written) (moved_at U w.map x.position)) o)) inside.found
 
-    field_leads : (more : List (List ℕ)) (t : net.Memory)
-        → written.started S oracle (path_start S false ((x.names ++ name ∷ []) ++ more)) t ≡ written.members_from S oracle (at_place there) more t
-    field_leads more t =
-        ap (λ z. written.started S oracle (path_start S false z) t) (append_assoc x.names (name ∷ []) more)
-        ∙ x.leads (name ∷ more) t ∙ after_nil (written.members_from S oracle (net_names.member_at S x.address name t) more t)
-        ∙ ap (λ z. written.members_from S oracle z more t) (reached t)
-
     not_made : (p : Parts) (m : Memory) → source.as_new C (field e j) p m ≡ gives [] p m
     not_made p m =
         ap (λ R. source.made_for C (auto_class (variable_number (declarations_of R).vars (field_of (declarations_of R) (types.user s) j))) p m) runs
-        ∙ ap (λ o. source.made_for C o p m) field_class
+        ∙ ap (λ o. source.made_for C o p m) (field_class U s j fty i none)
 
     field_parts_are : (m : Memory) → source.parts_of C the_field m ≡ gives [] (at_address new) m
     field_parts_are m =
@@ -208,8 +196,24 @@ module _ (U : Upgrade) (K : Pledge) (w : World) (C : Context) (S : net_names.Sco
       covers = shaped.covers;
       same = inside.same;
       target = field_target U (group s shaped.shapes) (shape_in fty) x.position j (subst (λ z. IsTarget U z) stands x.target);
-      names = x.names ++ name ∷ [];
-      is_exp = field_exp;
-      behind = λ n. refl;
-      leads = field_leads;
+      written =
+          member_leads S oracle T e x.address there x.written ty j name (field_exp U T declared s j fty tm ty i none) reached;
+    }
+
+-- where a With hasn't kept anything, the source is outside and the target nowhere
+pub record PlaceAbsent (U : Upgrade) (C : Context) (S : net_names.Scope) (oracle : Jobs) (T : Scope) (ty : Ty) (e : Expr) : Type 0 where
+  pub missing : (s : Memory) → source.parts_of C e s ≡ outside []
+  pub covers : covers_field_type (covers_user U.program.declarations) ty ≡ true
+  pub written : LeadsTo S oracle T e net.nowhere
+
+-- so are the fields of what it would keep
+pub field_absent : (U : Upgrade) (C : Context) (S : net_names.Scope) (oracle : Jobs) (T : Scope) → T.declarations ≡ U.program.declarations → (s j : ℕ) (tm : Term)
+    (fty ty : Ty) → IsField U s j fty → class_in fty ≡ None → PlaceAbsent U C S oracle T (types.user s) (typed (types.user s) tm)
+    → PlaceAbsent U C S oracle T fty (typed ty (field (typed (types.user s) tm) j))
+field_absent U C S oracle T declared s j tm fty ty i none x =
+    let e : Expr = typed (types.user s) tm in
+    record {
+      missing = λ m. ap (λ r. then (then r (source.field_parts C e j (types.user s))) (source.as_new C (field e j))) (x.missing m);
+      covers = (field_shape_is U.program.declarations s j i.variable fty x.covers i.declares i.is_type).covers;
+      written = member_leads S oracle T e net.nowhere net.nowhere x.written ty j (field_name U s j) (field_exp U T declared s j fty tm ty i none) (λ t. refl);
     }

@@ -14,5 +14,7 @@ pub mod UserShapes
 pub mod SoundParts
 pub mod FieldNames
 pub mod FieldPaths
+pub mod Members
 pub mod FieldPlaces
+pub mod WithPlaces
 pub mod Indexes

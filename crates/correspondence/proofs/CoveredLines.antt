@@ -26,8 +26,8 @@ use Rattle.written_trees.specs.Puts.{formed, order_shows, put_type, rank_of, sto
 use Rattle.written_trees.specs.Types.{element_type, written_type}
 use Rattle.run_matches.specs.CoveredVariables.{covers_type, is_reached}
 use Rattle.run_matches.specs.Covered.{is_user}
-use Rattle.run_matches.specs.CoveredExprs.{Uses, covers_place, has_inner, is_changeable, covers_expr, covers_term, covers_value, is_variable, covers_library, covers_exprs, uses_in, is_bound, covers_bounded}
-use Rattle.run_matches.specs.CoveredLines.{covers_copy, is_ordered, covers_condition, covers_counter, covers_counting, covers_items, covers_step, covers_store, covers_form, covers_line, is_comparison, is_counter, covers_box, covers_call, covers_called_in, is_box, covers_erased, covers_resizes}
+use Rattle.run_matches.specs.CoveredExprs.{Uses, covers_base, covers_group, covers_place, has_inner, is_changeable, covers_expr, covers_term, covers_value, is_variable, covers_library, covers_exprs, uses_in, is_bound, covers_bounded}
+use Rattle.run_matches.specs.CoveredLines.{covers_copy, is_ordered, covers_condition, covers_counter, covers_counting, covers_items, covers_step, covers_store, covers_form, covers_line, is_comparison, is_counter, covers_box, covers_call, covers_called_in, is_box, covers_erased, covers_resizes, covers_with}
 use Rattle.run_matches.specs.Formed.{is_formed, is_row_of_call, are_formed}
 use Rattle.correspondence.specs.Uses.{redim_exps, resize_exprs, FormCorresponds, SameUses, case_exps, names, total, uses, CallCorresponds, IsAlone, IsFirst, IsSharedAlone, is_call_in, is_call_of, is_group_named, path_names, shared_names}
 use Rattle.correspondence.proofs.NamedCalls.{neither, none_of_both}
@@ -35,6 +35,7 @@ use Rattle.correspondence.proofs.Among.{or_cases}
 use Rattle.correspondence.proofs.NamedArrays.{IsRight}
 use Rattle.correspondence.proofs.Resizes.{erased_names, resizes_all, resizes_names}
 use Rattle.correspondence.proofs.Naming.{expr_names, items_names, assigned_names, box_names, copied_names, raised_names, term_names}
+use Rattle.correspondence.proofs.Places.{place_names}
 use Rattle.correspondence.proofs.Rights.{any_either, is_shared_test, own_right, shared_right}
 
 no_bound : (g : LibCall) → is_box g ≡ true → is_bound g ≡ true → ⊥
@@ -70,14 +71,14 @@ pub user_place : (P : Program) (p : ℕ) (mentions : List Mention) (e : Expr) �
 user_place P p mentions (typed (types.user t) u) h = refl
 user_place P p mentions (typed ty (variable k q)) h = absurd (cc h)
 user_place P p mentions (typed ty (field e k)) h =
-    absurd (cc (both_true (has_inner (uses_in P p mentions) (type_at e) k ty) (covers_place (uses_in P p mentions) e) h).0)
+    absurd (cc (both_true (has_inner (uses_in P p mentions) (type_at e) k ty) (covers_base (uses_in P p mentions) e) h).0)
 user_place P p mentions (typed ty _) h = absurd (cc h)
 
-pub copy_parts : (cover : Uses) (to e : Expr) → covers_copy cover to e ≡ true → (covers_place cover to ≡ true) × (covers_place cover e ≡ true)
+pub copy_parts : (cover : Uses) (to e : Expr) → covers_copy cover to e ≡ true → (covers_place cover to ≡ true) × (covers_group cover e ≡ true)
 copy_parts cover to e h =
-    let a = both_true (is_changeable cover to) (is_same_type (type_at to) (type_at e) && (covers_place cover to && covers_place cover e)) h in
-    let b = both_true (is_same_type (type_at to) (type_at e)) (covers_place cover to && covers_place cover e) a.1 in
-    both_true (covers_place cover to) (covers_place cover e) b.1
+    let a = both_true (is_changeable cover to) (is_same_type (type_at to) (type_at e) && (covers_place cover to && covers_group cover e)) h in
+    let b = both_true (is_same_type (type_at to) (type_at e)) (covers_place cover to && covers_group cover e) a.1 in
+    both_true (covers_place cover to) (covers_group cover e) b.1
 
 module _ (P : Program) (S : Scope) (same : S.declarations ≡ P.declarations) (p : ℕ) (labels : List (Option Label)) (mentions : List Mention) where
   -- what holds of any count that is right
@@ -144,9 +145,11 @@ module _ (P : Program) (S : Scope) (same : S.declarations ≡ P.declarations) (p
           (covers_expr (uses_in P p mentions) to && covers_expr (uses_in P p mentions) e) c).1
       by (inr c) =
           let places = copy_parts (uses_in P p mentions) to e c in
+          let forms = both_true (is_formed to) (list_all is_formed (e ∷ [])) f in
+          let form = both_true (is_formed e) true forms.1 in
           stored target value (to ∷ e ∷ []) (order_shows S.declarations to e) (put_type (type_at to)) (exp_of S to) (stored_value S to e)
           (same_uses (to ∷ e ∷ []) (exp_of S to ∷ stored_value S to e ∷ [])
-          (λ v count test right free. copied_names P S same p v count test mentions right to e places.0 places.1 free (stored_value S to e)
+          (λ v count test right free. copied_names P S same p v count test mentions right to e places.0 places.1 form.0 free (stored_value S to e)
           (copied_value S count right.no_support (target_rank S to) (type_at to) (exp_of S e) (user_place P p mentions to places.0))))
 
   resized : (preserve : Bool) (items : List ReDimItem) (es : List Expr) → covers_resizes (uses_in P p mentions) preserve (resizes items es) ≡ true
@@ -173,6 +176,13 @@ module _ (P : Program) (S : Scope) (same : S.declarations ≡ P.declarations) (p
   condition_uses (e ∷ []) h f v count test right free =
       ap {B = ℕ} (λ n. n + 0) (expr_names P S same p v count test mentions right e h (both_true (is_formed e) true f).0 (none_of_both test (nodes e) [] free).0)
   condition_uses (e ∷ d ∷ es) h f v count test right free = absurd (cc h)
+
+  -- the place of a With
+  place_uses : (es : List Expr) → covers_with (uses_in P p mentions) es ≡ true → Counts es (first_exp S es ∷ [])
+  place_uses [] h v count test right free = absurd (cc h)
+  place_uses (e ∷ []) h v count test right free =
+      ap {B = ℕ} (λ n. n + 0) (place_names P S same p mentions v count test right e h (none_of_both test (nodes e) [] free).0)
+  place_uses (e ∷ d ∷ es) h v count test right free = absurd (cc h)
 
   items_use : (items : List CaseItem) (es : List Expr) → covers_items (uses_in P p mentions) items es ≡ true → list_all is_formed es ≡ true
       → Counts es (flat_map case_exps (case_items S items es))
@@ -355,6 +365,8 @@ module _ (P : Program) (S : Scope) (same : S.declarations ≡ P.declarations) (p
   form_corresponds (source.loop_until condition) es h f = same_uses es (first_exp S es ∷ []) (condition_uses es h f)
   form_corresponds (source.while_head condition) es h f = same_uses es (first_exp S es ∷ []) (condition_uses es h f)
   form_corresponds source.wend es h f = tt
+  form_corresponds (source.with_head object) es h f = same_uses es (first_exp S es ∷ []) (place_uses es h)
+  form_corresponds source.end_with es h f = tt
   form_corresponds (source.goto l) es h f = tt
   form_corresponds (source.label l) es h f = tt
   form_corresponds (source.on_error_goto l) es h f = tt

@@ -26,8 +26,8 @@ use Rattle.written_trees.specs.Facts.{Facts, holds_array}
 use Rattle.written_trees.specs.Puts.{formed, order_shows, put_type, rank_of, store_by, target_rank, user_copy}
 use Rattle.written_trees.specs.Operators.{typed_operator, typed_unary, operand, is_product_in_currency, variant_operator, variant_unary}
 use Rattle.run_matches.specs.CoveredVariables.{covers_type, covers_user}
-use Rattle.run_matches.specs.CoveredExprs.{Uses, covers_place, has_scalar, is_changeable, covers_operator, covers_expr, covers_term, covers_exprs, covers_value, is_variable, covers_library, covers_passed, uses_in, covers_array, covers_bounded, is_bound, is_passable}
-use Rattle.run_matches.specs.CoveredLines.{covers_copy, is_ordered, covers_condition, covers_counter, covers_counting, covers_items, covers_step, covers_store, covers_form, covers_line, is_comparison, is_counter, covers_box, covers_call, is_box, covers_called_in, covers_erased, covers_extent, covers_low, covers_resize, covers_resizes}
+use Rattle.run_matches.specs.CoveredExprs.{Uses, covers_base, covers_group, covers_group_term, covers_place, covers_place_term, has_scalar, is_changeable, covers_operator, covers_expr, covers_term, covers_exprs, covers_value, is_variable, covers_library, covers_passed, uses_in, covers_array, covers_bounded, is_bound, is_passable, is_without_object}
+use Rattle.run_matches.specs.CoveredLines.{covers_copy, is_ordered, covers_condition, covers_counter, covers_counting, covers_items, covers_step, covers_store, covers_form, covers_line, is_comparison, is_counter, covers_box, covers_call, is_box, covers_called_in, covers_erased, covers_extent, covers_low, covers_resize, covers_resizes, covers_with}
 use Rattle.run_matches.specs.Covered.{covers_names, is_user}
 use Rattle.run_matches.specs.Formed.{is_formed}
 use Rattle.correspondence.specs.Paths.{paths_of_case, paths_of_exp, paths_of_line, paths_of_option, paths_of_exps, paths_of_redim}
@@ -110,12 +110,35 @@ module _ (P : Program) (S : Scope) (same : S.declarations ≡ P.declarations) (f
       reference_known S by_address e (array_kept S.facts (uses_in P p mentions) e c) (array_known P S same p mentions e c)
   given_known by_address e (inr (inr c)) scalar = reference_known S by_address e (kept_place e c) (place_known P S same p mentions free e c)
 
-  -- and one by value
-  value_given : (by_address : Bool) (e : Expr) → (Covers e) ⊎ (IsPlace e) → (Covers e → HasKnown (exp_of S e))
-      → HasKnown (argument_exp S by_address (by_value e) (exp_of S e))
-  value_given by_address e (inl c) scalar =
-      argument_known S by_address e (no_copy S.facts (type_at e) (is_copied e) (covered_type (uses_in P p mentions) e c)) (scalar c)
-  value_given by_address e (inr c) scalar = argument_known S by_address e (kept_place e c) (place_known P S same p mentions free e c)
+  -- what a Function gives is covered as other calls are, and isn't copied
+  given_group : (ty : Ty) (t : Term) → covers_group_term (uses_in P p mentions) ty t ≡ true
+      → (covers_term (uses_in P p mentions) t ≡ true) × (needs_copy S.facts (typed ty t) ≡ false)
+  given_group (types.user u) (call q qualified of args) h =
+      ((both_true ((uses_in P p mentions).user u) (is_without_object of && covers_passed (uses_in P p mentions) args) h).1, not_both (S.facts.holds_array u))
+    where
+      not_both : (b : Bool) → (b && false) ≡ false
+      not_both true = refl
+      not_both false = refl
+  given_group (types.user u) _ h = absurd (cc h)
+  given_group _ t h = absurd (cc h)
+
+  -- a value of a user type
+  group_value : (ty : Ty) (t : Term)
+      → (covers_place_term (uses_in P p mentions) ty t ≡ true) ⊎ (covers_group_term (uses_in P p mentions) ty t ≡ true)
+      → (covers_term (uses_in P p mentions) t ≡ true → HasKnown (term_exp S ty t)) → HasKnown (term_exp S ty t) × (needs_copy S.facts (typed ty t) ≡ false)
+  group_value ty t (inl c) other = (place_known P S same p mentions free (typed ty t) c, kept_place (typed ty t) c)
+  group_value ty t (inr c) other = let given = given_group ty t c in (other given.0, given.1)
+
+  -- an argument by value
+  value_given : (by_address : Bool) (ty : Ty) (t : Term) → (Covers (typed ty t)) ⊎ (covers_group (uses_in P p mentions) (typed ty t) ≡ true)
+      → (covers_term (uses_in P p mentions) t ≡ true → HasKnown (term_exp S ty t))
+      → HasKnown (argument_exp S by_address (by_value (typed ty t)) (term_exp S ty t))
+  value_given by_address ty t (inl c) other =
+      argument_known S by_address (typed ty t) (no_copy S.facts ty (is_copied (typed ty t)) (covered_type (uses_in P p mentions) (typed ty t) c))
+      (other (both_true (covers_type ty) (covers_term (uses_in P p mentions) t) c).1)
+  value_given by_address ty t (inr c) other =
+      let value = group_value ty t (or_cases (covers_place_term (uses_in P p mentions) ty t) (covers_group_term (uses_in P p mentions) ty t) c) other in
+      argument_known S by_address (typed ty t) value.1 value.0
 
   mutual
     expr_known : (e : Expr) → Covers e → HasKnown (exp_of S e)
@@ -129,7 +152,7 @@ module _ (P : Program) (S : Scope) (same : S.declarations ≡ P.declarations) (f
         known_append (paths_of_exp (exp_of S a)) (paths_of_exps (indexes_of S a 0 indexes)) (array_known P S same p mentions a both.0)
         (indexes_known S a 0 indexes (args_known indexes both.1))
     term_known ty (field e k) h =
-        let both = both_true (has_scalar (uses_in P p mentions) (type_at e) k) (covers_place (uses_in P p mentions) e) h in
+        let both = both_true (has_scalar (uses_in P p mentions) (type_at e) k) (covers_base (uses_in P p mentions) e) h in
         field_known P S same p mentions free ty e k both.0 both.1
     term_known ty (library g args) h =
         library_by ty g args
@@ -174,12 +197,17 @@ module _ (P : Program) (S : Scope) (same : S.declarations ≡ P.declarations) (f
         (given_known (takes_reference S.declarations q i) e
         (passed_cases cover e both.0) (λ c. expr_known e c))
         (passed_known q (suc i) rest both.1)
-    passed_known q i (next_passed (by_value e) rest) h =
+    passed_known q i (next_passed (by_value (typed ty t)) rest) h =
         let cover = uses_in P p mentions in
-        let both = both_true (covers_expr cover e || covers_place cover e) (covers_passed cover rest) h in
+        let e : Expr = typed ty t in
+        let both = both_true (covers_expr cover e || covers_group cover e) (covers_passed cover rest) h in
         known_append (paths_of_exp (argument_exp S (takes_reference S.declarations q i) (by_value e) (exp_of S e))) (paths_of_exps (passed_of S q (suc i) rest))
-        (value_given (takes_reference S.declarations q i) e (or_cases (covers_expr cover e) (covers_place cover e) both.0) (λ c. expr_known e c))
+        (value_given (takes_reference S.declarations q i) ty t (or_cases (covers_expr cover e) (covers_group cover e) both.0) (λ c. term_known ty t c))
         (passed_known q (suc i) rest both.1)
+
+  group_known : (e : Expr) → covers_group (uses_in P p mentions) e ≡ true → HasKnown (exp_of S e)
+  group_known (typed ty t) h =
+      (group_value ty t (or_cases (covers_place_term (uses_in P p mentions) ty t) (covers_group_term (uses_in P p mentions) ty t) h) (λ c. term_known ty t c)).0
 
   items_joined : (w : Exp) (es : List Expr) → list_all (covers_expr (uses_in P p mentions)) es ≡ true → HasKnown w → HasKnown (joined_items S w es)
   items_joined w [] h k = k
@@ -227,7 +255,7 @@ module _ (P : Program) (S : Scope) (same : S.declarations ≡ P.declarations) (f
       by (inr c) =
           let places = copy_parts (uses_in P p mentions) to e c in
           copied_known (order_shows S.declarations to e) (target_rank S to) (type_at to) (exp_of S to) (exp_of S e) (user_place P p mentions to places.0)
-          (place_flat P S same p mentions flat to places.0) (place_known P S same p mentions free to places.0) (place_known P S same p mentions free e places.1)
+          (place_flat P S same p mentions flat to places.0) (place_known P S same p mentions free to places.0) (group_known e places.1)
 
   value_known : (ty : Ty) (e : Expr) → covers_value (uses_in P p mentions) ty e ≡ true → HasKnown (exp_of S e)
   value_known ty e h = expr_known e (both_true (is_same_type ty (type_at e)) (covers_expr (uses_in P p mentions) e) h).1
@@ -266,6 +294,11 @@ module _ (P : Program) (S : Scope) (same : S.declarations ≡ P.declarations) (f
   condition_known [] h = absurd (cc h)
   condition_known (e ∷ []) h = expr_known e h
   condition_known (e ∷ d ∷ es) h = absurd (cc h)
+
+  with_known : (es : List Expr) → covers_with (uses_in P p mentions) es ≡ true → HasKnown (first_exp S es)
+  with_known [] h = absurd (cc h)
+  with_known (e ∷ []) h = place_known P S same p mentions free e h
+  with_known (e ∷ d ∷ es) h = absurd (cc h)
 
   items_of_case_known : (items : List CaseItem) (es : List Expr) → covers_items (uses_in P p mentions) items es ≡ true
       → AreKnown (flat_map paths_of_case (case_items S items es))
@@ -356,6 +389,8 @@ module _ (P : Program) (S : Scope) (same : S.declarations ≡ P.declarations) (f
   form_known labels (source.loop_until condition) es h = condition_known es h
   form_known labels (source.while_head condition) es h = condition_known es h
   form_known labels source.wend es h = tt
+  form_known labels (source.with_head object) es h = with_known es h
+  form_known labels source.end_with es h = tt
   form_known labels (source.goto l) es h = tt
   form_known labels (source.label l) es h = tt
   form_known labels (source.on_error_goto l) es h = tt

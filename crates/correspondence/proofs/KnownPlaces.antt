@@ -1,5 +1,5 @@
 -- The paths in what is written for places of user types are known, and nothing copies these.
-use Rattle.std.proofs.Common.{◌≡◌, ℕ, zero, suc, Bool, true, false, not, ◌&&◌, cond, List, [], ◌∷◌, ◌++◌, Option, Some, None, refl, sym, ap, subst, ◌∙◌, eqb-true}
+use Rattle.std.proofs.Common.{◌⊎◌, inl, inr, ◌≡◌, ℕ, zero, suc, Bool, true, false, not, ◌&&◌, cond, List, [], ◌∷◌, ◌++◌, Option, Some, None, refl, sym, ap, subst, ◌∙◌, eqb-true}
 use Rattle.std.specs.List.{list_all, list_any}
 use Rattle.std.specs.Prelude.{◌||◌, slice_get}
 use Rattle.up_base.proofs.Lists.{both_true}
@@ -10,22 +10,24 @@ use Rattle.vb_tree.specs.declared.declared.Owner.TheVariants as owner
 use Rattle.vb_tree.specs.declared.declared.VarId.{VarId}
 use Rattle.vb_tree.specs.Tree.{Module}
 use Rattle.bound_tree.specs.declared.body.Mention.{Mention}
-use Rattle.bound_tree.specs.Tree.{Constant, Declarations, Procedure, Program, Variable, Expr, typed, Term, field, variable}
+use Rattle.bound_tree.specs.Tree.{Constant, Declarations, Procedure, Program, Variable, Expr, typed, Term, field, variable, with_object}
 use Rattle.bound_facts.specs.Locks.{is_same_type}
 use Rattle.bound_facts.specs.Members.{field_of}
 use Rattle.bound_facts.specs.Node.{type_at}
+use Rattle.net_tree.specs.Tree as net
 use Rattle.net_tree.specs.Tree.{Exp}
 use Rattle.written_trees.specs.Exprs.{exp_of, term_exp}
 use Rattle.written_trees.specs.Facts.{holds_array}
 use Rattle.written_trees.specs.Names.{Scope, is_foreign, module_name, owner_path}
 use Rattle.run_matches.specs.Covered.{covers_names, is_free_name}
 use Rattle.run_matches.specs.CoveredVariables.{covers_field_type, covers_group_owner, covers_group_use, covers_group_variable, covers_owner, covers_some_group, covers_user, field_type_in, field_type_of, is_foreign_name, is_loud, is_mention_of, is_reached}
-use Rattle.run_matches.specs.CoveredExprs.{covers_place, covers_place_term, has_inner, has_scalar, is_type, uses_in}
+use Rattle.run_matches.specs.CoveredExprs.{covers_base, covers_place, covers_place_term, has_inner, has_scalar, is_kept, is_type, uses_in}
 use Rattle.run_matches.specs.Shared.{names_lead}
 use Rattle.run_matches.specs.UserTypes.{is_user_of}
 use Rattle.agreeing_laws.proofs.UserShapes.{FieldShape, field_shape_is}
+use Rattle.correspondence.proofs.Among.{or_cases}
 use Rattle.correspondence.proofs.KnownPaths.{HasKnown, IsKnown, free_other}
-use Rattle.correspondence.proofs.Places.{Place, declared_type, inner_of, place_of, scalar_place}
+use Rattle.correspondence.proofs.Places.{Based, IsDotted, declared_type, inner_of, place_of, scalar_place}
 use Rattle.correspondence.proofs.Variables.{module_free}
 
 -- ---- paths that begin with a free name
@@ -76,8 +78,14 @@ module _ (P : Program) (S : Scope) (same : S.declarations ≡ P.declarations) (p
   fields_known k q y rest free (owner.Answer r) h c = alone_path y.name rest free
   fields_known k q y rest free (owner.Field t) h c = absurd (cc c)
 
-  path_known : covers_names D ≡ true → (ty : Ty) (t : Term) → Place P S same p mentions ty t → HasKnown (term_exp S ty t)
-  path_known free ty t L =
+  none_known : (a : Exp) → IsDotted a → HasKnown a
+  none_known (net.with_dot name) d = tt
+  none_known (net.dot e name) d = none_known e d
+  none_known _ d = absurd d
+
+  path_known : covers_names D ≡ true → (ty : Ty) (t : Term) → Based P S same p mentions ty t → HasKnown (term_exp S ty t)
+  path_known free ty t (inr K) = none_known (term_exp S ty t) K.dotted
+  path_known free ty t (inl L) =
       subst (λ (e : Exp). HasKnown e) (sym L.written) (
         fields_known L.root.0 L.qualified L.root_variable L.fields (variable_free D free L.root.0 L.root_variable L.covered.0) L.root_variable.owner
             L.covered.1 L.covered.2,
@@ -88,7 +96,7 @@ module _ (P : Program) (S : Scope) (same : S.declarations ≡ P.declarations) (p
   place_known free (typed ty t) h = path_known free ty t (place_of P S same p mentions ty t h)
 
   pub field_known : covers_names D ≡ true → (ty : Ty) (e : Expr) (k : ℕ) → has_scalar (uses_in P p mentions) (type_at e) k ≡ true
-      → covers_place (uses_in P p mentions) e ≡ true → HasKnown (term_exp S ty (field e k))
+      → covers_base (uses_in P p mentions) e ≡ true → HasKnown (term_exp S ty (field e k))
   field_known free ty e k h c = path_known free ty (field e k) (scalar_place P S same p mentions ty e k h c)
 
   -- ---- the types of places
@@ -137,17 +145,30 @@ module _ (P : Program) (S : Scope) (same : S.declarations ≡ P.declarations) (p
       by None e h = absurd (cc h)
       by (Some v) e h = by_type v e (field_type_of D mentions (Some v)) refl h
 
-  place_user : (ty : Ty) (t : Term) → covers_place_term (uses_in P p mentions) ty t ≡ true → IsCoveredUser ty
-  place_user (types.user t) (variable k q) h = (t, refl, variable_user t k h)
-  place_user ty (field (typed of u) k) h =
-      let both = both_true (has_inner (uses_in P p mentions) of k ty) (covers_place_term (uses_in P p mentions) of u) h in
-      let i = inner_of P S same p mentions of k ty both.0 in
-      let outer = place_user of u both.1 in
+  kept_user : (ty : Ty) (t : Term) → is_kept (uses_in P p mentions) ty t ≡ true → IsCoveredUser ty
+  kept_user ty (with_object root) h = of_user ty h
+  kept_user ty _ h = absurd (cc h)
+
+  inner_user : (of ty : Ty) (k : ℕ) → has_inner (uses_in P p mentions) of k ty ≡ true → IsCoveredUser of → IsCoveredUser ty
+  inner_user of ty k h outer =
+      let i = inner_of P S same p mentions of k ty h in
       let number : outer.0 ≡ i.1 = the_number outer.0 i.1 (sym outer.1 ∙ i.3) in
       (i.0, i.2, field_user i.0 i.1 k (subst (λ z. covers_user D z ≡ true) number outer.2) i.4)
     where
       the_number : (a b : ℕ) → types.user a ≡ types.user b → a ≡ b
       the_number a b e = cc e
+
+  base_user : (ty : Ty) (t : Term) → (is_kept (uses_in P p mentions) ty t ≡ true) ⊎ (covers_place_term (uses_in P p mentions) ty t ≡ true)
+      → (covers_place_term (uses_in P p mentions) ty t ≡ true → IsCoveredUser ty) → IsCoveredUser ty
+  base_user ty t (inl h) place = kept_user ty t h
+  base_user ty t (inr h) place = place h
+
+  place_user : (ty : Ty) (t : Term) → covers_place_term (uses_in P p mentions) ty t ≡ true → IsCoveredUser ty
+  place_user (types.user t) (variable k q) h = (t, refl, variable_user t k h)
+  place_user ty (field (typed of u) k) h =
+      let both = both_true (has_inner (uses_in P p mentions) of k ty) (covers_base (uses_in P p mentions) (typed of u)) h in
+      inner_user of ty k both.0
+      (base_user of u (or_cases (is_kept (uses_in P p mentions) of u) (covers_place_term (uses_in P p mentions) of u) both.1) (λ c. place_user of u c))
   place_user ty _ h = absurd (cc h)
 
   -- nothing copies a place

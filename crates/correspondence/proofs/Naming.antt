@@ -33,13 +33,13 @@ use Rattle.written_trees.specs.Literals.{Piece, quoted, unit, piece_exp, text, j
 use Rattle.written_trees.specs.Names.{Path, Scope, support, strings, procedure_path}
 use Rattle.written_trees.specs.Operators.{signed, checked, is_text, typed_operator, typed_unary, operand, is_product_in_currency, variant_operator, variant_unary}
 use Rattle.run_matches.specs.CoveredVariables.{covers_type}
-use Rattle.run_matches.specs.CoveredExprs.{covers_library, covers_operator, covers_expr, covers_term, covers_exprs, covers_passed, covers_array, covers_place, covers_bounded, has_scalar, is_bound, uses_in, is_passable}
+use Rattle.run_matches.specs.CoveredExprs.{covers_library, covers_operator, covers_expr, covers_term, covers_exprs, covers_passed, covers_array, covers_base, covers_group, covers_group_term, covers_place, covers_place_term, covers_bounded, has_scalar, is_bound, uses_in, is_passable, is_without_object}
 use Rattle.run_matches.specs.Formed.{are_longs, has_elements, is_formed, is_formed_term, is_row_of_one, is_row_of_two, is_row_of_call, is_conversion_to, types_of, are_formed, passed_are_formed}
 use Rattle.correspondence.specs.Uses.{uses, term_uses, exprs_uses, passed_uses, names, exps_name, total}
 use Rattle.correspondence.proofs.Among.{or_cases}
 use Rattle.correspondence.proofs.Variables.{passed_cases}
 use Rattle.correspondence.proofs.NamedArrays.{IsRight, array_names, bound_names, indexes_names}
-use Rattle.correspondence.proofs.Places.{path_counted, place_names, scalar_place}
+use Rattle.correspondence.proofs.Places.{path_counted, place_names, place_of, scalar_place}
 use Rattle.correspondence.proofs.NamedCalls.{argument_names, bare_names, covered_type, full_names, neither, none_before, none_of_both, reference_names}
 
 module _ (count : Path → ℕ) (no_support : (name : List ℕ) → count (support name) ≡ 0) (no_strings : (name : List ℕ) → count (strings name) ≡ 0) where
@@ -237,11 +237,27 @@ module _ (P : Program) (S : Scope) (same : S.declarations ≡ P.declarations) (p
   given_names e (inr (inl c)) free scalar = array_names P S p v count test mentions right e c
   given_names e (inr (inr c)) free scalar = place_names P S same p mentions v count test right e c free
 
-  -- and by value
-  value_names : (e : Expr) → (covers_expr (uses_in P p mentions) e ≡ true) ⊎ (covers_place (uses_in P p mentions) e ≡ true) → Free (nodes e)
-      → (covers_expr (uses_in P p mentions) e ≡ true → uses v e ≡ names count (exp_of S e)) → uses v e ≡ names count (exp_of S e)
-  value_names e (inl c) free scalar = scalar c
-  value_names e (inr c) free scalar = place_names P S same p mentions v count test right e c free
+  -- what a Function gives is covered as other calls are
+  given_group : (ty : Ty) (t : Term) → covers_group_term (uses_in P p mentions) ty t ≡ true → covers_term (uses_in P p mentions) t ≡ true
+  given_group (types.user u) (call q qualified of args) h =
+      (both_true ((uses_in P p mentions).user u) (is_without_object of && covers_passed (uses_in P p mentions) args) h).1
+  given_group (types.user u) _ h = absurd (cc h)
+  given_group _ t h = absurd (cc h)
+
+  -- a value of a user type
+  group_value : (ty : Ty) (t : Term)
+      → (covers_place_term (uses_in P p mentions) ty t ≡ true) ⊎ (covers_group_term (uses_in P p mentions) ty t ≡ true) → Free (nodes (typed ty t))
+      → (covers_term (uses_in P p mentions) t ≡ true → term_uses v t ≡ names count (term_exp S ty t)) → term_uses v t ≡ names count (term_exp S ty t)
+  group_value ty t (inl c) free other = path_counted P S same p mentions v count test right ty t (place_of P S same p mentions ty t c) free
+  group_value ty t (inr c) free other = other (given_group ty t c)
+
+  -- what is given by value
+  value_names : (ty : Ty) (t : Term)
+      → (covers_expr (uses_in P p mentions) (typed ty t) ≡ true) ⊎ (covers_group (uses_in P p mentions) (typed ty t) ≡ true) → Free (nodes (typed ty t))
+      → (covers_term (uses_in P p mentions) t ≡ true → term_uses v t ≡ names count (term_exp S ty t)) → term_uses v t ≡ names count (term_exp S ty t)
+  value_names ty t (inl c) free other = other (both_true (covers_type ty) (covers_term (uses_in P p mentions) t) c).1
+  value_names ty t (inr c) free other =
+      group_value ty t (or_cases (covers_place_term (uses_in P p mentions) ty t) (covers_group_term (uses_in P p mentions) ty t) c) free other
 
   mutual
     pub expr_names : (e : Expr) → covers_expr (uses_in P p mentions) e ≡ true → is_formed e ≡ true → Free (nodes e) → uses v e ≡ names count (exp_of S e)
@@ -263,7 +279,7 @@ module _ (P : Program) (S : Scope) (same : S.declarations ≡ P.declarations) (p
         let written = indexes_names P S p v count test mentions right a 0 indexes in
         omega (arith, array, places, written)
     term_names ty (field e k) h f own free =
-        let both = both_true (has_scalar (uses_in P p mentions) (type_at e) k) (covers_place (uses_in P p mentions) e) h in
+        let both = both_true (has_scalar (uses_in P p mentions) (type_at e) k) (covers_base (uses_in P p mentions) e) h in
         path_counted P S same p mentions v count test right ty (field e k) (scalar_place P S same p mentions ty e k both.0 both.1)
         (none_first (test (typed ty (field e k))) (list_any test (nodes e)) own free)
     term_names ty (library g args) h f own free =
@@ -336,12 +352,16 @@ module _ (P : Program) (S : Scope) (same : S.declarations ≡ P.declarations) (p
         let written = reference_names S count right.no_support (takes_reference S.declarations q i) e in
         let more = passed_names q (suc i) rest both.1 forms.1 parted.1 in
         omega (arith, here, written, more)
-    passed_names q i (next_passed (by_value e) rest) h f free =
-        let both = both_true (covers_expr (uses_in P p mentions) e || covers_place (uses_in P p mentions) e) (covers_passed (uses_in P p mentions) rest) h in
-        let forms = both_true (is_formed e) (passed_are_formed rest) f in
-        let parted = none_of_both test (nodes e) (nodes_of_passed rest) free in
-        let here = value_names e (or_cases (covers_expr (uses_in P p mentions) e) (covers_place (uses_in P p mentions) e) both.0) parted.0 (λ c. expr_names e c forms.0 parted.0) in
-        let written = argument_names S count right.no_support (takes_reference S.declarations q i) e in
+    passed_names q i (next_passed (by_value (typed ty t)) rest) h f free =
+        let cover = uses_in P p mentions in
+        let both = both_true (covers_expr cover (typed ty t) || covers_group cover (typed ty t)) (covers_passed cover rest) h in
+        let forms = both_true (is_formed_term ty t) (passed_are_formed rest) f in
+        let parted = none_of_both test (nodes (typed ty t)) (nodes_of_passed rest) free in
+        let own = neither (test (typed ty t)) (list_any test (nodes_in t)) parted.0 in
+        let here =
+        value_names ty t (or_cases (covers_expr cover (typed ty t)) (covers_group cover (typed ty t)) both.0) parted.0
+        (λ c. term_names ty t c forms.0 own.0 own.1) in
+        let written = argument_names S count right.no_support (takes_reference S.declarations q i) (typed ty t) in
         let more = passed_names q (suc i) rest both.1 forms.1 parted.1 in
         omega (arith, here, written, more)
 
@@ -390,15 +410,20 @@ module _ (P : Program) (S : Scope) (same : S.declarations ≡ P.declarations) (p
       let value = expr_names e k g last.0 in
       omega (arith, left, value)
 
+  group_names : (e : Expr) → covers_group (uses_in P p mentions) e ≡ true → is_formed e ≡ true → Free (nodes e) → uses v e ≡ names count (exp_of S e)
+  group_names (typed ty t) h f free =
+      let own = neither (test (typed ty t)) (list_any test (nodes_in t)) free in
+      value_names ty t (inr h) free (λ c. term_names ty t c f own.0 own.1)
+
   -- a user type that is assigned as a whole
-  pub copied_names : (to e : Expr) → covers_place (uses_in P p mentions) to ≡ true → covers_place (uses_in P p mentions) e ≡ true
+  pub copied_names : (to e : Expr) → covers_place (uses_in P p mentions) to ≡ true → covers_group (uses_in P p mentions) e ≡ true → is_formed e ≡ true
       → Free (flat_map nodes (to ∷ e ∷ [])) → (a : Exp) → names count a ≡ names count (exp_of S e)
       → total (uses v) (to ∷ e ∷ []) ≡ total (names count) (exp_of S to ∷ a ∷ [])
-  copied_names to e h k free a is =
+  copied_names to e h k f free a is =
       let parted = none_of_both test (nodes to) (flat_map nodes (e ∷ [])) free in
       let last = none_of_both test (nodes e) [] parted.1 in
       let left = place_names P S same p mentions v count test right to h parted.0 in
-      let value = place_names P S same p mentions v count test right e k last.0 in
+      let value = group_names e k f last.0 in
       omega (arith, left, value, is)
 
   -- the number of an Err.Raise

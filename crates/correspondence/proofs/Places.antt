@@ -1,5 +1,6 @@
--- What is written for a covered place of a user type, and for a field of one, is a path: that of its variable with the names of the fields.
-use Rattle.std.proofs.Common.{◌≡◌, ℕ, Bool, true, false, not, ◌&&◌, cond, List, [], ◌∷◌, ◌++◌, Option, Some, None, refl, sym, ap, subst, ◌∙◌, nat_eq, append_assoc, append-nil}
+-- What is written for a covered place of a user type, and for a field of one, is a path, that of its variable with the names of the fields, or
+-- stands behind the dot of a With.
+use Rattle.std.proofs.Common.{◌⊎◌, inl, inr, ◌≡◌, ℕ, Bool, true, false, not, ◌&&◌, cond, List, [], ◌∷◌, ◌++◌, Option, Some, None, refl, sym, ap, subst, ◌∙◌, nat_eq, append_assoc, append-nil}
 use Rattle.std.specs.List.{list_any}
 use Rattle.std.specs.Prelude.{slice_get}
 use Rattle.up_base.proofs.Lists.{both_true}
@@ -8,20 +9,21 @@ use Rattle.vb_tree.specs.BoundTree.{Ty}
 use Rattle.vb_tree.specs.declared.declared.VarId.{VarId}
 use Rattle.bound_tree.specs.declared.body.Mention.{Mention}
 use Rattle.bound_tree.specs.Tree as tree
-use Rattle.bound_tree.specs.Tree.{Program, Variable, Expr, typed, Term, field, variable}
+use Rattle.bound_tree.specs.Tree.{Program, Variable, Expr, typed, Term, field, variable, with_object}
 use Rattle.bound_facts.specs.Locks.{is_same_type}
 use Rattle.bound_facts.specs.Members.{field_of}
 use Rattle.bound_facts.specs.Node.{auto_class, class_in, type_at, variable_number}
 use Rattle.bound_facts.specs.Nodes.{nodes}
 use Rattle.net_tree.specs.Tree as net
 use Rattle.written_trees.specs.Exprs.{exp_of, made_if, member_in, term_exp}
-use Rattle.written_trees.specs.Names.{Path, Scope, owner_path, variable_name}
+use Rattle.written_trees.specs.Names.{Path, Scope, member, owner_path, variable_name}
 use Rattle.written_trees.specs.Prologues.{one_if}
 use Rattle.run_matches.specs.Covered.{is_user}
 use Rattle.run_matches.specs.CoveredVariables.{covers_type, field_type_in, field_type_of, is_mention_of}
-use Rattle.run_matches.specs.CoveredExprs.{covers_place, covers_place_term, has_field, has_inner, has_scalar, is_scalar_type, is_type, uses_in}
+use Rattle.run_matches.specs.CoveredExprs.{covers_base, covers_place, covers_place_term, is_kept, has_field, has_inner, has_scalar, is_scalar_type, is_type, uses_in}
 use Rattle.run_matches.specs.Upgrades.{is_unknown, type_of_some}
 use Rattle.correspondence.specs.Uses.{names, term_uses, uses}
+use Rattle.correspondence.proofs.Among.{or_cases}
 use Rattle.correspondence.proofs.NamedArrays.{IsRight}
 use Rattle.correspondence.proofs.NamedCalls.{neither}
 use Rattle.correspondence.proofs.Variables.{IsCoveredAt, group_use_at, variable_exp}
@@ -73,6 +75,18 @@ field_made D mentions t k a ty h none = by (field_of D (types.user t) k) h
     by : (o : Option ℕ) → field_type_of D mentions o ≡ Some ty → made_if D (auto_class (variable_number D.vars o)) a ≡ a
     by None e = refl
     by (Some v) e = no_auto D a (slice_get D.vars v) ty (declared_type D mentions v ty e) none
+
+-- what stands behind the dot of a With, which names no variable
+abbrev pub IsDotted : net.Exp → Type 0
+IsDotted (net.with_dot name) = Unit {0}
+IsDotted (net.dot e name) = IsDotted e
+IsDotted _ = ⊥
+
+member_dotted : (a : net.Exp) (name : List ℕ) → IsDotted a → IsDotted (member a name)
+member_dotted (net.with_dot m) name d = tt
+member_dotted (net.dot e m) name d = d
+member_dotted (net.path q) name d = absurd d
+member_dotted _ name d = absurd d
 
 module _ (P : Program) (S : Scope) (same : S.declarations ≡ P.declarations) (p : ℕ) (mentions : List Mention) where
   -- ---- places
@@ -153,11 +167,56 @@ module _ (P : Program) (S : Scope) (same : S.declarations ≡ P.declarations) (p
         node = λ test h. L.node test (neither (test (typed ty (field (typed of u) k))) (list_any test (nodes (typed of u))) h).1;
       }
 
-  pub place_of : (ty : Ty) (t : Term) → covers_place_term (uses_in P p mentions) ty t ≡ true → Place ty t
+  -- a place that a With keeps, with fields behind it
+  pub record Kept (ty : Ty) (t : Term) : Type 0 where
+    pub dotted : IsDotted (term_exp S ty t)
+    pub unused : (v : ℕ) → term_uses v t ≡ 0
+
+  dotted_member : (ty : Ty) (u : Term) (a : net.Exp) (name : List ℕ) → covers_place_term (uses_in P p mentions) ty u ≡ true → IsDotted a → IsDotted (member_in u a name)
+  dotted_member ty (variable k q) a name h d = member_dotted a name d
+  dotted_member ty (field e k) a name h d = member_dotted a name d
+  dotted_member ty _ a name h d = absurd (cc h)
+
+  made_dotted : (of : Ty) (k t : ℕ) (a : net.Exp) → of ≡ types.user t → (f : Ty) × (field_type_in P.declarations mentions t k ≡ Some f) × (class_in f ≡ None)
+      → IsDotted a → IsDotted (made_if S.declarations (auto_class (variable_number S.declarations.vars (field_of S.declarations of k))) a)
+  made_dotted of k t a is f d =
+      subst IsDotted (sym (ap (λ z. made_if S.declarations (auto_class (variable_number S.declarations.vars (field_of S.declarations z k))) a) is
+      ∙ subst (λ (d : tree.Declarations). made_if d (auto_class (variable_number d.vars (field_of d (types.user t) k))) a ≡ a) (sym same)
+      (field_made P.declarations mentions t k a f.0 f.1 f.2))) d
+
+  abbrev pub Based : Ty → Term → Type 0
+  Based ty t = Place ty t ⊎ Kept ty t
+
+  behind_base : (ty of : Ty) (u : Term) (k t : ℕ) → of ≡ types.user t → covers_place_term (uses_in P p mentions) of u ≡ true
+      → (f : Ty) × (field_type_in P.declarations mentions t k ≡ Some f) × (class_in f ≡ None) → Based of u → Based ty (field (typed of u) k)
+  behind_base ty of u k t is covers f (inl L) = inl (longer ty of u k t is covers f L)
+  behind_base ty of u k t is covers f (inr K) =
+      inr (record {
+        dotted = made_dotted of k t (member_in u (term_exp S of u) (variable_name S.declarations (field_of S.declarations of k))) is f
+        (dotted_member of u (term_exp S of u) (variable_name S.declarations (field_of S.declarations of k)) covers K.dotted);
+        unused = K.unused;
+      })
+
+  kept_field : (ty of : Ty) (u : Term) (k t : ℕ) → of ≡ types.user t → is_kept (uses_in P p mentions) of u ≡ true
+      → (f : Ty) × (field_type_in P.declarations mentions t k ≡ Some f) × (class_in f ≡ None) → Based ty (field (typed of u) k)
+  kept_field ty of (with_object root) k t is h f =
+      inr (record {
+        dotted = made_dotted of k t (net.with_dot (variable_name S.declarations (field_of S.declarations of k))) is f tt;
+        unused = λ v. refl;
+      })
+  kept_field ty of _ k t is h f = absurd (cc h)
+
+  field_of_base : (ty of : Ty) (u : Term) (k t : ℕ) → of ≡ types.user t → (f : Ty) × (field_type_in P.declarations mentions t k ≡ Some f) × (class_in f ≡ None)
+      → (is_kept (uses_in P p mentions) of u ≡ true) ⊎ (covers_place_term (uses_in P p mentions) of u ≡ true)
+      → (covers_place_term (uses_in P p mentions) of u ≡ true → Based of u) → Based ty (field (typed of u) k)
+  field_of_base ty of u k t is f (inl h) place = kept_field ty of u k t is h f
+  field_of_base ty of u k t is f (inr h) place = behind_base ty of u k t is h f (place h)
+
+  pub place_of : (ty : Ty) (t : Term) → covers_place_term (uses_in P p mentions) ty t ≡ true → Based ty t
   place_of (types.user t) (variable k q) h =
       let found = group_use_at P p mentions k t h in
       let path : Path = owner_path S q found.0.name found.0.owner in
-      record {
+      inl (record {
         root = k;
         qualified = q;
         user_type = t;
@@ -168,28 +227,36 @@ module _ (P : Program) (S : Scope) (same : S.declarations ≡ P.declarations) (p
         written = variable_exp P S same p k q (types.user t) found.0 found.1 ∙ ap net.path (sym (append-nil path));
         used = λ v. refl;
         node = λ test e. (neither (test (typed (types.user t) (variable k q))) false e).0;
-      }
+      })
   place_of ty (field (typed of u) k) h =
-      let both = both_true (has_inner (uses_in P p mentions) of k ty) (covers_place_term (uses_in P p mentions) of u) h in
+      let both = both_true (has_inner (uses_in P p mentions) of k ty) (covers_base (uses_in P p mentions) (typed of u)) h in
       let i = inner_of of k ty both.0 in
-      longer ty of u k i.1 i.3 both.1 (some_inner i.0 (field_type_in P.declarations mentions i.1 k) i.4) (place_of of u both.1)
+      field_of_base ty of u k i.1 i.3 (some_inner i.0 (field_type_in P.declarations mentions i.1 k) i.4)
+      (or_cases (is_kept (uses_in P p mentions) of u) (covers_place_term (uses_in P p mentions) of u) both.1) (λ c. place_of of u c)
   place_of ty _ h = absurd (cc h)
 
-  -- a scalar field of a place
-  pub scalar_place : (ty : Ty) (e : Expr) (k : ℕ) → has_scalar (uses_in P p mentions) (type_at e) k ≡ true → covers_place (uses_in P p mentions) e ≡ true
-      → Place ty (field e k)
+  -- a scalar field of a place, or of what a With keeps
+  pub scalar_place : (ty : Ty) (e : Expr) (k : ℕ) → has_scalar (uses_in P p mentions) (type_at e) k ≡ true → covers_base (uses_in P p mentions) e ≡ true
+      → Based ty (field e k)
   scalar_place ty (typed of u) k h c =
       let i = scalar_of of k h in
-      longer ty of u k i.0 i.1 c (some_scalar (field_type_in P.declarations mentions i.0 k) i.2) (place_of of u c)
+      field_of_base ty of u k i.0 i.1 (some_scalar (field_type_in P.declarations mentions i.0 k) i.2)
+      (or_cases (is_kept (uses_in P p mentions) of u) (covers_place_term (uses_in P p mentions) of u) c) (λ c. place_of of u c)
 
   -- ---- what it names
 
   module _ (v : ℕ) (count : Path → ℕ) (test : Expr → Bool) (right : IsRight P S p mentions v count test) where
-    pub path_counted : (ty : Ty) (t : Term) (L : Place ty t) → list_any test (nodes (typed ty t)) ≡ false → term_uses v t ≡ names count (term_exp S ty t)
-    path_counted ty t L free =
+    none_named : (a : net.Exp) → IsDotted a → names count a ≡ 0
+    none_named (net.with_dot name) d = refl
+    none_named (net.dot e name) d = none_named e d
+    none_named _ d = absurd d
+
+    pub path_counted : (ty : Ty) (t : Term) → Based ty t → list_any test (nodes (typed ty t)) ≡ false → term_uses v t ≡ names count (term_exp S ty t)
+    path_counted ty t (inl L) free =
         L.used v
         ∙ right.fields L.root L.qualified L.user_type L.root_variable L.fields L.covered L.is_group (L.node test free)
         ∙ sym (ap (names count) L.written)
+    path_counted ty t (inr K) free = K.unused v ∙ sym (none_named (term_exp S ty t) K.dotted)
 
     pub place_names : (e : Expr) → covers_place (uses_in P p mentions) e ≡ true → list_any test (nodes e) ≡ false → uses v e ≡ names count (exp_of S e)
     place_names (typed ty t) h free = path_counted ty t (place_of ty t h) free

@@ -1,8 +1,9 @@
 -- The laws, under any pledge and under that of a frame.
 use Rattle.run_matches.specs.Keeping.{given_types}
-use Rattle.expression_laws.proofs.Giving.{called_giving_for, giving, images_giving, stands_giving}
-use Rattle.std.proofs.Common.{inr, refl, ℕ, false, ◌&&◌, Some, inl}
-use Rattle.bound_tree.specs.Tree.{typed, variable, element, call, no_object}
+use Rattle.expression_laws.proofs.Giving.{called_giving_for, giving, stands_giving}
+use Rattle.vb_tree.specs.BoundTree.{user}
+use Rattle.std.proofs.Common.{inr, refl, sym, true≢false, ℕ, false, ◌&&◌, Some, inl}
+use Rattle.bound_tree.specs.Tree.{typed, variable, field, element, call, no_object, of_object}
 use Rattle.bound_facts.specs.Node.{type_at}
 use Rattle.net_tree.specs.Tree.{call_of, path}
 use Rattle.vb6_run.specs.Expressions as source
@@ -14,19 +15,18 @@ use Rattle.net_run.specs.Lines.{scope_of}
 use Rattle.net_run.specs.Names as net_names
 use Rattle.written_trees.specs.Exprs.{exp_of, passed_of}
 use Rattle.written_trees.specs.Names.{procedure_path}
-use Rattle.run_matches.specs.CoveredExprs.{covers_array}
+use Rattle.run_matches.specs.CoveredExprs.{covers_array, covers_place, is_without_object, covers_passed}
 use Rattle.run_matches.specs.Frames.{frame_pledge}
 use Rattle.run_matches.specs.Maps.{World}
 use Rattle.run_matches.specs.Pledges.{Pledge}
 use Rattle.run_matches.specs.Upgrades.{Upgrade}
 use Rattle.run_statements.specs.Elements.{IndexesAgree}
-use Rattle.run_statements.specs.Groups.{PlacesAgree}
+use Rattle.run_statements.specs.Groups.{GroupsAgree, PlacesAgree}
 use Rattle.run_statements.specs.Frames.{ArraysAgree, ElementsAgree, AnyParts, CallsAreMade, context_of, ExpressionsAgree}
 use Rattle.run_matches.specs.Formed.{are_formed, are_longs, has_elements, types_of}
 use Rattle.agreeing_laws.proofs.Agreeing.{agrees_weaker}
 use Rattle.expression_laws.specs.Calls.{GivenMatch, Stands}
-use Rattle.expression_laws.specs.Images.{HaveImages}
-use Rattle.expression_laws.specs.Statements.{ArraysAgreeBy, ElementsAgreeBy, IndexesAgreeBy, FormedExpressionsAgreeBy, FormedScalarsAgreeBy, FormedScalarsAgree, PlacesAgreeBy}
+use Rattle.expression_laws.specs.Statements.{ArraysAgreeBy, ElementsAgreeBy, IndexesAgreeBy, FormedExpressionsAgreeBy, FormedScalarsAgreeBy, FormedScalarsAgree, GroupsAgreeBy, ParametersAreSound, PlacesAgreeBy}
 use Rattle.expression_laws.proofs.Types.{both_true}
 use Rattle.expression_laws.proofs.Checks.{plain_agrees}
 use Rattle.expression_laws.proofs.Arguments.{stands_now}
@@ -35,37 +35,39 @@ use Rattle.expression_laws.proofs.Elements.{array_agrees}
 use Rattle.expression_laws.proofs.ElementValues.{element_agrees}
 use Rattle.expression_laws.proofs.ArrayUses.{all_long, from_none, indexed_by}
 use Rattle.expression_laws.proofs.CallsGiven.{call_made, from_first}
-use Rattle.expression_laws.proofs.Expressions.{expression_agrees, indexes_agree, passed_agree}
+use Rattle.expression_laws.proofs.Expressions.{expression_agrees, group_call, indexes_agree, or_false, passed_agree}
+use Rattle.expression_laws.proofs.FieldValues.{place_value_agrees}
 use Rattle.expression_laws.proofs.Places.{places_agree_by}
+use Rattle.expression_laws.proofs.Withs.{HavePlaces, places_giving, places_now}
 
-pub expressions_agree_by : (U : Upgrade) (K : Pledge) → FormedExpressionsAgreeBy U K
-expressions_agree_by U K w p f g oracle net_oracle l k c T uses e start frames declarations opened readable placed agree can covers formed =
-    expression_agrees U p f g oracle net_oracle l k c T uses declarations opened readable placed.leads agree K e w start
-    (images_now U K w p f g (scope_of U.written c g k) refl refl T declarations frames uses start readable placed) (stands_now U K w p f g frames) can covers formed
+pub expressions_agree_by : (U : Upgrade) (sound : ParametersAreSound U) (K : Pledge) → FormedExpressionsAgreeBy U K
+expressions_agree_by U sound K w p f g oracle net_oracle l k c T uses e start frames declarations opened readable placed agree can covers formed =
+    expression_agrees U p f g oracle net_oracle l k c T uses declarations opened readable placed.leads agree sound K e w start
+    (places_now U p f g oracle net_oracle l k c T uses K w frames start declarations readable placed) (stands_now U K w p f g frames) can covers formed
 
-pub scalars_agree_by : (U : Upgrade) (K : Pledge) → FormedScalarsAgreeBy U K
-scalars_agree_by U K w p f g oracle net_oracle l k c T uses e start frames declarations opened readable placed agree can covers formed =
+pub scalars_agree_by : (U : Upgrade) (sound : ParametersAreSound U) (K : Pledge) → FormedScalarsAgreeBy U K
+scalars_agree_by U sound K w p f g oracle net_oracle l k c T uses e start frames declarations opened readable placed agree can covers formed =
     plain_agrees U K (context_of U oracle p f l) e (type_at e) w (target.value_of (scope_of U.written c g k) net_oracle (exp_of T e) w.net) start
-    (expressions_agree_by U K w p f g oracle net_oracle l k c T uses e start frames declarations opened readable placed agree can covers formed)
+    (expressions_agree_by U sound K w p f g oracle net_oracle l k c T uses e start frames declarations opened readable placed agree can covers formed)
 
-pub indexes_agree_by : (U : Upgrade) (K : Pledge) → IndexesAgreeBy U K
-indexes_agree_by U K w p f g oracle net_oracle l k c T uses ty a indexes start frames declarations opened readable placed agree can covers_array
+pub indexes_agree_by : (U : Upgrade) (sound : ParametersAreSound U) (K : Pledge) → IndexesAgreeBy U K
+indexes_agree_by U sound K w p f g oracle net_oracle l k c T uses ty a indexes start frames declarations opened readable placed agree can covers_array
     covers_indexes formed =
     let forms = both_true (has_elements (type_at a) ty) (are_longs (types_of indexes) && are_formed indexes) formed in
     let rest = both_true (are_longs (types_of indexes)) (are_formed indexes) forms.1 in
     let longs = all_long (types_of indexes) rest.0 in
-    let have : HaveImages U K w f (scope_of U.written c g k) T uses =
-    images_now U K w p f g (scope_of U.written c g k) refl refl T declarations frames uses start readable placed in
-    indexed_by U p f g oracle net_oracle l k c T uses declarations opened readable placed.leads K ty a indexes w start have covers_array forms.0 can.0
-    (indexes_agree U p f g oracle net_oracle l k c T uses declarations opened readable placed.leads agree K a 0 indexes w
+    let have : HavePlaces U p f g oracle net_oracle l k c T uses K w =
+    places_now U p f g oracle net_oracle l k c T uses K w frames start declarations readable placed in
+    indexed_by U p f g oracle net_oracle l k c T uses declarations opened readable placed.leads K ty a indexes w start have.variables covers_array forms.0 can.0
+    (indexes_agree U p f g oracle net_oracle l k c T uses declarations opened readable placed.leads agree sound K a 0 indexes w
     (from_none (types_of indexes) longs.1) longs.0 start have (stands_now U K w p f g frames) can.1 covers_indexes rest.1)
 
-pub elements_agree_by : (U : Upgrade) (K : Pledge) → ElementsAgreeBy U K
-elements_agree_by U K w p f g oracle net_oracle l k c T uses ty a indexes start frames declarations opened readable placed agree can covers_array
+pub elements_agree_by : (U : Upgrade) (sound : ParametersAreSound U) (K : Pledge) → ElementsAgreeBy U K
+elements_agree_by U sound K w p f g oracle net_oracle l k c T uses ty a indexes start frames declarations opened readable placed agree can covers_array
     covers_indexes formed =
     element_agrees U K (context_of U oracle p f l) a ty indexes w
     (target.reach (scope_of U.written c g k) net_oracle false (exp_of T (typed ty (element a indexes))) w.net) start
-    (indexes_agree_by U K w p f g oracle net_oracle l k c T uses ty a indexes start frames declarations opened readable placed agree can covers_array
+    (indexes_agree_by U sound K w p f g oracle net_oracle l k c T uses ty a indexes start frames declarations opened readable placed agree can covers_array
     covers_indexes formed)
 
 pub arrays_agree_by : (U : Upgrade) (K : Pledge) → ArraysAgreeBy U K
@@ -74,57 +76,81 @@ arrays_agree_by U K w p f g oracle net_oracle l k c T uses d rank (variable v qu
     (λ a at. images_now U K w p f g (scope_of U.written c g k) refl refl T declarations frames uses start readable placed v a (inr (inl (d, covers))) at)
 arrays_agree_by U K w p f g oracle net_oracle l k c T uses d rank _ start frames declarations readable placed covers = absurd (cc covers)
 
-pub indexes_agree_all : (U : Upgrade) → IndexesAgree U
-indexes_agree_all U K = indexes_agree_by U K
+pub groups_agree_by : (U : Upgrade) (sound : ParametersAreSound U) (K : Pledge) → GroupsAgreeBy U K
+groups_agree_by U sound K w p f g oracle net_oracle l k c T uses t (call q qualified no_object args) start frames declarations opened readable placed agree can
+    covers formed =
+    group_call U p f g oracle net_oracle l k c T uses declarations opened readable placed.leads agree sound K t q qualified args w start
+    (places_now U p f g oracle net_oracle l k c T uses K w frames start declarations readable placed) (stands_now U K w p f g frames) can (both_true (uses.user t) (covers_passed uses args) covers).1 formed
+groups_agree_by U sound K w p f g oracle net_oracle l k c T uses t (variable v qualified) start frames declarations opened readable placed agree can covers formed =
+    place_value_agrees U K p f g oracle net_oracle l k c T uses declarations readable w
+    (places_now U p f g oracle net_oracle l k c T uses K w frames start declarations readable placed) start t (variable v qualified) can
+    (or_false (covers_place uses (typed (user t) (variable v qualified))) covers)
+groups_agree_by U sound K w p f g oracle net_oracle l k c T uses t (field d j) start frames declarations opened readable placed agree can covers formed =
+    place_value_agrees U K p f g oracle net_oracle l k c T uses declarations readable w
+    (places_now U p f g oracle net_oracle l k c T uses K w frames start declarations readable placed) start t (field d j) can
+    (or_false (covers_place uses (typed (user t) (field d j))) covers)
+groups_agree_by U sound K w p f g oracle net_oracle l k c T uses t (call q qualified (of_object d) args) start frames declarations opened readable placed agree
+    can covers formed =
+    absurd (true≢false (sym (both_true (uses.user t) (is_without_object (of_object d) && covers_passed uses args) covers).1))
+groups_agree_by U sound K w p f g oracle net_oracle l k c T uses t _ start frames declarations opened readable placed agree can covers formed =
+    absurd (true≢false (sym covers))
 
-pub elements_agree : (U : Upgrade) → ElementsAgree U
-elements_agree U K = elements_agree_by U K
+pub indexes_agree_all : (U : Upgrade) → ParametersAreSound U → IndexesAgree U
+indexes_agree_all U sound K = indexes_agree_by U sound K
+
+pub elements_agree : (U : Upgrade) → ParametersAreSound U → ElementsAgree U
+elements_agree U sound K = elements_agree_by U sound K
 
 pub arrays_agree : (U : Upgrade) → ArraysAgree U
 arrays_agree U K = arrays_agree_by U K
 
-pub expressions_agree : (U : Upgrade) → ExpressionsAgree U
-expressions_agree U K = expressions_agree_by U K
+pub expressions_agree : (U : Upgrade) → ParametersAreSound U → ExpressionsAgree U
+expressions_agree U sound K = expressions_agree_by U sound K
 
-pub scalars_agree : (U : Upgrade) → FormedScalarsAgree U
-scalars_agree U K = scalars_agree_by U K
+pub scalars_agree : (U : Upgrade) → ParametersAreSound U → FormedScalarsAgree U
+scalars_agree U sound K = scalars_agree_by U sound K
+
+pub groups_agree : (U : Upgrade) → ParametersAreSound U → GroupsAgree U
+groups_agree U sound K = groups_agree_by U sound K
 
 pub places_agree : (U : Upgrade) → PlacesAgree U
 places_agree U K = places_agree_by U K
 
 -- a covered call is made on both sides
-pub calls_are_made : (U : Upgrade) → CallsAreMade U
-calls_are_made U K w p f g oracle net_oracle l k c T uses ty q qualified args start frames declarations opened readable placed agree can covers formed =
+pub calls_are_made : (U : Upgrade) → ParametersAreSound U → CallsAreMade U
+calls_are_made U sound K w p f g oracle net_oracle l k c T uses ty q qualified args start frames declarations opened readable placed agree can covers formed =
     let C : Context = context_of U oracle p f l in
     let S : net_names.Scope = scope_of U.written c g k in
     let stands : Stands U K w f g = stands_now U K w p f g frames in
     let r' = target.address_of S net_oracle (call_of (path (procedure_path T qualified q.0)) (passed_of T q.0 0 args)) w.net in
     agrees_weaker U K w (GivenMatch U) AnyParts (source.term_parts C ty (call q qualified no_object args) w.src) r' (λ v x a l m. tt)
     (call_made U p f g oracle net_oracle l k c T agree K ty q qualified args w start stands can.0
-    (passed_agree U p f g oracle net_oracle l k c T uses declarations opened readable placed.leads agree (giving K (given_types args)) q.0 0 args
+    (passed_agree U p f g oracle net_oracle l k c T uses declarations opened readable placed.leads agree sound (giving K (given_types args)) q.0 0 can.0.passes args
     (passings_at U.written (Some can.0.number)) w
     (from_first U p f g oracle net_oracle l k c T agree K can.0) can.0.suits can.0.hands start
-    (images_giving U K (given_types args) w start f S T uses
-    (images_now U K w p f g (scope_of U.written c g k) refl refl T declarations frames uses start readable placed))
-    (stands_giving U K (given_types args) w start f g stands) (called_giving_for U K S T (given_types args) args can.0.inside can.1) covers formed can.0.ranks
+    (places_giving U p f g oracle net_oracle l k c T uses K (given_types args) w start (places_now U p f g oracle net_oracle l k c T uses K w frames start declarations readable placed))
+    (stands_giving U K (given_types args) w start f g stands) (called_giving_for U K S T (given_types args) p l k args can.0.inside can.1) covers formed can.0.ranks
     (λ t o. inr o)))
 
 -- under the pledge of a frame
 
-pub frame_expressions_agree : (U : Upgrade) (p : ℕ) (w : World) (f : SourceFrame) → FormedExpressionsAgreeBy U (frame_pledge U p w f)
-frame_expressions_agree U p w f = expressions_agree_by U (frame_pledge U p w f)
+pub frame_expressions_agree : (U : Upgrade) (sound : ParametersAreSound U) (p : ℕ) (w : World) (f : SourceFrame) → FormedExpressionsAgreeBy U (frame_pledge U p w f)
+frame_expressions_agree U sound p w f = expressions_agree_by U sound (frame_pledge U p w f)
 
-pub frame_scalars_agree : (U : Upgrade) (p : ℕ) (w : World) (f : SourceFrame) → FormedScalarsAgreeBy U (frame_pledge U p w f)
-frame_scalars_agree U p w f = scalars_agree_by U (frame_pledge U p w f)
+pub frame_scalars_agree : (U : Upgrade) (sound : ParametersAreSound U) (p : ℕ) (w : World) (f : SourceFrame) → FormedScalarsAgreeBy U (frame_pledge U p w f)
+frame_scalars_agree U sound p w f = scalars_agree_by U sound (frame_pledge U p w f)
 
-pub frame_indexes_agree : (U : Upgrade) (p : ℕ) (w : World) (f : SourceFrame) → IndexesAgreeBy U (frame_pledge U p w f)
-frame_indexes_agree U p w f = indexes_agree_by U (frame_pledge U p w f)
+pub frame_indexes_agree : (U : Upgrade) (sound : ParametersAreSound U) (p : ℕ) (w : World) (f : SourceFrame) → IndexesAgreeBy U (frame_pledge U p w f)
+frame_indexes_agree U sound p w f = indexes_agree_by U sound (frame_pledge U p w f)
 
-pub frame_elements_agree : (U : Upgrade) (p : ℕ) (w : World) (f : SourceFrame) → ElementsAgreeBy U (frame_pledge U p w f)
-frame_elements_agree U p w f = elements_agree_by U (frame_pledge U p w f)
+pub frame_elements_agree : (U : Upgrade) (sound : ParametersAreSound U) (p : ℕ) (w : World) (f : SourceFrame) → ElementsAgreeBy U (frame_pledge U p w f)
+frame_elements_agree U sound p w f = elements_agree_by U sound (frame_pledge U p w f)
 
 pub frame_arrays_agree : (U : Upgrade) (p : ℕ) (w : World) (f : SourceFrame) → ArraysAgreeBy U (frame_pledge U p w f)
 frame_arrays_agree U p w f = arrays_agree_by U (frame_pledge U p w f)
 
 pub frame_places_agree : (U : Upgrade) (p : ℕ) (w : World) (f : SourceFrame) → PlacesAgreeBy U (frame_pledge U p w f)
 frame_places_agree U p w f = places_agree_by U (frame_pledge U p w f)
+
+pub frame_groups_agree : (U : Upgrade) (sound : ParametersAreSound U) (p : ℕ) (w : World) (f : SourceFrame) → GroupsAgreeBy U (frame_pledge U p w f)
+frame_groups_agree U sound p w f = groups_agree_by U sound (frame_pledge U p w f)

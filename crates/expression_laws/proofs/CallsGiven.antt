@@ -50,7 +50,7 @@ module _ (U : Upgrade) (p : ℕ) (f : SourceFrame) (g : NetFrame) (oracle : Sour
   Can K q called_with = CanCall U K (scope_of U.written c g k) T q called_with
 
   abbrev Asked : Pledge → Demands
-  Asked K = demands U K (scope_of U.written c g k) T
+  Asked K = demands U K p l k (scope_of U.written c g k) T
 
   pub from_first : (K : Pledge) {q : ℕ} {called_with : Passed} (can : Can K q called_with) (n : ℕ)
       → passing_at (passings_at U.written (Some can.number)) n ≡ passing_by (takes_reference U.program.declarations q (0 + n))

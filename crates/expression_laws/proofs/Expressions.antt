@@ -1,9 +1,11 @@
 -- Covered expressions do the same as what is written for them.
 use Rattle.run_matches.specs.Keeping.{given_types, given_by}
-use Rattle.expression_laws.proofs.Giving.{called_giving_for, giving, images_giving, stands_giving}
-use Rattle.std.proofs.Common.{◌≡◌, inr, ◌∙◌, refl, sym, ap, subst, ℕ, suc, ◌+◌, ◌≤◌, length, true, false, ◌&&◌, ◌||◌, List, [], ◌∷◌, Some, inl, ◌++◌}
+use Rattle.expression_laws.proofs.Giving.{called_giving_for, giving, stands_giving}
+use Rattle.std.proofs.Common.{◌≡◌, inr, ◌∙◌, refl, sym, ap, subst, ℕ, suc, ◌+◌, ◌≤◌, length, Bool, true, false, true≢false, ◌&&◌, ◌||◌, List, [], ◌∷◌, Some, inl, ◌++◌}
 use Rattle.std.specs.Prelude.{is_some}
+use Rattle.vb_tree.specs.BoundTree as types
 use Rattle.vb_tree.specs.BoundTree.{Ty}
+use Rattle.vb_tree.specs.declared.declared.ProcId.{ProcId}
 use Rattle.vb6_meaning.specs.Values.{operate}
 use Rattle.bound_tree.specs.Tree.{Expr, typed, constant, variable, field, element, call, library, unary, binary, convert, new_object, me, with_object, err_number, err_raise, err_clear, is_same, loose, Exprs, no_exprs, next_expr, no_object, of_object, by_value, by_reference, Passed, no_passed, next_passed}
 use Rattle.bound_facts.specs.Node.{type_at}
@@ -13,12 +15,13 @@ use Rattle.net_tree.specs.declared.declaration.NetPassing.TheVariants as passing
 use Rattle.net_tree.specs.Tree.{call_of, path}
 use Rattle.net_meaning.specs.declared.value.ValueN.TheVariants as net_scalar
 use Rattle.net_meaning.specs.WrittenRows.{write_operator, write_unary, write_conversion}
-use Rattle.run_base.specs.Outcomes.{Outcome, then, answered}
+use Rattle.run_base.specs.Outcomes.{Outcome, gives, then, answered}
 use Rattle.vb6_run.specs.Expressions as source
 use Rattle.vb6_run.specs.Expressions.{Context}
 use Rattle.vb6_run.specs.Forms.{SourceLine}
-use Rattle.vb6_run.specs.Store.{SourceCalls, SourceFrame}
-use Rattle.net_run.specs.Calls.{passings_at}
+use Rattle.vb6_run.specs.Shapes.{user_shapes}
+use Rattle.vb6_run.specs.Store.{Memory, SourceCalls, SourceFrame, SourceGiven}
+use Rattle.net_run.specs.Calls.{Arguments, passings_at}
 use Rattle.net_run.specs.Expressions as target
 use Rattle.net_run.specs.Lines.{NetFrame, NetLine, scope_of}
 use Rattle.net_run.specs.Making.{Jobs}
@@ -32,8 +35,8 @@ use Rattle.written_trees.specs.Library.{low_at}
 use Rattle.written_trees.specs.Names.{Scope, procedure_path}
 use Rattle.run_matches.specs.Agreeing.{Agrees}
 use Rattle.run_matches.specs.CoveredVariables.{covers_type}
-use Rattle.run_matches.specs.CoveredExprs.{Uses, covers_array, covers_bounded, covers_exprs, covers_library, is_bound, covers_operator, covers_expr, covers_passed, covers_place, has_scalar, is_passable, is_variable}
-use Rattle.run_matches.specs.Covered.{is_referred, suits_array, suits_group, suits_passed, hands_argument, hands_passed, is_item}
+use Rattle.run_matches.specs.CoveredExprs.{Uses, covers_array, covers_base, covers_bounded, covers_exprs, covers_library, is_bound, covers_operator, covers_expr, covers_group, covers_passed, covers_place, has_scalar, is_passable, is_variable, is_without_object}
+use Rattle.run_matches.specs.Covered.{is_referred, suits_array, suits_group, suits_passed, hands_argument, hands_passed, is_group_field, is_item}
 use Rattle.run_matches.specs.Likeness.{are_same}
 use Rattle.run_matches.specs.Maps.{World}
 use Rattle.run_matches.specs.Match.{MemoryMatch}
@@ -42,31 +45,34 @@ use Rattle.run_matches.specs.Upgrades.{Upgrade, runnable_of}
 use Rattle.run_matches.specs.Runs.{CallsAgree}
 use Rattle.run_statements.specs.Fitting.{FitsPassed}
 use Rattle.run_statements.specs.Frames.{AllCalled, AllCalledAll, AllCalledFor, CanCall, Demands, demands, ScalarMatch, PlainMatch, IsOpen, context_of, AreReadable, passing_at, passing_by, IsOne}
+use Rattle.run_statements.specs.Groups.{ValueMatch}
 use Rattle.run_statements.specs.Written.{Passes}
 use Rattle.row_laws.proofs.Stated as rows
 use Rattle.run_matches.specs.Formed.{are_formed, are_longs, has_elements, types_of, is_row_of_one, is_row_of_two, passed_are_formed, is_formed}
 use Rattle.agreeing_laws.proofs.Agreeing.{agrees_gives}
 use Rattle.expression_laws.specs.Calls.{ArgumentsMatch, Stands, no_arguments}
-use Rattle.expression_laws.specs.Images.{HaveImages}
 use Rattle.expression_laws.proofs.Types.{both_true, covered_type, covered_typed}
 use Rattle.expression_laws.proofs.Checks.{TermMatch, term_agrees, plain_agrees}
 use Rattle.expression_laws.proofs.Conversions.{formed_constant, constant_agrees, conversion_agrees}
 use Rattle.expression_laws.proofs.Arguments.{stands_later}
 use Rattle.expression_laws.proofs.Calls.{call_value_agrees, callee_is, no_copy}
 use Rattle.expression_laws.proofs.FieldValues.{scalar_field_agrees}
-use Rattle.expression_laws.proofs.GroupArguments.{place_given}
+use Rattle.expression_laws.proofs.GroupArguments.{group_goes, place_given}
+use Rattle.expression_laws.proofs.GroupCalls.{group_value_agrees}
+use Rattle.expression_laws.proofs.FieldReferences.{field_passed}
+use Rattle.expression_laws.specs.Statements.{ParametersAreSound}
 use Rattle.expression_laws.proofs.Handed.{scalar_lasts, taken_agrees}
 use Rattle.expression_laws.proofs.Handled.{Handles}
-use Rattle.expression_laws.proofs.LastingImages.{images_later}
 use Rattle.expression_laws.proofs.Library.{by_either, library_agrees}
 use Rattle.expression_laws.proofs.IndexRows.{index_is_row}
 use Rattle.expression_laws.proofs.Elements.{IndexesLike, index_agrees, next_agrees}
 use Rattle.expression_laws.proofs.ElementValues.{element_agrees, element_value}
 use Rattle.expression_laws.proofs.ErrNumbers.{err_number_agrees}
-use Rattle.expression_laws.proofs.References.{IsPassed, further, here, passed_by, reference_agrees, scalar_passed}
+use Rattle.expression_laws.proofs.References.{IsPassed, or_true, further, here, passed_by, reference_agrees, scalar_passed}
 use Rattle.expression_laws.proofs.Temporaries.{conversion_given, conversion_goes, value_goes}
 use Rattle.expression_laws.proofs.Variables.{variable_agrees}
-use Rattle.expression_laws.proofs.WrittenValues.{exp_handles}
+use Rattle.expression_laws.proofs.Withs.{HavePlaces, places_giving, places_later}
+use Rattle.expression_laws.proofs.WrittenValues.{called_handles, exp_handles}
 use Rattle.expression_laws.proofs.RowsAgree.{any_same}
 use Rattle.expression_laws.proofs.Operators.{binary_agrees, formed_held, same_operator, same_unary, typed_binary, typed_unary, unary_agrees}
 use Rattle.expression_laws.proofs.ArrayUses.{AllLead, AllLong, all_long, bounded_by, from_none, in_two, in_two_more, indexed_by}
@@ -82,10 +88,14 @@ one_right : (xs ys : List Ty) (t : Ty) → IsOne ys t → IsOne (xs ++ ys) t
 one_right [] ys t o = o
 one_right (x ∷ xs) ys t o = inr (one_right xs ys t o)
 
+pub or_false : (a : Bool) → (a || false) ≡ true → a ≡ true
+or_false true h = refl
+or_false false h = h
+
 module _ (U : Upgrade) (p : ℕ) (f : SourceFrame) (g : NetFrame) (oracle : SourceCalls) (net_oracle : Jobs)
     (l : SourceLine) (k : NetLine) (c : Code) (T : Scope) (uses : Uses) (same_declarations : T.declarations ≡ U.program.declarations)
     (opened : IsOpen (scope_of U.written c g k)) (readable : AreReadable U T uses) (leads : AllLead (scope_of U.written c g k) T uses)
-    (agree : CallsAgree U (Passes U) oracle net_oracle) where
+    (agree : CallsAgree U (Passes U) oracle net_oracle) (sound : ParametersAreSound U) where
   abbrev C : Context
   C = context_of U oracle p f l
 
@@ -98,17 +108,35 @@ module _ (U : Upgrade) (p : ℕ) (f : SourceFrame) (g : NetFrame) (oracle : Sour
   abbrev Can : Pledge → ℕ → Passed → Type 0
   Can K q called_with = CanCall U K (scope_of U.written c g k) T q called_with
 
+  abbrev Have : Pledge → World → Type 0
+  Have K w = HavePlaces U p f g oracle net_oracle l k c T uses K w
+
   abbrev Asked : Pledge → Demands
-  Asked K = demands U K (scope_of U.written c g k) T
+  Asked K = demands U K p l k (scope_of U.written c g k) T
 
   -- what is written for a value without an address
   handles : (K : Pledge) (e : Expr) → AllCalled (Asked K) e → covers_expr uses e ≡ true → is_formed e ≡ true → has_address T.declarations (kept e) ≡ false
       → Handles S (exp_of T e)
   handles K e can covers formed none =
-      exp_handles U K (scope_of U.written c g k) opened T uses same_declarations e can covers formed (ap (λ E. has_address E (kept e)) (sym same_declarations) ∙ none)
+      exp_handles U K p l k (scope_of U.written c g k) opened T uses same_declarations e can covers formed (ap (λ E. has_address E (kept e)) (sym same_declarations) ∙ none)
+
+  -- a call of a user type whose arguments agree
+  call_gives : (K : Pledge) (t : ℕ) (q : ProcId) (qualified : Bool) (args : Passed) (w : World) → MemoryMatch U w → Stands U K w f g → (can : Can K q.0 args)
+      → Agrees U (giving K (given_types args)) w (ArgumentsMatch U (giving K (given_types args)) q.0 0) (source.args_of C q.0 0 args w.src)
+      (target.args_of S net_oracle (passings_at U.written (Some can.number)) (passed_of T q.0 0 args) w.net)
+      → Agrees U K w (ValueMatch U (user_shapes U.program.declarations t))
+      (source.value_of C (typed (types.user t) (call q qualified no_object args)) w.src) (written (typed (types.user t) (call q qualified no_object args)) w)
+  call_gives K t q qualified args w start stands can given =
+      let ty : Ty = types.user t in
+      let parted = call_of (path (procedure_path T qualified q.0)) (passed_of T q.0 0 args) in
+      subst (λ x. Agrees U K w (ValueMatch U (user_shapes U.program.declarations t)) (source.value_of C (typed ty (call q qualified no_object args)) w.src)
+      (target.value_of S net_oracle x w.net))
+      (sym (callee_is T ty q qualified args (ap (λ D. is_property D q.0) same_declarations ∙ can.plain)))
+      (group_value_agrees U K p f oracle l t q qualified args w (target.address_of S net_oracle parted w.net) start
+      (call_made U p f g oracle net_oracle l k c T agree K ty q qualified args w start stands can given))
 
   mutual
-    pub expression_agrees : (K : Pledge) (e : Expr) (w : World) → MemoryMatch U w → HaveImages U K w f S T uses → Stands U K w f g → AllCalled (Asked K) e
+    pub expression_agrees : (K : Pledge) (e : Expr) (w : World) → MemoryMatch U w → Have K w → Stands U K w f g → AllCalled (Asked K) e
         → covers_expr uses e ≡ true → is_formed e ≡ true → Agrees U K w (ScalarMatch U (type_at e)) (source.value_of C e w.src) (written e w)
     expression_agrees K (typed ty (constant x origin)) w start have stands can covers formed =
         let both = both_true (covers_type ty) true covers in
@@ -116,7 +144,7 @@ module _ (U : Upgrade) (p : ℕ) (f : SourceFrame) (g : NetFrame) (oracle : Sour
         (constant_agrees U K S net_oracle opened w ty x origin (formed_constant ty x origin both.0 formed) start)
     expression_agrees K (typed ty (variable v qualified)) w start have stands can covers formed =
         let both = both_true (covers_type ty) (uses.scalar v) covers in
-        variable_agrees U K p f g oracle net_oracle l k c T uses ty v qualified w same_declarations readable have both.1 both.0 start
+        variable_agrees U K p f g oracle net_oracle l k c T uses ty v qualified w same_declarations readable have.variables both.1 both.0 start
     expression_agrees K (typed ty (unary o e)) w start have stands can covers formed =
         let both = both_true (covers_type ty) (covers_expr uses e) covers in
         let forms = both_true (is_row_of_one ty (write_unary o (type_at e))) (is_formed e) formed in
@@ -151,7 +179,7 @@ module _ (U : Upgrade) (p : ℕ) (f : SourceFrame) (g : NetFrame) (oracle : Sour
         start (plain_agrees U K C d (type_at d) w (written d w) start (expression_agrees K d w start have stands can.0 operands.0 inner.0))
         (λ v later.
         plain_agrees U K C e (type_at e) v (written e v) later.match
-        (expression_agrees K e v later.match (images_later U K w v f S T uses start later have) (stands_later U K w v f g later stands) can.1 operands.1 inner.1))))
+        (expression_agrees K e v later.match (places_later U p f g oracle net_oracle l k c T uses K w v start later have) (stands_later U K w v f g later stands) can.1 operands.1 inner.1))))
     expression_agrees K (typed ty (convert to (typed from t))) w start have stands can covers formed =
         let both = both_true (covers_type ty) (covers_type to && covers_expr uses (typed from t)) covers in
         let operand = both_true (covers_type to) (covers_expr uses (typed from t)) both.1 in
@@ -160,9 +188,9 @@ module _ (U : Upgrade) (p : ℕ) (f : SourceFrame) (g : NetFrame) (oracle : Sour
         (conversion_agrees U K S net_oracle opened C from to t (exp_of T (typed from t)) w (covered_type uses (typed from t) operand.1) forms.1 forms.0 start
         (plain_agrees U K C (typed from t) from w (written (typed from t) w) start (expression_agrees K (typed from t) w start have stands can operand.1 forms.1)))
     expression_agrees K (typed ty (field e i)) w start have stands can covers formed =
-        let both = both_true (covers_type ty) (has_scalar uses (type_at e) i && covers_place uses e) covers in
-        let inner = both_true (has_scalar uses (type_at e) i) (covers_place uses e) both.1 in
-        scalar_field_agrees U K p f g oracle net_oracle l k c T uses same_declarations readable w have start ty e i both.0 inner.0 inner.1
+        let both = both_true (covers_type ty) (has_scalar uses (type_at e) i && covers_base uses e) covers in
+        let inner = both_true (has_scalar uses (type_at e) i) (covers_base uses e) both.1 in
+        scalar_field_agrees U K p f g oracle net_oracle l k c T uses same_declarations readable w have start ty e i both.0 inner.0 can inner.1
     expression_agrees K (typed ty (element e indexes)) w start have stands can covers formed =
         let both = both_true (covers_type ty) (covers_array uses e && covers_exprs uses indexes) covers in
         let inner = both_true (covers_array uses e) (covers_exprs uses indexes) both.1 in
@@ -171,7 +199,7 @@ module _ (U : Upgrade) (p : ℕ) (f : SourceFrame) (g : NetFrame) (oracle : Sour
         let longs = all_long (types_of indexes) rest.0 in
         element_value U K C ty both.0 e indexes S net_oracle w (target.reach S net_oracle false (exp_of T (typed ty (element e indexes))) w.net) start
         (element_agrees U K C e ty indexes w (target.reach S net_oracle false (exp_of T (typed ty (element e indexes))) w.net) start
-        (indexed_by U p f g oracle net_oracle l k c T uses same_declarations opened readable leads K ty e indexes w start have inner.0 forms.0 can.0
+        (indexed_by U p f g oracle net_oracle l k c T uses same_declarations opened readable leads K ty e indexes w start have.variables inner.0 forms.0 can.0
         (indexes_agree K e 0 indexes w (from_none (types_of indexes) longs.1) longs.0 start have stands can.1 inner.1 rest.1)))
     expression_agrees K (typed ty (call q qualified (of_object e) args)) w start have stands can covers formed =
         absurd (cc (both_true (covers_type ty) false covers).1)
@@ -180,8 +208,8 @@ module _ (U : Upgrade) (p : ℕ) (f : SourceFrame) (g : NetFrame) (oracle : Sour
         let parted = call_of (path (procedure_path T qualified q.0)) (passed_of T q.0 0 args) in
         let ts = given_types args in
         let called = call_made U p f g oracle net_oracle l k c T agree K ty q qualified args w start stands can.0
-        (passed_agree (giving K ts) q.0 0 args (passings_at U.written (Some can.0.number)) w (from_first U p f g oracle net_oracle l k c T agree K can.0) can.0.suits can.0.hands start
-        (images_giving U K ts w start f S T uses have) (stands_giving U K ts w start f g stands) (called_giving_for U K S T ts args can.0.inside can.1) both.1 formed
+        (passed_agree (giving K ts) q.0 0 can.0.passes args (passings_at U.written (Some can.0.number)) w (from_first U p f g oracle net_oracle l k c T agree K can.0) can.0.suits can.0.hands start
+        (places_giving U p f g oracle net_oracle l k c T uses K ts w start have) (stands_giving U K ts w start f g stands) (called_giving_for U K S T ts p l k args can.0.inside can.1) both.1 formed
         can.0.ranks (λ t o. inr o)) in
         subst (λ x. Agrees U K w (ScalarMatch U ty) (source.value_of C (typed ty (call q qualified no_object args)) w.src) (target.value_of S net_oracle x w.net))
         (sym (callee_is T ty q qualified args (ap (λ D. is_property D q.0) same_declarations ∙ can.0.plain)))
@@ -191,34 +219,34 @@ module _ (U : Upgrade) (p : ℕ) (f : SourceFrame) (g : NetFrame) (oracle : Sour
         let both = both_true (covers_type ty) ((covers_library function && covers_exprs uses args) || (is_bound function && covers_bounded uses args)) covers in
         by_either (covers_library function && covers_exprs uses args) (is_bound function && covers_bounded uses args) both.1
         (λ values. library_agrees U K S net_oracle opened C T uses ty function args w start both.0 values formed tt)
-        (λ bounds. bounded_by U p f g oracle net_oracle l k c T uses same_declarations opened readable K ty function args w start have bounds formed)
+        (λ bounds. bounded_by U p f g oracle net_oracle l k c T uses same_declarations opened readable K ty function args w start have.variables bounds formed)
     expression_agrees K (typed ty (library function (next_expr d no_exprs))) w start have stands can covers formed =
         let args : Exprs = (next_expr d no_exprs) in
         let both = both_true (covers_type ty) ((covers_library function && covers_exprs uses args) || (is_bound function && covers_bounded uses args)) covers in
         by_either (covers_library function && covers_exprs uses args) (is_bound function && covers_bounded uses args) both.1
-        (λ values. library_agrees U K S net_oracle opened C T uses ty function args w start both.0 values formed ((λ v later h i. expression_agrees K d v later.match (images_later U K w v f S T uses start later have) (stands_later U K w v f g later stands) can.1.0 h i), tt))
-        (λ bounds. bounded_by U p f g oracle net_oracle l k c T uses same_declarations opened readable K ty function args w start have bounds formed)
+        (λ values. library_agrees U K S net_oracle opened C T uses ty function args w start both.0 values formed ((λ v later h i. expression_agrees K d v later.match (places_later U p f g oracle net_oracle l k c T uses K w v start later have) (stands_later U K w v f g later stands) can.1.0 h i), tt))
+        (λ bounds. bounded_by U p f g oracle net_oracle l k c T uses same_declarations opened readable K ty function args w start have.variables bounds formed)
     expression_agrees K (typed ty (library function (next_expr d (next_expr e no_exprs)))) w start have stands can covers formed =
         let args : Exprs = (next_expr d (next_expr e no_exprs)) in
         let both = both_true (covers_type ty) ((covers_library function && covers_exprs uses args) || (is_bound function && covers_bounded uses args)) covers in
         by_either (covers_library function && covers_exprs uses args) (is_bound function && covers_bounded uses args) both.1
         (λ values. library_agrees U K S net_oracle opened C T uses ty function args w start both.0 values formed (
-          (λ v later h i. expression_agrees K d v later.match (images_later U K w v f S T uses start later have) (stands_later U K w v f g later stands) can.1.0 h i),
-          ((λ v later h i. expression_agrees K e v later.match (images_later U K w v f S T uses start later have) (stands_later U K w v f g later stands) can.1.1.0 h i), tt),
+          (λ v later h i. expression_agrees K d v later.match (places_later U p f g oracle net_oracle l k c T uses K w v start later have) (stands_later U K w v f g later stands) can.1.0 h i),
+          ((λ v later h i. expression_agrees K e v later.match (places_later U p f g oracle net_oracle l k c T uses K w v start later have) (stands_later U K w v f g later stands) can.1.1.0 h i), tt),
         ))
-        (λ bounds. bounded_by U p f g oracle net_oracle l k c T uses same_declarations opened readable K ty function args w start have bounds formed)
+        (λ bounds. bounded_by U p f g oracle net_oracle l k c T uses same_declarations opened readable K ty function args w start have.variables bounds formed)
     expression_agrees K (typed ty (library function (next_expr d (next_expr e (next_expr x rest))))) w start have stands can covers formed =
         let args : Exprs = (next_expr d (next_expr e (next_expr x rest))) in
         let both = both_true (covers_type ty) ((covers_library function && covers_exprs uses args) || (is_bound function && covers_bounded uses args)) covers in
         by_either (covers_library function && covers_exprs uses args) (is_bound function && covers_bounded uses args) both.1
         (λ values. library_agrees U K S net_oracle opened C T uses ty function args w start both.0 values formed (
-          (λ v later h i. expression_agrees K d v later.match (images_later U K w v f S T uses start later have) (stands_later U K w v f g later stands) can.1.0 h i),
+          (λ v later h i. expression_agrees K d v later.match (places_later U p f g oracle net_oracle l k c T uses K w v start later have) (stands_later U K w v f g later stands) can.1.0 h i),
           (
-            (λ v later h i. expression_agrees K e v later.match (images_later U K w v f S T uses start later have) (stands_later U K w v f g later stands) can.1.1.0 h i),
-            ((λ v later h i. expression_agrees K x v later.match (images_later U K w v f S T uses start later have) (stands_later U K w v f g later stands) can.1.1.1.0 h i), tt),
+            (λ v later h i. expression_agrees K e v later.match (places_later U p f g oracle net_oracle l k c T uses K w v start later have) (stands_later U K w v f g later stands) can.1.1.0 h i),
+            ((λ v later h i. expression_agrees K x v later.match (places_later U p f g oracle net_oracle l k c T uses K w v start later have) (stands_later U K w v f g later stands) can.1.1.1.0 h i), tt),
           ),
         ))
-        (λ bounds. bounded_by U p f g oracle net_oracle l k c T uses same_declarations opened readable K ty function args w start have bounds formed)
+        (λ bounds. bounded_by U p f g oracle net_oracle l k c T uses same_declarations opened readable K ty function args w start have.variables bounds formed)
     expression_agrees K (typed ty (new_object class)) w start have stands can covers formed = absurd (cc formed)
     expression_agrees K (typed ty me) w start have stands can covers formed = absurd (cc formed)
     expression_agrees K (typed ty (with_object root)) w start have stands can covers formed = absurd (cc formed)
@@ -229,7 +257,7 @@ module _ (U : Upgrade) (p : ℕ) (f : SourceFrame) (g : NetFrame) (oracle : Sour
     expression_agrees K (typed ty (loose e rules)) w start have stands can covers formed = absurd (cc formed)
 
     -- an element, as a place
-    item_agrees : (K : Pledge) (e : Expr) (w : World) → MemoryMatch U w → HaveImages U K w f S T uses → Stands U K w f g → AllCalled (Asked K) e
+    item_agrees : (K : Pledge) (e : Expr) (w : World) → MemoryMatch U w → Have K w → Stands U K w f g → AllCalled (Asked K) e
         → covers_expr uses e ≡ true → is_formed e ≡ true → ItemAgrees U C S net_oracle T K w e
     item_agrees K (typed ty (element e indexes)) w start have stands can covers formed =
         let both = both_true (covers_type ty) (covers_array uses e && covers_exprs uses indexes) covers in
@@ -238,13 +266,13 @@ module _ (U : Upgrade) (p : ℕ) (f : SourceFrame) (g : NetFrame) (oracle : Sour
         let rest = both_true (are_longs (types_of indexes)) (are_formed indexes) forms.1 in
         let longs = all_long (types_of indexes) rest.0 in
         element_agrees U K C e ty indexes w (target.reach S net_oracle false (exp_of T (typed ty (element e indexes))) w.net) start
-        (indexed_by U p f g oracle net_oracle l k c T uses same_declarations opened readable leads K ty e indexes w start have inner.0 forms.0 can.0
+        (indexed_by U p f g oracle net_oracle l k c T uses same_declarations opened readable leads K ty e indexes w start have.variables inner.0 forms.0 can.0
         (indexes_agree K e 0 indexes w (from_none (types_of indexes) longs.1) longs.0 start have stands can.1 inner.1 rest.1))
     item_agrees K (typed ty _) w start have stands can covers formed = tt
 
     -- indexes from a dimension on
     pub indexes_agree : (K : Pledge) (a : Expr) (d : ℕ) (indexes : Exprs) (w : World) → d + length (types_of indexes) ≤ 2 → AllLong (types_of indexes) → MemoryMatch U w
-        → HaveImages U K w f S T uses → Stands U K w f g → AllCalledAll (Asked K) indexes → covers_exprs uses indexes ≡ true → are_formed indexes ≡ true
+        → Have K w → Stands U K w f g → AllCalledAll (Asked K) indexes → covers_exprs uses indexes ≡ true → are_formed indexes ≡ true
         → Agrees U K w (λ u zs ys. IndexesLike (λ j. low_at T a j) d (length (types_of indexes)) zs ys) (source.indexes_of C indexes w.src)
         (target.values_of S net_oracle (indexes_of T a d indexes) w.net)
     indexes_agree K a d no_exprs w few longs start have stands can covers formed =
@@ -258,17 +286,17 @@ module _ (U : Upgrade) (p : ℕ) (f : SourceFrame) (g : NetFrame) (oracle : Sour
         (subst (λ t. Agrees U K w (PlainMatch U t) (source.scalar_value C e w.src) (written e w)) longs.0
         (plain_agrees U K C e (type_at e) w (written e w) start (expression_agrees K e w start have stands can.0 both.0 forms.0))))
         (λ v later.
-        indexes_agree K a (suc d) rest v (in_two_more d (type_at e) (types_of rest) few) longs.1 later.match (images_later U K w v f S T uses start later have)
+        indexes_agree K a (suc d) rest v (in_two_more d (type_at e) (types_of rest) few) longs.1 later.match (places_later U p f g oracle net_oracle l k c T uses K w v start later have)
         (stands_later U K w v f g later stands) can.1 both.1 forms.1)
 
     -- arguments from a place on, as they are taken
-    pub passed_agree : (K : Pledge) (q i : ℕ) (args : Passed) (modes : List NetPassing) (w : World)
+    pub passed_agree : (K : Pledge) (q i : ℕ) (passes : Passes U q) (args : Passed) (modes : List NetPassing) (w : World)
         → ((n : ℕ) → passing_at modes n ≡ passing_by (takes_reference U.program.declarations q (i + n))) → suits_passed U.program.declarations q i args ≡ true
-        → hands_passed U.program q i args ≡ true → MemoryMatch U w → HaveImages U K w f S T uses → Stands U K w f g → AllCalledFor (Asked K) args → covers_passed uses args ≡ true
+        → hands_passed U.program q i args ≡ true → MemoryMatch U w → Have K w → Stands U K w f g → AllCalledFor (Asked K) args → covers_passed uses args ≡ true
         → passed_are_formed args ≡ true → FitsPassed U q i args → ((t : Ty) → IsOne (given_types args) t → K.keeps t)
         → Agrees U K w (ArgumentsMatch U K q i) (source.args_of C q i args w.src) (target.args_of S net_oracle modes (passed_of T q i args) w.net)
-    passed_agree K q i no_passed modes w takes suits hands start have stands can covers formed fits kept = agrees_gives U K w (ArgumentsMatch U K q i) [] [] start (no_arguments i w)
-    passed_agree K q i (next_passed (by_reference e) rest) modes w takes suits hands start have stands can covers formed fits kept =
+    passed_agree K q i passes no_passed modes w takes suits hands start have stands can covers formed fits kept = agrees_gives U K w (ArgumentsMatch U K q i) [] [] start (no_arguments i w)
+    passed_agree K q i passes (next_passed (by_reference e) rest) modes w takes suits hands start have stands can covers formed fits kept =
         let D = U.program.declarations in
         let both = both_true ((is_passable uses e && covers_expr uses e) || (covers_array uses e || covers_place uses e)) (covers_passed uses rest) covers in
         let passed : IsPassed uses e = passed_by uses e both.0 in
@@ -282,21 +310,21 @@ module _ (U : Upgrade) (p : ℕ) (f : SourceFrame) (g : NetFrame) (oracle : Sour
         let keep = λ (t : Ty) (o : IsOne (given_types rest) t). kept t (one_right (given_by (by_reference e)) (given_types rest) t o) in
         let mode : target.first_passing modes ≡ passing.Reference =
         takes 0 ∙ ap (λ n. passing_by (takes_reference D q n)) (here i) ∙ ap passing_by one.0 in
-        by_test (is_variable e) (λ b. is_variable e ≡ b → (b || (is_conversion e || is_item e)) ≡ true
+        by_test (is_variable e) (λ b. is_variable e ≡ b → (b || (is_conversion e || (is_item e || is_group_field e))) ≡ true
         → Agrees U K w (ArgumentsMatch U K q i) (source.args_of C q i (next_passed (by_reference e) rest) w.src)
         (target.args_of S net_oracle modes (passed_of T q i (next_passed (by_reference e) rest)) w.net))
         (λ yes is h.
         reference_agrees U K p f g oracle net_oracle l k c T uses same_declarations readable q i w ((runnable_of U).quiet q i) (target.first_passing modes)
         (takes_reference T.declarations q i) e (source.args_of C q (suc i) rest) (target.args_of S net_oracle (target.rest_passings modes) (passed_of T q (suc i) rest))
-        mode is passed fits.0 types.0 hand.0 start have
-        (passed_agree K q (suc i) rest (target.rest_passings modes) w next fit.1 hand.1 start have stands can.1 both.1 forms.1 fits.1 keep))
+        mode is passed fits.0 types.0 hand.0 start have.variables
+        (passed_agree K q (suc i) passes rest (target.rest_passings modes) w next fit.1 hand.1 start have stands can.1 both.1 forms.1 fits.1 keep))
         (λ no is h.
-        let scalar : covers_expr uses e ≡ true = scalar_passed uses e passed is h in
-        let covered : covers_type (type_at e) ≡ true = covered_type uses e scalar in
-        by_test (is_conversion e) (λ b. is_conversion e ≡ b → (b || is_item e) ≡ true
+        by_test (is_conversion e) (λ b. is_conversion e ≡ b → (b || (is_item e || is_group_field e)) ≡ true
         → Agrees U K w (ArgumentsMatch U K q i) (source.args_of C q i (next_passed (by_reference e) rest) w.src)
         (target.args_of S net_oracle modes (passed_of T q i (next_passed (by_reference e) rest)) w.net))
         (λ converts is_one any.
+        let scalar : covers_expr uses e ≡ true = scalar_passed uses e passed is (ap (λ b. b || is_item e) is_one) in
+        let covered : covers_type (type_at e) ≡ true = covered_type uses e scalar in
         taken_agrees U K q i (ScalarMatch U (type_at e)) (scalar_lasts U K q i (type_at e)) w (source.value_of C e w.src) (target.value_of S net_oracle (exp_of T e) w.net)
         (source.argument_of C ((runnable_of U).quiet q i) (by_reference e) w.src)
         (target.given S net_oracle (target.first_passing modes)
@@ -308,18 +336,29 @@ module _ (U : Upgrade) (p : ℕ) (f : SourceFrame) (g : NetFrame) (oracle : Sour
         start
         (expression_agrees K e w start have stands can.0 scalar forms.0)
         (λ v later.
-        passed_agree K q (suc i) rest (target.rest_passings modes) v next fit.1 hand.1 later.match (images_later U K w v f S T uses start later have)
+        passed_agree K q (suc i) passes rest (target.rest_passings modes) v next fit.1 hand.1 later.match (places_later U p f g oracle net_oracle l k c T uses K w v start later have)
         (stands_later U K w v f g later stands) can.1 both.1 forms.1 fits.1 keep))
-        (λ other is_none item.
+        (λ other is_none left.
+        by_test (is_item e) (λ b. is_item e ≡ b → (b || is_group_field e) ≡ true
+        → Agrees U K w (ArgumentsMatch U K q i) (source.args_of C q i (next_passed (by_reference e) rest) w.src)
+        (target.args_of S net_oracle modes (passed_of T q i (next_passed (by_reference e) rest)) w.net))
+        (λ here item any.
+        let scalar : covers_expr uses e ≡ true = scalar_passed uses e passed is (ap (λ b. is_conversion e || b) item ∙ or_true (is_conversion e)) in
         item_passed U C S net_oracle T K q i w ((runnable_of U).quiet q i) (target.first_passing modes) (takes_reference T.declarations q i) e
         (source.args_of C q (suc i) rest) (target.args_of S net_oracle (target.rest_passings modes) (passed_of T q (suc i) rest)) mode item
         (λ t o. kept t (one_left (given_by (by_reference e)) (given_types rest) t o)) hand.0 start (item_agrees K e w start have stands can.0 scalar forms.0)
         (λ v later.
-        passed_agree K q (suc i) rest (target.rest_passings modes) v next fit.1 hand.1 later.match (images_later U K w v f S T uses start later have)
-        (stands_later U K w v f g later stands) can.1 both.1 forms.1 fits.1 keep)) refl h) refl referred.0
-    passed_agree K q i (next_passed (by_value e) rest) modes w takes suits hands start have stands can covers formed fits kept =
+        passed_agree K q (suc i) passes rest (target.rest_passings modes) v next fit.1 hand.1 later.match (places_later U p f g oracle net_oracle l k c T uses K w v start later have)
+        (stands_later U K w v f g later stands) can.1 both.1 forms.1 fits.1 keep))
+        (λ none no_item is_field.
+        field_passed U K p f g oracle net_oracle l k c T uses same_declarations readable q i w start have ((runnable_of U).quiet q i) (target.first_passing modes)
+        (takes_reference T.declarations q i) (source.args_of C q (suc i) rest)
+        (target.args_of S net_oracle (target.rest_passings modes) (passed_of T q (suc i) rest)) mode
+        (passed_agree K q (suc i) passes rest (target.rest_passings modes) w next fit.1 hand.1 start have stands can.1 both.1 forms.1 fits.1 keep)
+        e is_field passed can.0) refl left) refl h) refl referred.0
+    passed_agree K q i passes (next_passed (by_value e) rest) modes w takes suits hands start have stands can covers formed fits kept =
         let D = U.program.declarations in
-        let both = both_true (covers_expr uses e || covers_place uses e) (covers_passed uses rest) covers in
+        let both = both_true (covers_expr uses e || covers_group uses e) (covers_passed uses rest) covers in
         let forms = both_true (is_formed e) (passed_are_formed rest) formed in
         let fit = both_true (suits_group D q i e) (suits_passed D q (suc i) rest) suits in
         let hand = both_true true (hands_passed U.program q (suc i) rest) hands in
@@ -327,9 +366,9 @@ module _ (U : Upgrade) (p : ℕ) (f : SourceFrame) (g : NetFrame) (oracle : Sour
         let next = λ (n : ℕ). takes (suc n) ∙ ap (λ m. passing_by (takes_reference D q m)) (further i n) in
         let mode : target.first_passing modes ≡ passing_by (takes_reference D q i) = takes 0 ∙ ap (λ n. passing_by (takes_reference D q n)) (here i) in
         let more = λ (v : World) (later : Later U K w v).
-        passed_agree K q (suc i) rest (target.rest_passings modes) v next fit.1 hand.1 later.match (images_later U K w v f S T uses start later have)
+        passed_agree K q (suc i) passes rest (target.rest_passings modes) v next fit.1 hand.1 later.match (places_later U p f g oracle net_oracle l k c T uses K w v start later have)
         (stands_later U K w v f g later stands) can.1 both.1 forms.1 fits.1 keep in
-        by_either (covers_expr uses e) (covers_place uses e) both.0
+        by_either (covers_expr uses e) (covers_group uses e) both.0
         (λ scalar.
         taken_agrees U K q i (ScalarMatch U (type_at e)) (scalar_lasts U K q i (type_at e)) w (source.value_of C e w.src) (target.value_of S net_oracle (exp_of T e) w.net)
         (source.argument_of C ((runnable_of U).quiet q i) (by_value e) w.src)
@@ -339,6 +378,49 @@ module _ (U : Upgrade) (p : ℕ) (f : SourceFrame) (g : NetFrame) (oracle : Sour
         (value_goes S net_oracle T e (no_copy T.facts (type_at e) (is_copied e) (covered_type uses e scalar)) w.net (handles K e can.0 scalar forms.0)
         (takes_reference D q i) (target.first_passing modes) (takes_reference T.declarations q i) mode (ap (λ E. takes_reference E q i) same_declarations))
         start (expression_agrees K e w start have stands can.0 scalar forms.0) more)
-        (λ place.
-        place_given U K p f g oracle net_oracle l k c T uses same_declarations readable w start have q i ((runnable_of U).quiet q i) (target.first_passing modes) e
-        (source.args_of C q (suc i) rest) (target.args_of S net_oracle (target.rest_passings modes) (passed_of T q (suc i) rest)) mode place more)
+        (λ of_group.
+        group_passed K q i e ((runnable_of U).quiet q i) (target.first_passing modes) (source.args_of C q (suc i) rest)
+        (target.args_of S net_oracle (target.rest_passings modes) (passed_of T q (suc i) rest)) w mode passes fit.0 start have stands can.0 of_group forms.0 more)
+
+    -- a user type as an argument by value
+    group_passed : (K : Pledge) (q i : ℕ) (e : Expr) (quiet : Bool) (mode : NetPassing) (rest : Memory → Outcome Memory (List SourceGiven))
+        (rest' : net.Memory → Outcome net.Memory Arguments) (w : World) → mode ≡ passing_by (takes_reference U.program.declarations q i) → Passes U q
+        → suits_group U.program.declarations q i e ≡ true → MemoryMatch U w → Have K w → Stands U K w f g → AllCalled (Asked K) e → covers_group uses e ≡ true
+        → is_formed e ≡ true → ((v : World) → Later U K w v → Agrees U K v (ArgumentsMatch U K q (suc i)) (rest v.src) (rest' v.net))
+        → Agrees U K w (ArgumentsMatch U K q i)
+        (then (source.argument_of C quiet (by_value e) w.src) (λ g w. then (rest w) (λ gs w. gives [] (g ∷ gs) w)))
+        (then (target.given S net_oracle mode
+        (target.reach S net_oracle false (argument_exp T (takes_reference T.declarations q i) (by_value e) (exp_of T e)) w.net))
+        (λ g w. then (rest' w) (λ gs w. gives [] (g ∷ gs) w)))
+    group_passed K q i (typed (types.user t) (call r qualified no_object args)) quiet mode rest rest' w m passes suits start have stands can covers formed more =
+        group_goes U K p f g oracle net_oracle l k c T uses same_declarations readable w start have q i quiet mode t (call r qualified no_object args) rest rest' m
+        (sound q i t passes suits) (λ none. called_handles U K p l k S opened T uses same_declarations (types.user t) r qualified args can.0)
+        (call_gives K t r qualified args w start stands can.0
+        (passed_agree (giving K (given_types args)) r.0 0 can.0.passes args (passings_at U.written (Some can.0.number)) w
+        (from_first U p f g oracle net_oracle l k c T agree K can.0) can.0.suits can.0.hands start
+        (places_giving U p f g oracle net_oracle l k c T uses K (given_types args) w start have) (stands_giving U K (given_types args) w start f g stands)
+        (called_giving_for U K S T (given_types args) p l k args can.0.inside can.1) (both_true (uses.user t) (covers_passed uses args) covers).1 formed can.0.ranks (λ t o. inr o))) more
+    group_passed K q i (typed (types.user t) (variable v qualified)) quiet mode rest rest' w m passes suits start have stands can covers formed more =
+        place_given U K p f g oracle net_oracle l k c T uses same_declarations readable w start have q i quiet mode t (variable v qualified) rest rest' m can
+        (or_false (covers_place uses (typed (types.user t) (variable v qualified))) covers) more
+    group_passed K q i (typed (types.user t) (field d j)) quiet mode rest rest' w m passes suits start have stands can covers formed more =
+        place_given U K p f g oracle net_oracle l k c T uses same_declarations readable w start have q i quiet mode t (field d j) rest rest' m can
+        (or_false (covers_place uses (typed (types.user t) (field d j))) covers) more
+    group_passed K q i (typed _ (variable v qualified)) quiet mode rest rest' w m passes suits start have stands can covers formed more =
+        absurd (true≢false (sym covers))
+    group_passed K q i (typed _ (field d j)) quiet mode rest rest' w m passes suits start have stands can covers formed more = absurd (true≢false (sym covers))
+    group_passed K q i (typed (types.user t) (call r qualified (of_object d) args)) quiet mode rest rest' w m passes suits start have stands can covers formed more =
+        absurd (true≢false (sym (both_true (uses.user t) (is_without_object (of_object d) && covers_passed uses args) covers).1))
+    group_passed K q i (typed _ _) quiet mode rest rest' w m passes suits start have stands can covers formed more = absurd (true≢false (sym covers))
+
+  -- what a call gives that is of a user type
+  pub group_call : (K : Pledge) (t : ℕ) (q : ProcId) (qualified : Bool) (args : Passed) (w : World) → MemoryMatch U w → Have K w → Stands U K w f g
+      → AllCalled (Asked K) (typed (types.user t) (call q qualified no_object args)) → covers_passed uses args ≡ true → passed_are_formed args ≡ true
+      → Agrees U K w (ValueMatch U (user_shapes U.program.declarations t))
+      (source.value_of C (typed (types.user t) (call q qualified no_object args)) w.src) (written (typed (types.user t) (call q qualified no_object args)) w)
+  group_call K t q qualified args w start have stands can covers formed =
+      call_gives K t q qualified args w start stands can.0
+      (passed_agree (giving K (given_types args)) q.0 0 can.0.passes args (passings_at U.written (Some can.0.number)) w
+      (from_first U p f g oracle net_oracle l k c T agree K can.0) can.0.suits can.0.hands start
+      (places_giving U p f g oracle net_oracle l k c T uses K (given_types args) w start have) (stands_giving U K (given_types args) w start f g stands)
+      (called_giving_for U K S T (given_types args) p l k args can.0.inside can.1) covers formed can.0.ranks (λ t o. inr o))

@@ -25,22 +25,22 @@ use Rattle.written_trees.specs.Names.{Scope}
 use Rattle.run_matches.specs.Addresses.{Same}
 use Rattle.run_matches.specs.Agreeing.{Agrees}
 use Rattle.run_matches.specs.CoveredVariables.{covers_type}
-use Rattle.run_matches.specs.CoveredExprs.{Uses, covers_place, has_scalar, is_scalar_type}
+use Rattle.run_matches.specs.CoveredExprs.{Uses, covers_base, covers_place, has_scalar, is_scalar_type}
 use Rattle.run_matches.specs.Maps.{World}
 use Rattle.run_matches.specs.Match.{MemoryMatch}
 use Rattle.run_matches.specs.Pledges.{Pledge}
 use Rattle.run_matches.specs.SoundShapes.{IsField, IsSoundShape}
 use Rattle.run_matches.specs.Upgrades.{Upgrade}
-use Rattle.run_statements.specs.Frames.{AreReadable, ScalarMatch, context_of}
+use Rattle.run_statements.specs.Frames.{AllCalled, AreReadable, ScalarMatch, context_of, demands}
 use Rattle.run_statements.specs.Groups.{ValueMatch}
 use Rattle.agreeing_laws.proofs.Agreeing.{agrees_gives, agrees_outside, left_alone}
 use Rattle.row_laws.proofs.Composing.{after_nil}
-use Rattle.agreeing_laws.proofs.FieldPlaces.{place_reached}
+use Rattle.agreeing_laws.proofs.Members.{is_alone}
 use Rattle.memory_laws.proofs.Groups.{groups_are_read}
-use Rattle.expression_laws.specs.Images.{HaveImages}
 use Rattle.expression_laws.proofs.Checks.{provided_agrees, source_then}
-use Rattle.expression_laws.proofs.Places.{PlaceIs, field_is, missing, place_is, placed}
+use Rattle.expression_laws.proofs.Places.{base_is, field_is, place_alone, place_is}
 use Rattle.expression_laws.proofs.Variables.{same_agrees}
+use Rattle.expression_laws.proofs.Withs.{HavePlaces, PlaceIs, missing, placed}
 
 -- ---- scalar fields
 
@@ -61,7 +61,7 @@ scalar_declared U T uses readable s j (Some ty) is e = record { ty = ty; covers 
 
 module _ (U : Upgrade) (K : Pledge) (p : ℕ) (f : SourceFrame) (g : NetFrame) (oracle : SourceCalls) (net_oracle : Jobs) (l : SourceLine) (k : NetLine)
     (c : Code) (T : Scope) (uses : Uses) (same_declarations : T.declarations ≡ U.program.declarations) (readable : AreReadable U T uses) (w : World)
-    (have : HaveImages U K w f (scope_of U.written c g k) T uses) where
+    (have : HavePlaces U p f g oracle net_oracle l k c T uses K w) where
   abbrev C : Context
   C = context_of U oracle p f l
 
@@ -72,17 +72,18 @@ module _ (U : Upgrade) (K : Pledge) (p : ℕ) (f : SourceFrame) (g : NetFrame) (
   D = U.program.declarations
 
   abbrev Stands : Ty → Expr → Type 0
-  Stands ty e = PlaceIs U K p f g oracle net_oracle l k c T uses same_declarations readable w ty e
+  Stands ty e = PlaceIs U K C S net_oracle T w ty e
 
-  -- a scalar field of a covered place
-  pub scalar_is : (ty : Ty) (s : ℕ) (tm : Term) (j : ℕ) → has_scalar uses (types.user s) j ≡ true → covers_place uses (typed (types.user s) tm) ≡ true
+  -- a scalar field of what is covered
+  pub scalar_is : (ty : Ty) (s : ℕ) (tm : Term) (j : ℕ) → has_scalar uses (types.user s) j ≡ true
+      → AllCalled (demands U K p l k (scope_of U.written c g k) T) (typed (types.user s) tm) → covers_base uses (typed (types.user s) tm) ≡ true
       → (x : ScalarField U s j)
-      × PlaceIs U K p f g oracle net_oracle l k c T uses same_declarations readable w x.ty (typed ty (field (typed (types.user s) tm) j))
-  scalar_is ty s tm j scalar place =
+      × PlaceIs U K (context_of U oracle p f l) (scope_of U.written c g k) net_oracle T w x.ty (typed ty (field (typed (types.user s) tm) j))
+  scalar_is ty s tm j scalar can base =
       let x : ScalarField U s j = scalar_declared U T uses readable s j (uses.field_type s j) refl scalar in (
         x,
         field_is U K p f g oracle net_oracle l k c T uses same_declarations readable w s j tm x.ty ty x.declared (no_class x.ty x.covers)
-            (place_is U K p f g oracle net_oracle l k c T uses same_declarations readable w have s tm place),
+            (base_is U K p f g oracle net_oracle l k c T uses same_declarations readable w have s tm can base),
       )
 
   abbrev read_as : Ty → Value → Memory → Outcome Memory Value
@@ -92,42 +93,44 @@ module _ (U : Upgrade) (K : Pledge) (p : ℕ) (f : SourceFrame) (g : NetFrame) (
   shape_in ty = shape_by (user_shapes U.program.declarations) [] ty
 
   -- where it stands, its value is read there
-  value_at : (R : World → Value → net_value.Value → Type 0) (fty ty : Ty) (tm : Term) → Stands fty (typed ty tm)
+  value_at : (R : World → Value → net_value.Value → Type 0) (fty ty : Ty) (tm : Term) → is_alone (typed ty tm) ≡ true → Stands fty (typed ty tm)
       → ((q : Position) (b : net.Address) → IsSoundShape U (shape_in fty) → Same U K w (root (shape_in fty) q) b
       → Agrees U K w R (then (store.read (root (shape_in fty) q) w.src) (read_as ty)) (target.read b w.net))
       → Agrees U K w R (source.value_of C (typed ty tm) w.src) (target.value_of S net_oracle (exp_of T (typed ty tm)) w.net)
-  value_at R fty ty tm (missing none) go =
+  value_at R fty ty tm alone (missing none) go =
       subst (λ z. Agrees U K w R (then z (source.value_in C (typed ty tm))) (target.value_of S net_oracle (exp_of T (typed ty tm)) w.net)) (sym (none w.src))
       (agrees_outside U K w R (target.value_of S net_oracle (exp_of T (typed ty tm)) w.net))
-  value_at R fty ty tm (placed r plain x) go =
+  value_at R fty ty tm alone (placed r plain x) go =
       let a : Address = root (shape_in fty) x.position in
       subst (λ z. Agrees U K w R (then z (source.value_in C (typed ty tm))) (target.value_of S net_oracle (exp_of T (typed ty tm)) w.net)) (sym (x.found w.src))
       (subst (λ z. Agrees U K w R (after [] (then (after [] (store.read a w.src)) (read_as ty))) (target.value_from S net_oracle z))
-      (sym (place_reached U K w C S net_oracle T r fty (typed ty tm) x w.net))
+      (sym (x.written.reached alone w.net))
       (left_alone U K w R (then (after [] (store.read a w.src)) (read_as ty)) (target.read x.address w.net)
       (subst (λ z. Agrees U K w R (then z (read_as ty)) (target.read x.address w.net)) (sym (after_nil (store.read a w.src))) (go x.position x.address x.sound x.same))))
 
   module _ (start : MemoryMatch U w) where
-    pub scalar_field_agrees : (ty : Ty) (e : Expr) (j : ℕ) → covers_type ty ≡ true → has_scalar uses (type_at e) j ≡ true → covers_place uses e ≡ true
+    pub scalar_field_agrees : (ty : Ty) (e : Expr) (j : ℕ) → covers_type ty ≡ true → has_scalar uses (type_at e) j ≡ true
+        → AllCalled (demands U K p l k (scope_of U.written c g k) T) e → covers_base uses e ≡ true
         → Agrees U K w (ScalarMatch U ty)
         (source.value_of (context_of U oracle p f l) (typed ty (field e j)) w.src)
         (target.value_of (scope_of U.written c g k) net_oracle (exp_of T (typed ty (field e j))) w.net)
-    scalar_field_agrees ty (typed (types.user s) tm) j covers scalar place =
-        let x = scalar_is ty s tm j scalar place in
-        value_at (ScalarMatch U ty) x.0.ty ty (field (typed (types.user s) tm) j) x.1 (λ q b sound same.
+    scalar_field_agrees ty (typed (types.user s) tm) j covers scalar can base =
+        let x = scalar_is ty s tm j scalar can base in
+        value_at (ScalarMatch U ty) x.0.ty ty (field (typed (types.user s) tm) j) refl x.1 (λ q b sound same.
         subst (λ z. Agrees U K w (ScalarMatch U ty) (then z (read_as ty)) (target.read b w.net)) (after_nil (store.read (root (shape_in x.0.ty) q) w.src))
         (same_agrees U K C ty (root (shape_in x.0.ty) q) b w (inl refl) covers start same))
-    scalar_field_agrees ty (typed _ tm) j covers scalar place = absurd (true≢false (sym scalar))
+    scalar_field_agrees ty (typed _ tm) j covers scalar can base = absurd (true≢false (sym scalar))
 
     -- ---- as a whole
 
-    pub place_value_agrees : (t : ℕ) (tm : Term) → covers_place uses (typed (types.user t) tm) ≡ true
+    pub place_value_agrees : (t : ℕ) (tm : Term) → AllCalled (demands U K p l k (scope_of U.written c g k) T) (typed (types.user t) tm)
+        → covers_place uses (typed (types.user t) tm) ≡ true
         → Agrees U K w (ValueMatch U (user_shapes U.program.declarations t))
         (source.value_of (context_of U oracle p f l) (typed (types.user t) tm) w.src)
         (target.value_of (scope_of U.written c g k) net_oracle (exp_of T (typed (types.user t) tm)) w.net)
-    place_value_agrees t tm place =
-        value_at (ValueMatch U (user_shapes D t)) (types.user t) (types.user t) tm
-        (place_is U K p f g oracle net_oracle l k c T uses same_declarations readable w have t tm place) (λ q b sound same.
+    place_value_agrees t tm can place =
+        value_at (ValueMatch U (user_shapes D t)) (types.user t) (types.user t) tm (place_alone uses (types.user t) tm place)
+        (place_is U K p f g oracle net_oracle l k c T uses same_declarations readable w have t tm can place) (λ q b sound same.
         source_then U K w (ValueMatch U (user_shapes D t)) (ValueMatch U (user_shapes D t)) (store.read (root (user_shapes D t) q) w.src) (target.read b w.net)
         (read_as (types.user t)) start (groups_are_read U K w (user_shapes D t) q b sound start same)
         (λ x z v m later.

@@ -7,7 +7,8 @@ use Rattle.bound_facts.specs.Locks.{Keeps}
 use Rattle.bound_facts.specs.Nodes.{nodes, nodes_of_all, nodes_of_object, nodes_of_passed}
 use Rattle.written_trees.specs.Names.{Scope}
 use Rattle.vb6_run.specs.Store.{Address, SourceFrame}
-use Rattle.net_run.specs.Lines.{NetFrame}
+use Rattle.vb6_run.specs.Forms.{SourceLine}
+use Rattle.net_run.specs.Lines.{NetFrame, NetLine}
 use Rattle.net_run.specs.Names as net_names
 use Rattle.net_run.specs.Store as net
 use Rattle.run_matches.specs.Addresses.{Bound, images, mirrored}
@@ -104,45 +105,46 @@ module _ (U : Upgrade) (K : Pledge) (S : net_names.Scope) (T : Scope) (ts : List
     found = c.found;
   }
 
-  abbrev Q : Demands
-  Q = demands U K S T
+  module _ (p : ℕ) (l : SourceLine) (k : NetLine) where
+    abbrev Q : Demands
+    Q = demands U K p l k S T
 
-  abbrev R : Demands
-  R = demands U (giving K ts) S T
+    abbrev R : Demands
+    R = demands U (giving K ts) p l k S T
 
-  abbrev Keep : List Expr → Type 0
-  Keep ds = NodesKeep U ts ds
+    abbrev Keep : List Expr → Type 0
+    Keep ds = NodesKeep U ts ds
 
-  mutual
-    called_giving : (e : Expr) → Keep (nodes e) → AllCalled Q e → AllCalled R e
-    called_giving (typed ty (constant x origin)) s h = tt
-    called_giving (typed ty (variable v qualified)) s h = tt
-    called_giving (typed ty (field e k)) s h = tt
-    called_giving (typed ty (element e indexes)) s h = (h.0, called_giving_all indexes (nodes_right U ts (nodes e) (nodes_of_all indexes) s.1) h.1)
-    called_giving (typed ty (call p qualified of args)) s h =
-        (can_giving p.0 args (s.0 p.0 refl) h.0, called_giving_for args (nodes_right U ts (nodes_of_object of) (nodes_of_passed args) s.1) h.1)
-    called_giving (typed ty (library f args)) s h = (h.0, called_giving_all args s.1 h.1)
-    called_giving (typed ty (unary op e)) s h = called_giving e s.1 h
-    called_giving (typed ty (binary op d e)) s h =
-        (called_giving d (nodes_left U ts (nodes d) (nodes e) s.1) h.0, called_giving e (nodes_right U ts (nodes d) (nodes e) s.1) h.1)
-    called_giving (typed ty (convert to e)) s h = called_giving e s.1 h
-    called_giving (typed ty (new_object c)) s h = tt
-    called_giving (typed ty me) s h = tt
-    called_giving (typed ty (with_object root)) s h = tt
-    called_giving (typed ty err_number) s h = tt
-    called_giving (typed ty (err_raise e)) s h = called_giving e s.1 h
-    called_giving (typed ty err_clear) s h = tt
-    called_giving (typed ty (is_same d e)) s h = tt
-    called_giving (typed ty (loose e rules)) s h = tt
+    mutual
+      called_giving : (e : Expr) → Keep (nodes e) → AllCalled Q e → AllCalled R e
+      called_giving (typed ty (constant x origin)) s h = tt
+      called_giving (typed ty (variable v qualified)) s h = tt
+      called_giving (typed ty (field e k)) s h = called_giving e s.1 h
+      called_giving (typed ty (element e indexes)) s h = (h.0, called_giving_all indexes (nodes_right U ts (nodes e) (nodes_of_all indexes) s.1) h.1)
+      called_giving (typed ty (call p qualified of args)) s h =
+          (can_giving p.0 args (s.0 p.0 refl) h.0, called_giving_for args (nodes_right U ts (nodes_of_object of) (nodes_of_passed args) s.1) h.1)
+      called_giving (typed ty (library f args)) s h = (h.0, called_giving_all args s.1 h.1)
+      called_giving (typed ty (unary op e)) s h = called_giving e s.1 h
+      called_giving (typed ty (binary op d e)) s h =
+          (called_giving d (nodes_left U ts (nodes d) (nodes e) s.1) h.0, called_giving e (nodes_right U ts (nodes d) (nodes e) s.1) h.1)
+      called_giving (typed ty (convert to e)) s h = called_giving e s.1 h
+      called_giving (typed ty (new_object c)) s h = tt
+      called_giving (typed ty me) s h = tt
+      called_giving (typed ty (with_object root)) s h = h
+      called_giving (typed ty err_number) s h = tt
+      called_giving (typed ty (err_raise e)) s h = called_giving e s.1 h
+      called_giving (typed ty err_clear) s h = tt
+      called_giving (typed ty (is_same d e)) s h = tt
+      called_giving (typed ty (loose e rules)) s h = tt
 
-    called_giving_all : (es : Exprs) → Keep (nodes_of_all es) → AllCalledAll Q es → AllCalledAll R es
-    called_giving_all no_exprs s h = tt
-    called_giving_all (next_expr e rest) s h =
-        (called_giving e (nodes_left U ts (nodes e) (nodes_of_all rest) s) h.0, called_giving_all rest (nodes_right U ts (nodes e) (nodes_of_all rest) s) h.1)
+      called_giving_all : (es : Exprs) → Keep (nodes_of_all es) → AllCalledAll Q es → AllCalledAll R es
+      called_giving_all no_exprs s h = tt
+      called_giving_all (next_expr e rest) s h =
+          (called_giving e (nodes_left U ts (nodes e) (nodes_of_all rest) s) h.0, called_giving_all rest (nodes_right U ts (nodes e) (nodes_of_all rest) s) h.1)
 
-    pub called_giving_for : (args : Passed) → Keep (nodes_of_passed args) → AllCalledFor Q args → AllCalledFor R args
-    called_giving_for no_passed s h = tt
-    called_giving_for (next_passed (by_value e) rest) s h =
-        (called_giving e (nodes_left U ts (nodes e) (nodes_of_passed rest) s) h.0, called_giving_for rest (nodes_right U ts (nodes e) (nodes_of_passed rest) s) h.1)
-    called_giving_for (next_passed (by_reference e) rest) s h =
-        (called_giving e (nodes_left U ts (nodes e) (nodes_of_passed rest) s) h.0, called_giving_for rest (nodes_right U ts (nodes e) (nodes_of_passed rest) s) h.1)
+      pub called_giving_for : (args : Passed) → Keep (nodes_of_passed args) → AllCalledFor Q args → AllCalledFor R args
+      called_giving_for no_passed s h = tt
+      called_giving_for (next_passed (by_value e) rest) s h =
+          (called_giving e (nodes_left U ts (nodes e) (nodes_of_passed rest) s) h.0, called_giving_for rest (nodes_right U ts (nodes e) (nodes_of_passed rest) s) h.1)
+      called_giving_for (next_passed (by_reference e) rest) s h =
+          (called_giving e (nodes_left U ts (nodes e) (nodes_of_passed rest) s) h.0, called_giving_for rest (nodes_right U ts (nodes e) (nodes_of_passed rest) s) h.1)

@@ -4,6 +4,7 @@ use Rattle.vb_tree.specs.BoundTree as types
 use Rattle.bound_tree.specs.Tree.{Declarations, Expr, typed, Term, variable, field}
 use Rattle.bound_tree.specs.Tree as tree
 use Rattle.net_tree.specs.declared.declaration.NetPassing.{NetPassing}
+use Rattle.run_base.specs.Frames.{by_value}
 use Rattle.run_base.specs.Outcomes.{Outcome, gives, then}
 use Rattle.vb6_run.specs.Expressions as source
 use Rattle.vb6_run.specs.Forms.{SourceLine}
@@ -32,18 +33,21 @@ use Rattle.run_matches.specs.Match.{MemoryMatch}
 use Rattle.run_matches.specs.Pledges.{Later, Pledge, arrays_in, arrays_in_all, type_of_shape}
 use Rattle.run_matches.specs.SoundShapes.{AreSoundShapes, IsSoundShape}
 use Rattle.run_matches.specs.Upgrades.{Upgrade}
-use Rattle.run_statements.specs.Frames.{AreReadable, context_of, passing_by}
+use Rattle.run_statements.specs.Frames.{AllCalled, AreReadable, context_of, demands, passing_by}
 use Rattle.run_statements.specs.Groups.{ValueMatch}
+use Rattle.agreeing_laws.proofs.Agreeing.{agrees_outside}
 use Rattle.agreeing_laws.proofs.UserShapes.{covered_type_of}
 use Rattle.memory_laws.proofs.Groups.{field_sound}
 use Rattle.memory_laws.proofs.GroupValues.{value_later}
 use Rattle.expression_laws.specs.Calls.{ArgumentsMatch}
-use Rattle.expression_laws.specs.Images.{HaveImages}
+use Rattle.expression_laws.specs.Statements.{IsSoundType}
 use Rattle.expression_laws.proofs.Arguments.{no_arrays}
 use Rattle.expression_laws.proofs.FieldValues.{place_value_agrees}
 use Rattle.expression_laws.proofs.Handed.{Lasts, taken_agrees}
-use Rattle.expression_laws.proofs.Places.{IsSoundPlace, place_sound}
+use Rattle.expression_laws.proofs.Handled.{Handles}
+use Rattle.expression_laws.proofs.Places.{place_is}
 use Rattle.expression_laws.proofs.Temporaries.{value_goes}
+use Rattle.expression_laws.proofs.Withs.{HavePlaces, PlaceIs, missing, placed}
 
 -- ---- values of user types
 
@@ -87,7 +91,7 @@ givable U q i t (group u fs) is of (fields k xs) v =
     the_number a b e = cc
 givable U q i t _ is of _ v = absurd v
 
-group_lasts : (U : Upgrade) (K : Pledge) (q i t : ℕ) → IsSoundPlace U t → Lasts U K q i (ValueMatch U (user_shapes U.program.declarations t))
+group_lasts : (U : Upgrade) (K : Pledge) (q i t : ℕ) → IsSoundType U t → Lasts U K q i (ValueMatch U (user_shapes U.program.declarations t))
 group_lasts U K q i t of = record {
   like = λ w x y m. m.1;
   later = λ w u x y l m. value_later U K w u l (user_shapes U.program.declarations t) x y of.sound m.0 m.1;
@@ -106,7 +110,7 @@ has_place uses D t _ covers = absurd (true≢false (sym covers))
 
 module _ (U : Upgrade) (K : Pledge) (p : ℕ) (f : SourceFrame) (g : NetFrame) (oracle : SourceCalls) (net_oracle : Jobs) (l : SourceLine) (k : NetLine)
     (c : Code) (T : Scope) (uses : Uses) (same_declarations : T.declarations ≡ U.program.declarations) (readable : AreReadable U T uses) (w : World)
-    (start : MemoryMatch U w) (have : HaveImages U K w f (scope_of U.written c g k) T uses) (q i : ℕ) where
+    (start : MemoryMatch U w) (have : HavePlaces U p f g oracle net_oracle l k c T uses K w) (q i : ℕ) where
   abbrev C : source.Context
   C = context_of U oracle p f l
 
@@ -122,13 +126,16 @@ module _ (U : Upgrade) (K : Pledge) (p : ℕ) (f : SourceFrame) (g : NetFrame) (
       (argument_exp T (takes_reference T.declarations q i) (tree.by_value e) (exp_of T e)) w.net))
       (λ g w. then (rest' w) (λ gs w. gives [] (g ∷ gs) w)))
 
-  -- a place is read as a whole, whatever its parameter takes
-  pub place_given : (quiet : Bool) (mode : NetPassing) (e : Expr) (rest : Memory → Outcome Memory (List SourceGiven))
-      (rest' : net.Memory → Outcome net.Memory Arguments) → mode ≡ passing_by (takes_reference U.program.declarations q i) → covers_place uses e ≡ true
-      → ((v : World) → Later U K w v → Agrees U K v (ArgumentsMatch U K q (suc i)) (rest v.src) (rest' v.net)) → Goes quiet mode e rest rest'
-  place_given quiet mode (typed (types.user t) tm) rest rest' m covers more =
+  -- a value of a user type goes as one, whatever its parameter takes
+  pub group_goes : (quiet : Bool) (mode : NetPassing) (t : ℕ) (tm : Term) (rest : Memory → Outcome Memory (List SourceGiven))
+      (rest' : net.Memory → Outcome net.Memory Arguments) → mode ≡ passing_by (takes_reference U.program.declarations q i) → IsSoundType U t
+      → (has_address T.declarations (kept (typed (types.user t) tm)) ≡ false → Handles (scope_of U.written c g k) (exp_of T (typed (types.user t) tm)))
+      → Agrees U K w (ValueMatch U (user_shapes U.program.declarations t)) (source.value_of (context_of U oracle p f l) (typed (types.user t) tm) w.src)
+      (target.value_of (scope_of U.written c g k) net_oracle (exp_of T (typed (types.user t) tm)) w.net)
+      → ((v : World) → Later U K w v → Agrees U K v (ArgumentsMatch U K q (suc i)) (rest v.src) (rest' v.net))
+      → Goes quiet mode (typed (types.user t) tm) rest rest'
+  group_goes quiet mode t tm rest rest' m of handles values more =
       let e : Expr = typed (types.user t) tm in
-      let of : IsSoundPlace U t = place_sound U T uses readable t tm covers in
       let uncopied : needs_copy T.facts e ≡ false =
       ap (λ (F : Facts). F.holds_array t && is_copied e) readable.facts ∙ ap (λ b. b && is_copied e) (readable.flat t of.covers) in
       taken_agrees U K q i (ValueMatch U (user_shapes U.program.declarations t)) (group_lasts U K q i t of) w (source.value_of C e w.src)
@@ -136,9 +143,31 @@ module _ (U : Upgrade) (K : Pledge) (p : ℕ) (f : SourceFrame) (g : NetFrame) (
       (target.given S net_oracle mode
       (target.reach S net_oracle false (argument_exp T (takes_reference T.declarations q i) (tree.by_value e) (exp_of T e)) w.net))
       rest rest' refl
-      (value_goes S net_oracle T e uncopied w.net (λ none. absurd (true≢false (sym (has_place uses T.declarations t tm covers) ∙ none)))
+      (value_goes S net_oracle T e uncopied w.net handles
       (takes_reference U.program.declarations q i) mode (takes_reference T.declarations q i) m (ap (λ E. takes_reference E q i) same_declarations))
-      start (place_value_agrees U K p f g oracle net_oracle l k c T uses same_declarations readable w have start t tm covers) more
-  place_given quiet mode (typed _ (variable v qualified)) rest rest' m covers more = absurd (true≢false (sym covers))
-  place_given quiet mode (typed _ (field e j)) rest rest' m covers more = absurd (true≢false (sym covers))
-  place_given quiet mode (typed _ _) rest rest' m covers more = absurd (true≢false (sym covers))
+      start values more
+
+  -- a place is read as a whole
+  pub place_given : (quiet : Bool) (mode : NetPassing) (t : ℕ) (tm : Term) (rest : Memory → Outcome Memory (List SourceGiven))
+      (rest' : net.Memory → Outcome net.Memory Arguments) → mode ≡ passing_by (takes_reference U.program.declarations q i)
+      → AllCalled (demands U K p l k (scope_of U.written c g k) T) (typed (types.user t) tm) → covers_place uses (typed (types.user t) tm) ≡ true
+      → ((v : World) → Later U K w v → Agrees U K v (ArgumentsMatch U K q (suc i)) (rest v.src) (rest' v.net)) → Goes quiet mode (typed (types.user t) tm) rest rest'
+  place_given quiet mode t tm rest rest' m can covers more =
+      by (place_is U K p f g oracle net_oracle l k c T uses same_declarations readable w have t tm can covers)
+    where
+      by : PlaceIs U K (context_of U oracle p f l) (scope_of U.written c g k) net_oracle T w (types.user t) (typed (types.user t) tm)
+          → Goes quiet mode (typed (types.user t) tm) rest rest'
+      by (missing none) =
+          let e : Expr = typed (types.user t) tm in
+          let gives_first = λ (g : SourceGiven) (w : Memory). then (rest w) (λ gs w. gives [] (g ∷ gs) w) in
+          let given' = then (target.given (scope_of U.written c g k) net_oracle mode
+          (target.reach (scope_of U.written c g k) net_oracle false
+          (argument_exp T (takes_reference T.declarations q i) (tree.by_value e) (exp_of T e)) w.net))
+          (λ g w. then (rest' w) (λ gs w. gives [] (g ∷ gs) w)) in
+          subst (λ z. Agrees U K w (ArgumentsMatch U K q i)
+          (then (then (then z (source.value_in (context_of U oracle p f l) e)) (λ x w. gives [] (by_value x) w)) gives_first) given')
+          (sym (none w.src)) (agrees_outside U K w (ArgumentsMatch U K q i) given')
+      by (placed r plain x) =
+          group_goes quiet mode t tm rest rest' m (record { covers = x.covers; sound = x.sound })
+          (λ none. absurd (true≢false (sym (has_place uses T.declarations t tm covers) ∙ none)))
+          (place_value_agrees U K p f g oracle net_oracle l k c T uses same_declarations readable w have start t tm can covers) more

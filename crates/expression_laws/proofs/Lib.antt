@@ -7,6 +7,8 @@ pub mod UsedShapes
 pub mod ModuleImages
 pub mod Images
 pub mod LastingImages
+pub mod Giving
+pub mod Withs
 pub mod Places
 pub mod FieldValues
 mod LibraryArguments
@@ -15,10 +17,11 @@ pub mod Library
 pub mod Arguments
 pub mod Calls
 pub mod References
-pub mod Giving
 pub mod GivenElements
 pub mod Temporaries
 pub mod GroupArguments
+pub mod GroupCalls
+pub mod FieldReferences
 pub mod NoPlaces
 pub mod IndexRows
 pub mod Elements

@@ -1,13 +1,14 @@
 -- Places of user types: variables, and fields of these that are of user types themselves.
 use Rattle.std.proofs.Common.{◌≡◌, refl, sym, ap, subst, ◌∙◌, inr, ℕ, Bool, true, false, List, [], ◌++◌, Option, Some, None, eqb-true, true≢false}
+use Rattle.std.proofs.lemmas.Bool.{or_right}
 use Rattle.std.specs.Prelude.{slice_get}
 use Rattle.vb_tree.specs.BoundTree.{Ty}
 use Rattle.vb_tree.specs.BoundTree as types
 use Rattle.vb_tree.specs.declared.declared.VarId.{VarId}
-use Rattle.bound_tree.specs.Tree.{Declarations, Expr, typed, Term, variable, field}
+use Rattle.bound_tree.specs.Tree.{Declarations, Expr, typed, Term, variable, field, with_object}
 use Rattle.bound_facts.specs.Locks.{is_same_type}
 use Rattle.bound_facts.specs.Node.{auto_class, class_in}
-use Rattle.run_base.specs.Outcomes.{gives, outside, then, some_of}
+use Rattle.run_base.specs.Outcomes.{gives, then, some_of}
 use Rattle.run_base.specs.Positions.{Position, Root}
 use Rattle.vb6_run.specs.Expressions as source
 use Rattle.vb6_run.specs.Expressions.{Context, at_address}
@@ -27,24 +28,23 @@ use Rattle.written_trees.specs.Exprs.{exp_of}
 use Rattle.written_trees.specs.Names.{Scope, variable_path}
 use Rattle.run_matches.specs.Addresses.{IsTarget, Same, same_item, same_root, position_of}
 use Rattle.run_matches.specs.Agreeing.{Agrees}
-use Rattle.run_matches.specs.CoveredVariables.{covers_user}
-use Rattle.run_matches.specs.CoveredExprs.{Uses, covers_place, is_type}
-use Rattle.run_matches.specs.Maps.{World, is_auto_root, moved_at}
+use Rattle.run_matches.specs.CoveredExprs.{Uses, covers_base, covers_place, is_kept, is_type}
+use Rattle.run_matches.specs.Maps.{World, moved_at}
 use Rattle.run_matches.specs.Pledges.{Pledge}
-use Rattle.run_matches.specs.SoundShapes.{IsField, IsSoundShape}
+use Rattle.run_matches.specs.SoundShapes.{IsField}
 use Rattle.run_matches.specs.Upgrades.{Upgrade}
-use Rattle.run_statements.specs.Frames.{AreReadable, IsGroup, context_of}
+use Rattle.run_statements.specs.Frames.{AllCalled, AreReadable, Demands, IsGroup, context_of, demands}
 use Rattle.run_statements.specs.Groups.{PlaceMatch}
 use Rattle.agreeing_laws.proofs.Agreeing.{agrees_gives, agrees_outside}
-use Rattle.agreeing_laws.proofs.UserShapes.{FieldShape, field_shape_is}
 use Rattle.expression_laws.specs.Images.{HasImage, HaveImages, IsImage}
 use Rattle.expression_laws.specs.Statements.{PlacesAgreeBy}
-use Rattle.expression_laws.proofs.Images.{images_now}
+use Rattle.expression_laws.proofs.Withs.{HavePlaces, PlaceIs, missing, placed, places_now, root_plain}
 use Rattle.expression_laws.proofs.UsedShapes.{group_stands}
 use Rattle.expression_laws.proofs.Types.{both_true}
 use Rattle.expression_laws.proofs.Variables.{known_exp, known_none}
 use Rattle.agreeing_laws.proofs.FieldPaths.{path_more}
-use Rattle.agreeing_laws.proofs.FieldPlaces.{PlaceFound, field_found, place_reached, sound_field}
+use Rattle.agreeing_laws.proofs.FieldPlaces.{PlaceFound, field_found}
+use Rattle.agreeing_laws.proofs.Members.{is_alone, path_leads}
 
 -- the image of a variable stands at a position
 abbrev StandsAt : net.Address → Type 0
@@ -70,28 +70,6 @@ field_declared : (U : Upgrade) (T : Scope) (uses : Uses) → AreReadable U T use
 field_declared U T uses readable s t j None is e = absurd (true≢false (sym e))
 field_declared U T uses readable s t j (Some ty) is e = subst (λ z. IsField U s j z) (same_user t ty e) (readable.fields s j ty is)
 
--- a covered place is of a covered user type, none of whose declarations carries an issue
-pub record IsSoundPlace (U : Upgrade) (t : ℕ) : Type 0 where
-  pub covers : covers_user U.program.declarations t ≡ true
-  pub sound : IsSoundShape U (user_shapes U.program.declarations t)
-
-pub place_sound : (U : Upgrade) (T : Scope) (uses : Uses) → AreReadable U T uses → (t : ℕ) (tm : Term) → covers_place uses (typed (types.user t) tm) ≡ true
-    → IsSoundPlace U t
-place_sound U T uses readable t (variable v qualified) covers =
-    let r : IsGroup U v.0 t = readable.groups v t covers in
-    record { covers = r.covers; sound = r.fields }
-place_sound U T uses readable t (field (typed (types.user s) tm) j) covers =
-    let both = both_true (is_type (types.user t) (uses.field_type s j)) (covers_place uses (typed (types.user s) tm)) covers in
-    let i : IsField U s j (types.user t) = field_declared U T uses readable s t j (uses.field_type s j) refl both.0 in
-    let x : IsSoundPlace U s = place_sound U T uses readable s tm both.1 in
-    let shaped : FieldShape U.program.declarations s j (types.user t) = field_shape_is U.program.declarations s j i.variable (types.user t) x.covers i.declares i.is_type in
-    record {
-      covers = shaped.covers;
-      sound = sound_field U s 0 j shaped.shapes (user_shapes U.program.declarations t) (subst (λ z. IsSoundShape U z) shaped.is_group x.sound) shaped.is_shape;
-    }
-place_sound U T uses readable t (field (typed _ tm) j) covers = absurd (true≢false (sym covers))
-place_sound U T uses readable t _ covers = absurd (true≢false (sym covers))
-
 module _ (U : Upgrade) (K : Pledge) (p : ℕ) (f : SourceFrame) (g : NetFrame) (oracle : SourceCalls) (net_oracle : Jobs) (l : SourceLine) (k : NetLine)
     (c : Code) (T : Scope) (uses : Uses) (same_declarations : T.declarations ≡ U.program.declarations) (readable : AreReadable U T uses) where
   abbrev C : Context
@@ -103,13 +81,14 @@ module _ (U : Upgrade) (K : Pledge) (p : ℕ) (f : SourceFrame) (g : NetFrame) (
   abbrev D : Declarations
   D = U.program.declarations
 
-  abbrev pub Found : World → Root → Ty → Expr → Type 0
-  Found w r ty e = PlaceFound U K w (context_of U oracle p f l) (scope_of U.written c g k) net_oracle T r ty e
+  abbrev Found : World → Root → Ty → Expr → Type 0
+  Found w r ty e = PlaceFound U K w C S net_oracle T r ty e
 
-  -- what the source does with a place, in any memory; it stands in a variable that is no As New one
-  pub data PlaceIs (w : World) (ty : Ty) (e : Expr) : Type 0 where
-    missing : ((s : Memory) → source.parts_of C e s ≡ outside []) → PlaceIs w ty e
-    placed : (r : Root) → is_auto_root U w.map r ≡ false → Found w r ty e → PlaceIs w ty e
+  abbrev Is : World → Ty → Expr → Type 0
+  Is w ty e = PlaceIs U K C S net_oracle T w ty e
+
+  abbrev Q : Demands
+  Q = demands U K p l k S T
 
   module _ (w : World) where
     -- ---- variables
@@ -160,53 +139,68 @@ module _ (U : Upgrade) (K : Pledge) (p : ℕ) (f : SourceFrame) (g : NetFrame) (
           covers = of_type.covers;
           same = subst (λ z. Same U K w z image.address) stands exact.same;
           target = subst (λ z. IsTarget U z) stands exact.target;
-          names = variable_path T qualified v.0;
-          is_exp =
-              known_exp T (types.user t) v qualified of_type.known.variable (ap (λ E. slice_get E.vars v.0) same_declarations ∙ of_type.known.is_variable)
-              of_type.known.plain;
-          behind = λ name. refl;
-          leads = leads;
+          written =
+              path_leads S net_oracle T the_variable image.address (variable_path T qualified v.0)
+              (known_exp T (types.user t) v qualified of_type.known.variable
+              (ap (λ E. slice_get E.vars v.0) same_declarations ∙ of_type.known.is_variable) of_type.known.plain)
+              (λ name. refl) leads;
         }
 
-        variable_placed : PlaceIs w (types.user t) the_variable
+        variable_placed : Is w (types.user t) the_variable
         variable_placed = placed exact.position.root (exact.plain q (ap position_of stands)) variable_found
 
-      variable_is : PlaceIs w (types.user t) the_variable
+      variable_is : Is w (types.user t) the_variable
       variable_is = by (variable_address D f v.0) refl
         where
-          by : (o : Option Address) → variable_address D f v.0 ≡ o → PlaceIs w (types.user t) the_variable
+          by : (o : Option Address) → variable_address D f v.0 ≡ o → Is w (types.user t) the_variable
           by None e = missing (variable_parts None e)
           by (Some a) e = variable_placed a e
 
     -- ---- fields
 
     -- a field of a place stands where the place does
-    pub field_is : (s j : ℕ) (tm : Term) (fty ty : Ty) → IsField U s j fty → class_in fty ≡ None → PlaceIs w (types.user s) (typed (types.user s) tm)
-        → PlaceIs w fty (typed ty (field (typed (types.user s) tm) j))
+    pub field_is : (s j : ℕ) (tm : Term) (fty ty : Ty) → IsField U s j fty → class_in fty ≡ None
+        → PlaceIs U K (context_of U oracle p f l) (scope_of U.written c g k) net_oracle T w (types.user s) (typed (types.user s) tm)
+        → PlaceIs U K (context_of U oracle p f l) (scope_of U.written c g k) net_oracle T w fty (typed ty (field (typed (types.user s) tm) j))
     field_is s j tm fty ty i none (missing h) =
         let e : Expr = typed (types.user s) tm in
         missing (λ m. ap (λ r. then (then r (source.field_parts C e j (types.user s))) (source.as_new C (field e j))) (h m))
     field_is s j tm fty ty i none (placed r plain x) =
         placed r plain (field_found U K w C S net_oracle T r refl same_declarations s j tm fty ty i none x)
 
-    module _ (have : HaveImages U K w f S T uses) where
-      pub place_is : (t : ℕ) (tm : Term) → covers_place uses (typed (types.user t) tm) ≡ true → PlaceIs w (types.user t) (typed (types.user t) tm)
-      place_is t (variable v qualified) covers = variable_is have t v qualified covers
-      place_is t (field (typed (types.user s) tm) j) covers =
-          let both = both_true (is_type (types.user t) (uses.field_type s j)) (covers_place uses (typed (types.user s) tm)) covers in
-          field_is s j tm (types.user t) (types.user t) (field_declared U T uses readable s t j (uses.field_type s j) refl both.0) refl (place_is s tm both.1)
-      place_is t (field (typed _ tm) j) covers = absurd (true≢false (sym covers))
-      place_is t _ covers = absurd (true≢false (sym covers))
+    module _ (have : HavePlaces U p f g oracle net_oracle l k c T uses K w) where
+      -- what a field is asked of
+      pub base_is : (t : ℕ) (tm : Term) → AllCalled (demands U K p l k (scope_of U.written c g k) T) (typed (types.user t) tm)
+          → covers_base uses (typed (types.user t) tm) ≡ true
+          → PlaceIs U K (context_of U oracle p f l) (scope_of U.written c g k) net_oracle T w (types.user t) (typed (types.user t) tm)
+      base_is t (with_object r) can covers = have.withs t r can
+      base_is t (variable v qualified) can covers = variable_is have.variables t v qualified covers
+      base_is t (field (typed (types.user s) tm) j) can covers =
+          let both = both_true (is_type (types.user t) (uses.field_type s j)) (covers_base uses (typed (types.user s) tm)) covers in
+          field_is s j tm (types.user t) (types.user t) (field_declared U T uses readable s t j (uses.field_type s j) refl both.0) refl
+          (base_is s tm can both.1)
+      base_is t (field (typed _ tm) j) can covers = absurd (true≢false (sym covers))
+      base_is t _ can covers = absurd (true≢false (sym covers))
+
+      pub place_is : (t : ℕ) (tm : Term) → AllCalled (demands U K p l k (scope_of U.written c g k) T) (typed (types.user t) tm)
+          → covers_place uses (typed (types.user t) tm) ≡ true
+          → PlaceIs U K (context_of U oracle p f l) (scope_of U.written c g k) net_oracle T w (types.user t) (typed (types.user t) tm)
+      place_is t tm can covers = base_is t tm can (or_right (is_kept uses (types.user t) tm) (covers_place uses (typed (types.user t) tm)) covers)
+
+-- what stands by itself is written
+pub place_alone : (uses : Uses) (ty : Ty) (tm : Term) → covers_place uses (typed ty tm) ≡ true → is_alone (typed ty tm) ≡ true
+place_alone uses ty (with_object r) covers = covers
+place_alone uses ty _ covers = refl
 
 -- ---- the law
 
 pub places_agree_by : (U : Upgrade) (K : Pledge) → PlacesAgreeBy U K
-places_agree_by U K w p f g oracle net_oracle l k c T uses t tm start frames declarations readable stands covers =
+places_agree_by U K w p f g oracle net_oracle l k c T uses t tm start frames declarations readable stands can covers =
     by
     (place_is U K p f g oracle net_oracle l k c T uses declarations readable w
-    (images_now U K w p f g (scope_of U.written c g k) refl refl T declarations frames uses start readable stands) t tm covers)
+    (places_now U p f g oracle net_oracle l k c T uses K w frames start declarations readable stands) t tm can covers)
   where
-    by : PlaceIs U K p f g oracle net_oracle l k c T uses declarations readable w (types.user t) (typed (types.user t) tm)
+    by : PlaceIs U K (context_of U oracle p f l) (scope_of U.written c g k) net_oracle T w (types.user t) (typed (types.user t) tm)
         → Agrees U K w (PlaceMatch U K t) (source.address_of (context_of U oracle p f l) (typed (types.user t) tm) w.src)
         (target.address_of (scope_of U.written c g k) net_oracle (exp_of T (typed (types.user t) tm)) w.net)
     by (missing none) =
@@ -218,7 +212,7 @@ places_agree_by U K w p f g oracle net_oracle l k c T uses t tm start frames dec
         (target.address_of (scope_of U.written c g k) net_oracle (exp_of T (typed (types.user t) tm)) w.net)) (sym (x.found w.src))
         (subst (λ z. Agrees U K w (PlaceMatch U K t) (gives [] (root (user_shapes U.program.declarations t) x.position) w.src)
         (target.address_from (scope_of U.written c g k) net_oracle z))
-        (sym (place_reached U K w (context_of U oracle p f l) (scope_of U.written c g k) net_oracle T r (types.user t) (typed (types.user t) tm) x w.net))
+        (sym (x.written.reached (place_alone uses (types.user t) tm covers) w.net))
         (agrees_gives U K w (PlaceMatch U K t) (root (user_shapes U.program.declarations t) x.position) x.address start
         (record {
           position = x.position;
@@ -226,8 +220,5 @@ places_agree_by U K w p f g oracle net_oracle l k c T uses t tm start frames dec
           sound = x.sound;
           same = x.same;
           target = x.target;
-          plain = λ q e. subst (λ (z : Position). is_auto_root U w.map z.root ≡ false) (some_position x.position q e) (ap (is_auto_root U w.map) x.in_root ∙ plain);
+          plain = root_plain U w (user_shapes U.program.declarations t) x.position r x.in_root plain;
         })))
-      where
-        some_position : (y z : Position) → Some y ≡ Some z → y ≡ z
-        some_position y z e = cc

@@ -115,7 +115,7 @@ passed_by uses e h = by (either_true (is_passable uses e && covers_expr uses e) 
     by (inl a) = inl a
     by (inr b) = inr (either_true (covers_array uses e) (covers_place uses e) b)
 
-scalar_of_passed : (uses : Uses) (e : Expr) → (is_passable uses e && covers_expr uses e) ≡ true → covers_expr uses e ≡ true
+pub scalar_of_passed : (uses : Uses) (e : Expr) → (is_passable uses e && covers_expr uses e) ≡ true → covers_expr uses e ≡ true
 scalar_of_passed uses e h = (both_true (is_passable uses e) (covers_expr uses e) h).1
 
 used_by : (uses : Uses) (ty : Ty) (v : VarId) (qualified : Bool) → IsPassed uses (typed ty (variable v qualified)) → IsUsed uses v
@@ -196,7 +196,7 @@ sound_ranked U q i _ _ (same_class k home is) c = tt
 sound_ranked U q i _ _ (same_group t home member fs gs is fields) c = tt
 sound_ranked U q i _ _ (same_array x bounds d rank same) c = absurd c
 
-group_ranked : (U : Upgrade) (K : Pledge) (w : World) (q i : ℕ) (s : Shape) (a : Address) (b : net.Address) (p : Position) → IsSoundShape U s → a ≡ root s p
+pub group_ranked : (U : Upgrade) (K : Pledge) (w : World) (q i : ℕ) (s : Shape) (a : Address) (b : net.Address) (p : Position) → IsSoundShape U s → a ≡ root s p
     → Same U K w a b → HasParameterRank U q i (net.shape_at b)
 group_ranked U K w q i s _ _ p c e (same_root t d p' sh m r) =
     sound_ranked U q i t d sh (subst (λ z. IsSoundShape U z) (sym (shape_of_root t s p' p e)) c)
@@ -255,7 +255,7 @@ reference_is T referred ty v qualified a =
     ap (λ b. cond b a (temporary_exp T (typed ty (variable v qualified)) a)) (or_true (is_array_type ty))
 
 -- what has an image goes by its address
-image_given : (U : Upgrade) (K : Pledge) (w : World) (a : Address) (b : net.Address) → Same U K w a b
+pub image_given : (U : Upgrade) (K : Pledge) (w : World) (a : Address) (b : net.Address) → Same U K w a b
     → ◌≡◌ {A = Given net_value.Value net.Address} (target.given_by b) (by_address b)
 image_given U K w _ _ (same_root t d p sh m r) = refl
 image_given U K w _ _ (same_item x t d p k j inside keeps m has part sh) = refl
@@ -294,7 +294,7 @@ module _ (U : Upgrade) (K : Pledge) (p : ℕ) (f : SourceFrame) (g : NetFrame) (
       (λ g w. then (rest' w) (λ gs w. gives [] (g ∷ gs) w)))
 
   -- the source reads what a quiet parameter is given, and then goes on in the same way
-  given_agrees : (w : World) (quiet : Bool) (a : Address) (b : net.Address) (rest : Memory → Outcome Memory (List SourceGiven))
+  pub given_agrees : (w : World) (quiet : Bool) (a : Address) (b : net.Address) (rest : Memory → Outcome Memory (List SourceGiven))
       (rest' : net.Memory → Outcome net.Memory Arguments) → MemoryMatch U w → Same U K w a b → IsTarget U a
       → GivesWhole U q i a → IsPlain U w a → SuitsParameter U q i a b → Agrees U K w (ArgumentsMatch U K q (suc i)) (rest w.src) (rest' w.net)
       → Agrees U K w (ArgumentsMatch U K q i) (then (source.given_address quiet a w.src) (λ g w. then (rest w) (λ gs w. gives [] (g ∷ gs) w)))

@@ -11,9 +11,12 @@ use Rattle.vb_tree.specs.declared.expression.UnOp.TheVariants as un6
 use Rattle.vb_tree.specs.declared.value.Value6.{Value6}
 use Rattle.vb_tree.specs.declared.value.Value6.TheVariants as v
 use Rattle.bound_tree.specs.declared.expression.Origin.{Origin}
-use Rattle.bound_tree.specs.Tree.{Expr, typed, Term, constant, variable, field, element, call, library, unary, binary, convert, new_object, me, with_object, err_number, err_raise, err_clear, is_same, loose, no_object, of_object, Exprs, no_exprs, next_expr}
+use Rattle.vb_tree.specs.declared.declared.ProcId.{ProcId}
+use Rattle.bound_tree.specs.Tree.{Expr, Passed, typed, Term, constant, variable, field, element, call, library, unary, binary, convert, new_object, me, with_object, err_number, err_raise, err_clear, is_same, loose, no_object, of_object, Exprs, no_exprs, next_expr}
 use Rattle.bound_facts.specs.Folded.{converted_value}
 use Rattle.bound_facts.specs.Node.{is_variant, type_at}
+use Rattle.vb6_run.specs.Forms.{SourceLine}
+use Rattle.net_run.specs.Lines.{NetLine}
 use Rattle.net_tree.specs.Tree as tree
 use Rattle.net_tree.specs.Tree.{Exp, Exps}
 use Rattle.net_tree.specs.declared.expression.NetBin.TheVariants as op
@@ -210,7 +213,7 @@ converts_values _ to false b e h = absurd (cc e)
 
 -- ---- expressions
 
-module _ (U : Upgrade) (K : Pledge) (S : Scope) (opened : IsOpen S) (T : written_names.Scope) (uses : Uses)
+module _ (U : Upgrade) (K : Pledge) (p : ℕ) (l : SourceLine) (k : NetLine) (S : Scope) (opened : IsOpen S) (T : written_names.Scope) (uses : Uses)
     (same_declarations : T.declarations ≡ U.program.declarations) where
   abbrev NoAddress : Expr → Type 0
   NoAddress e = has_address U.program.declarations (kept e) ≡ false
@@ -219,7 +222,14 @@ module _ (U : Upgrade) (K : Pledge) (S : Scope) (opened : IsOpen S) (T : written
   behind : (b : Bool) (whole e : Expr) → b ≡ true → has_address U.program.declarations (kept_if b whole (kept e)) ≡ false → NoAddress e
   behind b whole e is h = subst (λ c. has_address U.program.declarations (kept_if c whole (kept e)) ≡ false) is h
 
-  pub exp_handles : (e : Expr) → AllCalled (demands U K S T) e → covers_expr uses e ≡ true → is_formed e ≡ true → NoAddress e → Handles S (exp_of T e)
+  -- a call
+  pub called_handles : (ty : Ty) (q : ProcId) (qualified : Bool) (args : Passed) → CanCall U K S T q.0 args
+      → Handles S (exp_of T (typed ty (call q qualified no_object args)))
+  called_handles ty q qualified args c =
+      subst (Handles S) (sym (callee_is T ty q qualified args (ap (λ D. is_property D q.0) same_declarations ∙ c.plain)))
+      (as_call (to_procedure None c.number) (procedure_path T qualified q.0) (passed_of T q.0 0 args) (c.found qualified) tt)
+
+  pub exp_handles : (e : Expr) → AllCalled (demands U K p l k S T) e → covers_expr uses e ≡ true → is_formed e ≡ true → NoAddress e → Handles S (exp_of T e)
   exp_handles (typed ty (constant x origin)) can covers formed none = constant_handles S opened x origin
   exp_handles (typed ty (variable v qualified)) can covers formed none = absurd (true≢false none)
   exp_handles (typed ty (field e k)) can covers formed none = absurd (true≢false none)
@@ -227,9 +237,7 @@ module _ (U : Upgrade) (K : Pledge) (S : Scope) (opened : IsOpen S) (T : written
   exp_handles (typed ty (call q qualified (of_object e) args)) can covers formed none =
       absurd (true≢false (sym (both_true (covers_type ty) false covers).1))
   exp_handles (typed ty (call q qualified no_object args)) can covers formed none =
-      let c : CanCall U K S T q.0 args = can.0 in
-      subst (Handles S) (sym (callee_is T ty q qualified args (ap (λ D. is_property D q.0) same_declarations ∙ c.plain)))
-      (as_call (to_procedure None c.number) (procedure_path T qualified q.0) (passed_of T q.0 0 args) (c.found qualified) tt)
+      called_handles ty q qualified args can.0
   exp_handles (typed ty (library f no_exprs)) can covers formed none = as_value tree.nothing refl
   exp_handles (typed ty (library f (next_expr e no_exprs))) can covers formed none =
       let whole : Expr = typed ty (library f (next_expr e no_exprs)) in

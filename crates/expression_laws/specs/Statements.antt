@@ -1,12 +1,14 @@
 -- The statements: expressions that are covered and well formed do the same as what is written for them.
-use Rattle.std.specs.Prelude.{◌≡◌, ℕ, true, false, []}
+use Rattle.std.specs.Prelude.{◌≡◌, ℕ, true, false, [], slice_get}
 use Rattle.vb_tree.specs.BoundTree.{Ty, array, user}
 use Rattle.bound_tree.specs.Tree.{Expr, typed, element, Exprs, Term}
+use Rattle.bound_facts.specs.Effects.{params_at}
 use Rattle.bound_facts.specs.Node.{type_at}
 use Rattle.run_base.specs.Outcomes.{gives, then}
 use Rattle.vb6_run.specs.Expressions as source
 use Rattle.vb6_run.specs.Expressions.{lows_at}
 use Rattle.vb6_run.specs.Forms.{SourceLine}
+use Rattle.vb6_run.specs.Shapes.{user_shapes}
 use Rattle.vb6_run.specs.Store.{SourceCalls, SourceFrame}
 use Rattle.net_run.specs.Expressions as target
 use Rattle.net_run.specs.Lines.{NetFrame, NetLine, scope_of}
@@ -15,7 +17,10 @@ use Rattle.net_run.specs.Members.{Code}
 use Rattle.written_trees.specs.Exprs.{exp_of}
 use Rattle.written_trees.specs.Names.{Scope}
 use Rattle.run_matches.specs.Agreeing.{Agrees}
-use Rattle.run_matches.specs.CoveredExprs.{Uses, covers_array, covers_expr, covers_exprs, covers_place}
+use Rattle.run_matches.specs.CoveredExprs.{Uses, covers_array, covers_expr, covers_exprs, covers_group, covers_place}
+use Rattle.run_matches.specs.Covered.{is_type_at}
+use Rattle.run_matches.specs.CoveredVariables.{covers_user}
+use Rattle.run_matches.specs.SoundShapes.{IsSoundShape}
 use Rattle.run_matches.specs.Frames.{FrameMatch}
 use Rattle.run_matches.specs.Maps.{World}
 use Rattle.run_matches.specs.Match.{MemoryMatch}
@@ -23,11 +28,24 @@ use Rattle.run_matches.specs.Pledges.{Pledge}
 use Rattle.run_matches.specs.Upgrades.{Upgrade}
 use Rattle.run_statements.specs.Elements.{IndexedMatch}
 use Rattle.run_statements.specs.Fitting.{rank_of}
-use Rattle.run_statements.specs.Groups.{PlaceMatch}
+use Rattle.run_statements.specs.Groups.{PlaceMatch, ValueMatch}
 use Rattle.run_statements.specs.Frames.{ArrayMatch, ElementMatch, ScalarMatch, PlainMatch, IsOpen, context_of, ArePlaced, AreReadable, AllCalled, demands}
 use Rattle.run_matches.specs.Runs.{CallsAgree}
 use Rattle.run_statements.specs.Written.{Passes}
 use Rattle.run_matches.specs.Formed.{is_formed}
+
+-- ---- what is handed in
+
+-- a covered user type, none of whose declarations carries an issue
+pub record IsSoundType (U : Upgrade) (user_type : ℕ) : Type 0 where
+  pub covers : covers_user U.program.declarations user_type ≡ true
+  pub sound : IsSoundShape U (user_shapes U.program.declarations user_type)
+
+-- the user types of parameters of what passes are so
+abbrev pub ParametersAreSound : Upgrade → Type 0
+ParametersAreSound U =
+    (q i t : ℕ) → Passes U q → is_type_at U.program.declarations (user t) (slice_get (params_at (slice_get U.program.declarations.procs q)) i) ≡ true
+    → IsSoundType U t
 
 -- ---- under one pledge
 
@@ -37,7 +55,7 @@ FormedExpressionsAgreeBy U K =
     (w : World) (p : ℕ) (f : SourceFrame) (g : NetFrame) (oracle : SourceCalls) (net_oracle : Jobs) (l : SourceLine) (k : NetLine) (c : Code)
     (T : Scope) (uses : Uses) (e : Expr) → MemoryMatch U w → FrameMatch U K w p f g → T.declarations ≡ U.program.declarations
     → IsOpen (scope_of U.written c g k) → AreReadable U T uses → ArePlaced U p f (scope_of U.written c g k) T uses → CallsAgree U (Passes U) oracle net_oracle
-    → AllCalled (demands U K (scope_of U.written c g k) T) e → covers_expr uses e ≡ true → is_formed e ≡ true
+    → AllCalled (demands U K p l k (scope_of U.written c g k) T) e → covers_expr uses e ≡ true → is_formed e ≡ true
     → Agrees U K w (ScalarMatch U (type_at e))
     (source.value_of (context_of U oracle p f l) e w.src)
     (target.value_of (scope_of U.written c g k) net_oracle (exp_of T e) w.net)
@@ -48,7 +66,7 @@ FormedScalarsAgreeBy U K =
     (w : World) (p : ℕ) (f : SourceFrame) (g : NetFrame) (oracle : SourceCalls) (net_oracle : Jobs) (l : SourceLine) (k : NetLine) (c : Code)
     (T : Scope) (uses : Uses) (e : Expr) → MemoryMatch U w → FrameMatch U K w p f g → T.declarations ≡ U.program.declarations
     → IsOpen (scope_of U.written c g k) → AreReadable U T uses → ArePlaced U p f (scope_of U.written c g k) T uses → CallsAgree U (Passes U) oracle net_oracle
-    → AllCalled (demands U K (scope_of U.written c g k) T) e → covers_expr uses e ≡ true → is_formed e ≡ true
+    → AllCalled (demands U K p l k (scope_of U.written c g k) T) e → covers_expr uses e ≡ true → is_formed e ≡ true
     → Agrees U K w (PlainMatch U (type_at e))
     (source.scalar_value (context_of U oracle p f l) e w.src)
     (target.value_of (scope_of U.written c g k) net_oracle (exp_of T e) w.net)
@@ -59,7 +77,7 @@ IndexesAgreeBy U K =
     (w : World) (p : ℕ) (f : SourceFrame) (g : NetFrame) (oracle : SourceCalls) (net_oracle : Jobs) (l : SourceLine) (k : NetLine) (c : Code)
     (T : Scope) (uses : Uses) (ty : Ty) (a : Expr) (indexes : Exprs) → MemoryMatch U w → FrameMatch U K w p f g → T.declarations ≡ U.program.declarations
     → IsOpen (scope_of U.written c g k) → AreReadable U T uses → ArePlaced U p f (scope_of U.written c g k) T uses → CallsAgree U (Passes U) oracle net_oracle
-    → AllCalled (demands U K (scope_of U.written c g k) T) (typed ty (element a indexes)) → covers_array uses a ≡ true → covers_exprs uses indexes ≡ true
+    → AllCalled (demands U K p l k (scope_of U.written c g k) T) (typed ty (element a indexes)) → covers_array uses a ≡ true → covers_exprs uses indexes ≡ true
     → is_formed (typed ty (element a indexes)) ≡ true
     → Agrees U K w (IndexedMatch U (lows_at (context_of U oracle p f l) a) ty)
     (then (source.address_of (context_of U oracle p f l) a w.src) (λ b s.
@@ -72,7 +90,7 @@ ElementsAgreeBy U K =
     (w : World) (p : ℕ) (f : SourceFrame) (g : NetFrame) (oracle : SourceCalls) (net_oracle : Jobs) (l : SourceLine) (k : NetLine) (c : Code)
     (T : Scope) (uses : Uses) (ty : Ty) (a : Expr) (indexes : Exprs) → MemoryMatch U w → FrameMatch U K w p f g → T.declarations ≡ U.program.declarations
     → IsOpen (scope_of U.written c g k) → AreReadable U T uses → ArePlaced U p f (scope_of U.written c g k) T uses → CallsAgree U (Passes U) oracle net_oracle
-    → AllCalled (demands U K (scope_of U.written c g k) T) (typed ty (element a indexes)) → covers_array uses a ≡ true → covers_exprs uses indexes ≡ true
+    → AllCalled (demands U K p l k (scope_of U.written c g k) T) (typed ty (element a indexes)) → covers_array uses a ≡ true → covers_exprs uses indexes ≡ true
     → is_formed (typed ty (element a indexes)) ≡ true
     → Agrees U K w (ElementMatch U ty)
     (source.term_parts (context_of U oracle p f l) ty (element a indexes) w.src)
@@ -93,10 +111,23 @@ abbrev pub PlacesAgreeBy : Upgrade → Pledge → Type 0
 PlacesAgreeBy U K =
     (w : World) (p : ℕ) (f : SourceFrame) (g : NetFrame) (oracle : SourceCalls) (net_oracle : Jobs) (l : SourceLine) (k : NetLine) (c : Code)
     (T : Scope) (uses : Uses) (t : ℕ) (tm : Term) → MemoryMatch U w → FrameMatch U K w p f g → T.declarations ≡ U.program.declarations
-    → AreReadable U T uses → ArePlaced U p f (scope_of U.written c g k) T uses → covers_place uses (typed (user t) tm) ≡ true
+    → AreReadable U T uses → ArePlaced U p f (scope_of U.written c g k) T uses
+    → AllCalled (demands U K p l k (scope_of U.written c g k) T) (typed (user t) tm) → covers_place uses (typed (user t) tm) ≡ true
     → Agrees U K w (PlaceMatch U K t)
     (source.address_of (context_of U oracle p f l) (typed (user t) tm) w.src)
     (target.address_of (scope_of U.written c g k) net_oracle (exp_of T (typed (user t) tm)) w.net)
+
+-- a user type as a value
+abbrev pub GroupsAgreeBy : Upgrade → Pledge → Type 0
+GroupsAgreeBy U K =
+    (w : World) (p : ℕ) (f : SourceFrame) (g : NetFrame) (oracle : SourceCalls) (net_oracle : Jobs) (l : SourceLine) (k : NetLine) (c : Code)
+    (T : Scope) (uses : Uses) (t : ℕ) (tm : Term) → MemoryMatch U w → FrameMatch U K w p f g → T.declarations ≡ U.program.declarations
+    → IsOpen (scope_of U.written c g k) → AreReadable U T uses → ArePlaced U p f (scope_of U.written c g k) T uses → CallsAgree U (Passes U) oracle net_oracle
+    → AllCalled (demands U K p l k (scope_of U.written c g k) T) (typed (user t) tm) → covers_group uses (typed (user t) tm) ≡ true
+    → is_formed (typed (user t) tm) ≡ true
+    → Agrees U K w (ValueMatch U (user_shapes U.program.declarations t))
+    (source.value_of (context_of U oracle p f l) (typed (user t) tm) w.src)
+    (target.value_of (scope_of U.written c g k) net_oracle (exp_of T (typed (user t) tm)) w.net)
 
 -- ---- under any pledge
 

@@ -1,7 +1,7 @@
 -- An assignment to a variable, a field or an element, or of a user type, does the same as what is written for it.
 use Rattle.std.proofs.Common.{◌≡◌, refl, sym, subst, ⊎_elim, ℕ, Bool, true, false, ◌&&◌, ◌||◌, List, [], ◌∷◌, ◌++◌, codes, true≢false}
 use Rattle.vb_tree.specs.BoundTree.{Ty}
-use Rattle.bound_tree.specs.Tree.{Expr, typed, Term, variable, field, element}
+use Rattle.bound_tree.specs.Tree.{Expr, typed, Term, variable, field, element, with_object}
 use Rattle.bound_facts.proofs.Chains.{both_true}
 use Rattle.bound_facts.specs.Effects.{is_outside}
 use Rattle.bound_facts.specs.Locks.{is_same_type}
@@ -23,7 +23,7 @@ use Rattle.net_run.specs.Members.{Code}
 use Rattle.net_run.specs.Names as net_names
 use Rattle.run_matches.specs.Agreeing.{Agrees}
 use Rattle.run_matches.specs.CoveredVariables.{covers_type}
-use Rattle.run_matches.specs.CoveredExprs.{Uses, covers_array, covers_expr, covers_exprs, covers_place, has_scalar, is_changeable_in, keeps_order}
+use Rattle.run_matches.specs.CoveredExprs.{Uses, covers_array, covers_expr, covers_base, covers_exprs, has_scalar, is_changeable_in, keeps_order}
 use Rattle.run_matches.specs.CoveredLines.{covers_copy, covers_store, is_ordered_in}
 use Rattle.run_matches.specs.Formed.{is_formed}
 use Rattle.run_matches.specs.Frames.{OwnsAll, is_own_of}
@@ -34,7 +34,7 @@ use Rattle.run_matches.specs.Runs.{CallsAgree}
 use Rattle.run_matches.specs.Upgrades.{Upgrade}
 use Rattle.run_statements.specs.Elements.{IndexesAgree}
 use Rattle.run_statements.specs.Frames.{AllCalled, AnyUnits, AreReadable, ArePlaced, ElementsAgree, ExpressionsAgree, IsOpen, ScalarsAreWritten, context_of, demands}
-use Rattle.run_statements.specs.Groups.{GroupsAreRead, GroupsAreWritten}
+use Rattle.run_statements.specs.Groups.{GroupsAgree, GroupsAreWritten}
 use Rattle.run_statements.specs.Memory.{ElementsAreWritten}
 use Rattle.run_statements.specs.Written.{Passes}
 use Rattle.agreeing_laws.proofs.Lasting.{later_now}
@@ -52,7 +52,7 @@ first_of_two true h = refl
 first_of_two false h = h
 
 module _ (U : Upgrade) (expressions : ExpressionsAgree U) (scalars : ScalarsAreWritten U) (elements : ElementsAgree U) (indexed : IndexesAgree U)
-    (writes : ElementsAreWritten U) (reads_groups : GroupsAreRead U) (writes_groups : GroupsAreWritten U) (K : Pledge) (p : ℕ)
+    (writes : ElementsAreWritten U) (groups : GroupsAgree U) (writes_groups : GroupsAreWritten U) (K : Pledge) (p : ℕ)
     (f : SourceFrame) (g : NetFrame) (l : SourceLine) (k : NetLine) (c : Code) (T : Scope) (declared : T.declarations ≡ U.program.declarations)
     (oracle : SourceCalls) (net_oracle : Jobs) (is_open : IsOpen (scope_of U.written c g k)) (uses : Uses) (readable : AreReadable U T uses)
     (placed : ArePlaced U p f (scope_of U.written c g k) T uses) (agree : CallsAgree U (Passes U) oracle net_oracle) (w : World) (h : MemoryMatch U w)
@@ -64,7 +64,7 @@ module _ (U : Upgrade) (expressions : ExpressionsAgree U) (scalars : ScalarsAreW
   S = scope_of U.written c g k
 
   abbrev Can : Expr → Type 0
-  Can e = AllCalled (demands U K S T) e
+  Can e = AllCalled (demands U K p l k S T) e
 
   -- a steady procedure stores to its own variables alone
   abbrev IsOwnTarget : Expr → Type 0
@@ -95,17 +95,19 @@ module _ (U : Upgrade) (expressions : ExpressionsAgree U) (scalars : ScalarsAreW
         (good uses e covers formed) owns ty v qualified parts.1 (readable.exact v (first_of_two (uses.exact v) is))
         (λ steady. not_outside (is_own_of U p v.0) (own steady))))
     value_stored ty (field d j) e can_to can is to_covers to_formed covers formed own assigns puts =
-        let parts : (covers_type ty ≡ true) × ((has_scalar uses (type_at d) j && covers_place uses d) ≡ true) =
-        both_true (covers_type ty) (has_scalar uses (type_at d) j && covers_place uses d) to_covers in
+        let parts : (covers_type ty ≡ true) × ((has_scalar uses (type_at d) j && covers_base uses d) ≡ true) =
+        both_true (covers_type ty) (has_scalar uses (type_at d) j && covers_base uses d) to_covers in
         subst (λ x. P x) (sym (line_is T (typed ty (field d j)) e (order_is_hidden T.declarations uses ty d j e parts.1) parts.0))
         (assigns
         (field_stored U expressions scalars K p f g l k c T declared oracle net_oracle is_open uses readable placed agree w h (G w (later_now U K w h)) e can
-        (good uses e covers formed) owns ty d j parts.1 own))
+        (good uses e covers formed) owns ty d j can_to parts.1 own))
     value_stored ty (element a indexes) e can_to can is to_covers to_formed covers formed own assigns puts =
         let both = both_true (is_same_type ty (type_at e)) (keeps_order uses indexes e) is in
         let of_type = (both_true (covers_type ty) (covers_array uses a && covers_exprs uses indexes) to_covers).0 in
         element_stored U expressions elements indexed writes K p f g l k c T declared oracle net_oracle is_open uses readable placed agree w h G owns ty a indexes e
         can_to can to_covers to_formed covers formed own (same_type ty (type_at e) of_type both.0) P assigns puts both.1
+    value_stored ty (with_object r) e can_to can is to_covers to_formed covers formed own assigns puts =
+        absurd (true≢false (sym (both_true (covers_type ty) false to_covers).1))
     value_stored ty _ e can_to can is to_covers to_formed covers formed own assigns puts = absurd (true≢false (sym is))
 
     pub stored : (to e : Expr) → Can to → Can e → covers_store uses (to ∷ e ∷ []) ≡ true → is_formed to ≡ true → is_formed e ≡ true → IsOwnTarget to → Stored to e
@@ -118,6 +120,6 @@ module _ (U : Upgrade) (expressions : ExpressionsAgree U) (scalars : ScalarsAreW
         let second : (covers_expr uses (typed ty t) ≡ true) × (covers_expr uses e ≡ true) = both_true (covers_expr uses (typed ty t)) (covers_expr uses e) first.1 in
         value_stored ty t e can_to can first.0 second.0 to_formed second.1 formed own assigns puts)
         (λ x.
-        copy_stored U reads_groups writes_groups K p f g l k c T declared oracle net_oracle uses readable placed w h (G w (later_now U K w h)) owns P (typed ty t)
-        e x own assigns)
+        copy_stored U groups writes_groups K p f g l k c T declared oracle net_oracle is_open uses readable placed agree w h (G w (later_now U K w h)) owns P
+        (typed ty t) e can_to can x formed own assigns)
         (either_true (places && values) (covers_copy uses (typed ty t) e) covers)

@@ -15,7 +15,8 @@ use Rattle.run_matches.specs.Frames.{FrameMatch, OwnsAll}
 use Rattle.agreeing_laws.proofs.Lasting.{later_now, later_then}
 use Rattle.line_laws.specs.Lasting.{GoOnMatching, SteadyNext}
 use Rattle.line_laws.proofs.Bounds.{kept_later}
-use Rattle.line_laws.proofs.FrameLater.{frame_keeping, frame_placed, heads_keeping, IsNoAddress, KeptHere, placed}
+use Rattle.line_laws.proofs.FrameLater.{frame_keeping, frame_placed, heads_keeping, KeptHere, placed}
+use Rattle.line_laws.proofs.KeptPlaces.{can_keep_later}
 
 module _ (U : Upgrade) (K : Pledge) (p : ℕ) (f : SourceFrame) (g : NetFrame) (w : World) (h : MemoryMatch U w) (F : GoOnMatching U K p f g w) where
   pub steady_later : (w1 : World) → Later U K w w1 → GoOnMatching U K p f g w1
@@ -44,13 +45,14 @@ module _ (U : Upgrade) (K : Pledge) (p : ℕ) (f : SourceFrame) (g : NetFrame) (
     }
 
     -- and with what the line keeps
-    pub keeping_at : (x : Kept Value Address) (y : Kept net_value.Value net_store.Address) → IsNoAddress x → KeptHere U p f x y
-        → ((exact : Bool) → KeptMatch U K w1 exact x y) → (n m : ℕ) → m ≡ n → SteadyNext U K p f.me w1 (keeping x n f) (keeping y m g)
-    keeping_at x y no_address here kept n m e = record {
+    pub keeping_at : (x : Kept Value Address) (y : Kept net_value.Value net_store.Address) → ((exact : Bool) → KeptMatch U K w1 exact x y)
+        → KeptHere U K p f w1 x y → (n m : ℕ) → m ≡ n → SteadyNext U K p f.me w1 (keeping x n f) (keeping y m g)
+    keeping_at x y kept here n m e = record {
       same_object = refl;
       frames = λ w2 later.
-          frame_keeping U K w2 p f g x y (λ exact. kept_later U K w1 w2 l.match later exact x y (kept exact)) no_address here (at w2 later) n m e;
-      owns = heads_keeping U K w1 p f g x y kept no_address here (at w1 (later_now U K w1 l.match)) n owns;
+          frame_keeping U K w2 p f g x y (λ exact. kept_later U K w1 w2 l.match later exact x y (kept exact))
+          (λ z is. can_keep_later U K p f w1 w2 later z.source.form z.bindings.exprs x y (here z is)) (at w2 later) n m e;
+      owns = heads_keeping U K w1 p f g x y kept here (at w1 (later_now U K w1 l.match)) n owns;
     }
 
     -- at a handler of an error

@@ -94,7 +94,7 @@ module _ (U : Upgrade) (expressions : ExpressionsAgree U) (K : Pledge) (p : ℕ)
   S = scope_of U.written c g k
 
   abbrev Can : Expr → Type 0
-  Can e = AllCalled (demands U K S T) e
+  Can e = AllCalled (demands U K p l k S T) e
 
   text_agrees : (e : Expr) → Can e → covers_expr uses e ≡ true → is_formed e ≡ true → type_at e ≡ types.str
       → Agrees U K w AnyPlace (then (source.scalar_value C e w.src) boxed_text) (target.address_of S net_oracle (support_call (codes "Box") (one (exp_of T e))) w.net)
@@ -117,7 +117,7 @@ module _ (U : Upgrade) (expressions : ExpressionsAgree U) (K : Pledge) (p : ℕ)
       (then_agrees U K w AnyPlace AnyShown r r' (λ u s. gives [] u s) (λ a t. gives [] tt t) h x
       (λ u a w1 m later. agrees_gives U K w1 AnyShown u tt later.match tt))
 
-  box_shows : (ty : Ty) (args : Exprs) → AllCalledAll (demands U K S T) args → covers_exprs uses args ≡ true → is_call (types.str ∷ []) types.nothing (types_of args) ty ≡ true → are_formed args ≡ true
+  box_shows : (ty : Ty) (args : Exprs) → AllCalledAll (demands U K p l k S T) args → covers_exprs uses args ≡ true → is_call (types.str ∷ []) types.nothing (types_of args) ty ≡ true → are_formed args ≡ true
       → AgreesAsCall U K w S net_oracle (source.parts_of C (typed ty (library lib.MsgBox args)) w.src) (exp_of T (typed ty (library lib.MsgBox args)))
   box_shows ty no_exprs can covers call formed = absurd (true≢false (sym (both_true (is_same_type types.nothing ty) false call).1))
   box_shows ty (next_expr e (next_expr d rest)) can covers call formed =
@@ -143,7 +143,7 @@ module _ (U : Upgrade) (expressions : ExpressionsAgree U) (K : Pledge) (p : ℕ)
   first_or true h = refl
   first_or false h = h
 
-  shows : (ty : Ty) (function : LibCall) (args : Exprs) → AllCalledAll (demands U K S T) args → is_box function ≡ true
+  shows : (ty : Ty) (function : LibCall) (args : Exprs) → AllCalledAll (demands U K p l k S T) args → is_box function ≡ true
       → covers_term uses (library function args) ≡ true
       → is_formed (typed ty (library function args)) ≡ true
       → AgreesAsCall U K w S net_oracle (source.parts_of C (typed ty (library function args)) w.src) (exp_of T (typed ty (library function args)))
@@ -152,7 +152,7 @@ module _ (U : Upgrade) (expressions : ExpressionsAgree U) (K : Pledge) (p : ℕ)
       box_shows ty args can (first_or (covers_exprs uses args) covers) both.0 both.1
   shows ty _ args can box covers formed = absurd (true≢false (sym box))
 
-  pub box_agrees : (ty : Ty) (t : Term) → AllCalledIn (demands U K S T) t → covers_box uses t ≡ true → is_formed (typed ty t) ≡ true
+  pub box_agrees : (ty : Ty) (t : Term) → AllCalledIn (demands U K p l k S T) ty t → covers_box uses t ≡ true → is_formed (typed ty t) ≡ true
       → AgreesAsCall U K w S net_oracle (source.parts_of C (typed ty t) w.src) (exp_of T (typed ty t))
   box_agrees ty (library function args) can covers formed =
       let both = both_true (is_box function) (covers_term uses (library function args)) covers in

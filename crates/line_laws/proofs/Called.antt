@@ -40,6 +40,7 @@ module _ (Q : Demands) where
   NodeHas (typed ty (call p qualified of args)) = Q.calls p.0 args
   NodeHas (typed ty (element e indexes)) = Q.elements e indexes
   NodeHas (typed ty (library f args)) = Q.bounds f args
+  NodeHas (typed ty (with_object root)) = Q.withs ty root
   NodeHas (typed ty t) = Unit {0}
 
   abbrev OfNodes : List Expr → Type 0
@@ -58,7 +59,7 @@ module _ (Q : Demands) where
     nodes_called : (e : Expr) → OfNodes (nodes e) → AllCalled Q e
     nodes_called (typed ty (constant x origin)) h = tt
     nodes_called (typed ty (variable v qualified)) h = tt
-    nodes_called (typed ty (field e k)) h = tt
+    nodes_called (typed ty (field e k)) h = nodes_called e (of_rest (typed ty (field e k)) (nodes e) h)
     nodes_called (typed ty (element e indexes)) h = (
       h (typed ty (element e indexes)) (contains_first (typed ty (element e indexes)) (nodes_in (element e indexes))),
       exprs_called indexes (of_right (nodes e) (nodes_of_all indexes) (of_rest (typed ty (element e indexes)) (nodes_in (element e indexes)) h)),
@@ -79,7 +80,7 @@ module _ (Q : Demands) where
     nodes_called (typed ty (convert to e)) h = nodes_called e (of_rest (typed ty (convert to e)) (nodes e) h)
     nodes_called (typed ty (new_object c)) h = tt
     nodes_called (typed ty me) h = tt
-    nodes_called (typed ty (with_object root)) h = tt
+    nodes_called (typed ty (with_object root)) h = h (typed ty (with_object root)) (contains_first (typed ty (with_object root)) [])
     nodes_called (typed ty err_number) h = tt
     nodes_called (typed ty (err_raise e)) h = nodes_called e (of_rest (typed ty (err_raise e)) (nodes e) h)
     nodes_called (typed ty err_clear) h = tt

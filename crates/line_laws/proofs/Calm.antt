@@ -27,9 +27,9 @@ use Rattle.run_base.specs.Outcomes.{Outcome, gives, raises, spent, outside, afte
 use Rattle.row_laws.specs.Constants.{is_literal}
 use Rattle.row_laws.proofs.Composing.{then_assoc}
 use Rattle.vb6_run.specs.Expressions as source
-use Rattle.vb6_run.specs.Expressions.{answer_as, at_address, declared, indexes_of, long_in, scalar_in, scalar_of, type_shape, value_in, whole_number}
+use Rattle.vb6_run.specs.Expressions.{answer_as, at_address, declared, long_in, scalar_in, scalar_of, type_shape, value_in, whole_number}
 use Rattle.vb6_run.specs.Shapes.{simple, user_shapes}
-use Rattle.vb6_run.specs.Store.{Address, Memory, SourceCalls, SourceFrame, provided, read}
+use Rattle.vb6_run.specs.Store.{Address, Memory, provided, read}
 use Rattle.vb6_run.specs.Store as source_store
 use Rattle.vb6_run.specs.Values.{Value, scalar, fields, elements, is_of_shape, is_typed}
 use Rattle.net_run.specs.Store as net_store

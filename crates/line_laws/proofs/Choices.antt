@@ -74,6 +74,7 @@ use Rattle.line_laws.specs.Lasting.{GoOnMatching}
 use Rattle.line_laws.proofs.Called.{AllIn}
 use Rattle.line_laws.proofs.Conditions.{scalar_is}
 use Rattle.line_laws.proofs.FrameLater.{Keeps}
+use Rattle.line_laws.proofs.KeptPlaces.{value_kept}
 use Rattle.line_laws.proofs.Stores.{same_type}
 use Rattle.line_laws.proofs.Uses.{good, good_parts, is_good, type_covered}
 
@@ -155,7 +156,7 @@ module _ (U : Upgrade) (expressions : ExpressionsAgree U) (K : Pledge) (p : ℕ)
   S = scope_of U.written c g k
 
   abbrev Can : Expr → Type 0
-  Can e = AllCalled (demands U K S T) e
+  Can e = AllCalled (demands U K p l k S T) e
 
   -- ---- Select Case
 
@@ -170,8 +171,8 @@ module _ (U : Upgrade) (expressions : ExpressionsAgree U) (K : Pledge) (p : ℕ)
       (λ x y w1 m later.
       subst (λ z. Agrees U K w1 R (gives [] (keeping (keeps_value z) l.aims.after f) w1.src) (gives [] (keeping (keeps_value y) k.aims.after g) w1.net)) (sym m.1)
       (agrees_gives U K w1 R (keeping (keeps_value (scalar (type_at e) m.0)) l.aims.after f) (keeping (keeps_value y) k.aims.after g) later.match
-      (keep (keeps_value (scalar (type_at e) m.0)) (keeps_value y) (λ a i. cc i) (m.0, refl) l.aims.after k.aims.after after w1 later
-      (λ exact. both_choices (type_at e) m.0 y m.2))))
+      (keep (keeps_value (scalar (type_at e) m.0)) (keeps_value y) l.aims.after k.aims.after after w1 later (λ exact. both_choices (type_at e) m.0 y m.2)
+      (value_kept U K p f w1 (source_form.select head) (e ∷ []) (keeps_value (scalar (type_at e) m.0)) (keeps_value y) refl (λ a i. cc i) (m.0, refl)))))
 
   -- ---- Case
 

@@ -87,7 +87,7 @@ module _ (U : Upgrade) (expressions : ExpressionsAgree U) (K : Pledge) (p : ℕ)
   S = scope_of U.written c g k
 
   abbrev Can : Expr → Type 0
-  Can e = AllCalled (demands U K S T) e
+  Can e = AllCalled (demands U K p l k S T) e
 
   pub condition_agrees : (R : World → SourceFrame → NetFrame → Type 0) (w : World) → MemoryMatch U w → FrameMatch U K w p f g → (m n : Option ℕ)
       (go : Bool → net_store.Memory → Outcome net_store.Memory NetFrame) → ((w1 : World) → Later U K w w1 → BothLead U K R C m n go w1) → (e : Expr)

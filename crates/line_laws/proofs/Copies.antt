@@ -1,5 +1,5 @@
 -- An assignment of a user type as a whole does the same as what is written for it.
-use Rattle.std.proofs.Common.{◌≡◌, ◌∙◌, refl, sym, ap, subst, ℕ, true, false, ◌&&◌, [], true≢false, eq-eqb}
+use Rattle.std.proofs.Common.{◌≡◌, ◌∙◌, refl, sym, ap, subst, inl, inr, ℕ, true, false, ◌&&◌, true≢false, eq-eqb}
 use Rattle.vb_tree.specs.BoundTree as types
 use Rattle.vb_tree.specs.BoundTree.{Ty}
 use Rattle.bound_tree.specs.Tree.{Expr, typed, Term, variable, field}
@@ -8,7 +8,7 @@ use Rattle.bound_facts.specs.Effects.{is_outside}
 use Rattle.bound_facts.specs.Locks.{is_same_type}
 use Rattle.bound_facts.specs.Node.{root}
 use Rattle.net_tree.specs.Tree as net
-use Rattle.run_base.specs.Outcomes.{Outcome, gives, after, then}
+use Rattle.run_base.specs.Outcomes.{then}
 use Rattle.written_trees.specs.Exprs.{exp_of}
 use Rattle.written_trees.specs.Facts.{Facts}
 use Rattle.written_trees.specs.Names.{Scope}
@@ -18,7 +18,7 @@ use Rattle.vb6_run.specs.Forms.{SourceLine}
 use Rattle.vb6_run.specs.Lines.{keeps_lows, let_to, store_at}
 use Rattle.vb6_run.specs.Shapes.{Shape, simple, group, array, endless, user_shapes}
 use Rattle.vb6_run.specs.Store as source_store
-use Rattle.vb6_run.specs.Store.{Memory, SourceCalls, SourceFrame, provided, read}
+use Rattle.vb6_run.specs.Store.{Memory, SourceCalls, SourceFrame}
 use Rattle.vb6_run.specs.Values.{Value, scalar, fields, elements, is_of_shape}
 use Rattle.net_run.specs.Expressions as target
 use Rattle.net_run.specs.Lines.{NetFrame, NetLine, scope_of}
@@ -26,10 +26,9 @@ use Rattle.net_run.specs.Making.{Jobs}
 use Rattle.net_run.specs.Members.{Code}
 use Rattle.net_run.specs.Names as net_names
 use Rattle.net_run.specs.Store as net_store
-use Rattle.net_run.specs.Values as net_value
 use Rattle.run_matches.specs.Agreeing.{Agrees}
-use Rattle.run_matches.specs.CoveredVariables.{covers_type}
-use Rattle.run_matches.specs.CoveredExprs.{Uses, covers_place, is_changeable}
+use Rattle.run_matches.specs.CoveredVariables.{covers_type, covers_user}
+use Rattle.run_matches.specs.CoveredExprs.{Uses, covers_group, covers_place, is_changeable}
 use Rattle.run_matches.specs.CoveredLines.{covers_copy}
 use Rattle.run_matches.specs.Frames.{FrameMatch, OwnsAll}
 use Rattle.run_matches.specs.Kinds.{IsValueOf}
@@ -38,13 +37,15 @@ use Rattle.run_matches.specs.Match.{MemoryMatch}
 use Rattle.run_matches.specs.Pledges.{Pledge, type_of_shape}
 use Rattle.run_matches.specs.SoundShapes.{IsSoundShape}
 use Rattle.run_matches.specs.Upgrades.{Upgrade}
-use Rattle.run_statements.specs.Frames.{AreReadable, ArePlaced, context_of}
-use Rattle.run_statements.specs.Groups.{GroupsAreRead, GroupsAreWritten, ValueMatch}
-use Rattle.agreeing_laws.proofs.Agreeing.{agrees_gives, left_alone, then_agrees}
-use Rattle.agreeing_laws.proofs.FieldPlaces.{place_reached}
+use Rattle.run_statements.specs.Frames.{AllCalled, AreReadable, ArePlaced, IsOpen, context_of, demands}
+use Rattle.run_statements.specs.Written.{Passes}
+use Rattle.run_matches.specs.Runs.{CallsAgree}
+use Rattle.run_matches.specs.Formed.{is_formed}
+use Rattle.run_statements.specs.Groups.{GroupsAgree, GroupsAreWritten, ValueMatch}
+use Rattle.agreeing_laws.proofs.WithPlaces.{same_user}
 use Rattle.agreeing_laws.proofs.UserShapes.{covered_type_of}
-use Rattle.line_laws.proofs.Places.{Place, place_is, place_target, same_user}
-use Rattle.line_laws.proofs.Targets.{SameStore, Target, target_stored}
+use Rattle.line_laws.proofs.Places.{Located, place_alone, place_is, place_target, place_type}
+use Rattle.line_laws.proofs.Targets.{SameStore, Target, absent_stored, target_stored}
 
 -- ---- values
 
@@ -58,13 +59,6 @@ of_group U C to (group u fs) t (elements e dims xs) sound is of = absurd of
 of_group U C to (array e bounds) t x sound is of = absurd sound
 of_group U C to endless t x sound is of = absurd sound
 
--- a place is of a user type
-place_type : (uses : Uses) (ty : Ty) (tm : Term) → covers_place uses (typed ty tm) ≡ true → (t : ℕ) × (ty ≡ types.user t)
-place_type uses (types.user t) tm covers = (t, refl)
-place_type uses _ (variable v qualified) covers = absurd (true≢false (sym covers))
-place_type uses _ (field e j) covers = absurd (true≢false (sym covers))
-place_type uses _ _ covers = absurd (true≢false (sym covers))
-
 -- ---- what is written
 
 -- no copy is made, since no array is shared
@@ -76,9 +70,10 @@ copy_is U T facts t holds tm e =
 
 -- ---- the assignment
 
-module _ (U : Upgrade) (reads : GroupsAreRead U) (writes : GroupsAreWritten U) (K : Pledge) (p : ℕ) (f : SourceFrame)
+module _ (U : Upgrade) (groups : GroupsAgree U) (writes : GroupsAreWritten U) (K : Pledge) (p : ℕ) (f : SourceFrame)
     (g : NetFrame) (l : SourceLine) (k : NetLine) (c : Code) (T : Scope) (declared : T.declarations ≡ U.program.declarations) (oracle : SourceCalls)
-    (net_oracle : Jobs) (uses : Uses) (readable : AreReadable U T uses) (placed : ArePlaced U p f (scope_of U.written c g k) T uses) (w : World)
+    (net_oracle : Jobs) (is_open : IsOpen (scope_of U.written c g k)) (uses : Uses) (readable : AreReadable U T uses)
+    (placed : ArePlaced U p f (scope_of U.written c g k) T uses) (agree : CallsAgree U (Passes U) oracle net_oracle) (w : World)
     (h : MemoryMatch U w) (F : FrameMatch U K w p f g) (owns : OwnsAll U K p f) where
   abbrev C : source.Context
   C = context_of U oracle p f l
@@ -89,30 +84,14 @@ module _ (U : Upgrade) (reads : GroupsAreRead U) (writes : GroupsAreWritten U) (
   abbrev shape_of : ℕ → Shape
   shape_of t = user_shapes U.program.declarations t
 
-  abbrev PlaceAt : ℕ → Term → Type 0
-  PlaceAt t tm = Place U K p w C S T net_oracle (types.user t) (typed (types.user t) tm)
+  abbrev Can : Expr → Type 0
+  Can e = AllCalled (demands U K p l k S T) e
 
-  -- a place is read, as a whole
-  place_read : (t : ℕ) (tm : Term) → PlaceAt t tm
-      → Agrees U K w (ValueMatch U (shape_of t)) (source.value_of C (typed (types.user t) tm) w.src)
-      (target.value_of S net_oracle (exp_of T (typed (types.user t) tm)) w.net)
-  place_read t tm x =
-      let e : Expr = typed (types.user t) tm in
-      let a : source_store.Address = source_store.root (shape_of t) x.place.position in
-      let check : Value → Memory → Outcome Memory Value = λ y s. provided (is_of_shape (shape_of t) y) (λ s. gives [] y s) s in
-      let shows : net_value.Value → net_store.Memory → Outcome net_store.Memory net_value.Value = λ y s. gives [] y s in
-      subst (λ r. Agrees U K w (ValueMatch U (shape_of t)) r (target.value_of S net_oracle (exp_of T e) w.net))
-      (sym (ap (λ r. then r (source.value_in C e)) (x.place.found w.src)))
-      (subst (λ r. Agrees U K w (ValueMatch U (shape_of t)) (after [] (then (after [] (read a w.src)) check)) (target.value_from S net_oracle r))
-      (sym (place_reached U K w C S net_oracle T x.root (types.user t) e x.place w.net))
-      (left_alone U K w (ValueMatch U (shape_of t)) (then (after [] (read a w.src)) check) (then (target.read x.place.address w.net) shows)
-      (then_agrees U K w (ValueMatch U (shape_of t)) (ValueMatch U (shape_of t)) (after [] (read a w.src)) (target.read x.place.address w.net) check shows h
-      (left_alone U K w (ValueMatch U (shape_of t)) (read a w.src) (target.read x.place.address w.net)
-      (reads K w (shape_of t) x.place.position x.place.address x.place.sound h x.place.same))
-      (λ y z w1 m later.
-      subst (λ b. Agrees U K w1 (ValueMatch U (shape_of t)) (provided b (λ s. gives [] y s) w1.src) (gives [] z w1.net))
-      (sym (of_group U C e (shape_of t) t y x.place.sound (covered_type_of U.program.declarations t x.place.covers) m.0).0)
-      (agrees_gives U K w1 (ValueMatch U (shape_of t)) y z later.match m)))))
+  abbrev IsOwnTarget : Expr → Type 0
+  IsOwnTarget e = K.steady → is_outside U.program.declarations.vars p (root e) ≡ false
+
+  abbrev PlaceAt : ℕ → Term → Type 0
+  PlaceAt t tm = Located U K p w C S T net_oracle (types.user t) (typed (types.user t) tm)
 
   lets : (t : ℕ) (tm : Term) → covers_place uses (typed (types.user t) tm) ≡ true → (x : Value) (s : Memory)
       → let_to C (typed (types.user t) tm) x s ≡ then (source.address_of C (typed (types.user t) tm) s) (store_at C (typed (types.user t) tm) x)
@@ -120,51 +99,68 @@ module _ (U : Upgrade) (reads : GroupsAreRead U) (writes : GroupsAreWritten U) (
   lets t (field d j) covers x s = refl
   lets t _ covers x s = absurd (true≢false (sym covers))
 
-  copied : (t : ℕ) (to from : Term) → covers_place uses (typed (types.user t) to) ≡ true → covers_place uses (typed (types.user t) from) ≡ true
-      → (K.steady → is_outside U.program.declarations.vars p (root (typed (types.user t) to)) ≡ false)
-      → SameStore U K w C S T net_oracle (typed (types.user t) to) (typed (types.user t) from)
-  copied t to from covers_to covers_from own =
-      let x : PlaceAt t to = place_is U K p f g l k c T declared oracle net_oracle uses readable placed w h F owns t to covers_to in
-      let y : PlaceAt t from = place_is U K p f g l k c T declared oracle net_oracle uses readable placed w h F owns t from covers_from in
-      let d : Expr = typed (types.user t) to in
-      let at : Target U K w C S T net_oracle d (source_store.root (shape_of t) x.place.position) x.place.address =
-      place_target U K p f g l k c T declared oracle net_oracle uses readable placed w h F owns (types.user t) d x (lets t to covers_to) own in
-      target_stored U K w h C S T net_oracle d (source_store.root (shape_of t) x.place.position) x.place.address at (typed (types.user t) from)
-      (ValueMatch U (shape_of t)) (place_read t from y)
-      (λ w1 v z m. (of_group U C d (shape_of t) t v x.place.sound (covered_type_of U.program.declarations t x.place.covers) m.0).1)
-      (λ w1 v z h1 same m. writes K w1 (shape_of t) x.place.position x.place.address f.env v z x.place.sound h1 same at.target at.change m)
+  module _ (t : ℕ) (to : Term) (covers_to : covers_place uses (typed (types.user t) to) ≡ true) where
+    abbrev d : Expr
+    d = typed (types.user t) to
 
-  -- what is written for it
-  copied_line : (t : ℕ) (to : Term) (e : Expr) → covers_place uses (typed (types.user t) to) ≡ true
-      → store_line T (typed (types.user t) to) e ≡ net.assign (exp_of T (typed (types.user t) to)) (exp_of T e)
-  copied_line t to e covers =
-      let x : PlaceAt t to = place_is U K p f g l k c T declared oracle net_oracle uses readable placed w h F owns t to covers in
-      copy_is U T readable.facts t (readable.flat t x.place.covers) to e
+    -- to a place, or to none
+    stored_at : PlaceAt t to → IsOwnTarget d → (e : Expr)
+        → Agrees U K w (ValueMatch U (shape_of t)) (source.value_of C e w.src) (target.value_of S net_oracle (exp_of T e) w.net)
+        → SameStore U K w C S T net_oracle d e
+    stored_at (inl x) own e values =
+        let at : Target U K w C S T net_oracle d (source_store.root (shape_of t) x.place.position) x.place.address =
+        place_target U K p f g l k c T declared oracle net_oracle uses readable placed w h F owns (types.user t) d (place_alone uses (types.user t) to covers_to) x
+        (lets t to covers_to) own in
+        target_stored U K w h C S T net_oracle d (source_store.root (shape_of t) x.place.position) x.place.address at e (ValueMatch U (shape_of t)) values
+        (λ w1 v z m. (of_group U C d (shape_of t) t v x.place.sound (covered_type_of U.program.declarations t x.place.covers) m.0).1)
+        (λ w1 v z h1 same m. writes K w1 (shape_of t) x.place.position x.place.address f.env v z x.place.sound h1 same at.target at.change m)
+    stored_at (inr x) own e values =
+        absent_stored U K w h C S T net_oracle d e (ValueMatch U (shape_of t)) values net_store.nowhere
+        (x.written.reached (place_alone uses (types.user t) to covers_to))
+        (λ y s. lets t to covers_to y s ∙ ap (λ r. then (then r source.finished) (store_at C d y)) (x.missing s))
+
+    covers_at : PlaceAt t to → covers_user U.program.declarations t ≡ true
+    covers_at (inl x) = x.place.covers
+    covers_at (inr x) = x.covers
+
+    module _ (can_to : Can (typed (types.user t) to)) where
+      there : PlaceAt t to
+      there = place_is U K p f g l k c T declared oracle net_oracle uses readable placed w h F owns t to can_to covers_to
+
+      copied : (from : Term) → Can (typed (types.user t) from) → covers_group uses (typed (types.user t) from) ≡ true → is_formed (typed (types.user t) from) ≡ true
+          → IsOwnTarget d → SameStore U K w C S T net_oracle d (typed (types.user t) from)
+      copied from can covers formed own =
+          stored_at there own (typed (types.user t) from)
+          (groups K w p f g oracle net_oracle l k c T uses t from h F declared is_open readable placed agree can covers formed)
+
+      -- what is written for it
+      copied_line : (e : Expr) → store_line T d e ≡ net.assign (exp_of T d) (exp_of T e)
+      copied_line e = copy_is U T readable.facts t (readable.flat t (covers_at there)) to e
 
   -- what holds of a line that assigns so
   module _ (P : net.Line → Type 0) where
     -- to a place of a type
     abbrev IsCopied : Ty → Term → Ty → Term → Type 0
     IsCopied ty to of from =
-        is_same_type ty of ≡ true → covers_place uses (typed ty to) ≡ true → covers_place uses (typed of from) ≡ true
-        → (K.steady → is_outside U.program.declarations.vars p (root (typed ty to)) ≡ false)
+        is_same_type ty of ≡ true → Can (typed ty to) → Can (typed of from) → covers_place uses (typed ty to) ≡ true → covers_group uses (typed of from) ≡ true
+        → is_formed (typed of from) ≡ true → IsOwnTarget (typed ty to)
         → (SameStore U K w C S T net_oracle (typed ty to) (typed of from) → P (net.assign (exp_of T (typed ty to)) (exp_of T (typed of from))))
         → P (store_line T (typed ty to) (typed of from))
 
-    of_type : (t : ℕ) (to : Term) (ty : Ty) (from : Term) → IsCopied (types.user t) to ty from
-    of_type t to ty from same covers_to covers_from own go =
-        let is : types.user t ≡ ty = sym (same_user t ty same) in
-        subst (λ x. P x) (sym (copied_line t to (typed ty from) covers_to))
-        (go
-        (subst (λ z. SameStore U K w C S T net_oracle (typed (types.user t) to) (typed z from)) is
-        (copied t to from covers_to (subst (λ z. covers_place uses (typed z from) ≡ true) (sym is) covers_from) own)))
+    to_same : (t : ℕ) (to from : Term) → IsCopied (types.user t) to (types.user t) from
+    to_same t to from same can_to can covers_to covers_from formed own go =
+        subst (λ x. P x) (sym (copied_line t to covers_to can_to (typed (types.user t) from)))
+        (go (copied t to covers_to can_to from can covers_from formed own))
 
-    pub copy_stored : (to e : Expr) → covers_copy uses to e ≡ true → (K.steady → is_outside U.program.declarations.vars p (root to) ≡ false)
+    of_type : (t : ℕ) (to : Term) (ty : Ty) (from : Term) → IsCopied (types.user t) to ty from
+    of_type t to ty from same = subst (λ z. IsCopied (types.user t) to z from) (sym (same_user t ty same)) (to_same t to from) same
+
+    pub copy_stored : (to e : Expr) → Can to → Can e → covers_copy uses to e ≡ true → is_formed e ≡ true → IsOwnTarget to
         → (SameStore U K w C S T net_oracle to e → P (net.assign (exp_of T to) (exp_of T e))) → P (store_line T to e)
-    copy_stored (typed ty to) (typed of from) covers own go =
+    copy_stored (typed ty to) (typed of from) can_to can covers formed own go =
         let first =
-        both_true (is_changeable uses (typed ty to)) (is_same_type ty of && (covers_place uses (typed ty to) && covers_place uses (typed of from))) covers in
-        let second = both_true (is_same_type ty of) (covers_place uses (typed ty to) && covers_place uses (typed of from)) first.1 in
-        let third = both_true (covers_place uses (typed ty to)) (covers_place uses (typed of from)) second.1 in
+        both_true (is_changeable uses (typed ty to)) (is_same_type ty of && (covers_place uses (typed ty to) && covers_group uses (typed of from))) covers in
+        let second = both_true (is_same_type ty of) (covers_place uses (typed ty to) && covers_group uses (typed of from)) first.1 in
+        let third = both_true (covers_place uses (typed ty to)) (covers_group uses (typed of from)) second.1 in
         let is : (t : ℕ) × (ty ≡ types.user t) = place_type uses ty to third.0 in
-        subst (λ z. IsCopied z to of from) (sym is.1) (of_type is.0 to of from) second.0 third.0 third.1 own go
+        subst (λ z. IsCopied z to of from) (sym is.1) (of_type is.0 to of from) second.0 can_to can third.0 third.1 formed own go

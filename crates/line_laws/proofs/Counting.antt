@@ -58,6 +58,7 @@ use Rattle.line_laws.proofs.Called.{AllIn}
 use Rattle.line_laws.proofs.Bounds.{exactly}
 use Rattle.line_laws.proofs.Counts.{counted_agrees, counter_covered, one_agrees, own_local}
 use Rattle.line_laws.proofs.FrameLater.{Keeps}
+use Rattle.line_laws.proofs.KeptPlaces.{value_kept}
 use Rattle.line_laws.proofs.Jumps.{leads}
 use Rattle.line_laws.proofs.Stores.{not_kept, same_type}
 use Rattle.line_laws.proofs.Uses.{address_found, address_is, name_is, own_exact, own_path, path_is, scalar_type, shape_is, variable_named, variable_reached}
@@ -76,7 +77,7 @@ module _ (U : Upgrade) (expressions : ExpressionsAgree U) (scalars : ScalarsAreW
   S = scope_of U.written c g k
 
   abbrev Can : Expr → Type 0
-  Can e = AllCalled (demands U K S T) e
+  Can e = AllCalled (demands U K p l k S T) e
 
   -- a value of the type of the counter
   value_agrees : (ty : Ty) → covers_type ty ≡ true → (e : Expr) → Can e → covers_value uses ty e ≡ true → is_formed e ≡ true → (w1 : World) → Later U K w w1
@@ -145,15 +146,17 @@ module _ (U : Upgrade) (expressions : ExpressionsAgree U) (scalars : ScalarsAreW
           λ n m e w3 rest.
           let all : Later U K w w3 = later_then U K w w2 w3 h whole_later rest in
           let from_one : Later U K w1 w3 = later_then U K w1 w2 w3 later.match more rest in
-          keep (keeps_limit a (scalar ty j) (scalar ty s)) (keeps_limit found_v.address j' s') (λ d z. cc z)
+          keep (keeps_limit a (scalar ty j) (scalar ty s)) (keeps_limit found_v.address j' s') n m e w3 all
+          (λ exact. both_limits a found_v.address ty ty j s j' s' (address_later U K w w3 a found_v.address all same_v) (scalar_later U K w1 w3 ty j j' from_one like_j)
+          (scalar_later U K w1 w3 ty s s' from_one like_s))
+          (value_kept U K p f w3 (source_form.for_head head first last pace) (typed ty (variable v qualified) ∷ es) (keeps_limit a (scalar ty j) (scalar ty s))
+          (keeps_limit found_v.address j' s') refl (λ d z. cc z)
           (record {
             found = found;
             place = (whole (made place_v.place), stands_v ∙ ap (λ t. root (simple t) (whole (made place_v.place))) same);
             limit = (j, refl);
             step = (s, refl);
-          }) n m e w3 all
-          (λ exact. both_limits a found_v.address ty ty j s j' s' (address_later U K w w3 a found_v.address all same_v) (scalar_later U K w1 w3 ty j j' from_one like_j)
-          (scalar_later U K w1 w3 ty s s' from_one like_s)) in
+          })) in
           let lead : (n m : Option ℕ) → m ≡ n
           → Agrees U K w2 R (goes_if limited n w2.src) (at_some (keeping (keeps_limit found_v.address j' s') g.line g) m w2.net) =
           λ n m e. leads U K R limited (keeping (keeps_limit found_v.address j' s') g.line g) k aims w2 more.match next n m e w2 (later_now U K w2 more.match) in

@@ -93,7 +93,7 @@ module _ (U : Upgrade) (expressions : ExpressionsAgree U) (elements : ElementsAg
     (oracle : SourceCalls) (net_oracle : Jobs) (is_open : IsOpen (scope_of U.written c g k)) (uses : Uses) (readable : AreReadable U T uses)
     (placed : ArePlaced U p f (scope_of U.written c g k) T uses) (agree : CallsAgree U (Passes U) oracle net_oracle) (w : World) (h : MemoryMatch U w)
     (G : GoOnMatching U K p f g w) (owns : OwnsAll U K p f) (ty : Ty) (a : Expr) (indexes : Exprs) (e : Expr)
-    (can_to : AllCalled (demands U K (scope_of U.written c g k) T) (typed ty (element a indexes))) (can : AllCalled (demands U K (scope_of U.written c g k) T) e)
+    (can_to : AllCalled (demands U K p l k (scope_of U.written c g k) T) (typed ty (element a indexes))) (can : AllCalled (demands U K p l k (scope_of U.written c g k) T) e)
     (to_covers : covers_expr uses (typed ty (element a indexes)) ≡ true) (to_formed : is_formed (typed ty (element a indexes)) ≡ true)
     (covers : covers_expr uses e ≡ true) (formed : is_formed e ≡ true)
     (own : K.steady → is_outside U.program.declarations.vars p (root (typed ty (element a indexes))) ≡ false) (same : type_at e ≡ ty) where

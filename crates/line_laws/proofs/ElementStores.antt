@@ -90,7 +90,7 @@ module _ (U : Upgrade) (expressions : ExpressionsAgree U) (elements : ElementsAg
     (placed : ArePlaced U p f (scope_of U.written c g k) T uses) (agree : CallsAgree U (Passes U) oracle net_oracle)
     (ty : Ty) (a : Expr) (indexes : Exprs) (e : Expr) (is_covered : covers_type ty ≡ true) (array : covers_array uses a ≡ true)
     (all_indexes : covers_exprs uses indexes ≡ true) (formed : is_formed (typed ty (element a indexes)) ≡ true)
-    (can : AllCalled (demands U K (scope_of U.written c g k) T) (typed ty (element a indexes))) where
+    (can : AllCalled (demands U K p l k (scope_of U.written c g k) T) (typed ty (element a indexes))) where
   abbrev C : source.Context
   C = context_of U oracle p f l
 
@@ -190,7 +190,7 @@ module _ (U : Upgrade) (expressions : ExpressionsAgree U) (elements : ElementsAg
         ∙ then_assoc (reach S net_oracle false (exp_of T to) t) (referred_parts S net_oracle) (λ q t. then (target.finished q t) (put_by y))
 
     pub put_agrees : (w : World) → MemoryMatch U w → GoOnMatching U K p f g w → OwnsAll U K p f → StoresOwn
-        → AllCalled (demands U K (scope_of U.written c g k) T) e → covers_expr uses e ≡ true → is_formed e ≡ true → type_at e ≡ ty
+        → AllCalled (demands U K p l k (scope_of U.written c g k) T) e → covers_expr uses e ≡ true → is_formed e ≡ true → type_at e ≡ ty
         → Agrees U K w AnyAddress (Stored w) (target.address_of S net_oracle called w.net)
     put_agrees w h G owns inward can_value covers formed_value same =
         subst (λ i. Agrees U K w AnyAddress (Stored w) i)
@@ -314,7 +314,7 @@ module _ (U : Upgrade) (expressions : ExpressionsAgree U) (elements : ElementsAg
   -- ---- the orders
 
   module _ (w : World) (h : MemoryMatch U w) (G : GoOnMatching U K p f g w) (owns : OwnsAll U K p f) (inward : StoresOwn)
-      (can_value : AllCalled (demands U K (scope_of U.written c g k) T) e) (covers : covers_expr uses e ≡ true) (formed_value : is_formed e ≡ true)
+      (can_value : AllCalled (demands U K p l k (scope_of U.written c g k) T) e) (covers : covers_expr uses e ≡ true) (formed_value : is_formed e ≡ true)
       (same : type_at e ≡ ty) where
     F : FrameMatch U K w p f g
     F = G w (later_now U K w h)
@@ -328,7 +328,7 @@ module _ (U : Upgrade) (expressions : ExpressionsAgree U) (elements : ElementsAg
         (target.value_of S net_oracle (exp_of T e) u.net) (λ i x. x)
         (expressions K u p f g oracle net_oracle l k c T uses e lat.match (G u lat) declared is_open readable placed agree can_value covers formed_value)
         (expressions (still K u) u p f g oracle net_oracle l k c T uses e lat.match (frame_still U K u lat.match p f g (G u lat)) declared is_open readable placed agree
-        (called_in_still U K u S T uses readable e is_still can_value) covers formed_value))
+        (called_in_still U K p l k u S T uses readable e is_still can_value) covers formed_value))
 
     abbrev Goal : Type 0
     Goal = Agrees U K w AnyUnits (Stored w) (assignment S net_oracle (exp_of T to) (exp_of T e) w.net)
@@ -360,7 +360,7 @@ module _ (U : Upgrade) (expressions : ExpressionsAgree U) (elements : ElementsAg
         (agrees_later U K (still K w) w PlainElement (ElementMatch U ty) (source.term_parts C ty (element a indexes) w.src)
         (reach S net_oracle false (exp_of T to) w.net) (λ i x. x) (element_is w h G owns inward)
         (elements (still K w) w p f g oracle net_oracle l k c T uses ty a indexes h (frame_still U K w h p f g F) declared is_open readable placed agree
-        (can.0, called_in_still_all U K w S T uses readable indexes is_still can.1) array all_indexes formed))
+        (can.0, called_in_still_all U K p l k w S T uses readable indexes is_still can.1) array all_indexes formed))
         (value_steady (calm_still uses e calm))
 
     -- calm indexes, and a still value

@@ -17,7 +17,6 @@ use Rattle.vb6_run.specs.Expressions.{Context, Parts, at_address, at_element, at
 use Rattle.vb6_run.specs.Lines.{let_to, store_at}
 use Rattle.vb6_run.specs.Runnables.{declarations_of, declared_address, variable_address}
 use Rattle.vb6_run.specs.Shapes as source_shape
-use Rattle.vb6_run.specs.Shapes.{simple}
 use Rattle.vb6_run.specs.Store.{Address, root, item, Held, blank, single, table, parts, Memory, SourceFrame, provided, write}
 use Rattle.vb6_run.specs.Store as source_store
 use Rattle.vb6_run.specs.Values.{Value, scalar, fields, elements}

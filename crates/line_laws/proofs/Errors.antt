@@ -155,7 +155,7 @@ module _ (U : Upgrade) (expressions : ExpressionsAgree U) (K : Pledge) (p : ℕ)
       ∙ ap (λ r. then r raises_value) (sym (then_assoc (source.parts_of C e s) (value_in C e) scalar_of))
       ∙ then_assoc (source.value_of C e s) scalar_of raises_value
 
-  number_agrees : (e : Expr) → AllCalled (demands U K S T) e → covers_expr uses e ≡ true → is_formed e ≡ true → type_at e ≡ types.long
+  number_agrees : (e : Expr) → AllCalled (demands U K p l k S T) e → covers_expr uses e ≡ true → is_formed e ≡ true → type_at e ≡ types.long
       → Agrees U K w AnyPlace (then (then (source.parts_of C e w.src) (source.long_in C e)) raise_of)
       (target.address_of S net_oracle (support_call (codes "Raise") (one (exp_of T e))) w.net)
   number_agrees e can covers formed is =
@@ -174,7 +174,7 @@ module _ (U : Upgrade) (expressions : ExpressionsAgree U) (K : Pledge) (p : ℕ)
       (then_agrees U K w AnyPlace AnyShown r r' (λ u s. gives [] u s) (λ a t. gives [] tt t) h x
       (λ u a w1 m later. agrees_gives U K w1 AnyShown u tt later.match tt))
 
-  pub raise_agrees : (ty : Ty) (e : Expr) → AllCalled (demands U K (scope_of U.written c g k) T) e → covers_expr uses e ≡ true
+  pub raise_agrees : (ty : Ty) (e : Expr) → AllCalled (demands U K p l k (scope_of U.written c g k) T) e → covers_expr uses e ≡ true
       → is_formed (typed ty (err_raise e)) ≡ true
       → AgreesAsCall U K w (scope_of U.written c g k) net_oracle (source.parts_of (context_of U oracle p f l) (typed ty (err_raise e)) w.src)
       (exp_of T (typed ty (err_raise e)))

@@ -186,7 +186,7 @@ module _ (U : Upgrade) (expressions : ExpressionsAgree U) (K : Pledge) (p : ℕ)
   S = scope_of U.written c g k
 
   abbrev Can : Expr → Type 0
-  Can e = AllCalled (demands U K (scope_of U.written c g k) T) e
+  Can e = AllCalled (demands U K p l k (scope_of U.written c g k) T) e
 
   matched : (behind : net_value.Value → net_store.Memory → Outcome net_store.Memory net_value.Value) (low : ℤ) → is_long low ≡ true
       → ((x : ValueN) (t : net_store.Memory) → Any x → behind (single x) t ≡ answers (extent_row low x) t)

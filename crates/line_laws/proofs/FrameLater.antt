@@ -1,5 +1,5 @@
 -- Frames that match go on to match at a later world, and at another line.
-use Rattle.std.proofs.Common.{◌≡◌, ◌∙◌, refl, sym, ap, subst, ℕ, suc, ◌<◌, Bool, true, false, cond, not, nat_eq, eqb-true, Option, Some, None, option_map, List}
+use Rattle.std.proofs.Common.{◌≡◌, ◌∙◌, refl, sym, ap, subst, ℕ, suc, ◌<◌, Bool, true, false, cond, not, nat_eq, eqb-true, Option, Some, None, option_map, List, slice_get}
 use Rattle.bound_facts.specs.Facts.{is_quiet}
 use Rattle.vb_tree.specs.Tree.{Form}
 use Rattle.bound_tree.specs.Tree.{Expr, Line}
@@ -17,13 +17,14 @@ use Rattle.run_matches.specs.Upgrades.{Upgrade, code_of}
 use Rattle.run_matches.specs.Maps.{World, Below, Extends, mark}
 use Rattle.run_matches.specs.Match.{MemoryMatch}
 use Rattle.run_matches.specs.Pledges.{Pledge, Later}
-use Rattle.run_matches.specs.Addresses.{KeptMatch}
-use Rattle.run_matches.specs.CoveredLines.{covers_line}
-use Rattle.run_matches.specs.Frames.{SameVariable, SameStatic, HasNames, HasPlace, KeptBy, FrameMatch, OwnsAll, is_exact_head, lines_of}
+use Rattle.run_matches.specs.Addresses.{IsInPlace, KeptMatch}
+use Rattle.run_matches.specs.CoveredLines.{covers_line, is_with}
+use Rattle.run_matches.specs.Frames.{SameVariable, SameStatic, HasNames, HasPlace, KeepsPlace, KeptBy, FrameMatch, IsOwnAddress, OwnsAll, is_exact_head, is_own_line, lines_of}
 use Rattle.agreeing_laws.proofs.Made.{more, below_then, same_at}
 use Rattle.agreeing_laws.proofs.Moves.{all_matched_later, all_ranked_later, matched_whole, locks_later}
 use Rattle.agreeing_laws.proofs.OwnObjects.{own_object_later}
 use Rattle.line_laws.proofs.Bounds.{bound_made, bound_later, kept_later, plain_later}
+use Rattle.line_laws.proofs.KeptPlaces.{CanKeep, place_kept_later}
 
 -- ---- later
 
@@ -84,6 +85,7 @@ module _ (U : Upgrade) (K : Pledge) where
     own_heads = F.own_heads;
     kept = λ i. kept_later U K w0 w1 h l (is_exact_head U (nth_line (lines_of U p) i)) (f.kept i) (g.kept i) (F.kept i);
     covered_heads = F.covered_heads;
+    covered_withs = λ h m is covers with. place_kept_later U K w0 w1 l m.bindings.exprs (f.kept h) (g.kept h) (F.covered_withs h m is covers with);
     has_locals = F.has_locals;
     has_passing = F.has_passing;
     locks = locks_later U K w0 w1 f.env l F.locks;
@@ -119,6 +121,7 @@ frame_placed U K w p f g n m h i t u r s a b c d F = record {
   own_heads = F.own_heads;
   kept = F.kept;
   covered_heads = F.covered_heads;
+  covered_withs = F.covered_withs;
   has_locals = F.has_locals;
   has_passing = F.has_passing;
   locks = F.locks;
@@ -127,14 +130,11 @@ frame_placed U K w p f g n m h i t u r s a b c d F = record {
 
 -- ---- with what the head at its line keeps
 
-abbrev pub KeptHere : Upgrade → (procedure : ℕ) → SourceFrame → Kept Value Address → Kept net_value.Value net.Address → Type 0
-KeptHere U p f x y = (l : Line) → nth_line (lines_of U p) f.line ≡ Some l → KeptBy f.vars l.source.form l.bindings.exprs x y
-
-abbrev pub IsNoAddress : Kept Value Address → Type 0
-IsNoAddress x = (a : Address) → x ≡ keeps_address a → ⊥
+abbrev pub KeptHere : Upgrade → Pledge → (procedure : ℕ) → SourceFrame → World → Kept Value Address → Kept net_value.Value net.Address → Type 0
+KeptHere U K p f w x y = (l : Line) → nth_line (lines_of U p) f.line ≡ Some l → CanKeep U K p f w l.source.form l.bindings.exprs x y
 
 module _ (U : Upgrade) (K : Pledge) (w : World) (p : ℕ) (f : SourceFrame) (g : NetFrame) (x : Kept Value Address) (y : Kept net_value.Value net.Address)
-    (matched : (exact : Bool) → KeptMatch U K w exact x y) (no_address : IsNoAddress x) (is_here : KeptHere U p f x y) (F : FrameMatch U K w p f g) where
+    (matched : (exact : Bool) → KeptMatch U K w exact x y) (is_here : KeptHere U K p f w x y) (F : FrameMatch U K w p f g) where
   names_kept : (o : Option Code) (m : ℕ) → HasNames o g → HasNames o (keeping y m g)
   names_kept None m h = h
   names_kept (Some c) m h = h
@@ -144,14 +144,23 @@ module _ (U : Upgrade) (K : Pledge) (w : World) (p : ℕ) (f : SourceFrame) (g :
   kept_by true exact k j h = matched exact
   kept_by false exact k j h = h
 
-  own_by : (b : Bool) (k : Kept Value Address) (a : Address) → cond b x k ≡ keeps_address a → k ≡ keeps_address a
-  own_by true k a e = absurd (no_address a e)
-  own_by false k a e = e
+  at_line : (h : ℕ) (l : Line) → nat_eq f.line h ≡ true → nth_line (lines_of U p) h ≡ Some l → CanKeep U K p f w l.source.form l.bindings.exprs x y
+  at_line h l e is = is_here l (ap (nth_line (lines_of U p)) (eqb-true f.line h e) ∙ is)
 
-  here_by : (b : Bool) (h : ℕ) → nat_eq f.line h ≡ b → (l : Line) → nth_line (lines_of U p) h ≡ Some l → covers_line U.program p l ≡ true
+  in_place_by : (b : Bool) (h : ℕ) → nat_eq f.line (suc h) ≡ b → (l : Line) (a : Address) → slice_get (lines_of U p) h ≡ Some l → is_own_line U p l ≡ true
+      → cond b x (f.kept (suc h)) ≡ keeps_address a → IsInPlace a
+  in_place_by true h e l a is own k = (at_line (suc h) l e is).in_place a own k
+  in_place_by false h e l a is own k = F.own_heads h l a is own k
+
+  by_line : (b : Bool) (h : ℕ) → nat_eq f.line h ≡ b → (l : Line) → nth_line (lines_of U p) h ≡ Some l → covers_line U.program p l ≡ true
       → KeptBy f.vars l.source.form l.bindings.exprs (cond b x (f.kept h)) (cond b y (g.kept h))
-  here_by true h e l is covers = is_here l (ap (nth_line (lines_of U p)) (eqb-true f.line h e) ∙ is)
-  here_by false h e l is covers = F.covered_heads h l is covers
+  by_line true h e l is covers = (at_line h l e is).by
+  by_line false h e l is covers = F.covered_heads h l is covers
+
+  place_by : (b : Bool) (h : ℕ) → nat_eq f.line h ≡ b → (l : Line) → nth_line (lines_of U p) h ≡ Some l → covers_line U.program p l ≡ true
+      → is_with l.source.form ≡ true → KeepsPlace U K w l.bindings.exprs (cond b x (f.kept h)) (cond b y (g.kept h))
+  place_by true h e l is covers with = (at_line h l e is).place with
+  place_by false h e l is covers with = F.covered_withs h l is covers with
 
   pub frame_keeping : (n m : ℕ) → m ≡ n → FrameMatch U K w p (keeping x n f) (keeping y m g)
   frame_keeping n m e = record {
@@ -168,27 +177,35 @@ module _ (U : Upgrade) (K : Pledge) (w : World) (p : ℕ) (f : SourceFrame) (g :
         let z = F.statics v r e s in
         record { written = z.written; found = z.found; same = z.same; is_matched = z.is_matched; ranked = z.ranked };
     own = F.own;
-    own_heads = λ h l a is own k. F.own_heads h l a is own (own_by (nat_eq f.line (suc h)) (f.kept (suc h)) a k);
+    own_heads = λ h l a is own k. in_place_by (nat_eq f.line (suc h)) h refl l a is own k;
     kept = λ h.
         subst (λ z. KeptMatch U K w (is_exact_head U (nth_line (lines_of U p) h)) (updated_at f.kept f.line x h) (updated_at g.kept z y h)) (sym F.line)
         (kept_by (nat_eq f.line h) (is_exact_head U (nth_line (lines_of U p) h)) (f.kept h) (g.kept h) (F.kept h));
     covered_heads = λ h l is covers.
         subst (λ z. KeptBy f.vars l.source.form l.bindings.exprs (updated_at f.kept f.line x h) (updated_at g.kept z y h)) (sym F.line)
-        (here_by (nat_eq f.line h) h refl l is covers);
+        (by_line (nat_eq f.line h) h refl l is covers);
+    covered_withs = λ h l is covers with.
+        subst (λ z. KeepsPlace U K w l.bindings.exprs (updated_at f.kept f.line x h) (updated_at g.kept z y h)) (sym F.line)
+        (place_by (nat_eq f.line h) h refl l is covers with);
     has_locals = F.has_locals;
     has_passing = F.has_passing;
     locks = F.locks;
     low = F.low;
   }
 
+  own_by : (b : Bool) (h : ℕ) → nat_eq f.line (suc h) ≡ b → OwnsAll U K p f → (l : Line) (a : Address) → slice_get (lines_of U p) h ≡ Some l
+      → is_own_line U p l ≡ true → cond b x (f.kept (suc h)) ≡ keeps_address a → IsOwnAddress K a
+  own_by true h e owns l a is own k = (at_line (suc h) l e is).own a own k
+  own_by false h e owns l a is own k = owns.heads h l a is own k
+
   pub heads_keeping : (n : ℕ) → OwnsAll U K p f → OwnsAll U K p (keeping x n f)
   heads_keeping n owns = record {
     variables = owns.variables;
-    heads = λ h l a is own k. owns.heads h l a is own (own_by (nat_eq f.line (suc h)) (f.kept (suc h)) a k);
+    heads = λ h l a is own k. own_by (nat_eq f.line (suc h)) h refl owns l a is own k;
   }
 
 -- a line of a form may keep something, and go on so
 abbrev pub Keeps : Upgrade → Pledge → (procedure : ℕ) → SourceFrame → NetFrame → (World → SourceFrame → NetFrame → Type 0) → World → Form → List Expr → Type 0
 Keeps U K p f g R w form es =
-    (x : Kept Value Address) (y : Kept net_value.Value net.Address) → IsNoAddress x → KeptBy f.vars form es x y → (n m : ℕ) → m ≡ n
-    → (w1 : World) → Later U K w w1 → ((exact : Bool) → KeptMatch U K w1 exact x y) → R w1 (keeping x n f) (keeping y m g)
+    (x : Kept Value Address) (y : Kept net_value.Value net.Address) (n m : ℕ) → m ≡ n → (w1 : World) → Later U K w w1
+    → ((exact : Bool) → KeptMatch U K w1 exact x y) → CanKeep U K p f w1 form es x y → R w1 (keeping x n f) (keeping y m g)

@@ -1,5 +1,7 @@
 pub mod Called
+pub mod Within
 pub mod Bounds
+pub mod KeptPlaces
 pub mod FrameLater
 pub mod Owning
 pub mod Uses
@@ -30,6 +32,7 @@ pub mod Settled
 pub mod Places
 pub mod FieldStores
 pub mod Copies
+pub mod WithLines
 pub mod Assignments
 pub mod Constants
 pub mod Extents

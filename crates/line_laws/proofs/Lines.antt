@@ -1,6 +1,6 @@
 -- Covered lines do the same as what is written for them.
 use Rattle.std.proofs.Common.{◌≡◌, ◌∙◌, refl, sym, ap, subst, ℕ, Bool, true, ◌&&◌, Option, Some, List, [], ◌∷◌, ◌++◌, codes, true≢false, false, not, map}
-use Rattle.std.specs.List.{list_all}
+use Rattle.std.specs.List.{Contains, list_all}
 use Rattle.std.proofs.lemmas.List.Elements.{Contains-push}
 use Rattle.vb_tree.specs.BoundTree.{Ty}
 use Rattle.vb_tree.specs.declared.declared.ProcId.{ProcId}
@@ -8,11 +8,12 @@ use Rattle.vb_tree.specs.declared.form_parts.Label6.{Label6}
 use Rattle.vb_tree.specs.Tree.{Form}
 use Rattle.vb_tree.specs.Tree as source_form
 use Rattle.bound_tree.specs.Labels.{Label, labels}
-use Rattle.bound_tree.specs.Tree.{Expr, Line, typed, constant, variable, field, element, call, library, unary, binary, convert, new_object, me, with_object, err_number, err_raise, err_clear, is_same, loose, no_object, of_object, Passed}
+use Rattle.bound_tree.specs.Tree.{Expr, Line, typed, element, call, library, me, with_object, err_raise, err_clear, no_object, of_object, Passed}
 use Rattle.bound_facts.proofs.Chains.{both_true}
 use Rattle.bound_facts.specs.Effects.{is_outside}
 use Rattle.bound_facts.specs.Node.{args_at, called, declared_at, root, type_at}
-use Rattle.bound_facts.specs.Parts.{resizes}
+use Rattle.bound_facts.specs.Parts.{line_uses, resizes}
+use Rattle.bound_tree.specs.Targets.{with_round}
 use Rattle.net_tree.specs.Tree as net
 use Rattle.run_base.specs.Frames.{Handler, none, next_line, at_line, to_line}
 use Rattle.run_base.specs.Machines.{go, handled, nth_line}
@@ -50,15 +51,15 @@ use Rattle.run_matches.specs.Pledges.{Pledge, Later}
 use Rattle.run_matches.specs.Agreeing.{Agrees}
 use Rattle.run_matches.specs.Formed.{is_formed}
 use Rattle.run_matches.specs.CoveredExprs.{Uses, uses_in}
-use Rattle.run_matches.specs.CoveredLines.{covers_condition, covers_store, covers_form, covers_part, head_line, jump_of, resumes, covers_call, covers_called}
-use Rattle.run_matches.specs.Frames.{FrameMatch, KeptBy, NextMatch, OwnsAll, frame_pledge, lines_of}
+use Rattle.run_matches.specs.CoveredLines.{covers_condition, covers_store, covers_form, covers_part, covers_within, head_line, is_within_with, jump_of, resumes, covers_call, covers_called}
+use Rattle.run_matches.specs.Frames.{FrameMatch, NextMatch, OwnsAll, frame_pledge, lines_of}
 use Rattle.run_matches.specs.Runs.{line_result, CallsAgree}
 use Rattle.run_matches.specs.Sites.{site_lines}
 use Rattle.run_statements.specs.Elements.{IndexesAgree}
 use Rattle.run_statements.specs.Memory.{ArraysAreErased, ArraysAreResized, ElementsAreWritten}
 use Rattle.run_statements.specs.Frames.{ArraysAgree, ElementsAgree, ExpressionsAgree, ScalarsAreRead, ScalarsAreWritten, IsOpen, AnyUnits, context_of, ArePlaced, AllCalled, AnyParts, CallsAreMade, CanCall, demands, AreReadable}
 use Rattle.run_statements.specs.Fitting.{FitsNode}
-use Rattle.run_statements.specs.Groups.{GroupsAreRead, GroupsAreWritten}
+use Rattle.run_statements.specs.Groups.{GroupsAgree, GroupsAreWritten}
 use Rattle.run_statements.specs.Kept.{AllSameWays, LinesAgree}
 use Rattle.run_statements.specs.Written.{Passes, site_scope}
 use Rattle.agreeing_laws.specs.Beside.{with_steps}
@@ -73,6 +74,9 @@ use Rattle.line_laws.proofs.Choices.{case_agrees, select_agrees}
 use Rattle.line_laws.proofs.Conditions.{BothLead, condition_agrees}
 use Rattle.line_laws.proofs.Counting.{for_agrees}
 use Rattle.line_laws.proofs.FrameLater.{frame_later, Keeps}
+use Rattle.line_laws.proofs.WithLines.{with_agrees}
+use Rattle.line_laws.proofs.Within.{all_contained, stands_within}
+use Rattle.line_laws.proofs.KeptPlaces.{CanKeep}
 use Rattle.line_laws.proofs.Handlers.{Places, handler_agrees, handler_at_agrees, resume_agrees, resume_at_agrees, resume_next_agrees}
 use Rattle.line_laws.proofs.Jumps.{exit_agrees, leads}
 use Rattle.line_laws.proofs.Boxes.{AnyShown, AgreesAsCall, box_agrees}
@@ -100,7 +104,7 @@ call_is U T declared ty q qualified args h =
     (ap (λ D. is_property D q.0) declared ∙ h)
 
 module _ (U : Upgrade) (expressions : ExpressionsAgree U) (calls : CallsAreMade U) (reads : ScalarsAreRead U) (scalars : ScalarsAreWritten U) (elements : ElementsAgree U) (indexed : IndexesAgree U)
-    (writes : ElementsAreWritten U) (reads_groups : GroupsAreRead U) (writes_groups : GroupsAreWritten U) (arrays : ArraysAgree U) (resizing : ArraysAreResized U) (erasing : ArraysAreErased U) (K : Pledge) (p q : ℕ) (f : SourceFrame) (g : NetFrame) (l : SourceLine) (k : NetLine) (c : Code) (T : Scope)
+    (writes : ElementsAreWritten U) (groups : GroupsAgree U) (writes_groups : GroupsAreWritten U) (arrays : ArraysAgree U) (resizing : ArraysAreResized U) (erasing : ArraysAreErased U) (K : Pledge) (p q : ℕ) (f : SourceFrame) (g : NetFrame) (l : SourceLine) (k : NetLine) (c : Code) (T : Scope)
     (declared : T.declarations ≡ U.program.declarations) (oracle : SourceCalls) (net_oracle : Jobs)
     (is_open : IsOpen (scope_of U.written c g k)) (uses : Uses) (readable : AreReadable U T uses)
     (placed : ArePlaced U p f (scope_of U.written c g k) T uses) (agree : CallsAgree U (Passes U) oracle net_oracle)
@@ -117,7 +121,7 @@ module _ (U : Upgrade) (expressions : ExpressionsAgree U) (calls : CallsAreMade 
   S = scope_of U.written c g k
 
   abbrev Can : Expr → Type 0
-  Can e = AllCalled (demands U K (scope_of U.written c g k) T) e
+  Can e = AllCalled (demands U K p l k (scope_of U.written c g k) T) e
 
   -- what a written line does
   abbrev does : net.Line → Outcome net_store.Memory NetFrame
@@ -176,7 +180,7 @@ module _ (U : Upgrade) (expressions : ExpressionsAgree U) (calls : CallsAreMade 
       → Agrees U K w R (then (then (source.value_of C value w.src) (let_to C target)) (λ x s. goes_on C s)) (does (assign_line T (target ∷ value ∷ [])))
   assigned to e can_to can covers to_formed formed own =
       let stores : Outcome Memory Unit = then (source.value_of C e w.src) (let_to C to) in
-      stored U expressions scalars elements indexed writes reads_groups writes_groups K p f g l k c T declared oracle net_oracle is_open uses readable placed
+      stored U expressions scalars elements indexed writes groups writes_groups K p f g l k c T declared oracle net_oracle is_open uses readable placed
       agree w h F owns (λ x. Agrees U K w R (then stores (λ x s. goes_on C s)) (does x)) to e can_to can covers to_formed formed own
       (λ x. goes AnyUnits stores (assignment S net_oracle (exp_of T to) (exp_of T e) w.net) x)
       (λ name x.
@@ -286,6 +290,11 @@ module _ (U : Upgrade) (expressions : ExpressionsAgree U) (calls : CallsAreMade 
   form_agrees ls (source_form.while_head e) es can covers formed found may keep stands ways =
       tested (Some l.aims.after) l.aims.otherwise (if_holds g k) (λ w1 x. (behind w1 x, otherwise w1 x)) es can covers formed
   form_agrees ls source_form.wend es can covers formed found may keep stands ways = back w (later_now U K w h)
+  form_agrees ls (source_form.with_head head) [] can covers formed found may keep stands ways = absurd (true≢false (sym covers))
+  form_agrees ls (source_form.with_head head) (typed ty tm ∷ []) can covers formed found may keep stands ways =
+      with_agrees U K p f g l k c T declared oracle net_oracle uses readable placed R w h (F w (later_now U K w h)) owns aims head ty tm can.0 covers keep
+  form_agrees ls (source_form.with_head head) (x ∷ y ∷ es) can covers formed found may keep stands ways = absurd (true≢false (sym covers))
+  form_agrees ls source_form.end_with es can covers formed found may keep stands ways = behind_now
   form_agrees ls (source_form.goto a) es can covers formed found may keep stands ways =
       lead (line_of_label C a) (target_lines.target_of c (jump ls a)) (found a refl) w (later_now U K w h)
   form_agrees ls (source_form.label a) es can covers formed found may keep stands ways = behind_now
@@ -319,30 +328,19 @@ module _ (U : Upgrade) (expressions : ExpressionsAgree U) (calls : CallsAreMade 
 -- ---- lines
 
 -- what is demanded of a node by itself
-node_has : (U : Upgrade) (K : Pledge) (S : net_names.Scope) (T : Scope) (d : Expr)
-    → ((q : ℕ) → called d ≡ Some q → CanCall U K S T q (args_at d)) → FitsNode U d → NodeHas (demands U K S T) d
-node_has U K S T (typed ty (call p qualified of args)) can fits = can p.0 refl
-node_has U K S T (typed ty (element a indexes)) can fits = fits
-node_has U K S T (typed ty (library f args)) can fits = fits
-node_has U K S T (typed ty (constant x origin)) can fits = tt
-node_has U K S T (typed ty (variable v qualified)) can fits = tt
-node_has U K S T (typed ty (field e k)) can fits = tt
-node_has U K S T (typed ty (unary o e)) can fits = tt
-node_has U K S T (typed ty (binary o d e)) can fits = tt
-node_has U K S T (typed ty (convert to e)) can fits = tt
-node_has U K S T (typed ty (new_object c)) can fits = tt
-node_has U K S T (typed ty me) can fits = tt
-node_has U K S T (typed ty (with_object of)) can fits = tt
-node_has U K S T (typed ty err_number) can fits = tt
-node_has U K S T (typed ty (err_raise e)) can fits = tt
-node_has U K S T (typed ty err_clear) can fits = tt
-node_has U K S T (typed ty (is_same d e)) can fits = tt
-node_has U K S T (typed ty (loose e rules)) can fits = tt
+node_has : (U : Upgrade) (K : Pledge) (p : ℕ) (l : SourceLine) (k : NetLine) (S : net_names.Scope) (T : Scope) (d : Expr)
+    → ((q : ℕ) → called d ≡ Some q → CanCall U K S T q (args_at d)) → FitsNode U d → k.aims ≡ l.aims
+    → is_within_with U.program p (head_line (lines_of U p) (with_round l.aims)) d ≡ true → NodeHas (demands U K p l k S T) d
+node_has U K p l k S T (typed ty (call q qualified of args)) can fits aims within = can q.0 refl
+node_has U K p l k S T (typed ty (element a indexes)) can fits aims within = fits
+node_has U K p l k S T (typed ty (library f args)) can fits aims within = fits
+node_has U K p l k S T (typed ty (with_object r)) can fits aims within = stands_within U p l k ty r aims within
+node_has U K p l k S T (typed ty t) can fits aims within = tt
 
 -- A covered line does the same as what is written for it, in frames that go on to match.
 pub steady_lines_agree : (U : Upgrade) → ExpressionsAgree U → CallsAreMade U → ScalarsAreRead U → ScalarsAreWritten U → ElementsAgree U → IndexesAgree U → ElementsAreWritten U
-    → GroupsAreRead U → GroupsAreWritten U → ArraysAgree U → ArraysAreResized U → ArraysAreErased U → SteadyLinesAgree U
-steady_lines_agree U expressions calls reads scalars elements indexed writes reads_groups writes_groups arrays resizing erasing p s written number turns l c L code opens readable placed own agree can fits remade covers stands w f g at h F given =
+    → GroupsAgree U → GroupsAreWritten U → ArraysAgree U → ArraysAreResized U → ArraysAreErased U → SteadyLinesAgree U
+steady_lines_agree U expressions calls reads scalars elements indexed writes groups writes_groups arrays resizing erasing p s written number turns l c L code opens readable placed own agree can fits remade covers stands w f g at h F given =
     let K : Pledge = frame_pledge U p w f in
     let owns : OwnsAll U K p f = owns_now U p f K w w g (F w (later_now U K w h)) in
     let R : World → SourceFrame → NetFrame → Type 0 = SteadyNext U K p f.me in
@@ -352,6 +350,11 @@ steady_lines_agree U expressions calls reads scalars elements indexed writes rea
     let both : (covers_form (uses_in U.program p l.form.bindings.mentions) l.form.source.form l.form.bindings.exprs ≡ true) × (list_all is_formed l.form.bindings.exprs ≡ true) =
     both_true (covers_form (uses_in U.program p l.form.bindings.mentions) l.form.source.form l.form.bindings.exprs) (list_all is_formed l.form.bindings.exprs) covers in
     let after : L.line.aims.after ≡ l.aims.after = ap (λ a. a.after) L.aims in
+    let blocks =
+    both_true (covers_part U.program p l.form.source.form l.form.bindings.exprs (head_line (lines_of U p) l.aims.own))
+    (covers_within U.program p (head_line (lines_of U p) (with_round l.aims)) l.form) stands.in_block in
+    let all_within : (d : Expr) → Contains (line_uses l.form) d → is_within_with U.program p (head_line (lines_of U p) (with_round l.aims)) d ≡ true =
+    λ d m. all_contained (is_within_with U.program p (head_line (lines_of U p) (with_round l.aims))) (line_uses l.form) d m blocks.1 in
     stepped_agrees U (runnable_of U) U.written K w R
     (λ m. handled (source_program.machine_of (runnable_of U)) f l (source_program.line_does (runnable_of U) oracle p f l m))
     (λ t. handled (target_program.machine_of U.written) g L.line
@@ -364,10 +367,10 @@ steady_lines_agree U expressions calls reads scalars elements indexed writes rea
     let next : (n m : ℕ) → m ≡ n → (w2 : World) → Later U K w1 w2 → R w2 (to_line n f) (to_line m g) =
     λ n m e w2 more. next_at U K p f g w1 later.match F1 owns w2 more n m e in
     let keep : Keeps U K p f g R w1 l.form.source.form l.form.bindings.exprs =
-    λ x y no_address by n m e w2 more kept.
-    keeping_at U K p f g w1 later.match F1 owns w2 more x y no_address
-    (λ m is. subst (λ (z : Line). KeptBy f.vars z.source.form z.bindings.exprs x y)
-    (some_is l.form m (sym stands.is_there ∙ ap (nth_line (lines_of U p)) (sym at) ∙ is)) by) kept n m e in
+    λ x y n m e w2 more kept by.
+    keeping_at U K p f g w1 later.match F1 owns w2 more x y kept
+    (λ z is. subst (λ (i : Line). CanKeep U K p f w2 i.source.form i.bindings.exprs x y)
+    (some_is l.form z (sym stands.is_there ∙ ap (nth_line (lines_of U p)) (sym at) ∙ is)) by) n m e in
     handled_agrees U (runnable_of U) U.written K w1 R f g l L.line (λ e. L.tests ∙ e) (next l.aims.after L.line.aims.after after)
     (λ n w2 more. handler_at U K p f g w1 later.match F1 owns w2 more n) now.active now.handler
     (source_program.line_does (runnable_of U) oracle p f l w1.src)
@@ -376,18 +379,18 @@ steady_lines_agree U expressions calls reads scalars elements indexed writes rea
     (target_lines.line_in U.written (target_program.frames_of U.written) net_oracle written g L.line o w1.net)) (sym code)
     (subst (λ x. Agrees U K w1 R (source_program.line_does (runnable_of U) oracle p f l w1.src)
     (target_lines.form_does (target_program.frames_of U.written) net_oracle written c (scope_of U.written c g L.line) g L.line x w1.net)) (sym L.form)
-    (form_agrees U expressions calls reads scalars elements indexed writes reads_groups writes_groups arrays resizing erasing K p written f g l L.line c T refl oracle net_oracle (opens g L.line now.names)
+    (form_agrees U expressions calls reads scalars elements indexed writes groups writes_groups arrays resizing erasing K p written f g l L.line c T refl oracle net_oracle (opens g L.line now.names)
     (uses_in U.program p l.form.bindings.mentions) readable (placed f g L.line now.names given) agree R w1 later.match F1 owns L.aims next
     (λ n m i j t u d e c w2 more. placed_at U K p f g w1 later.match F1 owns w2 more n m i j t u d e c)
     (labels (site_lines s)) l.form.source.form l.form.bindings.exprs
-    (line_called (demands U K (scope_of U.written c g L.line) T) (uses_in U.program p l.form.bindings.mentions) l.form both.0
-    (λ d m. node_has U K (scope_of U.written c g L.line) T d (λ q e. can d q m e w f g L.line now.names) (fits d m)))
+    (line_called (demands U K p l L.line (scope_of U.written c g L.line) T) (uses_in U.program p l.form.bindings.mentions) l.form both.0
+    (λ d m. node_has U K p l L.line (scope_of U.written c g L.line) T d (λ q e. can d q m e w f g L.line now.names) (fits d m) L.aims (all_within d m)))
     both.0 both.1 stands.label
     (record {
       own = λ e m steady. own steady e m;
       unkept = λ e m element rank is covered. resizing_not_kept U.program p number l.form stands.is_procedure stands.is_there e m element rank is covered;
       fits = remade;
-    }) keep stands.in_block stands.ways))))
+    }) keep blocks.0 stands.ways))))
 
 -- ---- all frames that match go on to match
 
@@ -396,13 +399,13 @@ steady_now : (U : Upgrade) (K : Pledge) (w : World) (p : ℕ) (f : SourceFrame) 
 steady_now U K w p f g h F w1 l = frame_later U K w w1 p f g h l F
 
 pub lines_agree : (U : Upgrade) → ExpressionsAgree U → CallsAreMade U → ScalarsAreRead U → ScalarsAreWritten U → ElementsAgree U → IndexesAgree U → ElementsAreWritten U
-    → GroupsAreRead U → GroupsAreWritten U → ArraysAgree U → ArraysAreResized U → ArraysAreErased U → LinesAgree U
-lines_agree U expressions calls reads scalars elements indexed writes reads_groups writes_groups arrays resizing erasing p s written number turns l c L code opens readable placed own agree can fits remade covers stands w f g at h F given =
+    → GroupsAgree U → GroupsAreWritten U → ArraysAgree U → ArraysAreResized U → ArraysAreErased U → LinesAgree U
+lines_agree U expressions calls reads scalars elements indexed writes groups writes_groups arrays resizing erasing p s written number turns l c L code opens readable placed own agree can fits remade covers stands w f g at h F given =
     let K : Pledge = frame_pledge U p w f in
     agrees_weaker U K w (SteadyNext U K p f.me) (NextMatch U K p f.me)
     (line_result (source_program.machine_of (runnable_of U)) turns p f l w.src)
     (line_result (target_program.machine_of U.written) turns written g L.line w.net)
     (λ w1 f1 g1 later x.
     record { same_object = x.same_object; frames = x.frames w1 (later_now U K w1 later.match); owns = x.owns })
-    (steady_lines_agree U expressions calls reads scalars elements indexed writes reads_groups writes_groups arrays resizing erasing p s written number turns l c L code opens readable placed own agree can fits remade covers stands w f g at h
+    (steady_lines_agree U expressions calls reads scalars elements indexed writes groups writes_groups arrays resizing erasing p s written number turns l c L code opens readable placed own agree can fits remade covers stands w f g at h
     (steady_now U K w p f g h F) given)

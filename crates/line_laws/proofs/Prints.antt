@@ -144,7 +144,7 @@ module _ (U : Upgrade) (expressions : ExpressionsAgree U) (K : Pledge) (p : ℕ)
   S = scope_of U.written c g k
 
   abbrev Can : Expr → Type 0
-  Can e = AllCalled (demands U K (scope_of U.written c g k) T) e
+  Can e = AllCalled (demands U K p l k (scope_of U.written c g k) T) e
 
   -- the text of an item
   item_agrees : (w : World) → MemoryMatch U w → FrameMatch U K w p f g → (e : Expr) → Can e → is_good uses e ≡ true

@@ -156,7 +156,7 @@ module _ (U : Upgrade) (expressions : ExpressionsAgree U) (arrays : ArraysAgree 
   S = scope_of U.written c g k
 
   abbrev Can : Expr → Type 0
-  Can e = AllCalled (demands U K (scope_of U.written c g k) T) e
+  Can e = AllCalled (demands U K p l k (scope_of U.written c g k) T) e
 
   -- the variable of an array
   module _ (of : Ty) (rank : ℕ) (v : VarId) (qualified : Bool) (used : uses.array v of ≡ true) (may : MayRenew U K p (typed (types.array of rank) (variable v qualified))) where

@@ -141,7 +141,7 @@ module _ (U : Upgrade) (expressions : ExpressionsAgree U) (K : Pledge) (p : ℕ)
     pub gives : (s : Memory) → Stable s → Gives C e value s
 
   abbrev Can : Expr → Type 0
-  Can e = AllCalled (demands U K S T) e
+  Can e = AllCalled (demands U K p l k S T) e
 
   -- what stands for it
   fitting : (e : Expr) (z : Value6) → Can e → covers_expr uses e ≡ true → is_formed e ≡ true → Gives C e z w.src → IsFit (type_at e) z
@@ -231,7 +231,7 @@ module _ (U : Upgrade) (expressions : ExpressionsAgree U) (K : Pledge) (p : ℕ)
       by_match same _ _ (longs i e) = (i, refl)
 
   -- the indexes of an element
-  pub indexes_known : (es : Exprs) → are_calm uses es ≡ true → AllCalledAll (demands U K S T) es → covers_exprs uses es ≡ true → all_longs (types_of es) ≡ true
+  pub indexes_known : (es : Exprs) → are_calm uses es ≡ true → AllCalledAll (demands U K p l k S T) es → covers_exprs uses es ≡ true → all_longs (types_of es) ≡ true
       → are_formed es ≡ true → (zs : List ℤ) × ((s : Memory) → Stable s → indexes_of C es s ≡ gives [] zs s)
   indexes_known no_exprs calm can covers long formed = ([], λ s stable. refl)
   indexes_known (next_expr e rest) calm can covers long formed =

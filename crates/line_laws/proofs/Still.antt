@@ -2,7 +2,9 @@
 use Rattle.std.proofs.Common.{◌≡◌, ◌∙◌, refl, ap, ℕ, Bool, true, false, not, ◌&&◌, List, [], ◌∷◌, ◌++◌, None}
 use Rattle.std.specs.List.{list_all}
 use Rattle.bound_tree.specs.Tree.{Expr, typed, constant, variable, field, element, call, library, unary, binary, convert, new_object, me, with_object, err_number, err_raise, err_clear, is_same, loose, Exprs, no_exprs, next_expr, by_value, by_reference, Passed, no_passed, next_passed}
+use Rattle.vb_tree.specs.BoundTree.{Ty}
 use Rattle.vb_tree.specs.declared.bound.LibCall.{LibCall}
+use Rattle.bound_tree.specs.declared.expression.Root as expression
 use Rattle.bound_facts.proofs.Chains.{both_true}
 use Rattle.bound_facts.specs.Facts.{is_quiet}
 use Rattle.bound_facts.specs.Node.{called}
@@ -11,9 +13,10 @@ use Rattle.run_base.specs.Frames.{Kept}
 use Rattle.run_base.specs.Machines.{nth_line}
 use Rattle.run_base.specs.Positions.{Root, shared, made, field, Position}
 use Rattle.written_trees.specs.Names.{Scope}
+use Rattle.vb6_run.specs.Forms.{SourceLine}
 use Rattle.vb6_run.specs.Store.{Address, SourceFrame}
 use Rattle.vb6_run.specs.Values.{Value}
-use Rattle.net_run.specs.Lines.{NetFrame}
+use Rattle.net_run.specs.Lines.{NetFrame, NetLine}
 use Rattle.net_run.specs.Names as net_names
 use Rattle.net_run.specs.Store as net
 use Rattle.net_run.specs.Values as net_value
@@ -29,6 +32,7 @@ use Rattle.agreeing_laws.specs.Promises.{Weaker}
 use Rattle.agreeing_laws.proofs.Lasting.{later_weaker}
 use Rattle.agreeing_laws.proofs.Made.{below_self}
 use Rattle.agreeing_laws.proofs.Moves.{address_promised, locks_promised}
+use Rattle.line_laws.proofs.KeptPlaces.{place_kept_promised}
 
 -- ---- the promise
 
@@ -90,6 +94,7 @@ module _ (U : Upgrade) (K : Pledge) (w : World) (h : MemoryMatch U w) where
     own_heads = F.own_heads;
     kept = λ i. kept_still (is_exact_head U (nth_line (lines_of U p) i)) (f.kept i) (g.kept i) (F.kept i);
     covered_heads = F.covered_heads;
+    covered_withs = λ h l is covers with. place_kept_promised U K (still K w) w (still_more K w) l.bindings.exprs (f.kept h) (g.kept h) (F.covered_withs h l is covers with);
     has_locals = F.has_locals;
     has_passing = F.has_passing;
     locks = locks_promised U K (still K w) w w f.env (still_more K w) F.locks;
@@ -110,6 +115,7 @@ all_right t (x ∷ xs) ys h = all_right t xs ys (both_true (t x) (list_all t (xs
 
 module _ (uses : Uses) (Q R : Demands) (elements : (a : Expr) (indexes : Exprs) → Q.elements a indexes → R.elements a indexes)
     (bounds : (f : LibCall) (args : Exprs) → Q.bounds f args → R.bounds f args)
+    (withs : (ty : Ty) (r : expression.Root) → Q.withs ty r → R.withs ty r)
     (calls : (q : ℕ) (args : Passed) → uses.inward q ≡ true → Q.calls q args → R.calls q args) where
   abbrev IsStill : List Expr → Type 0
   IsStill es = are_still uses es ≡ true
@@ -124,7 +130,7 @@ module _ (uses : Uses) (Q R : Demands) (elements : (a : Expr) (indexes : Exprs) 
     still_called : (e : Expr) → IsStill (nodes e) → AllCalled Q e → AllCalled R e
     still_called (typed ty (constant x origin)) s h = tt
     still_called (typed ty (variable v qualified)) s h = tt
-    still_called (typed ty (field e k)) s h = tt
+    still_called (typed ty (field e k)) s h = still_called e (behind_node (typed ty (field e k)) (nodes e) s) h
     still_called (typed ty (element e indexes)) s h =
         (elements e indexes h.0, still_all indexes (all_right seen (nodes e) (nodes_of_all indexes) (behind_node (typed ty (element e indexes)) (nodes_in (element e indexes)) s)) h.1)
     still_called (typed ty (call p qualified of args)) s h =
@@ -139,7 +145,7 @@ module _ (uses : Uses) (Q R : Demands) (elements : (a : Expr) (indexes : Exprs) 
     still_called (typed ty (convert to e)) s h = still_called e (behind_node (typed ty (convert to e)) (nodes e) s) h
     still_called (typed ty (new_object c)) s h = tt
     still_called (typed ty me) s h = tt
-    still_called (typed ty (with_object root)) s h = tt
+    still_called (typed ty (with_object root)) s h = withs ty root h
     still_called (typed ty err_number) s h = tt
     still_called (typed ty (err_raise e)) s h = still_called e (behind_node (typed ty (err_raise e)) (nodes e) s) h
     still_called (typed ty err_clear) s h = tt
@@ -178,13 +184,13 @@ can_call_still U K w S T q args inward c = record {
   found = c.found;
 }
 
-module _ (U : Upgrade) (K : Pledge) (w : World) (S : net_names.Scope) (T : Scope) (uses : Uses) (readable : AreReadable U T uses) where
-  pub called_in_still : (e : Expr) → are_still uses (nodes e) ≡ true → AllCalled (demands U K S T) e → AllCalled (demands U (still K w) S T) e
+module _ (U : Upgrade) (K : Pledge) (p : ℕ) (l : SourceLine) (k : NetLine) (w : World) (S : net_names.Scope) (T : Scope) (uses : Uses) (readable : AreReadable U T uses) where
+  pub called_in_still : (e : Expr) → are_still uses (nodes e) ≡ true → AllCalled (demands U K p l k S T) e → AllCalled (demands U (still K w) p l k S T) e
   called_in_still e s h =
-      still_called uses (demands U K S T) (demands U (still K w) S T) (λ a indexes x. x) (λ f args x. x)
+      still_called uses (demands U K p l k S T) (demands U (still K w) p l k S T) (λ a indexes x. x) (λ f args x. x) (λ ty r x. x)
       (λ q args inward x. can_call_still U K w S T q args (readable.inward q inward) x) e s h
 
-  pub called_in_still_all : (es : Exprs) → are_still uses (nodes_of_all es) ≡ true → AllCalledAll (demands U K S T) es → AllCalledAll (demands U (still K w) S T) es
+  pub called_in_still_all : (es : Exprs) → are_still uses (nodes_of_all es) ≡ true → AllCalledAll (demands U K p l k S T) es → AllCalledAll (demands U (still K w) p l k S T) es
   called_in_still_all es s h =
-      still_all uses (demands U K S T) (demands U (still K w) S T) (λ a indexes x. x) (λ f args x. x)
+      still_all uses (demands U K p l k S T) (demands U (still K w) p l k S T) (λ a indexes x. x) (λ f args x. x) (λ ty r x. x)
       (λ q args inward x. can_call_still U K w S T q args (readable.inward q inward) x) es s h

@@ -16,6 +16,7 @@ uses = record {
   array = λ w e. true;
   group = λ w t. false;
   field_type = λ t k. None;
+  user = λ t. false;
   is_of = λ w ty. is_same_type ty types.long;
   inward = λ q. nat_eq q 0;
   exact = λ w. not (nat_eq w.0 8);

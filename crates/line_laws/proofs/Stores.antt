@@ -153,7 +153,7 @@ module _ (U : Upgrade) (expressions : ExpressionsAgree U) (scalars : ScalarsAreW
     (net_oracle : Jobs) (is_open : IsOpen (scope_of U.written c g k)) (uses : Uses) (readable : AreReadable U T uses)
     (placed : ArePlaced U p f (scope_of U.written c g k) T uses)
     (agree : CallsAgree U (Passes U) oracle net_oracle) (w : World) (h : MemoryMatch U w) (F : FrameMatch U K w p f g) (e : Expr)
-    (can : AllCalled (demands U K (scope_of U.written c g k) T) e) (well : is_good uses e ≡ true) where
+    (can : AllCalled (demands U K p l k (scope_of U.written c g k) T) e) (well : is_good uses e ≡ true) where
   abbrev C : source.Context
   C = context_of U oracle p f l
 

@@ -1,7 +1,7 @@
 -- A value is evaluated and then stored at a place. The source looks for the place behind the value, what is written before it.
 use Rattle.std.proofs.Common.{◌≡◌, ◌∙◌, sym, ap, subst, true, false, []}
 use Rattle.bound_tree.specs.Tree.{Expr}
-use Rattle.run_base.specs.Outcomes.{Outcome, gives, after, then}
+use Rattle.run_base.specs.Outcomes.{Outcome, gives, outside, after, then}
 use Rattle.written_trees.specs.Exprs.{exp_of}
 use Rattle.written_trees.specs.Names.{Scope}
 use Rattle.vb6_run.specs.Expressions as source
@@ -22,7 +22,7 @@ use Rattle.run_matches.specs.Match.{MemoryMatch}
 use Rattle.run_matches.specs.Pledges.{Later, Pledge}
 use Rattle.run_matches.specs.Upgrades.{Upgrade}
 use Rattle.run_statements.specs.Frames.{AnyUnits, MayChange}
-use Rattle.agreeing_laws.proofs.Agreeing.{left_alone, right_alone, then_agrees}
+use Rattle.agreeing_laws.proofs.Agreeing.{agrees_outside, left_alone, right_alone, then_agrees}
 use Rattle.agreeing_laws.proofs.Moves.{address_later}
 
 -- What is stored to leads to a place on both sides, whatever is done before it, and the place may change.
@@ -65,3 +65,20 @@ module _ (U : Upgrade) (K : Pledge) (w : World) (h : MemoryMatch U w) (C : sourc
       (right_alone U K w AnyUnits stores (rest (at_place b) w.net)
       (then_agrees U K w R AnyUnits (source.value_of C e w.src) (target.value_of S oracle (exp_of T e) w.net) (let_to C to)
       (λ y t. assigned S oracle (at_place b) y t) h values behind_value))
+
+-- what the source finds nowhere, and to which what is written leads whatever it holds
+pub absent_stored : (U : Upgrade) (K : Pledge) (w : World) → MemoryMatch U w → (C : source.Context) (S : net_names.Scope) (T : Scope) (oracle : Jobs)
+    (to e : Expr) (R : World → Value → net_value.Value → Type 0) → Agrees U K w R (source.value_of C e w.src) (target.value_of S oracle (exp_of T e) w.net)
+    → (b : net_store.Address) → ((t : net_store.Memory) → target.reach S oracle false (exp_of T to) t ≡ gives [] (at_place b) t)
+    → ((x : Value) (s : Memory) → let_to C to x s ≡ outside []) → SameStore U K w C S T oracle to e
+absent_stored U K w h C S T oracle to e R values b leads lets =
+    let stores : Outcome Memory Unit = then (source.value_of C e w.src) (let_to C to) in
+    let rest : Reached → net_store.Memory → Outcome net_store.Memory Unit =
+    λ r t. then (target.value_of S oracle (exp_of T e) t) (λ y t. assigned S oracle r y t) in
+    subst (λ z. Agrees U K w AnyUnits stores (then z rest)) (sym (leads w.net))
+    (right_alone U K w AnyUnits stores (rest (at_place b) w.net)
+    (then_agrees U K w R AnyUnits (source.value_of C e w.src) (target.value_of S oracle (exp_of T e) w.net) (let_to C to)
+    (λ y t. assigned S oracle (at_place b) y t) h values
+    (λ x y w1 m later.
+    subst (λ r. Agrees U K w1 AnyUnits r (assigned S oracle (at_place b) y w1.net)) (sym (lets x w1.src))
+    (agrees_outside U K w1 AnyUnits (assigned S oracle (at_place b) y w1.net)))))

@@ -12,7 +12,6 @@ use Rattle.vb6_run.specs.Store.{SourceFrame}
 use Rattle.net_run.specs.Lines.{NetFrame, NetLine, scope_of}
 use Rattle.net_run.specs.Members.{Code, code_at}
 use Rattle.net_run.specs.Program as target
-use Rattle.written_trees.specs.Bodies.{inside_procedure}
 use Rattle.run_matches.specs.Upgrades.{Upgrade, code_of, runnable_of}
 use Rattle.run_matches.specs.Maps.{World}
 use Rattle.run_matches.specs.Match.{MemoryMatch}

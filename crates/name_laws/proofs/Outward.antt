@@ -2,7 +2,7 @@
 use Rattle.std.proofs.Common.{◌≡◌, refl, ap, sym, ◌∙◌, ℕ, zero, suc, ◌<◌, Bool, true, false, cond, not, ◌&&◌, nat_eq, List, [], ◌∷◌, length, Option, Some, slice_get, nat_lt, arith, inl, inr, true≢false}
 use Rattle.std.specs.Prelude.{◌||◌}
 use Rattle.std.specs.List.{list_all, list_any}
-use Rattle.std.proofs.lemmas.Bool.{eqb-true}
+use Rattle.std.proofs.lemmas.Bool.{eqb-true, or_right}
 use Rattle.std.proofs.lemmas.Bool.Decides.{nat_tests}
 use Rattle.vb_tree.specs.BoundTree as types
 use Rattle.vb_tree.specs.BoundTree.{Ty}
@@ -13,7 +13,7 @@ use Rattle.vb_tree.specs.Tree.{Form}
 use Rattle.vb_tree.specs.Tree as source
 use Rattle.bound_tree.specs.declared.body.Mention.{Mention}
 use Rattle.bound_tree.specs.declared.expression.Root.TheVariants.{Object}
-use Rattle.bound_tree.specs.Tree.{Procedure, Declarations, Program, Expr, typed, Term, element, field, variable, Line}
+use Rattle.bound_tree.specs.Tree.{Procedure, Declarations, Program, Expr, typed, Term, element, field, variable, with_object, Line}
 use Rattle.reach_table.specs.Chains.{empty}
 use Rattle.bound_facts.specs.Calls.{count_procedures}
 use Rattle.bound_facts.specs.CanRaise.{can_raise, is_me}
@@ -28,7 +28,7 @@ use Rattle.vb6_run.specs.Programs.{is_static_of}
 use Rattle.vb6_run.specs.Runnables.{is_class_file}
 use Rattle.run_matches.specs.CleanLines.{lines_at}
 use Rattle.run_matches.specs.CoveredVariables.{covers_type, is_foreign_name, is_reached}
-use Rattle.run_matches.specs.CoveredExprs.{Uses, covers_array, covers_exprs, covers_expr, covers_place, covers_place_term, covers_term, has_field, has_inner, has_scalar, is_changeable, is_changeable_in, uses_in}
+use Rattle.run_matches.specs.CoveredExprs.{Uses, covers_array, covers_exprs, covers_expr, covers_base, covers_group, covers_place, covers_term, has_field, has_inner, has_scalar, is_changeable, is_changeable_in, is_kept, uses_in}
 use Rattle.run_matches.specs.CoveredLines.{covers_copy, covers_store, is_ordered, is_ordered_in, covers_form, covers_line}
 use Rattle.run_matches.specs.Formed.{is_formed}
 use Rattle.run_matches.specs.Pledges.{stands_in_class}
@@ -195,21 +195,23 @@ module _ (P : Program) (p : ℕ) (x : Procedure) (is_procedure : slice_get P.dec
       ap (λ b. cond b (is_me (typed of t)) (is_mine D p (typed of t))) none
       ∙ inside (sym (ap (λ b. is_outside D.vars p (cond b Object (root (typed of t)))) none) ∙ h)
 
-  mine_place : (ty : Ty) (t : Term) → covers_place_term uses ty t ≡ true → is_outside D.vars p (root (typed ty t)) ≡ true → is_mine D p (typed ty t) ≡ false
-  mine_place (types.user of) (variable v qualified) covers h =
+  mine_base : (ty : Ty) (t : Term) → covers_base uses (typed ty t) ≡ true → is_outside D.vars p (root (typed ty t)) ≡ true → is_mine D p (typed ty t) ≡ false
+  mine_base ty (with_object r) covers h = refl
+  mine_base (types.user of) (variable v qualified) covers h =
       mine_group_variable v of covers (not_true (is_own_variable p (slice_get D.vars v.0)) h)
-  mine_place ty (field (typed of t) k) covers h =
-      let b = both_true (has_inner uses of k ty) (covers_place_term uses of t) covers in
-      mine_field ty of t k (inner_no_object of k ty b.0) (mine_place of t b.1) h
-  mine_place ty _ covers h = absurd (cc covers)
+  mine_base ty (field (typed of t) k) covers h =
+      let b = both_true (has_inner uses of k ty) (covers_base uses (typed of t)) covers in
+      mine_field ty of t k (inner_no_object of k ty b.0) (mine_base of t b.1) h
+  mine_base ty _ covers h = absurd (true≢false (sym covers))
 
   mine : (ty : Ty) (t : Term) (e : Expr) → (is_changeable_in uses t || is_ordered_in uses ty t e) ≡ true → covers_term uses t ≡ true → is_outside D.vars p (root (typed ty t)) ≡ true
       → is_mine D p (typed ty t) ≡ false
   mine ty (variable v qualified) e is covers h = mine_variable v covers (not_true (is_own_variable p (slice_get D.vars v.0)) h)
   mine ty (field (typed of t) k) e is covers h =
-      let b = both_true (has_scalar uses of k) (covers_place_term uses of t) covers in
-      mine_field ty of t k (scalar_no_object of k b.0) (mine_place of t b.1) h
+      let b = both_true (has_scalar uses of k) (covers_base uses (typed of t)) covers in
+      mine_field ty of t k (scalar_no_object of k b.0) (mine_base of t b.1) h
   mine ty (element a indexes) e is covers h = mine_array a (both_true (covers_array uses a) (covers_exprs uses indexes) covers).0 h
+  mine ty (with_object r) e is covers h = refl
   mine ty _ e is covers h = absurd (cc is)
 
   target : (to e : Expr) → (is_changeable uses to || is_ordered uses to e) ≡ true → covers_expr uses to ≡ true → is_outside D.vars p (root to) ≡ true → is_mine D p to ≡ false
@@ -217,9 +219,9 @@ module _ (P : Program) (p : ℕ) (x : Procedure) (is_procedure : slice_get P.dec
 
   copied : (to e : Expr) → covers_copy uses to e ≡ true → is_outside D.vars p (root to) ≡ true → is_mine D p to ≡ false
   copied (typed ty t) e c h =
-      let a = both_true (is_changeable uses (typed ty t)) (is_same_type ty (type_at e) && (covers_place_term uses ty t && covers_place uses e)) c in
-      let b = both_true (is_same_type ty (type_at e)) (covers_place_term uses ty t && covers_place uses e) a.1 in
-      mine_place ty t (both_true (covers_place_term uses ty t) (covers_place uses e) b.1).0 h
+      let a = both_true (is_changeable uses (typed ty t)) (is_same_type ty (type_at e) && (covers_place uses (typed ty t) && covers_group uses e)) c in
+      let b = both_true (is_same_type ty (type_at e)) (covers_place uses (typed ty t) && covers_group uses e) a.1 in
+      mine_base ty t (or_right (is_kept uses ty t) (covers_place uses (typed ty t)) (both_true (covers_place uses (typed ty t)) (covers_group uses e) b.1).0) h
 
   stored : (to e : Expr) → covers_store uses (to ∷ e ∷ []) ≡ true → is_outside D.vars p (root to) ≡ true → is_mine D p to ≡ false
   stored to e c h =

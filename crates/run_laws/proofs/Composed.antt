@@ -28,7 +28,6 @@ use Rattle.memory_laws.proofs.Writing.{scalars_are_written}
 use Rattle.memory_laws.proofs.Making.{locals_are_made}
 use Rattle.memory_laws.proofs.ArraysMade.{arrays_are_made, static_arrays_are_laid}
 use Rattle.memory_laws.proofs.Parameters.{values_are_made}
-use Rattle.memory_laws.proofs.Groups.{groups_are_read}
 use Rattle.memory_laws.proofs.GroupWriting.{groups_are_written}
 use Rattle.memory_laws.proofs.GroupsMade.{group_shape_is, groups_are_given, groups_are_made}
 use Rattle.memory_laws.proofs.StaticGroups.{static_groups_are_laid}
@@ -41,9 +40,11 @@ use Rattle.written_trees.specs.Names.{type_path}
 use Rattle.run_matches.specs.Likeness.{SameShape}
 use Rattle.memory_laws.proofs.Elements.{elements_are_written}
 use Rattle.memory_laws.proofs.Resizing.{arrays_are_erased, arrays_are_resized}
-use Rattle.expression_laws.proofs.Agreements.{arrays_agree, calls_are_made, elements_agree, expressions_agree, indexes_agree_all}
+use Rattle.expression_laws.proofs.Agreements.{arrays_agree, calls_are_made, elements_agree, expressions_agree, groups_agree, indexes_agree_all}
+use Rattle.expression_laws.specs.Statements.{ParametersAreSound}
+use Rattle.run_laws.proofs.SoundParameters.{parameters_are_sound}
 use Rattle.line_laws.proofs.Lines.{lines_agree}
-use Rattle.run_laws.specs.Premises.{GroupsAreWritten, LinePremises, RunPremises}
+use Rattle.run_laws.specs.Premises.{GroupsAreWritten, LinePremises, OwnedAreUsable, RunPremises}
 use Rattle.run_laws.proofs.Lines as by_itself
 use Rattle.run_matches.specs.Runs.{call_pledge}
 use Rattle.run_laws.proofs.Runs.{makes_in_calls}
@@ -52,10 +53,15 @@ use Rattle.run_laws.proofs.Runs as whole
 scalars_are_read : (U : Upgrade) → ScalarsAreRead U
 scalars_are_read U K w a b ty covers h same at = variables_are_read U K w true a b ty covers h (images true a b same) at
 
-lines_do : (U : Upgrade) → LinesAgree U
-lines_do U =
-    lines_agree U (expressions_agree U) (calls_are_made U) (scalars_are_read U) (scalars_are_written U) (elements_agree U) (indexes_agree_all U)
-    (elements_are_written U) (groups_are_read U) (groups_are_written U) (arrays_agree U) (arrays_are_resized U) (arrays_are_erased U)
+owned_usable : (U : Upgrade) → IsWritten U → OwnedAreUsable U
+owned_usable U w p v x clean e owned covers loud = usable U w v x e covers loud (owned_sound U.program U.facts.marks p v x clean e owned)
+
+lines_do : (U : Upgrade) → IsWritten U → LinesAgree U
+lines_do U w =
+    let sound : ParametersAreSound U = parameters_are_sound U (owned_usable U w) in
+    lines_agree U (expressions_agree U sound) (calls_are_made U sound) (scalars_are_read U) (scalars_are_written U) (elements_agree U sound)
+    (indexes_agree_all U sound) (elements_are_written U) (groups_agree U sound) (groups_are_written U) (arrays_agree U) (arrays_are_resized U)
+    (arrays_are_erased U)
 
 user_types_are_written : (U : Upgrade) → IsWritten U → GroupsAreWritten U
 user_types_are_written U w = record {
@@ -73,7 +79,7 @@ run_premises U w = record {
   no_further = no_further_lines U w;
   labels = labels_are_found same_labels U w;
   names = names_are_open U w;
-  agree = lines_do U;
+  agree = lines_do U w;
   owns = owns_are_kept U w;
   unreplaced = clean_lines_are_unreplaced U w;
   readable = λ p s x site is W clean covered k line here. uses_are_readable U w p k line clean here (inside_procedure (site_scope U s) p) refl;
@@ -81,7 +87,7 @@ run_premises U w = record {
   resizes = λ p k l clean here. w.resizes p k l here (clean_unbroken U p k clean);
   placed = uses_are_placed U w;
   stores = stores_are_own U w;
-  owned = λ p v x clean e owned covers loud. usable U w v x e covers loud (owned_sound U.program U.facts.marks p v x clean e owned);
+  owned = owned_usable U w;
   owned_scalars = λ p v x clean e owned covers loud. readable U w.known v x e covers (variable_unbroken U.program U.facts.marks p v x clean e owned);
   known = w.known;
   found = callees_are_found U w;
@@ -98,7 +104,7 @@ line_premises U w = record {
   procedures = procedures_are_written U w;
   lines = lines_are_written same_aims same_tests U w;
   names = names_are_open U w;
-  agree = lines_do U;
+  agree = lines_do U w;
   unreplaced = λ p k s site clean covered. clean_line_is_unreplaced U w p s k site clean covered;
   readable = λ p k clean covered.
       line_uses_are_readable U w p (suc k) covered.line clean (ap (λ o. nth_line (or_none o) (suc k)) covered.are_lines ∙ covered.is_line)

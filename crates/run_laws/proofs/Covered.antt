@@ -29,7 +29,6 @@ use Rattle.run_matches.specs.UserTypes.{is_user_of}
 use Rattle.run_matches.specs.CoveredLines.{covers_form, covers_in_block, covers_label, covers_line, has_sound_label, has_sound_label_in, jump_of}
 use Rattle.run_matches.specs.Covered.{covers_body, covers_head, covers_kind, covers_names, covers_owns, covers_procedure, covers_site, covers_variables, is_plain, is_plain_kind, keeps_blocks, keeps_blocks_in, covers_own, covers_all_calls, covers_calls, covers_parameter, covers_result, has_result, is_answer_of, is_value_of, is_parameter_of}
 use Rattle.run_matches.specs.Callees.{frame_owns}
-use Rattle.run_matches.specs.Frames.{is_exact_head, is_own_head, is_own_line, is_quiet_head}
 use Rattle.run_matches.specs.Sites.{Site, own_name, owns_of, site_of, local_numbers, static_numbers}
 use Rattle.run_matches.specs.Upgrades.{Upgrade}
 
@@ -298,28 +297,6 @@ form_jumps_soundly uses _ es a h e = absurd (not_none e)
 
 pub jumps_soundly : (P : Program) (p : ℕ) (l : Line) (a : Label6) → covers_line P p l ≡ true → jump_of l.source.form ≡ Some a → covers_label (label_of a) ≡ true
 jumps_soundly P p l a h e = form_jumps_soundly (uses_in P p l.bindings.mentions) l.source.form l.bindings.exprs a (form_covered P p l h) e
-
--- covered lines have no With
-no_own_head : (U : Upgrade) (p : ℕ) (uses : Uses) (f : Form) (es : List Expr) → covers_form uses f es ≡ true → is_own_head U p f es ≡ false
-no_own_head U p uses (source.with_head e) es h = absurd (true≢false (sym h))
-no_own_head U p uses _ es h = refl
-
-no_quiet_head : (U : Upgrade) (uses : Uses) (f : Form) (es : List Expr) → covers_form uses f es ≡ true → is_quiet_head U f es ≡ false
-no_quiet_head U uses (source.with_head e) es h = absurd (true≢false (sym h))
-no_quiet_head U uses _ es h = refl
-
-pub no_own_line : (U : Upgrade) (P : Program) (p : ℕ) (l : Line) → covers_line P p l ≡ true → is_own_line U p l ≡ false
-no_own_line U P p l h = no_own_head U p (uses_in P p l.bindings.mentions) l.source.form l.bindings.exprs (form_covered P p l h)
-
-pub exact_head : (U : Upgrade) (P : Program) (p : ℕ) (lines : List Line) (h : ℕ) → list_all (covers_line P p) lines ≡ true
-    → is_exact_head U (nth_line lines h) ≡ true
-exact_head U P p lines zero c = refl
-exact_head U P p lines (suc h) c = by (slice_get lines h) refl
-  where
-    by : (o : Option Line) → slice_get lines h ≡ o → is_exact_head U o ≡ true
-    by None e = refl
-    by (Some l) e =
-        ap not (no_quiet_head U (uses_in P p l.bindings.mentions) l.source.form l.bindings.exprs (form_covered P p l (all_at (covers_line P p) lines h l c e)))
 
 -- ---- the lines of a body
 

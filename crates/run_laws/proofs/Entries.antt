@@ -1,5 +1,5 @@
 -- The entry of a covered procedure makes frames that match.
-use Rattle.std.proofs.Common.{◌≡◌, refl, sym, ap, subst, ◌∙◌, ℕ, ◌+◌, arith, true, false, nat_eq, Option, Some, None, option_map, List, [], ◌∷◌, ◌++◌, map, ◌⊎◌, inl, inr, true≢false}
+use Rattle.std.proofs.Common.{◌≡◌, refl, sym, ap, subst, ◌∙◌, ℕ, ◌+◌, arith, true, false, nat_eq, Option, Some, None, option_map, List, [], ◌∷◌, ◌++◌, map, ◌⊎◌, inl, inr, true≢false, ⊎_elim}
 use Rattle.std.specs.Prelude.{slice_get, ◌&&◌}
 use Rattle.std.specs.List.{list_any, list_all}
 use Rattle.written_trees.specs.Prologues.{is_static}
@@ -33,7 +33,7 @@ use Rattle.run_laws.proofs.Given.{stands_itself, locks_given, locks_joined}
 use Rattle.run_matches.specs.CoveredVariables.{are_different, covers_type, belongs_to}
 use Rattle.run_matches.specs.CoveredLines.{covers_line}
 use Rattle.run_matches.specs.Covered.{covers_parameter, covers_own, is_scalar_or_loud}
-use Rattle.run_matches.specs.Frames.{FrameMatch, HasNames, HasOwnObject, SameVariable, declared_names, dim_name, result_names, static_of, SameStatic, name_of, GivenAddress, frame_pledge, is_own_of, lines_of, stands_in}
+use Rattle.run_matches.specs.Frames.{FrameMatch, HasNames, HasOwnObject, SameVariable, declared_names, dim_name, result_names, static_of, SameStatic, name_of, GivenAddress, frame_pledge, is_own_of, lines_of, stands_in, is_own_place, is_kept_from}
 use Rattle.run_matches.specs.CleanLines.{or_none}
 use Rattle.run_matches.specs.Callees.{answer_owns, own_of_some, parameter_owns}
 use Rattle.run_matches.specs.Likeness.{scalar_word}
@@ -73,7 +73,8 @@ use Rattle.run_laws.proofs.Locals.{Found, listed_behind, local_found, local_late
 use Rattle.run_laws.proofs.LocalsMade.{Locals, locals_agree}
 use Rattle.run_laws.proofs.Parameters.{AreParameters, Parameters, parameters_agree}
 use Rattle.run_laws.proofs.ParametersMade.{Local, local_is_made, readable_type}
-use Rattle.run_laws.proofs.Standing.{different_behind, made_object, module_in_is, nothing_by, nothing_kept, plain_place, ending_owns, static_root_is}
+use Rattle.run_laws.proofs.Standing.{different_behind, made_object, module_in_is, nothing_by, nothing_kept, plain_place, ending_owns, static_root_is, no_place_kept, none_kept_from}
+use Rattle.up_base.proofs.Tests.{either}
 
 none_before : (j : ℕ) → 0 + j ≡ j
 none_before j = omega arith
@@ -241,6 +242,7 @@ module _ (U : Upgrade) (p : ℕ) (c : CoveredProcedure U.program p) (W : Written
         own_heads = λ h l a e is k. absurd (nothing_kept a k);
         kept = λ h. both_nothing;
         covered_heads = λ h l is covers. nothing_by ks l.source.form l.bindings.exprs;
+        covered_withs = λ h l is covers with. no_place_kept U K u l.bindings.exprs;
         has_locals = λ v is.
             local_there U S K u all ks bs m v
             (listed_behind v (parameter_owns D x.params) others
@@ -254,14 +256,16 @@ module _ (U : Upgrade) (p : ℕ) (c : CoveredProcedure U.program p) (W : Written
       grown : Below base (mark u.src)
       grown = below_then base (mark w.src) (mark u.src) low lat.grows
 
-      places_are_new : (n : ℕ) → list_any (λ (x : ℕ × Address). is_own_of U p x.0 && stands_in n x.1) ks ≡ true → IsOld K (made n) → ⊥
-      places_are_new = local_places U S K u p all ks bs m
+      places_are_new : (n : ℕ) → is_own_place U p f n ≡ true → IsOld K (made n) → ⊥
+      places_are_new n e =
+          ⊎_elim (λ own. local_places U S K u p all ks bs m n own) (λ kept. absurd (none_kept_from U p f n (λ h. refl) 1 (lines_of U p) kept))
+          (either (list_any (λ (x : ℕ × Address). is_own_of U p x.0 && stands_in n x.1) ks) (is_kept_from U p f n 1 (lines_of U p)) e)
 
       run_match : RunMatch U K p me u f g
       run_match = record {
         same_object = refl;
         frames =
-            frame_with U K (frame_pledge U p u f) u lat.match (call_is_weaker U p covered_lines base me xs ys u f refl grown places_are_new) p f g
+            frame_with U K (frame_pledge U p u f) u lat.match (call_is_weaker U p base me xs ys u f refl grown places_are_new) p f g
             (below_self (mark u.src)) frames_match;
         low = grown;
         places = places_are_new;

@@ -11,19 +11,21 @@ use Rattle.bound_tree.specs.Tree.{Expr}
 use Rattle.run_base.specs.Frames.{Handler, none, next_line, at_line, to_line, resumed_at, Kept, keeps_nothing, keeps_limit, keeps_value, keeps_address}
 use Rattle.run_base.specs.Machines.{behind_error, caught, go, handled, if_active, line_at, resume_at, stepped}
 use Rattle.run_base.specs.Outcomes.{Output, Outcome, gives, raises, spent, outside, after, then, answered, some_of}
-use Rattle.vb6_run.specs.Expressions.{Context, address_of, scalar_of, scalar_value, value_of, parts_of}
+use Rattle.vb6_run.specs.Expressions.{Context, address_of, scalar_of, scalar_value, value_of, parts_of, type_shape, declared}
 use Rattle.vb6_run.specs.Forms.{SourceLine, form_does, idle_machine}
-use Rattle.vb6_run.specs.Lines.{branch, case_of, chosen, condition, counted, exit_does, for_does, for_from, goes_if, goes_on, handles_by, has_passed, items_text, keeping_limit, keeps_at, let_to, line_of_label, next_of, print, redim_does, some_fits, step_of, sum_of, when_done, with_one}
+use Rattle.vb6_run.specs.Lines.{branch, case_of, chosen, condition, counted, exit_does, for_does, for_from, goes_if, goes_on, handles_by, has_passed, items_text, keeping_limit, keeps_at, let_to, line_of_label, next_of, print, redim_does, some_fits, step_of, sum_of, when_done, with_one, with_address, with_does}
 use Rattle.bound_facts.specs.Parts.{resizes}
 use Rattle.vb6_run.specs.Arrays.{erase}
 use Rattle.vb6_run.specs.Programs.{line_does, machine_of}
 use Rattle.vb6_run.specs.Runnables.{Runnable}
-use Rattle.vb6_run.specs.Store.{Address, Memory, SourceFrame, read, set_err, write}
+use Rattle.vb6_run.specs.Store.{Address, Memory, SourceFrame, read, set_err, write, root, item, constant, make_with}
 use Rattle.vb6_run.specs.Values.{Value}
 use Rattle.agreeing_laws.specs.Promises.{Yields}
 use Rattle.run_matches.specs.CoveredExprs.{Uses}
 use Rattle.run_matches.specs.CoveredLines.{covers_condition, covers_form, covers_call}
 use Rattle.run_matches.specs.Runs.{line_result}
+use Rattle.vb_tree.specs.BoundTree.{Ty, user}
+use Rattle.bound_facts.specs.Node.{type_at}
 
 pub yields_after : {M A : Type 0} (Q : A → M → Type 0) (o : List Output) (r : Outcome M A) → Yields Q r → Yields Q (after o r)
 yields_after Q o (gives p a w) h = h
@@ -138,6 +140,17 @@ call_keeps C uses [] w h = absurd (true≢false (sym h))
 call_keeps C uses (e ∷ []) w h = yields_then (HasVars C.frame) (parts_of C e w) (λ x w. goes_on C w) (λ x w. refl)
 call_keeps C uses (e ∷ d ∷ es) w h = absurd (true≢false (sym h))
 
+address_keeps : (C : Context) (ty : Ty) (a : Address) (w : Memory) → Yields (HasVars C.frame) (with_address C ty a w)
+address_keeps C ty (root s q) w = refl
+address_keeps C ty (item e q j path) w = refl
+address_keeps C ty (constant x) w =
+    yields_then (HasVars C.frame) (make_with (type_shape (declared C) ty) x w) (λ a w. keeps_at C (keeps_address a) w) (λ a w. refl)
+
+with_keeps : (C : Context) (e : Expr) (ty : Ty) (w : Memory) → Yields (HasVars C.frame) (with_does C e ty w)
+with_keeps C e (user t) w =
+    yields_then (HasVars C.frame) (address_of C e w) (with_address C (user t)) (λ a w. address_keeps C (user t) a w)
+with_keeps C e _ w = yields_then (HasVars C.frame) (value_of C e w) (λ x w. keeps_at C (keeps_value x) w) (λ x w. refl)
+
 form_keeps : (C : Context) (uses : Uses) (f : Form) (es : List Expr) (w : Memory) → covers_form uses f es ≡ true → Yields (HasVars C.frame) (form_does C f es w)
 form_keeps C uses (source.assign target value) [] w h = absurd (true≢false (sym h))
 form_keeps C uses (source.assign target value) (to ∷ []) w h = absurd (true≢false (sym h))
@@ -174,6 +187,10 @@ form_keeps C uses (source.loop_while e) es w h = condition_keeps C uses C.aims.b
 form_keeps C uses (source.loop_until e) es w h = condition_keeps C uses (Some C.aims.after) C.aims.back es w h
 form_keeps C uses (source.while_head e) es w h = condition_keeps C uses (Some C.aims.after) C.aims.otherwise es w h
 form_keeps C uses source.wend es w h = leads_keep C C.aims.back w
+form_keeps C uses (source.with_head e) [] w h = absurd (true≢false (sym h))
+form_keeps C uses (source.with_head e) (x ∷ []) w h = with_keeps C x (type_at x) w
+form_keeps C uses (source.with_head e) (x ∷ y ∷ es) w h = absurd (true≢false (sym h))
+form_keeps C uses source.end_with es w h = refl
 form_keeps C uses (source.goto a) es w h = leads_keep C (line_of_label C a) w
 form_keeps C uses (source.label a) es w h = refl
 form_keeps C uses (source.on_error_goto a) es w h = some_keeps C (line_of_label C a) (λ n w. handles_by C (at_line n) w) w (λ n. refl)

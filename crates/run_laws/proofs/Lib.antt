@@ -24,4 +24,5 @@ pub mod Turns
 pub mod Lines
 pub mod Results
 pub mod Runs
+mod SoundParameters
 pub mod Composed

@@ -25,7 +25,7 @@ use Rattle.net_run.specs.Program.{result_at, result_by, result_in}
 use Rattle.net_run.specs.Store as net
 use Rattle.written_trees.specs.Names.{variable_name_of}
 use Rattle.run_matches.specs.Addresses.{Bound, Same, images, mirrored, same_item, same_root}
-use Rattle.run_matches.specs.Agreeing.{Agrees, ResultMatch}
+use Rattle.run_matches.specs.Agreeing.{Agrees, ResultMatch, HasAllFields}
 use Rattle.run_matches.specs.CoveredVariables.{are_different, is_named_in}
 use Rattle.run_matches.specs.Frames.{FrameMatch, HasPlace, SameVariable, declared_names, dim_name, frame_pledge, is_own_of, result_names}
 use Rattle.run_matches.specs.Likeness.{LikeV}
@@ -189,6 +189,7 @@ module _ (U : Upgrade) (p : ℕ) (c : CoveredProcedure U.program p) (W : Written
         agrees_gives U K u (ResultMatch U) (Some v) (Some y) later.match
         (record {
           like = like;
+          whole = subst (λ z. HasAllFields U z) (sym n.1) tt;
           loose = λ k c. loose_in_none (arrays_in y) k none c;
           once = once_in_none (arrays_in y) none;
         })))

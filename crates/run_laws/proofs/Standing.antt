@@ -1,10 +1,10 @@
 -- What holds of the variables of a frame that an entry makes: those in places, and Statics.
-use Rattle.std.proofs.Common.{◌≡◌, refl, sym, ap, subst, ◌∙◌, ℕ, ◌<◌, ◌≤◌, arith, true, false, cond, not, Option, Some, None, List, [], ◌∷◌, ◌++◌, map, zero, suc, Bool}
+use Rattle.std.proofs.Common.{◌≡◌, refl, sym, ap, subst, ◌∙◌, ℕ, ◌<◌, ◌≤◌, arith, true, false, cond, not, Option, Some, None, List, [], ◌∷◌, ◌++◌, map, zero, suc, Bool, ◌⊎◌, inl, inr, true≢false, ◌&&◌, ⊎_elim}
 use Rattle.std.specs.Prelude.{slice_get}
-use Rattle.up_base.proofs.Tests.{both_true}
+use Rattle.up_base.proofs.Tests.{both_true, either}
 use Rattle.vb_tree.specs.Tree.{Form}
 use Rattle.vb_tree.specs.Tree as source_form
-use Rattle.bound_tree.specs.Tree.{Expr, Procedure, Variable}
+use Rattle.bound_tree.specs.Tree.{Expr, Procedure, Variable, Line}
 use Rattle.bound_facts.specs.SelfMade.{module_of}
 use Rattle.net_tree.specs.Tree as net_tree
 use Rattle.run_base.specs.Frames.{Kept, keeps_address, keeps_nothing}
@@ -13,7 +13,7 @@ use Rattle.vb6_run.specs.Programs.{entry, is_static_of}
 use Rattle.vb6_run.specs.Runnables.{is_class_file, object_root, static_root}
 use Rattle.vb6_run.specs.Values.{Value}
 use Rattle.vb6_run.specs.Shapes.{variable_shape}
-use Rattle.vb6_run.specs.Store.{Address}
+use Rattle.vb6_run.specs.Store.{Address, SourceFrame}
 use Rattle.net_run.specs.Program as target
 use Rattle.net_run.specs.Shapes as shape
 use Rattle.net_run.specs.Shapes.{module_in}
@@ -22,7 +22,7 @@ use Rattle.written_trees.specs.Heads as heads
 use Rattle.written_trees.specs.Names.{Scope}
 use Rattle.run_matches.specs.Addresses.{IsPlain}
 use Rattle.run_matches.specs.CoveredVariables.{are_different, is_named_in}
-use Rattle.run_matches.specs.Frames.{HasPlace, KeptBy, is_static_in, static_of}
+use Rattle.run_matches.specs.Frames.{HasPlace, KeptBy, is_static_in, static_of, KeepsPlace, is_kept_from, is_kept_in, is_own_line}
 use Rattle.run_matches.specs.Maps.{World, is_auto_root, is_auto_variable}
 use Rattle.run_matches.specs.Runs.{IsObject}
 use Rattle.run_matches.specs.Sites.{Own, own_variable, own_constant}
@@ -33,6 +33,7 @@ use Rattle.run_laws.proofs.Covered.{not_none, some_is}
 use Rattle.run_laws.proofs.StaticOrder.{AllEnd}
 use Rattle.run_laws.proofs.Usable.{usable_end}
 use Rattle.run_laws.proofs.Locals.{position_is}
+use Rattle.run_matches.specs.Pledges.{Pledge}
 
 -- ---- the frames of an entry
 
@@ -93,3 +94,17 @@ static_root_is U p x me v r (Some y) e is outer h =
 pub different_behind : (ns ms : List (List ℕ)) → are_different (ns ++ ms) ≡ true → are_different ms ≡ true
 different_behind [] ms h = h
 different_behind (n ∷ ns) ms h = different_behind ns ms (both_true (not (is_named_in n (ns ++ ms))) (are_different (ns ++ ms)) h).1
+
+-- and no With does
+pub no_place_kept : (U : Upgrade) (K : Pledge) (w : World) (es : List Expr) → KeepsPlace U K w es keeps_nothing keeps_nothing
+no_place_kept U K w [] = tt
+no_place_kept U K w (e ∷ []) = tt
+no_place_kept U K w (e ∷ d ∷ es) = tt
+
+pub none_kept_from : (U : Upgrade) (p : ℕ) (f : SourceFrame) (n : ℕ) → ((h : ℕ) → f.kept h ≡ keeps_nothing) → (h : ℕ) (ls : List Line)
+    → is_kept_from U p f n h ls ≡ true → ⊥
+none_kept_from U p f n none h [] e = true≢false (sym e)
+none_kept_from U p f n none h (l ∷ ls) e =
+    ⊎_elim (λ x. true≢false (sym (both_true (is_own_line U p l) (is_kept_in n (f.kept h)) x).1 ∙ ap (is_kept_in n) (none h)))
+    (λ x. none_kept_from U p f n none (suc h) ls x)
+    (either (is_own_line U p l && is_kept_in n (f.kept h)) (is_kept_from U p f n (suc h) ls) e)

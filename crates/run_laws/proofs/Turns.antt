@@ -99,9 +99,9 @@ module _ (U : Upgrade) (p q : ℕ) (b : BodyRuns U p q) (base : Mark) (me : Opti
       (then_agrees U K w (GoesOn w f) (ResultMatch U) one one' k k' h
       (agrees_yields U K w (NextMatch U (frame_pledge U p w f) p f.me) (HasVars f) one one' (x.keeps f n w.src)
       (agrees_promised U K (frame_pledge U p w f) w (NextMatch U (frame_pledge U p w f) p f.me) one one' h
-      (call_is_weaker U p b.covers base me xs ys w f r.same_object r.low r.places)
+      (call_is_weaker U p base me xs ys w f r.same_object r.low r.places)
       (x.same n calls w f g refl h r.frames (λ v a used is e. r.given v.0 a e is))))
-      (λ f2 g2 u m lat. rest u f2 g2 (frame_goes_on U p b.covers K me w f g r u f2 g2 lat.match lat.grows m.1 m.0) lat.match)))
+      (λ f2 g2 u m lat. rest u f2 g2 (frame_goes_on U p K me w f g r u f2 g2 lat.match lat.grows m.1 m.0) lat.match)))
 
   at_agrees : (n : ℕ) → Rest n → Calls n → (w : World) (f : SourceFrame) (g : NetFrame) → RunMatch U K p me w f g → MemoryMatch U w
       → (o : Option SourceLine) (i : Option NetLine) → line_at (source.machine_of R) p f.line ≡ o → line_at (target.machine_of N) q f.line ≡ i

@@ -15,7 +15,7 @@ use Rattle.net_run.specs.Store as net
 use Rattle.written_trees.specs.Names.{Scope}
 use Rattle.written_trees.specs.Prologues.{constant_dim, is_static}
 use Rattle.run_matches.specs.Addresses.{AllMatched, AllRanked, Bound, IsPlain}
-use Rattle.run_matches.specs.Frames.{FrameMatch, GivenAddress, HasPlace, IsOwnAddress, frame_pledge, is_own_of, is_reference_of, stands_in}
+use Rattle.run_matches.specs.Frames.{FrameMatch, GivenAddress, HasPlace, IsOwnAddress, frame_pledge, is_own_of, is_reference_of, stands_in, is_own_place}
 use Rattle.run_matches.specs.Likeness.{SameShape}
 use Rattle.run_matches.specs.Maps.{Below, World, mark}
 use Rattle.run_matches.specs.Pledges.{Pledge, IsOld}
@@ -85,11 +85,11 @@ AllKeyed U c i (own_constant d x ∷ os) = AllKeyed U c (suc i) os
 
 -- ---- frames
 
--- A frame of a call that runs, with one that stands for it under the pledge of a line: variables of its own are in places that the call has
--- made, and those that are given by reference can be written, or, where they are quiet, read.
+-- A frame of a call that runs, with one that stands for it under the pledge of a line: variables of its own, and what a With on one keeps, are in places that
+-- the call has made, and those that are given by reference can be written, or, where they are quiet, read.
 pub record RunMatch (U : Upgrade) (K : Pledge) (p : ℕ) (me : Option ℕ) (w : World) (f : SourceFrame) (g : NetFrame) : Type 0 where
   pub same_object : f.me ≡ me
   pub frames : FrameMatch U (frame_pledge U p w f) w p f g
   pub low : Below K.base (mark w.src)
-  pub places : (n : ℕ) → list_any (λ (x : ℕ × Address). is_own_of U p x.0 && stands_in n x.1) f.vars ≡ true → IsOld K (made n) → ⊥
+  pub places : (n : ℕ) → is_own_place U p f n ≡ true → IsOld K (made n) → ⊥
   pub given : (v : ℕ) (a : Address) → lookup (nat_eq v) f.vars ≡ Some a → is_reference_of U p v ≡ true → GivenAddress U v a

@@ -1,5 +1,6 @@
--- A small program over user types: one in another, with fields stored and read, given by reference and assigned as a whole.
-use Rattle.std.proofs.Common.{◌≡◌, refl, pos, nat_eq, true, false, ℕ, List, [], ◌∷◌, ◌++◌, codes, None, Some}
+-- A small program over user types: one in another, with fields stored, read and given by reference, given by reference and assigned as a
+-- whole, and what a Function gives; and With.
+use Rattle.std.proofs.Common.{◌≡◌, ◌||◌, refl, pos, nat_eq, true, false, ℕ, List, [], ◌∷◌, ◌++◌, codes, None, Some}
 use Rattle.std.specs.Fmt.{digits}
 use Rattle.vb_tree.specs.BoundTree.{user, long, str, nothing}
 use Rattle.vb_tree.specs.declared.declared.Owner.TheVariants as owner
@@ -15,11 +16,12 @@ use Rattle.vb_tree.specs.Tree as source
 use Rattle.bound_tree.specs.declared.body.Mention.{Mention}
 use Rattle.bound_tree.specs.declared.body.Mention.TheVariants as mention
 use Rattle.bound_tree.specs.declared.expression.Origin.TheVariants.{Literal}
+use Rattle.bound_tree.specs.declared.expression.Root.TheVariants as at
 use Rattle.bound_tree.specs.RuleSets.{has, none, both}
-use Rattle.bound_tree.specs.Tree.{Expr, typed, constant, variable, field, binary, call, no_object, by_reference, no_passed, next_passed, Line, Program}
+use Rattle.bound_tree.specs.Tree.{Expr, typed, constant, variable, field, binary, call, no_object, with_object, by_reference, by_value, no_passed, next_passed, Line, Program}
 use Rattle.bound_facts.specs.Facts.{Known}
 use Rattle.written_trees.specs.Projects.{written_project}
-use Rattle.run_base.specs.Outcomes.{outputs, printed}
+use Rattle.run_base.specs.Outcomes.{Output, outputs, printed}
 use Rattle.vb6_run.specs.Programs.{run_program}
 use Rattle.net_run.specs.Program.{program_runs}
 use Rattle.run_matches.specs.CoveredVariables.{covers_user}
@@ -47,9 +49,21 @@ use Rattle.run_matches.proofs.Samples.{any, at_line, body, declared, facts, know
 --         q.inner.x = p.x
 --         p = q.inner
 --         Debug.Print p.x + q.inner.y; q.tag
+--         p = MakePair(3)
+--         Call Raise1(p.y)
+--         With p
+--             .x = .x + 10
+--         End With
+--         Debug.Print p.x + p.y
 --     End Sub
 --     Sub Shift(r As Pair)
 --         r.x = r.x + 5
+--     End Sub
+--     Function MakePair(ByVal a As Long) As Pair
+--         MakePair.x = a
+--     End Function
+--     Sub Raise1(n As Long)
+--         n = n + 1
 --     End Sub
 
 abbrev type_id : ℕ → TypeId
@@ -79,6 +93,10 @@ x e = typed long (field e 0)
 abbrev y : Expr → Expr
 y e = typed long (field e 1)
 
+-- what With p keeps
+abbrev kept : Expr
+kept = typed (user 0) (with_object (at.Variable (var_id 5)))
+
 abbrev number : ℕ → Expr
 number k = typed long (constant (v.Long (pos k)) Literal)
 
@@ -88,7 +106,7 @@ plus d e = typed long (binary b.Add d e)
 abbrev mentions : List Mention
 mentions =
     mention.Var (var_id 0) ∷ mention.Var (var_id 1) ∷ mention.Var (var_id 2) ∷ mention.Var (var_id 3) ∷ mention.Var (var_id 4) ∷ mention.Var (var_id 5)
-    ∷ mention.Var (var_id 6) ∷ []
+    ∷ mention.Var (var_id 6) ∷ mention.Var (var_id 7) ∷ mention.Var (var_id 8) ∷ mention.Var (var_id 9) ∷ []
 
 abbrev code : Form → List Expr → Line
 code f es = record { source = line 1 f; bindings = record { exprs = es; rules = none; mentions = mentions } }
@@ -105,10 +123,25 @@ main_lines =
     ∷ code assign (x inner ∷ x p ∷ [])
     ∷ code assign (p ∷ inner ∷ [])
     ∷ code (source.debug_print [] false) (plus (x p) (y inner) ∷ tag ∷ [])
+    ∷ code assign (p ∷ typed (user 0) (call (proc_id 2) false no_object (next_passed (by_value (number 3)) no_passed)) ∷ [])
+    ∷ code (source.call any) (typed nothing (call (proc_id 3) false no_object (next_passed (by_reference (y p)) no_passed)) ∷ [])
+    ∷ code (source.with_head any) (p ∷ [])
+    ∷ code assign (x kept ∷ plus (x kept) (number 10) ∷ [])
+    ∷ code source.end_with []
+    ∷ code (source.debug_print [] false) (plus (x p) (y p) ∷ [])
     ∷ []
 
 abbrev shift_lines : List Line
 shift_lines = code assign (x r ∷ plus (x r) (number 5) ∷ []) ∷ []
+
+abbrev scalar : (variable : ℕ) → Expr
+scalar k = typed long (variable (var_id k) false)
+
+abbrev make_lines : List Line
+make_lines = code assign (x (of_type 0 8) ∷ scalar 7 ∷ []) ∷ []
+
+abbrev raise_lines : List Line
+raise_lines = code assign (scalar 9 ∷ plus (scalar 9) (number 1) ∷ []) ∷ []
 
 abbrev field_line : source.Line
 field_line = line 1 (source.field [] Absent None (source.named []))
@@ -132,9 +165,12 @@ types = record {
                 ∷ source.alone (line 1 (source.variables var_word.Private []))
                 ∷ source.proc (line 1 (source.sub_head (signature (codes "Main"))))
                 (body 1
-                (source.variables var_word.Dim [] ∷ assign ∷ assign ∷ assign ∷ source.call any ∷ assign ∷ assign ∷ source.debug_print [] false ∷ []))
+                (source.variables var_word.Dim [] ∷ assign ∷ assign ∷ assign ∷ source.call any ∷ assign ∷ assign ∷ source.debug_print [] false ∷ assign
+                ∷ source.call any ∷ source.with_head any ∷ assign ∷ source.end_with ∷ source.debug_print [] false ∷ []))
                 (line 1 source.end_sub)
                 ∷ source.proc (line 1 (source.sub_head (signature (codes "Shift")))) (body 1 (assign ∷ [])) (line 1 source.end_sub)
+                ∷ source.proc (line 1 (source.function_head (signature (codes "MakePair")) None)) (body 1 (assign ∷ [])) (line 1 source.end_function)
+                ∷ source.proc (line 1 (source.sub_head (signature (codes "Raise1")))) (body 1 (assign ∷ [])) (line 1 source.end_sub)
                 ∷ [];
             comments = [];
           }
@@ -148,12 +184,17 @@ types = record {
         ∷ declared (codes "tag") 1 6 (owner.Field (type_id 1)) str
         ∷ declared (codes "q") 1 8 (owner.Module 1) (user 1)
         ∷ declared (codes "p") 1 10 (owner.Local (proc_id 0)) (user 0)
-        ∷ declared (codes "r") 1 19 (owner.Reference (proc_id 1)) (user 0)
+        ∷ declared (codes "r") 1 25 (owner.Reference (proc_id 1)) (user 0)
+        ∷ declared (codes "a") 1 28 (owner.Value (proc_id 2)) long
+        ∷ declared (codes "MakePair") 1 28 (owner.Answer (proc_id 2)) (user 0)
+        ∷ declared (codes "n") 1 31 (owner.Reference (proc_id 3)) long
         ∷ [];
     consts = [];
     procs =
         procedure (codes "Main") 1 kind.Sub [] nothing None 0
         ∷ procedure (codes "Shift") 1 kind.Sub (var_id 6 ∷ []) nothing None 1
+        ∷ procedure (codes "MakePair") 1 kind.Function (var_id 7 ∷ []) (user 0) (Some (var_id 8)) 2
+        ∷ procedure (codes "Raise1") 1 kind.Sub (var_id 9 ∷ []) nothing None 3
         ∷ [];
     types =
         record { name = codes "Pair"; place = at_line 1; «module» = 1; fields = var_id 0 ∷ var_id 1 ∷ [] }
@@ -162,12 +203,12 @@ types = record {
     enums = [];
     defaults = [];
   };
-  bodies = main_lines ∷ shift_lines ∷ [];
+  bodies = main_lines ∷ shift_lines ∷ make_lines ∷ raise_lines ∷ [];
 }
 
--- r is touched
+-- r and n are touched
 abbrev type_known : Known
-type_known = record known { touched = λ v. nat_eq v 6 }
+type_known = record known { touched = λ v. nat_eq v 6 || nat_eq v 9 }
 
 abbrev type_upgrade : Upgrade
 type_upgrade = record { program = types; known = type_known; facts = facts; written = written_project types facts }
@@ -181,10 +222,16 @@ main_covered = refl
 shift_covered : covers_procedure types 1 ≡ true
 shift_covered = refl
 
-says_type : outputs (run_program (runnable_of type_upgrade) 0 [] 20) ≡ printed (codes " 8 a" ++ 13 ∷ 10 ∷ []) ∷ []
+raise_covered : covers_procedure types 3 ≡ true
+raise_covered = refl
+
+abbrev says : List ℕ → Output
+says s = printed (s ++ 13 ∷ 10 ∷ [])
+
+says_type : outputs (run_program (runnable_of type_upgrade) 0 [] 40) ≡ says (codes " 8 a") ∷ says (codes " 14 ") ∷ []
 unfolding digits
 says_type = refl
 
-says_type_net : outputs (program_runs type_upgrade.written 20 0 []) ≡ printed (codes " 8 a" ++ 13 ∷ 10 ∷ []) ∷ []
+says_type_net : outputs (program_runs type_upgrade.written 40 0 []) ≡ says (codes " 8 a") ∷ says (codes " 14 ") ∷ []
 unfolding digits has none both
 says_type_net = refl

@@ -2,7 +2,7 @@
 use Rattle.std.specs.Prelude.{◌≡◌, ℕ, ◌<◌, List, ◌++◌, Option, Some, None}
 use Rattle.run_base.specs.Outcomes.{Output, Outcome, gives, raises, spent, outside, outputs}
 use Rattle.vb6_run.specs.Store.{Memory}
-use Rattle.vb6_run.specs.Values.{Value}
+use Rattle.vb6_run.specs.Values.{Value, scalar, fields, elements}
 use Rattle.net_run.specs.Store as net
 use Rattle.net_run.specs.Values as net_value
 use Rattle.std.specs.List.{AllPairs, Contains}
@@ -11,6 +11,8 @@ use Rattle.run_matches.specs.Maps.{Map, World}
 use Rattle.run_matches.specs.Likeness.{LikeV}
 use Rattle.run_matches.specs.Match.{IsLoose}
 use Rattle.run_matches.specs.Pledges.{Pledge, Later, arrays_in}
+use Rattle.run_matches.specs.Kinds.{IsValueOf}
+use Rattle.vb6_run.specs.Shapes.{user_shapes}
 
 abbrev pub world_of : Map → Memory → net.Memory → World
 world_of m s t = record { map = m; src = s; net = t }
@@ -26,9 +28,16 @@ Agrees U K w0 R _ _ = ⊥
 
 -- ---- results
 
+-- a user type has a value for each of its fields
+abbrev pub HasAllFields : Upgrade → Value → Type 0
+HasAllFields U (scalar ty x) = Unit {0}
+HasAllFields U (fields t xs) = IsValueOf (user_shapes U.program.declarations t) (fields t xs)
+HasAllFields U (elements e dims xs) = Unit {0}
+
 -- a value on its way: each array in it occurs once, in no position that is compared
 pub record SentMatch (U : Upgrade) (w : World) (x : Value) (y : net_value.Value) : Type 0 where
   pub like : LikeV U w x y
+  pub whole : HasAllFields U x
   pub loose : (k : ℕ) → Contains (arrays_in y) k → (k < w.net.next_array) × IsLoose U w k
   pub once : AllPairs (λ j k. j ≡ k → ⊥) (arrays_in y)
 

@@ -13,7 +13,7 @@ use Rattle.vb_tree.specs.ProjectLines.{is_reserved}
 use Rattle.vb_tree.specs.Tree.{Form, Module}
 use Rattle.vb_tree.specs.Tree as source
 use Rattle.bound_tree.specs.declared.body.Mention.{Mention}
-use Rattle.bound_tree.specs.Tree.{Variable, Constant, Procedure, Declarations, Program, Expr, typed, Term, variable, element, Argument, by_value, by_reference, Passed, no_passed, next_passed}
+use Rattle.bound_tree.specs.Tree.{Variable, Constant, Procedure, Declarations, Program, Expr, typed, Term, variable, element, Argument, by_value, by_reference, Passed, no_passed, next_passed, field}
 use Rattle.bound_tree.specs.Tree as tree
 use Rattle.bound_facts.specs.Calls.{Reaches, line_calls, count_procedures}
 use Rattle.bound_facts.specs.Effects.{params_at}
@@ -170,12 +170,23 @@ covers_callee P p (Some s) q =
     nat_lt q (count_procedures P)
     && is_found P.declarations (slice_get P.declarations.procs p) s (slice_get P.declarations.procs q) (site_of P.declarations q)
 
+abbrev pub is_user : Ty → Bool
+is_user ty = is_user_of (λ t. true) ty
+
 abbrev pub is_item : Expr → Bool
 is_item (typed ty t) = is_element_term t
 
--- a variable, a conversion, which is a temporary, or an element of an array
+abbrev pub is_group_field_term : Term → Bool
+is_group_field_term (field e k) = is_user (type_at e)
+is_group_field_term t = false
+
+-- a field of a user type
+abbrev pub is_group_field : Expr → Bool
+is_group_field (typed ty t) = is_group_field_term t
+
+-- a variable, a conversion, which is a temporary, an element of an array, or a field of a user type
 abbrev pub is_referred : Expr → Bool
-is_referred e = is_variable e || (is_conversion e || is_item e)
+is_referred e = is_variable e || (is_conversion e || (is_item e || is_group_field e))
 
 -- an array goes to a parameter that takes one
 abbrev pub suits_array : Declarations → (procedure place : ℕ) → Expr → Bool
@@ -188,9 +199,6 @@ is_parameter_type ty (Some x) = is_same_type ty x.ty
 abbrev pub is_type_at : Declarations → Ty → Option VarId → Bool
 is_type_at D ty None = false
 is_type_at D ty (Some v) = is_parameter_type ty (slice_get D.vars v.0)
-
-abbrev pub is_user : Ty → Bool
-is_user ty = is_user_of (λ t. true) ty
 
 -- a user type goes to a parameter of that type
 abbrev pub suits_group : Declarations → (procedure place : ℕ) → Expr → Bool

@@ -25,8 +25,9 @@ use Rattle.vb6_meaning.specs.Answers.{Answer}
 use Rattle.vb6_meaning.specs.Answers as answer
 use Rattle.vb6_meaning.specs.Values.{coerce}
 use Rattle.vb6_run.specs.Values.{is_typed}
+use Rattle.run_matches.specs.UserTypes.{is_user_of}
 use Rattle.run_matches.specs.Inward.{grown, is_apart, is_inward_in}
-use Rattle.run_matches.specs.CoveredVariables.{covers_use, covers_array_use, covers_group_use, field_type_in, is_loud, covers_type}
+use Rattle.run_matches.specs.CoveredVariables.{covers_use, covers_array_use, covers_group_use, covers_user, field_type_in, is_loud, covers_type}
 
 -- ---- operators and the library
 
@@ -91,6 +92,8 @@ pub record Uses : Type 0 where
   pub array : VarId → (element : Ty) → Bool
   pub group : VarId → (user_type : ℕ) → Bool
   pub field_type : (user_type field : ℕ) → Option Ty
+  -- user types that a With may keep and a call may give
+  pub user : (user_type : ℕ) → Bool
   -- variables that are declared with a type
   pub is_of : VarId → Ty → Bool
   -- procedures that are seen to be inward
@@ -139,6 +142,7 @@ uses_in P p mentions = record {
   array = covers_array_use P p mentions;
   group = covers_group_use P p mentions;
   field_type = field_type_in P.declarations mentions;
+  user = covers_user P.declarations;
   is_of = λ v ty. is_declared_as ty (slice_get P.declarations.vars v.0);
   inward = is_inward_in P;
   exact = λ v. is_loud P v.0 (slice_get P.declarations.vars v.0);
@@ -160,6 +164,7 @@ abbrev mutual
   pub is_changeable_in : Uses → Term → Bool
   is_changeable_in uses (variable v qualified) = uses.exact v
   is_changeable_in uses (field e k) = is_changeable uses e
+  is_changeable_in uses (with_object root) = true
   is_changeable_in uses _ = false
 
   -- a variable that is changed, and so is no quiet parameter, or a field of one
@@ -207,15 +212,24 @@ abbrev pub is_group : Uses → VarId → Ty → Bool
 is_group uses v (types.user t) = uses.group v t
 is_group uses v ty = false
 
+-- what a With keeps, of a user type
+abbrev pub is_kept : Uses → Ty → Term → Bool
+is_kept uses ty (with_object root) = is_user_of uses.user ty
+is_kept uses ty t = false
+
 abbrev mutual
-  -- a variable of a user type, or a field of such a place that is of a user type itself
+  -- a variable of a user type, or a field that is of a user type itself
   pub covers_place : Uses → Expr → Bool
   covers_place uses (typed ty t) = covers_place_term uses ty t
 
   pub covers_place_term : Uses → Ty → Term → Bool
   covers_place_term uses ty (variable v qualified) = is_group uses v ty
-  covers_place_term uses ty (field e k) = has_inner uses (type_at e) k ty && covers_place uses e
+  covers_place_term uses ty (field e k) = has_inner uses (type_at e) k ty && covers_base uses e
   covers_place_term uses ty _ = false
+
+  -- what a field is asked of: a place, or what a With keeps, which isn't written by itself
+  pub covers_base : Uses → Expr → Bool
+  covers_base uses (typed ty t) = is_kept uses ty t || covers_place_term uses ty t
 
 abbrev pub is_scalar_type : Option Ty → Bool
 is_scalar_type None = false
@@ -260,7 +274,7 @@ abbrev mutual
   pub covers_term : Uses → Term → Bool
   covers_term uses (constant x origin) = true
   covers_term uses (variable v qualified) = uses.scalar v
-  covers_term uses (field e k) = has_scalar uses (type_at e) k && covers_place uses e
+  covers_term uses (field e k) = has_scalar uses (type_at e) k && covers_base uses e
   covers_term uses (element e indexes) = covers_array uses e && covers_exprs uses indexes
   covers_term uses (call p qualified of args) = is_without_object of && covers_passed uses args
   covers_term uses (library f args) = (covers_library f && covers_exprs uses args) || (is_bound f && covers_bounded uses args)
@@ -276,6 +290,14 @@ abbrev mutual
   covers_term uses (is_same d e) = false
   covers_term uses (loose e rules) = false
 
+  -- a user type as a value: a place, or what a Function gives
+  pub covers_group : Uses → Expr → Bool
+  covers_group uses (typed ty t) = covers_place_term uses ty t || covers_group_term uses ty t
+
+  pub covers_group_term : Uses → Ty → Term → Bool
+  covers_group_term uses (types.user t) (call p qualified of args) = uses.user t && (is_without_object of && covers_passed uses args)
+  covers_group_term uses ty t = false
+
   pub covers_exprs : Uses → Exprs → Bool
   covers_exprs uses no_exprs = true
   covers_exprs uses (next_expr e rest) = covers_expr uses e && covers_exprs uses rest
@@ -286,7 +308,7 @@ abbrev mutual
 
   -- arguments by value and by reference
   pub covers_argument : Uses → Argument → Bool
-  covers_argument uses (by_value e) = covers_expr uses e || covers_place uses e
+  covers_argument uses (by_value e) = covers_expr uses e || covers_group uses e
   covers_argument uses (by_reference e) = (is_passable uses e && covers_expr uses e) || (covers_array uses e || covers_place uses e)
 
 -- an expression of a type

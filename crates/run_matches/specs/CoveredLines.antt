@@ -14,18 +14,23 @@ use Rattle.vb_tree.specs.Tree.{CaseItem, Form}
 use Rattle.vb_tree.specs.Tree as source
 use Rattle.bound_tree.specs.Labels.{Label, label_of}
 use Rattle.bound_tree.specs.Labels as mark
-use Rattle.bound_tree.specs.Tree.{Variable, Program, Expr, typed, Term, variable, field, element, call, library, err_raise, err_clear}
+use Rattle.bound_tree.specs.Tree.{Variable, Program, Expr, typed, Term, variable, field, element, call, library, err_raise, err_clear, with_object}
 use Rattle.bound_tree.specs.Tree as tree
+use Rattle.bound_tree.specs.declared.expression.Root.{Root}
+use Rattle.bound_tree.specs.declared.expression.Root.TheVariants as at
 use Rattle.bound_facts.specs.Folded.{folded}
 use Rattle.bound_facts.specs.Locks.{is_same_type}
-use Rattle.bound_facts.specs.Node.{type_at}
-use Rattle.bound_facts.specs.Parts.{Extent, Resize, resizes}
+use Rattle.bound_facts.specs.Node.{type_at, root}
+use Rattle.bound_facts.specs.Parts.{Extent, Resize, resizes, line_uses}
 use Rattle.vb6_meaning.specs.Answers.{Answer}
 use Rattle.run_base.specs.Machines.{nth_line}
 use Rattle.vb6_run.specs.Forms.{SourceLine}
 use Rattle.vb6_run.specs.Programs.{is_local_of}
 use Rattle.run_matches.specs.Formed.{is_formed}
-use Rattle.run_matches.specs.CoveredExprs.{Uses, keeps_order, is_changeable, covers_place, covers_expr, is_variable, covers_value, covers_term, is_without_object, covers_passed, covers_array, uses_in}
+use Rattle.run_matches.specs.CoveredExprs.{Uses, keeps_order, is_changeable, covers_place, covers_expr, is_variable, covers_value, covers_term, is_without_object, covers_passed, covers_array, uses_in, covers_group}
+use Rattle.run_matches.specs.CoveredVariables.{covers_user}
+use Rattle.run_matches.specs.UserTypes.{is_user_of}
+use Rattle.bound_tree.specs.Targets.{with_round}
 
 -- ---- lines
 
@@ -39,7 +44,7 @@ is_ordered uses (typed ty t) e = is_ordered_in uses ty t e
 
 -- a user type is assigned as a whole
 abbrev pub covers_copy : Uses → (target value : Expr) → Bool
-covers_copy uses to e = is_changeable uses to && (is_same_type (type_at to) (type_at e) && (covers_place uses to && covers_place uses e))
+covers_copy uses to e = is_changeable uses to && (is_same_type (type_at to) (type_at e) && (covers_place uses to && covers_group uses e))
 
 -- an assignment to a variable, a field or an element
 abbrev pub covers_store : Uses → List Expr → Bool
@@ -143,7 +148,12 @@ abbrev pub covers_erased : Uses → List Expr → Bool
 covers_erased uses (e ∷ []) = covers_array uses e
 covers_erased uses es = false
 
--- assignments to variables, calls, Debug.Print, If, Select Case, For, Do, While, labels, GoTo, On Error, Resume, Exit, ReDim and Erase
+-- a With on a place of a user type
+abbrev pub covers_with : Uses → List Expr → Bool
+covers_with uses (e ∷ []) = covers_place uses e
+covers_with uses es = false
+
+-- assignments to variables, calls, Debug.Print, If, Select Case, For, Do, While, With, labels, GoTo, On Error, Resume, Exit, ReDim and Erase
 abbrev pub covers_form : Uses → Form → List Expr → Bool
 covers_form uses (source.assign target value) es = covers_store uses es
 covers_form uses (source.set target value) es = false
@@ -170,8 +180,8 @@ covers_form uses (source.loop_while e) es = covers_condition uses es
 covers_form uses (source.loop_until e) es = covers_condition uses es
 covers_form uses (source.while_head e) es = covers_condition uses es
 covers_form uses source.wend es = true
-covers_form uses (source.with_head e) es = false
-covers_form uses source.end_with es = false
+covers_form uses (source.with_head e) es = covers_with uses es
+covers_form uses source.end_with es = true
 covers_form uses (source.goto l) es = covers_label (label_of l)
 covers_form uses (source.label l) es = covers_label (label_of l)
 covers_form uses (source.on_error_goto l) es = covers_label (label_of l)
@@ -260,8 +270,38 @@ abbrev pub head_line : List tree.Line → Option ℕ → Option tree.Line
 head_line lines None = None
 head_line lines (Some h) = nth_line lines h
 
+abbrev pub is_with : Form → Bool
+is_with (source.with_head e) = true
+is_with f = false
+
+abbrev pub is_same_root : Root → Root → Bool
+is_same_root (at.Variable v) (at.Variable u) = nat_eq v.0 u.0
+is_same_root at.Object at.Object = true
+is_same_root at.Temporary at.Temporary = true
+is_same_root r s = false
+
+abbrev pub keeps_by : List Expr → Ty → Root → Bool
+keeps_by (e ∷ []) ty r = is_same_type ty (type_at e) && is_same_root r (root e)
+keeps_by es ty r = false
+
+-- the With is covered, and keeps what the line takes it for, of a covered user type
+abbrev pub keeps_with : Program → (procedure : ℕ) → Option tree.Line → Ty → Root → Bool
+keeps_with P p None ty r = false
+keeps_with P p (Some m) ty r =
+    covers_line P p m && (is_with m.source.form && (keeps_by m.bindings.exprs ty r && is_user_of (covers_user P.declarations) ty))
+
+abbrev pub is_within_with : Program → (procedure : ℕ) → Option tree.Line → Expr → Bool
+is_within_with P p m (typed ty (with_object r)) = keeps_with P p m ty r
+is_within_with P p m (typed ty t) = true
+
+-- what a line uses of the With round it is of the type that the With keeps
+abbrev pub covers_within : Program → (procedure : ℕ) → Option tree.Line → tree.Line → Bool
+covers_within P p m l = list_all (is_within_with P p m) (line_uses l)
+
 abbrev pub covers_in_block : Program → (procedure : ℕ) → List tree.Line → SourceLine → Bool
-covers_in_block P p lines l = covers_part P p l.form.source.form l.form.bindings.exprs (head_line lines l.aims.own)
+covers_in_block P p lines l =
+    covers_part P p l.form.source.form l.form.bindings.exprs (head_line lines l.aims.own)
+    && covers_within P p (head_line lines (with_round l.aims)) l.form
 
 -- ---- jumps
 

@@ -2,7 +2,7 @@
 use Rattle.std.specs.Prelude.{◌≡◌, ◌⊎◌, ℕ, ℤ, suc, ◌<◌, Bool, true, false, not, ◌&&◌, ◌||◌, cond, nat_eq, Option, Some, None, option_map, List, [], ◌∷◌, ◌++◌, map, slice_get}
 use Rattle.std.specs.List.{list_any}
 use Rattle.std.specs.Map.{lookup}
-use Rattle.vb_tree.specs.BoundTree.{Ty}
+use Rattle.vb_tree.specs.BoundTree.{Ty, user}
 use Rattle.vb_tree.specs.declared.declared.VarId.{VarId}
 use Rattle.vb_tree.specs.declared.value.Value6.{Value6}
 use Rattle.vb_tree.specs.Tree.{Form, for_head, select, with_head}
@@ -22,10 +22,10 @@ use Rattle.run_base.specs.Positions.{Root, Position, shared, made, field, whole}
 use Rattle.vb6_run.specs.Programs.{is_static_of}
 use Rattle.vb6_run.specs.Runnables.{is_class_file, static_root}
 use Rattle.run_base.specs.Machines.{nth_line}
-use Rattle.vb6_run.specs.Shapes.{Shape, simple, group, array, endless, variable_shape}
+use Rattle.vb6_run.specs.Shapes.{Shape, simple, group, array, endless, variable_shape, user_shapes}
 use Rattle.vb6_run.specs.Store.{Address, root, item, constant, SourceFrame}
 use Rattle.vb6_run.specs.Values.{Value, scalar}
-use Rattle.net_run.specs.Lines.{NetFrame}
+use Rattle.net_run.specs.Lines.{NetFrame, kept_address}
 use Rattle.net_run.specs.Members.{Code, params_of, result_of}
 use Rattle.net_run.specs.Names.{var_in}
 use Rattle.net_run.specs.Shapes as shape
@@ -33,14 +33,15 @@ use Rattle.net_run.specs.Store as net
 use Rattle.net_run.specs.Values as net_value
 use Rattle.run_matches.specs.CleanLines.{lines_at}
 use Rattle.run_matches.specs.CoveredExprs.{IsUsed, is_relied_on, uses_in}
-use Rattle.run_matches.specs.CoveredLines.{covers_line, is_local_in, is_passing_in}
+use Rattle.run_matches.specs.CoveredLines.{covers_line, is_local_in, is_passing_in, is_with}
 use Rattle.run_matches.specs.Covered.{is_reference_in}
 use Rattle.run_matches.specs.Upgrades.{Upgrade, code_of, is_flagged, is_auto}
 use Rattle.run_matches.specs.Maps.{World, mark, Below, moved_at}
 use Rattle.run_matches.specs.Likeness.{SameShape}
 use Rattle.run_matches.specs.Pledges.{Own, Pledge, IsOld, pledge, own_object}
-use Rattle.run_matches.specs.Addresses.{AllMatched, AllRanked, Bound, position_of, IsPlain, IsElement, IsInPlace, IsScalarAt, IsTarget, IsWhole, KeptMatch, AllLocked}
+use Rattle.run_matches.specs.Addresses.{AllMatched, AllRanked, Bound, position_of, IsPlain, IsElement, IsInPlace, IsScalarAt, IsTarget, IsWhole, KeptMatch, AllLocked, Same}
 use Rattle.written_trees.specs.Names.{variable_name_of}
+use Rattle.run_matches.specs.SoundShapes.{IsSoundShape}
 
 -- ---- the variables of a frame
 
@@ -157,6 +158,21 @@ HasOwnObject U w p me =
 
 -- ---- what the heads of blocks keep, where they are covered
 
+-- the addresses of a user type, none of whose declarations carries an issue, which can be written
+pub record WithPlace (U : Upgrade) (K : Pledge) (w : World) (user_type : ℕ) (a : Address) (b : net.Address) : Type 0 where
+  pub position : Position
+  pub stands : a ≡ root (user_shapes U.program.declarations user_type) position
+  pub sound : IsSoundShape U (user_shapes U.program.declarations user_type)
+  pub same : Same U K w a b
+  pub target : IsTarget U a
+  pub plain : IsPlain U w a
+
+-- what a With on a user type keeps is no value
+abbrev pub KeepsPlace : Upgrade → Pledge → World → List Expr → Kept Value Address → Kept net_value.Value net.Address → Type 0
+KeepsPlace U K w (e ∷ []) (keeps_address a) j = (t : ℕ) → node.type_at e ≡ user t → WithPlace U K w t a (kept_address j)
+KeepsPlace U K w (e ∷ []) (keeps_value x) j = (t : ℕ) → node.type_at e ≡ user t → ⊥
+KeepsPlace U K w es k j = Unit {0}
+
 -- the counter is a variable of the frame, and limit and step have its type
 pub record CounterKept (vars : List (ℕ × Address)) (ty : Ty) (v : ℕ) (a : Address) (x y : Value) : Type 0 where
   pub found : lookup (nat_eq v) vars ≡ Some a
@@ -221,6 +237,9 @@ pub record FrameMatch (U : Upgrade) (K : Pledge) (w : World) (p : ℕ) (f : Sour
   pub covered_heads :
       (h : ℕ) (l : Line) → nth_line (lines_of U p) h ≡ Some l → covers_line U.program p l ≡ true
       → KeptBy f.vars l.source.form l.bindings.exprs (f.kept h) (g.kept h)
+  pub covered_withs :
+      (h : ℕ) (l : Line) → nth_line (lines_of U p) h ≡ Some l → covers_line U.program p l ≡ true → is_with l.source.form ≡ true
+      → KeepsPlace U K w l.bindings.exprs (f.kept h) (g.kept h)
   -- the local variables of the procedure are there
   pub has_locals : (v : ℕ) → is_local_in p (slice_get U.program.declarations.vars v) ≡ true → (a : Address) × (lookup (nat_eq v) f.vars ≡ Some a)
   -- and so are its parameters and its result variable

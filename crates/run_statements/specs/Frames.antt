@@ -10,7 +10,7 @@ use Rattle.vb_tree.specs.declared.bound.LibCall.{LibCall}
 use Rattle.vb_tree.specs.declared.declared.ProcId.{ProcId}
 use Rattle.vb_tree.specs.declared.declared.VarId.{VarId}
 use Rattle.vb_tree.specs.declared.value.Value6.{Value6}
-use Rattle.bound_tree.specs.Tree.{Variable, Expr, typed, Term, constant, variable, field, element, call, library, unary, binary, convert, new_object, me, with_object, err_number, err_raise, err_clear, is_same, loose, no_object, Exprs, no_exprs, next_expr, Argument, by_value, by_reference, Passed, no_passed, next_passed}
+use Rattle.bound_tree.specs.Tree.{Variable, Expr, typed, Term, constant, variable, field, element, call, library, unary, binary, convert, new_object, me, with_object, err_number, err_raise, err_clear, is_same, loose, no_object, Exprs, no_exprs, next_expr, Argument, by_value, by_reference, Passed, no_passed, next_passed, Line}
 use Rattle.bound_facts.specs.Facts.{is_quiet}
 use Rattle.bound_facts.specs.Locks.{Keeps}
 use Rattle.bound_facts.specs.Node.{type_at, called}
@@ -49,7 +49,7 @@ use Rattle.run_matches.specs.CoveredVariables.{covers_type, covers_variable, is_
 use Rattle.run_matches.specs.CoveredExprs.{Uses, IsUsed, covers_array, covers_expr, covers_exprs, covers_passed, is_declared_as, is_relied_on}
 use Rattle.run_matches.specs.Covered.{hands_passed, suits_passed}
 use Rattle.run_matches.specs.SoundShapes.{IsField, IsSoundShape}
-use Rattle.run_matches.specs.Frames.{FrameMatch, GivenAddress, HasPlace, IsOwnAddress, is_own_of, is_reference_of}
+use Rattle.run_matches.specs.Frames.{FrameMatch, GivenAddress, HasPlace, IsOwnAddress, is_own_of, is_reference_of, lines_of}
 use Rattle.run_matches.specs.Likeness.{LikeV, SameShape, scalar_word}
 use Rattle.run_matches.specs.Maps.{IsMatched, World, is_auto_root}
 use Rattle.run_matches.specs.Match.{HasArray, MemoryMatch}
@@ -59,6 +59,11 @@ use Rattle.row_laws.specs.Uncaptured.{IsUncaptured, IsTextUncaptured, IsMathUnca
 use Rattle.run_matches.specs.Runs.{CallsAgree}
 use Rattle.run_statements.specs.Fitting.{FitsBounds, FitsRank, rank_of, FitsPassed}
 use Rattle.run_statements.specs.Written.{Passes}
+use Rattle.bound_tree.specs.Targets.{with_round}
+use Rattle.run_base.specs.Machines.{nth_line}
+use Rattle.run_matches.specs.CoveredLines.{covers_line, is_with, keeps_by}
+use Rattle.run_matches.specs.UserTypes.{is_user_of}
+use Rattle.bound_tree.specs.declared.expression.Root.{Root}
 
 -- ---- variables
 
@@ -259,30 +264,31 @@ pub record Demands : Type 1 where
   pub calls : (procedure : ℕ) → Passed → Type 0
   pub elements : (array : Expr) → (indexes : Exprs) → Type 0
   pub bounds : LibCall → (arguments : Exprs) → Type 0
+  pub withs : Ty → Root → Type 0
 
 abbrev mutual
   -- what is demanded of each procedure that a covered expression calls, with its arguments, and of each use of an array
   pub AllCalled : Demands → Expr → Type 0
-  AllCalled Q (typed ty t) = AllCalledIn Q t
+  AllCalled Q (typed ty t) = AllCalledIn Q ty t
 
-  pub AllCalledIn : Demands → Term → Type 0
-  AllCalledIn Q (constant x origin) = Unit {0}
-  AllCalledIn Q (variable v qualified) = Unit {0}
-  AllCalledIn Q (field e k) = Unit {0}
-  AllCalledIn Q (element e indexes) = Q.elements e indexes × AllCalledAll Q indexes
-  AllCalledIn Q (call p qualified of args) = Q.calls p.0 args × AllCalledFor Q args
-  AllCalledIn Q (library f args) = Q.bounds f args × AllCalledAll Q args
-  AllCalledIn Q (unary op e) = AllCalled Q e
-  AllCalledIn Q (binary op d e) = AllCalled Q d × AllCalled Q e
-  AllCalledIn Q (convert to e) = AllCalled Q e
-  AllCalledIn Q (new_object c) = Unit {0}
-  AllCalledIn Q me = Unit {0}
-  AllCalledIn Q (with_object of) = Unit {0}
-  AllCalledIn Q err_number = Unit {0}
-  AllCalledIn Q (err_raise e) = AllCalled Q e
-  AllCalledIn Q err_clear = Unit {0}
-  AllCalledIn Q (is_same d e) = Unit {0}
-  AllCalledIn Q (loose e rules) = Unit {0}
+  pub AllCalledIn : Demands → Ty → Term → Type 0
+  AllCalledIn Q ty (constant x origin) = Unit {0}
+  AllCalledIn Q ty (variable v qualified) = Unit {0}
+  AllCalledIn Q ty (field e k) = AllCalled Q e
+  AllCalledIn Q ty (element e indexes) = Q.elements e indexes × AllCalledAll Q indexes
+  AllCalledIn Q ty (call p qualified of args) = Q.calls p.0 args × AllCalledFor Q args
+  AllCalledIn Q ty (library f args) = Q.bounds f args × AllCalledAll Q args
+  AllCalledIn Q ty (unary op e) = AllCalled Q e
+  AllCalledIn Q ty (binary op d e) = AllCalled Q d × AllCalled Q e
+  AllCalledIn Q ty (convert to e) = AllCalled Q e
+  AllCalledIn Q ty (new_object c) = Unit {0}
+  AllCalledIn Q ty me = Unit {0}
+  AllCalledIn Q ty (with_object r) = Q.withs ty r
+  AllCalledIn Q ty err_number = Unit {0}
+  AllCalledIn Q ty (err_raise e) = AllCalled Q e
+  AllCalledIn Q ty err_clear = Unit {0}
+  AllCalledIn Q ty (is_same d e) = Unit {0}
+  AllCalledIn Q ty (loose e rules) = Unit {0}
 
   pub AllCalledAll : Demands → Exprs → Type 0
   AllCalledAll Q no_exprs = Unit {0}
@@ -336,9 +342,22 @@ pub record CanCall (U : Upgrade) (K : Pledge) (S : net_names.Scope) (T : Scope) 
 
 -- ---- arrays
 
--- what is demanded where expressions are written
-abbrev pub demands : Upgrade → Pledge → net_names.Scope → Scope → Demands
-demands U K S T = record { calls = CanCall U K S T; elements = FitsRank U; bounds = FitsBounds U }
+-- a line stands in a covered With, which keeps what is of a type, and of this root
+pub record StandsWithin (U : Upgrade) (p : ℕ) (l : SourceLine) (k : NetLine) (ty : Ty) (r : Root) : Type 0 where
+  pub head : ℕ
+  pub is_round : with_round l.aims ≡ Some head
+  pub line : Line
+  pub is_line : nth_line (lines_of U p) head ≡ Some line
+  pub covers : covers_line U.program p line ≡ true
+  pub is_head : is_with line.source.form ≡ true
+  pub keeps : keeps_by line.bindings.exprs ty r ≡ true
+  pub user : is_user_of (covers_user U.program.declarations) ty ≡ true
+  -- and so does what is written for the line
+  pub same_aims : k.aims ≡ l.aims
+
+-- what is demanded where expressions of a line are written
+abbrev pub demands : Upgrade → Pledge → (procedure : ℕ) → SourceLine → NetLine → net_names.Scope → Scope → Demands
+demands U K p l k S T = record { calls = CanCall U K S T; elements = FitsRank U; bounds = FitsBounds U; withs = StandsWithin U p l k }
 
 -- An element of an array of scalars: the array is compared and stands on both sides, and its indexes are the same.
 pub record ElementMatch (U : Upgrade) (ty : Ty) (w : World) (x : source.Parts) (r : net_names.Reached) : Type 0 where
@@ -373,7 +392,7 @@ ExpressionsAgree U =
     (K : Pledge) (w : World) (p : ℕ) (f : SourceFrame) (g : NetFrame) (oracle : SourceCalls) (net_oracle : Jobs) (l : SourceLine) (k : NetLine) (c : Code)
     (T : Scope) (uses : Uses) (e : Expr) → MemoryMatch U w → FrameMatch U K w p f g → T.declarations ≡ U.program.declarations
     → IsOpen (scope_of U.written c g k) → AreReadable U T uses → ArePlaced U p f (scope_of U.written c g k) T uses → CallsAgree U (Passes U) oracle net_oracle
-    → AllCalled (demands U K (scope_of U.written c g k) T) e → covers_expr uses e ≡ true → is_formed e ≡ true
+    → AllCalled (demands U K p l k (scope_of U.written c g k) T) e → covers_expr uses e ≡ true → is_formed e ≡ true
     → Agrees U K w (ScalarMatch U (type_at e))
     (source.value_of (context_of U oracle p f l) e w.src)
     (target.value_of (scope_of U.written c g k) net_oracle (exp_of T e) w.net)
@@ -387,7 +406,7 @@ CallsAreMade U =
     (K : Pledge) (w : World) (p : ℕ) (f : SourceFrame) (g : NetFrame) (oracle : SourceCalls) (net_oracle : Jobs) (l : SourceLine) (k : NetLine) (c : Code)
     (T : Scope) (uses : Uses) (ty : Ty) (q : ProcId) (qualified : Bool) (args : Passed) → MemoryMatch U w → FrameMatch U K w p f g
     → T.declarations ≡ U.program.declarations → IsOpen (scope_of U.written c g k) → AreReadable U T uses → ArePlaced U p f (scope_of U.written c g k) T uses
-    → CallsAgree U (Passes U) oracle net_oracle → AllCalled (demands U K (scope_of U.written c g k) T) (typed ty (call q qualified no_object args))
+    → CallsAgree U (Passes U) oracle net_oracle → AllCalled (demands U K p l k (scope_of U.written c g k) T) (typed ty (call q qualified no_object args))
     → covers_passed uses args ≡ true → passed_are_formed args ≡ true
     → Agrees U K w AnyParts
     (source.term_parts (context_of U oracle p f l) ty (call q qualified no_object args) w.src)
@@ -409,7 +428,7 @@ ElementsAgree U =
     (K : Pledge) (w : World) (p : ℕ) (f : SourceFrame) (g : NetFrame) (oracle : SourceCalls) (net_oracle : Jobs) (l : SourceLine) (k : NetLine) (c : Code)
     (T : Scope) (uses : Uses) (ty : Ty) (a : Expr) (indexes : Exprs) → MemoryMatch U w → FrameMatch U K w p f g → T.declarations ≡ U.program.declarations
     → IsOpen (scope_of U.written c g k) → AreReadable U T uses → ArePlaced U p f (scope_of U.written c g k) T uses → CallsAgree U (Passes U) oracle net_oracle
-    → AllCalled (demands U K (scope_of U.written c g k) T) (typed ty (element a indexes)) → covers_array uses a ≡ true → covers_exprs uses indexes ≡ true
+    → AllCalled (demands U K p l k (scope_of U.written c g k) T) (typed ty (element a indexes)) → covers_array uses a ≡ true → covers_exprs uses indexes ≡ true
     → is_formed (typed ty (element a indexes)) ≡ true
     → Agrees U K w (ElementMatch U ty)
     (source.term_parts (context_of U oracle p f l) ty (element a indexes) w.src)

@@ -22,7 +22,7 @@ use Rattle.written_trees.specs.Exprs.{exp_of}
 use Rattle.written_trees.specs.Names.{Scope}
 use Rattle.run_matches.specs.Addresses.{IsPlain, IsTarget, Same}
 use Rattle.run_matches.specs.Agreeing.{Agrees}
-use Rattle.run_matches.specs.CoveredExprs.{Uses, covers_place}
+use Rattle.run_matches.specs.CoveredExprs.{Uses, covers_place, covers_group}
 use Rattle.run_matches.specs.Frames.{FrameMatch, HasPlace}
 use Rattle.run_matches.specs.Kinds.{IsValueOf}
 use Rattle.run_matches.specs.Likeness.{LikeV, SameShape}
@@ -31,7 +31,10 @@ use Rattle.run_matches.specs.Match.{MemoryMatch}
 use Rattle.run_matches.specs.Pledges.{Later, Pledge}
 use Rattle.run_matches.specs.SoundShapes.{IsSoundShape}
 use Rattle.run_matches.specs.Upgrades.{Upgrade, variable_key}
-use Rattle.run_statements.specs.Frames.{AnyUnits, AreReadable, ArePlaced, IsGroup, MayChange, context_of}
+use Rattle.run_statements.specs.Frames.{AnyUnits, AreReadable, ArePlaced, IsGroup, MayChange, context_of, AllCalled, IsOpen, demands}
+use Rattle.run_matches.specs.Formed.{is_formed}
+use Rattle.run_matches.specs.Runs.{CallsAgree}
+use Rattle.run_statements.specs.Written.{Passes}
 
 -- ---- values
 
@@ -55,10 +58,23 @@ abbrev pub PlacesAgree : Upgrade → Type 1
 PlacesAgree U =
     (K : Pledge) (w : World) (p : ℕ) (f : SourceFrame) (g : NetFrame) (oracle : SourceCalls) (net_oracle : Jobs) (l : SourceLine) (k : NetLine) (c : Code)
     (T : Scope) (uses : Uses) (user_type : ℕ) (t : Term) → MemoryMatch U w → FrameMatch U K w p f g → T.declarations ≡ U.program.declarations
-    → AreReadable U T uses → ArePlaced U p f (scope_of U.written c g k) T uses → covers_place uses (typed (user user_type) t) ≡ true
+    → AreReadable U T uses → ArePlaced U p f (scope_of U.written c g k) T uses
+    → AllCalled (demands U K p l k (scope_of U.written c g k) T) (typed (user user_type) t) → covers_place uses (typed (user user_type) t) ≡ true
     → Agrees U K w (PlaceMatch U K user_type)
     (source.address_of (context_of U oracle p f l) (typed (user user_type) t) w.src)
     (target.address_of (scope_of U.written c g k) net_oracle (exp_of T (typed (user user_type) t)) w.net)
+
+-- a user type as a value: of a place, or what a Function gives
+abbrev pub GroupsAgree : Upgrade → Type 1
+GroupsAgree U =
+    (K : Pledge) (w : World) (p : ℕ) (f : SourceFrame) (g : NetFrame) (oracle : SourceCalls) (net_oracle : Jobs) (l : SourceLine) (k : NetLine) (c : Code)
+    (T : Scope) (uses : Uses) (user_type : ℕ) (t : Term) → MemoryMatch U w → FrameMatch U K w p f g → T.declarations ≡ U.program.declarations
+    → IsOpen (scope_of U.written c g k) → AreReadable U T uses → ArePlaced U p f (scope_of U.written c g k) T uses → CallsAgree U (Passes U) oracle net_oracle
+    → AllCalled (demands U K p l k (scope_of U.written c g k) T) (typed (user user_type) t) → covers_group uses (typed (user user_type) t) ≡ true
+    → is_formed (typed (user user_type) t) ≡ true
+    → Agrees U K w (ValueMatch U (user_shapes U.program.declarations user_type))
+    (source.value_of (context_of U oracle p f l) (typed (user user_type) t) w.src)
+    (target.value_of (scope_of U.written c g k) net_oracle (exp_of T (typed (user user_type) t)) w.net)
 
 -- ---- reading and writing
 

@@ -20,7 +20,7 @@ use Rattle.vb6_run.specs.Store as store
 use Rattle.vb6_run.specs.Store.{Address, root, Memory, SourceGiven}
 use Rattle.vb6_run.specs.Values.{Value, scalar}
 use Rattle.run_matches.specs.CoveredVariables.{covers_type, is_loud}
-use Rattle.run_matches.specs.CoveredExprs.{Uses, covers_expr, is_passable, covers_array, covers_exprs}
+use Rattle.run_matches.specs.CoveredExprs.{Uses, uses_in, covers_expr, is_passable, covers_array, covers_exprs}
 use Rattle.run_matches.specs.Covered.{is_referred}
 use Rattle.typing_laws.specs.Flat.{flat_uses}
 use Rattle.typing_laws.specs.Calls.{CallsKeep, SourceJob}
@@ -39,7 +39,7 @@ use Rattle.typing_laws.specs.Plain.{IsShapeOf, array_shape}
 use Rattle.typing_laws.specs.Typed.{fits_type}
 use Rattle.typing_laws.proofs.Arrays.{HasArray, array_place, array_read, stands_with_rank, table_at}
 use Rattle.typing_laws.proofs.Expressions.{fit_same}
-use Rattle.typing_laws.proofs.Flat.{NamesArray}
+use Rattle.typing_laws.proofs.Flat.{NamesArray, no_field}
 use Rattle.typing_laws.proofs.Found.{IsRight, element_given}
 use Rattle.typing_laws.proofs.Made.{IsArray, flat_kinds, flat_known}
 use Rattle.typing_laws.proofs.Uses.{UsedArray, array_use_is}
@@ -194,7 +194,8 @@ module _ (C : Context) (F : Footprint) (X : SourceJob → Memory → Type 0) (ca
   reference_ends w fits y (typed ty (library f args)) quiet covers passes typing referred same reference h = absurd (no_reference ty (library f args) refl referred)
   reference_ends w fits y (typed ty (unary op e)) quiet covers passes typing referred same reference h = absurd (no_reference ty (unary op e) refl referred)
   reference_ends w fits y (typed ty (binary op d e)) quiet covers passes typing referred same reference h = absurd (no_reference ty (binary op d e) refl referred)
-  reference_ends w fits y (typed ty (field e i)) quiet covers passes typing referred same reference h = absurd (no_reference ty (field e i) refl referred)
+  reference_ends w fits y (typed ty (field e i)) quiet covers passes typing referred same reference h =
+      absurd (no_field (uses_in C.runnable.program C.procedure mentions) ty e i covers)
   reference_ends w fits y (typed ty (element e i)) quiet covers passes typing referred same reference h =
       element_given C F X ty e i w (both_true (covers_type ty) (covers_array uses e && covers_exprs uses i) covers).0 h.1 quiet y same reference
   reference_ends w fits y (typed ty (new_object c)) quiet covers passes typing referred same reference h = absurd (no_reference ty (new_object c) refl referred)

@@ -1,11 +1,11 @@
 -- Assignments keep a well-typed frame well typed, or leave.
-use Rattle.std.proofs.Common.{◌≡◌, ◌⊎◌, inl, inr, sym, ap, ◌∙◌, subst, Bool, true, true≢false, List, [], Some}
+use Rattle.std.proofs.Common.{false, ◌≡◌, ◌⊎◌, inl, inr, sym, ap, ◌∙◌, subst, Bool, true, true≢false, List, [], Some}
 use Rattle.up_base.proofs.Tests.{both_true}
 use Rattle.vb_tree.specs.BoundTree.{Ty}
 use Rattle.vb_tree.specs.declared.declared.VarId.{VarId}
 use Rattle.vb_tree.specs.declared.value.Value6.{Value6}
 use Rattle.bound_tree.specs.declared.body.Mention.{Mention}
-use Rattle.bound_tree.specs.Tree.{Declarations, Expr, Exprs, typed, variable, field, element}
+use Rattle.bound_tree.specs.Tree.{Declarations, Expr, Exprs, typed, variable, field, element, with_object}
 use Rattle.bound_facts.specs.Node.{type_at}
 use Rattle.row_laws.proofs.Composing.{then_assoc}
 use Rattle.run_base.specs.Outcomes.{Output, gives, then}
@@ -121,6 +121,7 @@ module _ (C : Context) (F : Footprint) (X : SourceJob → Memory → Type 0) (ca
           → Ends K (Good C F) L v (then (let_to C to y v) (λ (u : Unit {0}) m. goes_on C m))
       changes (typed ty (variable x qualified)) c target v i leaves y m = stored_ends L v ty x qualified target c i leaves y m
       changes (typed ty (field d k)) c target v i leaves y m = absurd (no_field (uses_in C.runnable.program C.procedure mentions) ty d k target.covers)
+      changes (typed ty (with_object r)) c target v i leaves y m = absurd (true≢false (sym (both_true (covers_type ty) false target.covers).1))
       changes (typed ty _) c target v i leaves y m = absurd (true≢false (sym c))
 
       ordered : (to : Expr) → is_ordered uses to e ≡ true → Fine to → (v : Memory) → IsIn C F v → (Leaves C X to v → L) → (y : Value) → IsValue (type_at to) y

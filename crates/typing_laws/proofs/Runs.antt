@@ -4,7 +4,7 @@ use Rattle.std.specs.Prelude.{slice_get, is_some}
 use Rattle.vb_tree.specs.BoundTree.{Ty}
 use Rattle.vb_tree.specs.BoundTree as types
 use Rattle.vb_tree.specs.declared.declared.VarId.{VarId}
-use Rattle.bound_tree.specs.Targets.{Aims, Step, aims_at, aims_from, aims_of, step_of, steps}
+use Rattle.bound_tree.specs.Targets.{Aims, Step, aims_at, aims_from, aims_of, step_of, steps, with_round}
 use Rattle.bound_tree.specs.Tree.{Declarations, Procedure, Program}
 use Rattle.bound_tree.specs.Tree as tree
 use Rattle.bound_facts.specs.Locks.{is_same_type}
@@ -20,7 +20,7 @@ use Rattle.vb6_run.specs.Runnables.{Runnable, declarations_of, variable_address}
 use Rattle.vb6_run.specs.Store.{Address, Locked, Memory, SourceFrame, SourceGiven, read, set_err}
 use Rattle.vb6_run.specs.Values.{Value, scalar}
 use Rattle.run_matches.specs.CoveredVariables.{covers_type}
-use Rattle.run_matches.specs.CoveredLines.{covers_in_block, covers_part, head_line}
+use Rattle.run_matches.specs.CoveredLines.{covers_in_block, covers_part, head_line, covers_within}
 use Rattle.run_matches.specs.Covered.{covers_calls, is_answer_of}
 use Rattle.typing_laws.specs.Calls.{CallsKeep, EndsAsCall, IsReady, SourceJob}
 use Rattle.typing_laws.specs.Frames.{AreGiven, IsPlace, IsReturned, IsSound, IsTypedFrame, Keeps, Stands, code_line, numbered}
@@ -54,6 +54,7 @@ use Rattle.bound_tree.specs.Tree.{Variable}
 use Rattle.run_base.specs.Frames.{by_value, by_address}
 use Rattle.vb6_run.specs.Store.{root, item, constant}
 use Rattle.typing_laws.proofs.Places.{self_same}
+use Rattle.up_base.proofs.Tests.{both_true}
 
 -- ---- lines
 
@@ -102,7 +103,9 @@ known_line P p body (suc k) l e =
       covers = all_at (is_flat_line P p) ls k l.form body.covers m;
       typed = all_at (is_typed_line P.declarations) ls k l.form body.typed m;
       calls = all_at (covers_calls P p) ls k l.form body.calls m;
-      part = all_at (covers_in_block P p ls) (body_of ls) k l body.blocks e;
+      part =
+          (both_true (covers_part P p l.form.source.form l.form.bindings.exprs (head_line ls l.aims.own))
+          (covers_within P p (head_line ls (with_round l.aims)) l.form) (all_at (covers_in_block P p ls) (body_of ls) k l body.blocks e)).0;
       all = steps (source_lines ls);
       at = a.0;
       aims = a.1;

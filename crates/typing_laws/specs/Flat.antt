@@ -21,6 +21,7 @@ without_groups uses = record {
   array = uses.array;
   group = λ v t. false;
   field_type = λ t k. None;
+  user = λ t. false;
   is_of = uses.is_of;
   inward = uses.inward;
   relied = uses.relied;

@@ -1,0 +1,101 @@
+-- What is written for the members of a place leads to them, behind a path and behind what a With keeps.
+use Rattle.std.proofs.Common.{◌≡◌, refl, sym, ap, ◌∙◌, ℕ, Bool, true, false, List, [], ◌∷◌, ◌++◌, append_assoc, append-nil}
+use Rattle.vb_tree.specs.BoundTree.{Ty}
+use Rattle.bound_tree.specs.Tree.{Expr, typed, field, with_object}
+use Rattle.bound_tree.specs.declared.expression.Root as expression
+use Rattle.net_tree.specs.Tree.{Exp, path, dot, with_dot}
+use Rattle.run_base.specs.Outcomes.{Outcome, gives, then}
+use Rattle.net_run.specs.Expressions.{address_from, finished, members_from, parts_by, reach, started}
+use Rattle.net_run.specs.Making.{Jobs}
+use Rattle.net_run.specs.Names.{Scope, Reached, at_place, member_at, path_start}
+use Rattle.net_run.specs.Store.{Address, Memory}
+use Rattle.written_trees.specs.Exprs.{exp_of, member_of}
+use Rattle.written_trees.specs.Names as written
+use Rattle.written_trees.specs.Names.{member}
+use Rattle.row_laws.proofs.Composing.{after_nil, then_assoc, then_gives}
+
+-- members of members
+abbrev pub members : Exp → List (List ℕ) → Exp
+members a [] = a
+members a (name ∷ more) = members (member a name) more
+
+-- all but what a With keeps, for which nothing is written by itself
+abbrev pub is_alone : Expr → Bool
+is_alone (typed ty (with_object r)) = false
+is_alone (typed ty t) = true
+
+path_members : (names more : List (List ℕ)) → members (path names) more ≡ path (names ++ more)
+path_members names [] = ap path (sym (append-nil names))
+path_members names (name ∷ more) = path_members (names ++ name ∷ []) more ∙ ap path (append_assoc names (name ∷ []) more)
+
+module _ (S : Scope) (oracle : Jobs) where
+  member_then : (r : Outcome Memory Reached) (name : List ℕ) (more : List (List ℕ))
+      → then (then (address_from S oracle r) (λ a w. gives [] (member_at S a name w) w)) (λ r w. members_from S oracle r more w)
+      ≡ then r (λ r w. members_from S oracle r (name ∷ more) w)
+  member_then r name more =
+      let goes : Address → Memory → Outcome Memory Reached = λ a w. gives [] (member_at S a name w) w in
+      let ends : Reached → Memory → Outcome Memory Reached = λ r w. members_from S oracle r more w in
+      then_assoc (address_from S oracle r) goes ends
+      ∙ ap (λ j. then (address_from S oracle r) j) (λ i a w. after_nil (members_from S oracle (member_at S a name w) more w) i)
+      ∙ then_assoc (then r (parts_by S oracle)) finished (λ a w. members_from S oracle (member_at S a name w) more w)
+      ∙ then_assoc r (parts_by S oracle) (λ ps w. then (finished ps w) (λ a w. members_from S oracle (member_at S a name w) more w))
+      ∙ ap (λ j. then r j)
+      (λ i r w. (sym (then_assoc (parts_by S oracle r w) finished (λ a w. members_from S oracle (member_at S a name w) more w))
+      ∙ ap (λ z. then (then z finished) (λ a w. members_from S oracle (member_at S a name w) more w)) (sym (after_nil (parts_by S oracle r w)))) i)
+
+  -- members behind the member of an expression
+  dot_members : (e : Exp) (name : List ℕ) (more : List (List ℕ)) (t : Memory)
+      → reach S oracle false (members (dot e name) more) t ≡ then (reach S oracle false (dot e name) t) (λ r w. members_from S oracle r more w)
+  dot_members e name [] t = sym (then_gives (reach S oracle false (dot e name) t))
+  dot_members e name (next ∷ more) t = dot_members (dot e name) next more t ∙ member_then (reach S oracle false (dot e name) t) next more
+
+  -- and behind a member of what a With keeps
+  with_members : (name : List ℕ) (more : List (List ℕ)) (t : Memory)
+      → reach S oracle false (members (with_dot name) more) t ≡ members_from S oracle (member_at S S.around name t) more t
+  with_members name [] t = refl
+  with_members name (next ∷ more) t =
+      dot_members (with_dot name) next more t ∙ member_then (gives [] (member_at S S.around name t) t) next more
+      ∙ after_nil (members_from S oracle (member_at S S.around name t) (next ∷ more) t)
+
+  module _ (T : written.Scope) where
+    -- What is written for an expression leads to an address, and with members behind it to them.
+    pub record LeadsTo (e : Expr) (b : Address) : Type 0 where
+      pub reached : is_alone e ≡ true → (t : Memory) → reach S oracle false (exp_of T e) t ≡ gives [] (at_place b) t
+      pub members :
+          (name : List ℕ) (more : List (List ℕ)) (t : Memory)
+          → reach S oracle false (members (member_of e (exp_of T e) name) more) t ≡ members_from S oracle (at_place b) (name ∷ more) t
+
+    -- an expression that is written as a path
+    pub path_leads : (e : Expr) (b : Address) (names : List (List ℕ)) → exp_of T e ≡ path names
+        → ((name : List ℕ) → member_of e (path names) name ≡ path (names ++ name ∷ []))
+        → ((more : List (List ℕ)) (t : Memory) → started S oracle (path_start S false (names ++ more)) t ≡ members_from S oracle (at_place b) more t)
+        → LeadsTo e b
+    path_leads e b names is behind leads = record {
+      reached = λ alone t.
+          ap (λ z. reach S oracle false z t) is ∙ ap (λ z. started S oracle (path_start S false z) t) (sym (append-nil names)) ∙ leads [] t;
+      members = λ name more t.
+          ap (λ z. reach S oracle false (members (member_of e z name) more) t) is ∙ ap (λ z. reach S oracle false (members z more) t) (behind name)
+          ∙ ap (λ z. reach S oracle false z t) (path_members (names ++ name ∷ []) more)
+          ∙ ap (λ z. started S oracle (path_start S false z) t) (append_assoc names (name ∷ []) more) ∙ leads (name ∷ more) t;
+    }
+
+    -- a member of what leads to an address
+    pub member_leads : (e : Expr) (a b : Address) → LeadsTo e a → (ty : Ty) (k : ℕ) (name : List ℕ)
+        → exp_of T (typed ty (field e k)) ≡ member_of e (exp_of T e) name → ((t : Memory) → member_at S a name t ≡ at_place b)
+        → LeadsTo (typed ty (field e k)) b
+    member_leads e a b x ty k name is found =
+        let there : (more : List (List ℕ)) (t : Memory) → members_from S oracle (at_place a) (name ∷ more) t ≡ members_from S oracle (at_place b) more t =
+        λ more t.
+        after_nil (members_from S oracle (member_at S a name t) more t) ∙ ap (λ z. members_from S oracle z more t) (found t) in
+        record {
+          reached = λ alone t. ap (λ z. reach S oracle false z t) is ∙ x.members name [] t ∙ there [] t;
+          members = λ next more t.
+              ap (λ z. reach S oracle false (members (member z next) more) t) is ∙ x.members name (next ∷ more) t ∙ there (next ∷ more) t;
+        }
+
+    -- what a With keeps
+    pub with_leads : (ty : Ty) (r : expression.Root) → LeadsTo (typed ty (with_object r)) S.around
+    with_leads ty r = record {
+      reached = λ alone t. cc alone;
+      members = λ name more t. with_members name more t ∙ sym (after_nil (members_from S oracle (member_at S S.around name t) more t));
+    }
