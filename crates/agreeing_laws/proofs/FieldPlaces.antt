@@ -1,5 +1,5 @@
 -- A field of a place of a user type is a place on both sides, to which the path leads that is written for it.
-use Rattle.std.proofs.Common.{◌≡◌, refl, ap, subst, ◌∙◌, inl, inr, ℕ, zero, suc, Bool, true, false, cond, List, [], ◌∷◌, Option, Some, None, option_map}
+use Rattle.std.proofs.Common.{◌≡◌, refl, ap, subst, ◌∙◌, inl, inr, ℕ, zero, suc, Bool, true, false, cond, List, [], ◌∷◌, Option, Some, None, option_map, sym, true≢false}
 use Rattle.std.specs.Prelude.{slice_get}
 use Rattle.vb_tree.specs.BoundTree.{Ty}
 use Rattle.vb_tree.specs.BoundTree as types
@@ -22,7 +22,7 @@ use Rattle.net_run.specs.Store as net
 use Rattle.written_trees.specs.Exprs.{exp_of, made_if, member_of}
 use Rattle.written_trees.specs.Names.{Scope, variable_name}
 use Rattle.run_matches.specs.Addresses.{AllMatched, AllRanked, IsTarget, Same, same_item, same_root}
-use Rattle.run_matches.specs.CoveredVariables.{covers_field_type, covers_user}
+use Rattle.run_matches.specs.CoveredVariables.{covers_field_type, covers_place_type, covers_user}
 use Rattle.run_matches.specs.Maps.{World, moved_at}
 use Rattle.run_matches.specs.Likeness.{SameShape}
 use Rattle.run_matches.specs.Pledges.{Pledge}
@@ -119,6 +119,17 @@ field_exp U T declared s j fty tm ty i none =
 
 -- ---- places
 
+-- what a field may hold may stand in a place
+field_in_place : (D : Declarations) (ty : Ty) → covers_field_type (covers_user D) ty ≡ true → covers_place_type D ty ≡ true
+field_in_place D types.boolean h = refl
+field_in_place D types.byte h = refl
+field_in_place D types.integer h = refl
+field_in_place D types.long h = refl
+field_in_place D types.currency h = refl
+field_in_place D types.str h = refl
+field_in_place D (types.user u) h = h
+field_in_place D _ h = absurd (true≢false (sym h))
+
 module _ (U : Upgrade) (K : Pledge) (w : World) (C : Context) (S : net_names.Scope) (oracle : Jobs) (T : Scope) (r : Root) where
   abbrev D : Declarations
   D = U.program.declarations
@@ -133,7 +144,7 @@ module _ (U : Upgrade) (K : Pledge) (w : World) (C : Context) (S : net_names.Sco
     pub in_root : position.root ≡ r
     pub found : (s : Memory) → source.parts_of C e s ≡ gives [] (at_address (root (shape_in ty) position)) s
     pub sound : IsSoundShape U (shape_in ty)
-    pub covers : covers_field_type (covers_user D) ty ≡ true
+    pub covers : covers_place_type D ty ≡ true
     pub same : Same U K w (root (shape_in ty) position) address
     pub target : IsTarget U (root (shape_in ty) position)
     pub written : LeadsTo S oracle T e address
@@ -193,7 +204,7 @@ module _ (U : Upgrade) (K : Pledge) (w : World) (C : Context) (S : net_names.Sco
       in_root = x.in_root;
       found = field_parts_are;
       sound = sound_field U s 0 j shaped.shapes (shape_in fty) (subst (λ z. IsSoundShape U z) shaped.is_group x.sound) shaped.is_shape;
-      covers = shaped.covers;
+      covers = field_in_place D fty shaped.covers;
       same = inside.same;
       target = field_target U (group s shaped.shapes) (shape_in fty) x.position j (subst (λ z. IsTarget U z) stands x.target);
       written =
@@ -203,7 +214,7 @@ module _ (U : Upgrade) (K : Pledge) (w : World) (C : Context) (S : net_names.Sco
 -- where a With hasn't kept anything, the source is outside and the target nowhere
 pub record PlaceAbsent (U : Upgrade) (C : Context) (S : net_names.Scope) (oracle : Jobs) (T : Scope) (ty : Ty) (e : Expr) : Type 0 where
   pub missing : (s : Memory) → source.parts_of C e s ≡ outside []
-  pub covers : covers_field_type (covers_user U.program.declarations) ty ≡ true
+  pub covers : covers_place_type U.program.declarations ty ≡ true
   pub written : LeadsTo S oracle T e net.nowhere
 
 -- so are the fields of what it would keep
@@ -214,6 +225,6 @@ field_absent U C S oracle T declared s j tm fty ty i none x =
     let e : Expr = typed (types.user s) tm in
     record {
       missing = λ m. ap (λ r. then (then r (source.field_parts C e j (types.user s))) (source.as_new C (field e j))) (x.missing m);
-      covers = (field_shape_is U.program.declarations s j i.variable fty x.covers i.declares i.is_type).covers;
+      covers = field_in_place U.program.declarations fty (field_shape_is U.program.declarations s j i.variable fty x.covers i.declares i.is_type).covers;
       written = member_leads S oracle T e net.nowhere net.nowhere x.written ty j (field_name U s j) (field_exp U T declared s j fty tm ty i none) (λ t. refl);
     }

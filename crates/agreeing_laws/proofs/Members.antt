@@ -1,5 +1,5 @@
 -- What is written for the members of a place leads to them, behind a path and behind what a With keeps.
-use Rattle.std.proofs.Common.{◌≡◌, refl, sym, ap, ◌∙◌, ℕ, Bool, true, false, List, [], ◌∷◌, ◌++◌, append_assoc, append-nil}
+use Rattle.std.proofs.Common.{◌≡◌, refl, sym, ap, subst, ◌∙◌, ℕ, Bool, true, false, List, [], ◌∷◌, ◌++◌, append_assoc, append-nil}
 use Rattle.vb_tree.specs.BoundTree.{Ty}
 use Rattle.bound_tree.specs.Tree.{Expr, typed, field, with_object}
 use Rattle.bound_tree.specs.declared.expression.Root as expression
@@ -57,13 +57,21 @@ module _ (S : Scope) (oracle : Jobs) where
       dot_members (with_dot name) next more t ∙ member_then (gives [] (member_at S S.around name t) t) next more
       ∙ after_nil (members_from S oracle (member_at S S.around name t) (next ∷ more) t)
 
+  -- a member of what is reached
+  abbrev pub member_behind : (Memory → Outcome Memory Reached) → (name : List ℕ) → Memory → Outcome Memory Reached
+  member_behind r name t = then (address_from S oracle (r t)) (λ a w. gives [] (member_at S a name w) w)
+
   module _ (T : written.Scope) where
-    -- What is written for an expression leads to an address, and with members behind it to them.
-    pub record LeadsTo (e : Expr) (b : Address) : Type 0 where
-      pub reached : is_alone e ≡ true → (t : Memory) → reach S oracle false (exp_of T e) t ≡ gives [] (at_place b) t
+    -- What is written for an expression reaches what is told, and with members behind it them.
+    pub record Reaches (e : Expr) (r : Memory → Outcome Memory Reached) : Type 0 where
+      pub reached : is_alone e ≡ true → (t : Memory) → reach S oracle false (exp_of T e) t ≡ r t
       pub members :
           (name : List ℕ) (more : List (List ℕ)) (t : Memory)
-          → reach S oracle false (members (member_of e (exp_of T e) name) more) t ≡ members_from S oracle (at_place b) (name ∷ more) t
+          → reach S oracle false (members (member_of e (exp_of T e) name) more) t ≡ then (r t) (λ z w. members_from S oracle z (name ∷ more) w)
+
+    -- it leads to an address
+    abbrev pub LeadsTo : Expr → Address → Type 0
+    LeadsTo e b = Reaches e (λ t. gives [] (at_place b) t)
 
     -- an expression that is written as a path
     pub path_leads : (e : Expr) (b : Address) (names : List (List ℕ)) → exp_of T e ≡ path names
@@ -76,7 +84,18 @@ module _ (S : Scope) (oracle : Jobs) where
       members = λ name more t.
           ap (λ z. reach S oracle false (members (member_of e z name) more) t) is ∙ ap (λ z. reach S oracle false (members z more) t) (behind name)
           ∙ ap (λ z. reach S oracle false z t) (path_members (names ++ name ∷ []) more)
-          ∙ ap (λ z. started S oracle (path_start S false z) t) (append_assoc names (name ∷ []) more) ∙ leads (name ∷ more) t;
+          ∙ ap (λ z. started S oracle (path_start S false z) t) (append_assoc names (name ∷ []) more) ∙ leads (name ∷ more) t
+          ∙ sym (after_nil (members_from S oracle (at_place b) (name ∷ more) t));
+    }
+
+    -- what a member reaches is the member of what is reached
+    pub member_reaches : (e : Expr) (r : Memory → Outcome Memory Reached) → Reaches e r → (ty : Ty) (k : ℕ) (name : List ℕ)
+        → exp_of T (typed ty (field e k)) ≡ member_of e (exp_of T e) name → Reaches (typed ty (field e k)) (member_behind r name)
+    member_reaches e r x ty k name is = record {
+      reached = λ alone t.
+          ap (λ z. reach S oracle false z t) is ∙ x.members name [] t ∙ sym (member_then (r t) name []) ∙ then_gives (member_behind r name t);
+      members = λ next more t.
+          ap (λ z. reach S oracle false (members (member z next) more) t) is ∙ x.members name (next ∷ more) t ∙ sym (member_then (r t) name (next ∷ more));
     }
 
     -- a member of what leads to an address
@@ -84,18 +103,13 @@ module _ (S : Scope) (oracle : Jobs) where
         → exp_of T (typed ty (field e k)) ≡ member_of e (exp_of T e) name → ((t : Memory) → member_at S a name t ≡ at_place b)
         → LeadsTo (typed ty (field e k)) b
     member_leads e a b x ty k name is found =
-        let there : (more : List (List ℕ)) (t : Memory) → members_from S oracle (at_place a) (name ∷ more) t ≡ members_from S oracle (at_place b) more t =
-        λ more t.
-        after_nil (members_from S oracle (member_at S a name t) more t) ∙ ap (λ z. members_from S oracle z more t) (found t) in
-        record {
-          reached = λ alone t. ap (λ z. reach S oracle false z t) is ∙ x.members name [] t ∙ there [] t;
-          members = λ next more t.
-              ap (λ z. reach S oracle false (members (member z next) more) t) is ∙ x.members name (next ∷ more) t ∙ there (next ∷ more) t;
-        }
+        subst (λ r. Reaches (typed ty (field e k)) r) (λ i t. gives [] (found t i) t) (member_reaches e (λ t. gives [] (at_place a) t) x ty k name is)
 
     -- what a With keeps
     pub with_leads : (ty : Ty) (r : expression.Root) → LeadsTo (typed ty (with_object r)) S.around
     with_leads ty r = record {
       reached = λ alone t. cc alone;
-      members = λ name more t. with_members name more t ∙ sym (after_nil (members_from S oracle (member_at S S.around name t) more t));
+      members = λ name more t.
+          with_members name more t ∙ sym (after_nil (members_from S oracle (member_at S S.around name t) more t))
+          ∙ sym (after_nil (members_from S oracle (at_place S.around) (name ∷ more) t));
     }

@@ -10,9 +10,12 @@ use Rattle.bound_tree.specs.declared.declared.TypeDecl.{TypeDecl}
 use Rattle.bound_facts.specs.Members.{at_option, type_fields, field_of}
 use Rattle.bound_tree.specs.Tree.{Variable, Declarations}
 use Rattle.vb6_run.specs.Shapes.{Shape, simple, group, array, endless, Shapes, next_shape, shape_at, shape_by, declared_shape, field_shapes, group_by, user_shape, user_shapes}
-use Rattle.run_matches.specs.CoveredVariables.{are_different, covers_field_type, covers_field, covers_user_by, covers_user_within, covers_user}
+use Rattle.net_run.specs.Shapes as shape
+use Rattle.run_matches.specs.CoveredVariables.{are_different, covers_field_type, covers_field, covers_group_type, covers_user_by, covers_user_within, covers_user}
+use Rattle.run_matches.specs.Likeness.{SameShape, same_class, same_scalar}
 use Rattle.run_matches.specs.Pledges.{type_of_shape}
-use Rattle.run_matches.specs.UserTypes.{field_names, type_leads}
+use Rattle.run_matches.specs.SoundShapes.{IsClass}
+use Rattle.run_matches.specs.UserTypes.{field_names, is_class_type, type_leads}
 use Rattle.run_matches.specs.Addresses.{IsDeclaredShape}
 use Rattle.run_matches.specs.Upgrades.{Upgrade, type_of_some}
 
@@ -217,3 +220,33 @@ declared_by U t (group u fs) e of = ap (user_shapes U.program.declarations) (the
 
 pub declared_user : (U : Upgrade) (t : ℕ) → covers_user U.program.declarations t ≡ true → IsDeclaredShape U (user_shapes U.program.declarations t)
 declared_user U t c = declared_by U t (user_shapes U.program.declarations t) refl (covered_type_of U.program.declarations t c)
+
+-- ---- user types and classes
+
+-- bounds are of arrays alone
+pub group_unbounded : (D : Declarations) (bounds : List (ℤ × ℤ)) (ty : Ty) → covers_group_type D ty ≡ true
+    → shape_by (user_shapes D) bounds ty ≡ shape_by (user_shapes D) [] ty
+group_unbounded D bounds (types.user t) c = refl
+group_unbounded D bounds (types.class k) c = refl
+group_unbounded D bounds _ c = absurd (true≢false (sym c))
+
+pub group_type_of : (D : Declarations) (ty : Ty) → covers_group_type D ty ≡ true → type_of_shape (shape_by (user_shapes D) [] ty) ≡ ty
+group_type_of D (types.user t) c = covered_type_of D t c
+group_type_of D (types.class k) c = refl
+group_type_of D _ c = absurd (true≢false (sym c))
+
+pub declared_group : (U : Upgrade) (ty : Ty) → covers_group_type U.program.declarations ty ≡ true
+    → IsDeclaredShape U (shape_by (user_shapes U.program.declarations) [] ty)
+declared_group U (types.user t) c = declared_user U t c
+declared_group U (types.class k) c = tt
+declared_group U _ c = absurd (true≢false (sym c))
+
+pub class_shape : (users : ℕ → Shape) (bounds : List (ℤ × ℤ)) (ty : Ty) → is_class_type ty ≡ true → shape_by users bounds ty ≡ simple ty
+class_shape users bounds (types.class k) c = refl
+class_shape users bounds _ c = absurd (true≢false (sym c))
+
+-- a class that a variable is written with is written
+pub class_written : (U : Upgrade) (ty : Ty) (d : shape.Shape) → is_class_type ty ≡ true → SameShape U (simple ty) d → IsClass U ty
+class_written U (types.class k) _ c (same_scalar _ t word) = cc word
+class_written U (types.class k) _ c (same_class _ home is) = (k, home, refl, is)
+class_written U _ _ c sh = absurd (true≢false (sym c))

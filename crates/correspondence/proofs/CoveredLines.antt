@@ -9,7 +9,7 @@ use Rattle.vb_tree.specs.Tree.{CaseItem, Form, ReDimItem}
 use Rattle.vb_tree.specs.Tree as source
 use Rattle.bound_tree.specs.declared.body.Mention.{Mention}
 use Rattle.bound_tree.specs.Labels.{Label}
-use Rattle.bound_tree.specs.Tree.{Program, Expr, typed, field, variable, Line, Term, library, Exprs, no_exprs, next_expr, Declarations, call, no_object, of_object, Passed, err_raise, err_clear}
+use Rattle.bound_tree.specs.Tree.{Program, Expr, typed, field, variable, Line, Term, library, Exprs, no_exprs, next_expr, Declarations, Variable, call, no_object, of_object, Passed, err_raise, err_clear}
 use Rattle.vb_tree.specs.declared.bound.LibCall.{LibCall}
 use Rattle.vb_tree.specs.declared.bound.LibCall.TheVariants as lib
 use Rattle.bound_facts.specs.Locks.{is_same_type}
@@ -19,23 +19,24 @@ use Rattle.bound_facts.specs.Nodes.{nodes, nodes_in}
 use Rattle.bound_facts.specs.Parts.{resizes}
 use Rattle.net_tree.specs.Tree.{Exp}
 use Rattle.net_tree.specs.Tree as net
-use Rattle.written_trees.specs.Exprs.{called, exp_of, is_bare, passed_of}
+use Rattle.written_trees.specs.Exprs.{called, exp_of, is_bare, passed_of, target_exp}
 use Rattle.written_trees.specs.Lines.{as_call, case_items, empty_extents, first_exp, items_exp, line_of, resized_array, step_exp, call_line}
-use Rattle.written_trees.specs.Names.{Scope, Path, copy_name, module_name, procedure_path, support}
+use Rattle.written_trees.specs.Names.{Scope, Path, copy_name, module_name, procedure_path, support, variable_path_of}
 use Rattle.written_trees.specs.Puts.{formed, order_shows, put_type, rank_of, store_by, store_line, stored_value, target_rank, user_copy}
 use Rattle.written_trees.specs.Types.{element_type, written_type}
-use Rattle.run_matches.specs.CoveredVariables.{covers_type, is_reached}
-use Rattle.run_matches.specs.Covered.{is_user}
-use Rattle.run_matches.specs.CoveredExprs.{Uses, covers_base, covers_group, covers_place, has_inner, is_changeable, covers_expr, covers_term, covers_value, is_variable, covers_library, covers_exprs, uses_in, is_bound, covers_bounded}
-use Rattle.run_matches.specs.CoveredLines.{covers_copy, is_ordered, covers_condition, covers_counter, covers_counting, covers_items, covers_step, covers_store, covers_form, covers_line, is_comparison, is_counter, covers_box, covers_call, covers_called_in, is_box, covers_erased, covers_resizes, covers_with}
+use Rattle.run_matches.specs.CoveredVariables.{covers_group_use, covers_type, is_reached}
+use Rattle.run_matches.specs.UserTypes.{is_class_type, is_group_type, is_user}
+use Rattle.run_matches.specs.CoveredExprs.{Uses, covers_base, covers_group, covers_object, covers_place, has_inner, is_changeable, covers_expr, covers_term, covers_value, is_variable, covers_library, covers_exprs, uses_in, is_bound, covers_bounded}
+use Rattle.run_matches.specs.CoveredLines.{covers_copy, covers_set_member, covers_set_variable, is_member_ordered, is_ordered, covers_condition, covers_counter, covers_counting, covers_items, covers_step, covers_store, covers_form, covers_line, is_comparison, is_counter, covers_box, covers_call, covers_called_in, is_box, covers_erased, covers_resizes, covers_set, covers_with}
 use Rattle.run_matches.specs.Formed.{is_formed, is_row_of_call, are_formed}
 use Rattle.correspondence.specs.Uses.{redim_exps, resize_exprs, FormCorresponds, SameUses, case_exps, names, total, uses, CallCorresponds, IsAlone, IsFirst, IsSharedAlone, is_call_in, is_call_of, is_group_named, path_names, shared_names}
 use Rattle.correspondence.proofs.NamedCalls.{neither, none_of_both}
 use Rattle.correspondence.proofs.Among.{or_cases}
 use Rattle.correspondence.proofs.NamedArrays.{IsRight}
 use Rattle.correspondence.proofs.Resizes.{erased_names, resizes_all, resizes_names}
-use Rattle.correspondence.proofs.Naming.{expr_names, items_names, assigned_names, box_names, copied_names, raised_names, term_names}
-use Rattle.correspondence.proofs.Places.{place_names}
+use Rattle.correspondence.proofs.Naming.{expr_names, items_names, assigned_names, box_names, copied_names, raised_names, term_names, group_names}
+use Rattle.correspondence.proofs.Places.{member_written, object_of, path_counted, place_names}
+use Rattle.correspondence.proofs.Variables.{group_use_at, variable_exp}
 use Rattle.correspondence.proofs.Rights.{any_either, is_shared_test, own_right, shared_right}
 
 no_bound : (g : LibCall) → is_box g ≡ true → is_bound g ≡ true → ⊥
@@ -57,6 +58,9 @@ stored_plain S to e c =
 pub type_covered : (P : Program) (p : ℕ) (mentions : List Mention) (e : Expr) → covers_expr (uses_in P p mentions) e ≡ true → covers_type (type_at e) ≡ true
 type_covered P p mentions (typed ty t) h = (both_true (covers_type ty) (covers_term (uses_in P p mentions) t) h).0
 
+abbrev is_stored : Uses → (to e : Expr) → Bool
+is_stored cover to e = is_changeable cover to || (is_ordered cover to e || is_member_ordered cover to e)
+
 -- a user type that is assigned is copied with what it holds
 copied_value : (S : Scope) (count : Path → ℕ) → ((name : List ℕ) → count (support name) ≡ 0) → (rank : ℕ) (ty : Ty) (a : Exp) → is_user ty ≡ true
     → names count (formed S rank ty a) ≡ names count a
@@ -67,18 +71,62 @@ copied_value S count no_support rank (types.user t) a h = by (S.facts.holds_arra
     by false = refl
 copied_value S count no_support rank _ a h = absurd (cc h)
 
-pub user_place : (P : Program) (p : ℕ) (mentions : List Mention) (e : Expr) → covers_place (uses_in P p mentions) e ≡ true → is_user (type_at e) ≡ true
-user_place P p mentions (typed (types.user t) u) h = refl
-user_place P p mentions (typed ty (variable k q)) h = absurd (cc h)
-user_place P p mentions (typed ty (field e k)) h =
-    absurd (cc (both_true (has_inner (uses_in P p mentions) (type_at e) k ty) (covers_base (uses_in P p mentions) e) h).0)
-user_place P p mentions (typed ty _) h = absurd (cc h)
-
-pub copy_parts : (cover : Uses) (to e : Expr) → covers_copy cover to e ≡ true → (covers_place cover to ≡ true) × (covers_group cover e ≡ true)
-copy_parts cover to e h =
+-- a place and the value that it takes
+pub group_parts : (cover : Uses) (to e : Expr)
+    → (is_changeable cover to && (is_same_type (type_at to) (type_at e) && (covers_place cover to && covers_group cover e))) ≡ true
+    → (covers_place cover to ≡ true) × (covers_group cover e ≡ true)
+group_parts cover to e h =
     let a = both_true (is_changeable cover to) (is_same_type (type_at to) (type_at e) && (covers_place cover to && covers_group cover e)) h in
     let b = both_true (is_same_type (type_at to) (type_at e)) (covers_place cover to && covers_group cover e) a.1 in
     both_true (covers_place cover to) (covers_group cover e) b.1
+
+pub copy_parts : (cover : Uses) (to e : Expr) → covers_copy cover to e ≡ true
+    → (is_user (type_at to) ≡ true) × (covers_place cover to ≡ true) × (covers_group cover e ≡ true)
+copy_parts cover to e h =
+    let rest : Bool = is_changeable cover to && (is_same_type (type_at to) (type_at e) && (covers_place cover to && covers_group cover e)) in
+    let a = both_true (is_user (type_at to)) rest h in
+    let b = group_parts cover to e a.1 in
+    (a.0, b.0, b.1)
+
+-- a variable of a class, or of an object, and the value that it takes
+pub set_parts : (cover : Uses) (to e : Expr) → covers_set cover (to ∷ e ∷ []) ≡ true
+    → (is_class_type (type_at to) ≡ true) × ((covers_place cover to ≡ true) ⊎ (covers_object cover to ≡ true)) × (covers_group cover e ≡ true)
+set_parts cover to e h =
+    let a = both_true (is_class_type (type_at to)) (covers_set_variable cover to e || covers_set_member cover to e) h in
+    let b = by (or_cases (covers_set_variable cover to e) (covers_set_member cover to e) a.1) in
+    (a.0, b.0, b.1)
+  where
+    by : (covers_set_variable cover to e ≡ true) ⊎ (covers_set_member cover to e ≡ true)
+        → ((covers_place cover to ≡ true) ⊎ (covers_object cover to ≡ true)) × (covers_group cover e ≡ true)
+    by (inl c) = let g = group_parts cover to e c in (inl g.0, g.1)
+    by (inr c) =
+        let a = both_true (is_member_ordered cover to e) (is_same_type (type_at to) (type_at e) && (covers_object cover to && covers_group cover e)) c in
+        let b = both_true (is_same_type (type_at to) (type_at e)) (covers_object cover to && covers_group cover e) a.1 in
+        let g = both_true (covers_object cover to) (covers_group cover e) b.1 in
+        (inr g.0, g.1)
+
+-- it is written as it is used
+pub set_target : (P : Program) (S : Scope) → S.declarations ≡ P.declarations → (p : ℕ) (mentions : List Mention) (to : Expr) → is_class_type (type_at to) ≡ true
+    → (covers_place (uses_in P p mentions) to ≡ true) ⊎ (covers_object (uses_in P p mentions) to ≡ true) → target_exp S to ≡ exp_of S to
+set_target P S same p mentions (typed ty (variable k q)) is h =
+    let found = group_use_at P p mentions k ty (use_of h) in
+    ap (λ (o : Option Variable). net.path (variable_path_of S q o))
+    (ap (λ (d : Declarations). slice_get d.vars k.0) same ∙ found.covered.0)
+    ∙ sym (variable_exp P S same p k q ty found.variable found.covered)
+  where
+    use_of : (covers_group_use P p mentions k ty ≡ true) ⊎ ((is_class_type ty && covers_group_use P p mentions k ty) ≡ true)
+        → covers_group_use P p mentions k ty ≡ true
+    use_of (inl c) = c
+    use_of (inr c) = (both_true (is_class_type ty) (covers_group_use P p mentions k ty) c).1
+set_target P S same p mentions (typed ty (field e k)) is (inl h) =
+    absurd (no_object ty (both_true (has_inner (uses_in P p mentions) (type_at e) k ty) (covers_base (uses_in P p mentions) e) h).0 is)
+  where
+    no_object : (ty : Ty) → has_inner (uses_in P p mentions) (type_at e) k ty ≡ true → is_class_type ty ≡ true → ⊥
+    no_object (types.user t) h is = cc is
+    no_object _ h is = cc h
+set_target P S same p mentions (typed ty (field e k)) is (inr h) = sym (member_written P S same p mentions ty e k h)
+set_target P S same p mentions (typed ty _) is (inl h) = absurd (cc h)
+set_target P S same p mentions (typed ty _) is (inr h) = absurd (cc h)
 
 module _ (P : Program) (S : Scope) (same : S.declarations ≡ P.declarations) (p : ℕ) (labels : List (Option Label)) (mentions : List Mention) where
   -- what holds of any count that is right
@@ -93,14 +141,14 @@ module _ (P : Program) (S : Scope) (same : S.declarations ≡ P.declarations) (p
         let here : slice_get P.declarations.vars v ≡ Some x = ap (λ (d : Declarations). slice_get d.vars v) (sym same) ∙ at in
         let apart : IsAlone P.declarations p v x = subst (λ (d : Declarations). IsAlone d p v x) same alone in
         let leads : IsFirst P.declarations x = subst (λ (d : Declarations). IsFirst d x) same first in
-        each v (path_names (is_user x.ty) x.name) (is_call_of S.declarations x.name) (own_right P S same p v x here own apart leads mentions) free;
+        each v (path_names (is_group_type x.ty) x.name) (is_call_of S.declarations x.name) (own_right P S same p v x here own apart leads mentions) free;
     shared = λ v x file at of reached alone first free others.
         let here : slice_get P.declarations.vars v ≡ Some x = ap (λ (d : Declarations). slice_get d.vars v) (sym same) ∙ at in
         let there : is_reached P.declarations p v x.name x.owner ≡ true = subst (λ (d : Declarations). is_reached d p v x.name x.owner ≡ true) same reached in
         let apart : IsSharedAlone P.declarations v file x = subst (λ (d : Declarations). IsSharedAlone d v file x) same alone in
         let leads : IsFirst P.declarations x = subst (λ (d : Declarations). IsFirst d x) same first in
-        subst (λ (d : Declarations). total (uses v) es ≡ total (names (shared_names (is_user x.ty) (nat_eq S.file file) (module_name d file) x.name)) ws) (sym same)
-        (each v (shared_names (is_user x.ty) (nat_eq S.file file) (module_name P.declarations file) x.name)
+        subst (λ (d : Declarations). total (uses v) es ≡ total (names (shared_names (is_group_type x.ty) (nat_eq S.file file) (module_name d file) x.name)) ws) (sym same)
+        (each v (shared_names (is_group_type x.ty) (nat_eq S.file file) (module_name P.declarations file) x.name)
         (is_shared_test P file x) (shared_right P S same p v x file here of there apart leads mentions)
         (any_either (is_call_in P.declarations (module_name P.declarations file) x.name) (is_group_named P.declarations (module_name P.declarations file)) (flat_map nodes es)
         (subst (λ (d : Declarations). list_any (is_call_in d (module_name d file) x.name) (flat_map nodes es) ≡ false) same free)
@@ -123,7 +171,7 @@ module _ (P : Program) (S : Scope) (same : S.declarations ≡ P.declarations) (p
   assigned target value (to ∷ e ∷ d ∷ es) h f = absurd (cc h)
   assigned target value (to ∷ e ∷ []) h f =
       let cover = uses_in P p mentions in
-      by (or_cases ((is_changeable cover to || is_ordered cover to e) && (covers_expr cover to && covers_expr cover e)) (covers_copy cover to e) h)
+      by (or_cases (is_stored cover to e && (covers_expr cover to && covers_expr cover e)) (covers_copy cover to e) h)
     where
       scalar : (covers_expr (uses_in P p mentions) to && covers_expr (uses_in P p mentions) e) ≡ true
           → FormCorresponds S p (source.assign target value) (to ∷ e ∷ []) (line_of S labels (source.assign target value) (to ∷ e ∷ []))
@@ -136,21 +184,46 @@ module _ (P : Program) (S : Scope) (same : S.declarations ≡ P.declarations) (p
           (same_uses (to ∷ e ∷ []) (exp_of S to ∷ exp_of S e ∷ [])
           (λ v count test right free. assigned_names P S same p v count test mentions right to e both.0 both.1 forms.0 form.0 free)))
 
-      by : (((is_changeable (uses_in P p mentions) to || is_ordered (uses_in P p mentions) to e)
-          && (covers_expr (uses_in P p mentions) to && covers_expr (uses_in P p mentions) e)) ≡ true) ⊎ (covers_copy (uses_in P p mentions) to e ≡ true)
+      by : ((is_stored (uses_in P p mentions) to e && (covers_expr (uses_in P p mentions) to && covers_expr (uses_in P p mentions) e)) ≡ true)
+          ⊎ (covers_copy (uses_in P p mentions) to e ≡ true)
           → FormCorresponds S p (source.assign target value) (to ∷ e ∷ []) (line_of S labels (source.assign target value) (to ∷ e ∷ []))
       by (inl c) =
           scalar
-          (both_true (is_changeable (uses_in P p mentions) to || is_ordered (uses_in P p mentions) to e)
-          (covers_expr (uses_in P p mentions) to && covers_expr (uses_in P p mentions) e) c).1
+          (both_true (is_stored (uses_in P p mentions) to e) (covers_expr (uses_in P p mentions) to && covers_expr (uses_in P p mentions) e) c).1
       by (inr c) =
           let places = copy_parts (uses_in P p mentions) to e c in
           let forms = both_true (is_formed to) (list_all is_formed (e ∷ [])) f in
           let form = both_true (is_formed e) true forms.1 in
           stored target value (to ∷ e ∷ []) (order_shows S.declarations to e) (put_type (type_at to)) (exp_of S to) (stored_value S to e)
           (same_uses (to ∷ e ∷ []) (exp_of S to ∷ stored_value S to e ∷ [])
-          (λ v count test right free. copied_names P S same p v count test mentions right to e places.0 places.1 form.0 free (stored_value S to e)
-          (copied_value S count right.no_support (target_rank S to) (type_at to) (exp_of S e) (user_place P p mentions to places.0))))
+          (λ v count test right free. copied_names P S same p v count test mentions right to e places.1 places.2 form.0 free (stored_value S to e)
+          (copied_value S count right.no_support (target_rank S to) (type_at to) (exp_of S e) places.0)))
+
+  set_names : (v : ℕ) (count : Path → ℕ) (test : Expr → Bool) (right : IsRight P S p mentions v count test) (to e : Expr)
+      → (covers_place (uses_in P p mentions) to ≡ true) ⊎ (covers_object (uses_in P p mentions) to ≡ true) → covers_group (uses_in P p mentions) e ≡ true
+      → is_formed e ≡ true → list_any test (flat_map nodes (to ∷ e ∷ [])) ≡ false
+      → total (uses v) (to ∷ e ∷ []) ≡ total (names count) (exp_of S to ∷ exp_of S e ∷ [])
+  set_names v count test right to e (inl h) k f free = copied_names P S same p v count test mentions right to e h k f free (exp_of S e) refl
+  set_names v count test right (typed ty t) e (inr h) k f free =
+      let parted = none_of_both test (nodes (typed ty t)) (flat_map nodes (e ∷ [])) free in
+      let last = none_of_both test (nodes e) [] parted.1 in
+      let left = path_counted P S same p mentions v count test right ty t (inl (object_of P S same p mentions ty t h)) parted.0 in
+      let value = group_names P S same p v count test mentions right e k f last.0 in
+      omega (arith, left, value)
+
+  -- a Set
+  set_corresponds : (target value : source.Exp) (es : List Expr) → covers_set (uses_in P p mentions) es ≡ true → list_all is_formed es ≡ true
+      → FormCorresponds S p (source.set target value) es (line_of S labels (source.set target value) es)
+  set_corresponds target value [] h f = absurd (cc h)
+  set_corresponds target value (to ∷ []) h f = absurd (cc h)
+  set_corresponds target value (to ∷ e ∷ d ∷ es) h f = absurd (cc h)
+  set_corresponds target value (to ∷ e ∷ []) h f =
+      let parts = set_parts (uses_in P p mentions) to e h in
+      let forms = both_true (is_formed to) (list_all is_formed (e ∷ [])) f in
+      let form = both_true (is_formed e) true forms.1 in
+      subst (λ (t : Exp). SameUses S p (to ∷ e ∷ []) (t ∷ exp_of S e ∷ [])) (sym (set_target P S same p mentions to parts.0 parts.1))
+      (same_uses (to ∷ e ∷ []) (exp_of S to ∷ exp_of S e ∷ [])
+      (λ v count test right free. set_names v count test right to e parts.1 parts.2 form.0 free))
 
   resized : (preserve : Bool) (items : List ReDimItem) (es : List Expr) → covers_resizes (uses_in P p mentions) preserve (resizes items es) ≡ true
       → list_all is_formed es ≡ true → FormCorresponds S p (source.redim preserve items) es (line_of S labels (source.redim preserve items) es)
@@ -181,7 +254,8 @@ module _ (P : Program) (S : Scope) (same : S.declarations ≡ P.declarations) (p
   place_uses : (es : List Expr) → covers_with (uses_in P p mentions) es ≡ true → Counts es (first_exp S es ∷ [])
   place_uses [] h v count test right free = absurd (cc h)
   place_uses (e ∷ []) h v count test right free =
-      ap {B = ℕ} (λ n. n + 0) (place_names P S same p mentions v count test right e h (none_of_both test (nodes e) [] free).0)
+      let place = (both_true (is_user (type_at e)) (covers_place (uses_in P p mentions) e) h).1 in
+      ap {B = ℕ} (λ n. n + 0) (place_names P S same p mentions v count test right e place (none_of_both test (nodes e) [] free).0)
   place_uses (e ∷ d ∷ es) h v count test right free = absurd (cc h)
 
   items_use : (items : List CaseItem) (es : List Expr) → covers_items (uses_in P p mentions) items es ≡ true → list_all is_formed es ≡ true
@@ -340,6 +414,7 @@ module _ (P : Program) (S : Scope) (same : S.declarations ≡ P.declarations) (p
   form_corresponds : (f : Form) (es : List Expr) → covers_form (uses_in P p mentions) f es ≡ true → list_all is_formed es ≡ true
       → FormCorresponds S p f es (line_of S labels f es)
   form_corresponds (source.assign target value) es h f = assigned target value es h f
+  form_corresponds (source.set target value) es h f = set_corresponds target value es h f
   form_corresponds (source.debug_print items ended) es h f = (
     items_exp S es,
     refl,

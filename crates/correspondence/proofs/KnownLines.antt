@@ -6,11 +6,12 @@ use Rattle.up_base.proofs.Lists.{both_true}
 use Rattle.vb_tree.specs.BoundTree as types
 use Rattle.vb_tree.specs.BoundTree.{Ty}
 use Rattle.vb_tree.specs.declared.bound.LibCall.{LibCall}
+use Rattle.vb_tree.specs.declared.value.Value6.TheVariants as v6
 use Rattle.vb_tree.specs.Tree.{CaseItem, Form}
 use Rattle.vb_tree.specs.Tree as source
 use Rattle.bound_tree.specs.declared.body.Mention.{Mention}
 use Rattle.bound_tree.specs.Labels.{Label}
-use Rattle.bound_tree.specs.Tree.{Program, Expr, typed, Term, constant, variable, field, element, library, unary, binary, convert, Line, Exprs, no_exprs, next_expr, call, no_object, of_object, by_value, by_reference, Passed, no_passed, next_passed, err_number, err_raise, err_clear}
+use Rattle.bound_tree.specs.Tree.{Program, Expr, typed, Term, constant, variable, field, element, library, unary, binary, convert, Line, Exprs, no_exprs, next_expr, call, no_object, of_object, by_value, by_reference, Passed, no_passed, next_passed, err_number, err_raise, err_clear, is_same}
 use Rattle.bound_facts.specs.Locks.{is_same_type}
 use Rattle.bound_facts.specs.Node.{declared_at, type_at, is_variant}
 use Rattle.bound_facts.specs.Parts.{Extent, Resize, resizes}
@@ -18,25 +19,26 @@ use Rattle.net_tree.specs.declared.expression.NetBin.TheVariants as op
 use Rattle.net_tree.specs.Tree.{Exp}
 use Rattle.net_tree.specs.Tree as net
 use Rattle.written_trees.specs.Arguments.{argument_exp, copy_by, has_address, in_parentheses, is_copied, kept, needs_copy, takes_reference, has_reference, temporary_exp}
-use Rattle.written_trees.specs.Exprs.{called, exp_of, indexes_of, is_bare, library_of, passed_of, term_exp, exps_of}
-use Rattle.written_trees.specs.Lines.{case_items, empty_extents, erase_line, extent_exp, extents_exps, resized_array, first_exp, for_line, printed_item, joined_items, items_exp, line_of, flagged_line, print_name, step_exp, as_call, call_line}
+use Rattle.written_trees.specs.Exprs.{called, exp_of, indexes_of, is_bare, library_of, passed_of, target_exp, term_exp, exps_of}
+use Rattle.written_trees.specs.Lines.{case_items, empty_extents, erase_line, extent_exp, extents_exps, resized_array, first_exp, for_line, printed_item, joined_items, items_exp, line_of, flagged_line, print_name, step_exp, as_call, call_line, set_line}
 use Rattle.written_trees.specs.Literals.{is_hexadecimal}
 use Rattle.written_trees.specs.Names.{Scope, procedure_path}
 use Rattle.written_trees.specs.Facts.{Facts, holds_array}
 use Rattle.written_trees.specs.Puts.{formed, order_shows, put_type, rank_of, store_by, target_rank, user_copy}
 use Rattle.written_trees.specs.Operators.{typed_operator, typed_unary, operand, is_product_in_currency, variant_operator, variant_unary}
 use Rattle.run_matches.specs.CoveredVariables.{covers_type, covers_user}
-use Rattle.run_matches.specs.CoveredExprs.{Uses, covers_base, covers_group, covers_group_term, covers_place, covers_place_term, has_scalar, is_changeable, covers_operator, covers_expr, covers_term, covers_exprs, covers_value, is_variable, covers_library, covers_passed, uses_in, covers_array, covers_bounded, is_bound, is_passable, is_without_object}
-use Rattle.run_matches.specs.CoveredLines.{covers_copy, is_ordered, covers_condition, covers_counter, covers_counting, covers_items, covers_step, covers_store, covers_form, covers_line, is_comparison, is_counter, covers_box, covers_call, is_box, covers_called_in, covers_erased, covers_extent, covers_low, covers_resize, covers_resizes, covers_with}
-use Rattle.run_matches.specs.Covered.{covers_names, is_user}
+use Rattle.run_matches.specs.CoveredExprs.{Uses, covers_base, covers_object, has_member, covers_group, covers_group_term, covers_place, covers_place_term, has_scalar, is_changeable, covers_operator, covers_expr, covers_term, covers_exprs, covers_value, is_variable, covers_library, covers_passed, uses_in, covers_array, covers_bounded, is_bound, is_nothing, is_passable, is_without_object, covers_operand}
+use Rattle.run_matches.specs.CoveredLines.{covers_copy, is_member_ordered, is_ordered, covers_condition, covers_counter, covers_counting, covers_items, covers_step, covers_store, covers_form, covers_line, is_comparison, is_counter, covers_box, covers_call, is_box, covers_called_in, covers_erased, covers_extent, covers_low, covers_resize, covers_resizes, covers_set, covers_with}
+use Rattle.run_matches.specs.Covered.{covers_names}
+use Rattle.run_matches.specs.UserTypes.{is_class_type, is_user}
 use Rattle.run_matches.specs.Formed.{is_formed}
 use Rattle.correspondence.specs.Paths.{paths_of_case, paths_of_exp, paths_of_line, paths_of_option, paths_of_exps, paths_of_redim}
-use Rattle.correspondence.proofs.CoveredLines.{copy_parts, stored_plain, type_covered, user_place}
+use Rattle.correspondence.proofs.CoveredLines.{copy_parts, set_parts, set_target, stored_plain, type_covered}
 use Rattle.correspondence.proofs.Among.{or_cases}
 use Rattle.correspondence.proofs.Variables.{passed_cases}
-use Rattle.correspondence.proofs.KnownPlaces.{field_known, place_flat, place_known}
+use Rattle.correspondence.proofs.KnownPlaces.{field_known, member_known, object_known, place_flat, place_known}
 use Rattle.correspondence.proofs.KnownArrays.{array_known, bound_known, empty_known, indexes_known, is_err_number, is_top, stored_known, use_known}
-use Rattle.correspondence.proofs.Naming.{no_variant, neither_variant}
+use Rattle.correspondence.proofs.Naming.{is_nothing_converted, no_variant, neither_variant}
 use Rattle.correspondence.proofs.Resizes.{resize_parts}
 use Rattle.correspondence.proofs.KnownLibrary.{library_known}
 use Rattle.correspondence.proofs.KnownPaths.{AreKnown, HasKnown, IsFunction, constant_known, converted_known, is_err_clear, is_not_upgraded, is_raise, is_print_line, is_print_part, known_append, operand_known, operator_known, printed_known, unary_known, IsKnown, path_known}
@@ -110,24 +112,68 @@ module _ (P : Program) (S : Scope) (same : S.declarations ≡ P.declarations) (f
       reference_known S by_address e (array_kept S.facts (uses_in P p mentions) e c) (array_known P S same p mentions e c)
   given_known by_address e (inr (inr c)) scalar = reference_known S by_address e (kept_place e c) (place_known P S same p mentions free e c)
 
+  -- a scalar field of a place, or a scalar that an object has
+  scalar_known : (ty : Ty) (e : Expr) (k : ℕ)
+      → ((has_scalar (uses_in P p mentions) (type_at e) k && covers_base (uses_in P p mentions) e) ≡ true)
+      ⊎ ((has_member (uses_in P p mentions) (type_at e) k covers_type && covers_object (uses_in P p mentions) e) ≡ true)
+      → HasKnown (term_exp S ty (field e k))
+  scalar_known ty e k (inl h) =
+      let both = both_true (has_scalar (uses_in P p mentions) (type_at e) k) (covers_base (uses_in P p mentions) e) h in
+      field_known P S same p mentions free ty e k both.0 both.1
+  scalar_known ty e k (inr h) =
+      let both = both_true (has_member (uses_in P p mentions) (type_at e) k covers_type) (covers_object (uses_in P p mentions) e) h in
+      member_known P S same p mentions free ty e k covers_type both.0 both.1
+
+  -- nothing copies an object
+  object_kept : (F : Facts) (ty : Ty) (copied : Bool) → is_class_type ty ≡ true → (holds_array F ty && copied) ≡ false
+  object_kept F (types.class c) copied h = refl
+  object_kept F _ copied h = absurd (cc h)
+
+  nothing_known : (e : Expr) → is_nothing e ≡ true → HasKnown (exp_of S e)
+  nothing_known (typed types.nothing (constant v6.Nothing origin)) h = constant_known (is_hexadecimal origin) v6.Nothing
+  nothing_known (typed types.nothing (constant _ origin)) h = absurd (cc h)
+  nothing_known (typed types.nothing _) h = absurd (cc h)
+  nothing_known (typed _ t) h = absurd (cc h)
+
+  not_both : (b : Bool) → (b && false) ≡ false
+  not_both true = refl
+  not_both false = refl
+
   -- what a Function gives is covered as other calls are, and isn't copied
   given_group : (ty : Ty) (t : Term) → covers_group_term (uses_in P p mentions) ty t ≡ true
-      → (covers_term (uses_in P p mentions) t ≡ true) × (needs_copy S.facts (typed ty t) ≡ false)
-  given_group (types.user u) (call q qualified of args) h =
-      ((both_true ((uses_in P p mentions).user u) (is_without_object of && covers_passed (uses_in P p mentions) args) h).1, not_both (S.facts.holds_array u))
-    where
-      not_both : (b : Bool) → (b && false) ≡ false
-      not_both true = refl
-      not_both false = refl
-  given_group (types.user u) _ h = absurd (cc h)
-  given_group _ t h = absurd (cc h)
+      → (covers_term (uses_in P p mentions) t ≡ true → HasKnown (term_exp S ty t)) → HasKnown (term_exp S ty t) × (needs_copy S.facts (typed ty t) ≡ false)
+  given_group ty (call q qualified of args) h other = (
+    other (both_true ((uses_in P p mentions).given ty) (is_without_object of && covers_passed (uses_in P p mentions) args) h).1,
+    not_both (holds_array S.facts ty),
+  )
+  given_group ty (field e k) h other = (
+    object_known P S same p mentions free ty (field e k) h,
+    object_kept S.facts ty true
+        (both_true (is_class_type ty)
+        (has_member (uses_in P p mentions) (type_at e) k (is_same_type ty) && covers_object (uses_in P p mentions) e) h).0,
+  )
+  given_group ty (convert to e) h other = (
+    converted_known to e (exp_of S e)
+        (nothing_known e (is_nothing_converted ((uses_in P p mentions).given ty) ty to e h)),
+    not_both (holds_array S.facts ty),
+  )
+  given_group ty _ h other = absurd (cc h)
 
-  -- a value of a user type
+  -- a value of a user type or a class
   group_value : (ty : Ty) (t : Term)
       → (covers_place_term (uses_in P p mentions) ty t ≡ true) ⊎ (covers_group_term (uses_in P p mentions) ty t ≡ true)
       → (covers_term (uses_in P p mentions) t ≡ true → HasKnown (term_exp S ty t)) → HasKnown (term_exp S ty t) × (needs_copy S.facts (typed ty t) ≡ false)
   group_value ty t (inl c) other = (place_known P S same p mentions free (typed ty t) c, kept_place (typed ty t) c)
-  group_value ty t (inr c) other = let given = given_group ty t c in (other given.0, given.1)
+  group_value ty t (inr c) other = given_group ty t c other
+
+  -- what Is compares
+  compared_known : (ty : Ty) (t : Term) → (is_nothing (typed ty t) ≡ true) ⊎ ((is_class_type ty && covers_group (uses_in P p mentions) (typed ty t)) ≡ true)
+      → (covers_term (uses_in P p mentions) t ≡ true → HasKnown (term_exp S ty t)) → HasKnown (term_exp S ty t)
+  compared_known ty t (inl c) other = nothing_known (typed ty t) c
+  compared_known ty t (inr c) other =
+      (group_value ty t
+      (or_cases (covers_place_term (uses_in P p mentions) ty t) (covers_group_term (uses_in P p mentions) ty t)
+      (both_true (is_class_type ty) (covers_group (uses_in P p mentions) (typed ty t)) c).1) other).0
 
   -- an argument by value
   value_given : (by_address : Bool) (ty : Ty) (t : Term) → (Covers (typed ty t)) ⊎ (covers_group (uses_in P p mentions) (typed ty t) ≡ true)
@@ -152,8 +198,9 @@ module _ (P : Program) (S : Scope) (same : S.declarations ≡ P.declarations) (f
         known_append (paths_of_exp (exp_of S a)) (paths_of_exps (indexes_of S a 0 indexes)) (array_known P S same p mentions a both.0)
         (indexes_known S a 0 indexes (args_known indexes both.1))
     term_known ty (field e k) h =
-        let both = both_true (has_scalar (uses_in P p mentions) (type_at e) k) (covers_base (uses_in P p mentions) e) h in
-        field_known P S same p mentions free ty e k both.0 both.1
+        let cover = uses_in P p mentions in
+        scalar_known ty e k
+        (or_cases (has_scalar cover (type_at e) k && covers_base cover e) (has_member cover (type_at e) k covers_type && covers_object cover e) h)
     term_known ty (library g args) h =
         library_by ty g args
         (or_cases (covers_library g && covers_exprs (uses_in P p mentions) args) (is_bound g && covers_bounded (uses_in P p mentions) args) h)
@@ -176,6 +223,12 @@ module _ (P : Program) (S : Scope) (same : S.declarations ≡ P.declarations) (f
         (operand_known c d (exp_of S d) (expr_known d sides.0)) (operand_known c e (exp_of S e) (expr_known e sides.1)))
     term_known ty (convert to e) h =
         converted_known to e (exp_of S e) (expr_known e (both_true (covers_type to) (covers_expr (uses_in P p mentions) e) h).1)
+    term_known ty (is_same (typed s t) (typed r u)) h =
+        let cover = uses_in P p mentions in
+        let both = both_true (covers_operand cover (typed s t)) (covers_operand cover (typed r u)) h in
+        known_append (paths_of_exp (term_exp S s t)) (paths_of_exp (term_exp S r u))
+        (compared_known s t (or_cases (is_nothing (typed s t)) (is_class_type s && covers_group cover (typed s t)) both.0) (λ c. term_known s t c))
+        (compared_known r u (or_cases (is_nothing (typed r u)) (is_class_type r && covers_group cover (typed r u)) both.1) (λ c. term_known r u c))
     term_known ty (call q qualified (of_object d) args) h = absurd (cc h)
     term_known ty (call q qualified no_object args) h =
         call_known (is_bare S q.0 qualified no_object args) (procedure_path S qualified q.0) (passed_of S q.0 0 args)
@@ -240,22 +293,36 @@ module _ (P : Program) (S : Scope) (same : S.declarations ≡ P.declarations) (f
   store_known labels target value (to ∷ e ∷ d ∷ es) h = absurd (cc h)
   store_known labels target value (to ∷ e ∷ []) h =
       let cover = uses_in P p mentions in
-      by (or_cases ((is_changeable cover to || is_ordered cover to e) && (covers_expr cover to && covers_expr cover e)) (covers_copy cover to e) h)
+      by (or_cases ((is_changeable cover to || (is_ordered cover to e || is_member_ordered cover to e)) && (covers_expr cover to && covers_expr cover e)) (covers_copy cover to e) h)
     where
-      by : (((is_changeable (uses_in P p mentions) to || is_ordered (uses_in P p mentions) to e)
+      by : (((is_changeable (uses_in P p mentions) to || (is_ordered (uses_in P p mentions) to e || is_member_ordered (uses_in P p mentions) to e))
           && (covers_expr (uses_in P p mentions) to && covers_expr (uses_in P p mentions) e)) ≡ true) ⊎ (covers_copy (uses_in P p mentions) to e ≡ true)
           → AreKnown (paths_of_line (line_of S labels (source.assign target value) (to ∷ e ∷ [])))
       by (inl c) =
           let cover = uses_in P p mentions in
-          let first = both_true (is_changeable cover to || is_ordered cover to e) (covers_expr cover to && covers_expr cover e) c in
+          let first = both_true (is_changeable cover to || (is_ordered cover to e || is_member_ordered cover to e)) (covers_expr cover to && covers_expr cover e) c in
           let both = both_true (covers_expr cover to) (covers_expr cover e) first.1 in
           let plain = type_covered P p mentions to both.0 in
           subst (λ (w : net.Line). AreKnown (paths_of_line w)) (sym (stored_plain S to e plain))
           (stored_known (order_shows S.declarations to e) (type_at to) (exp_of S to) (exp_of S e) plain (expr_known to both.0) (expr_known e both.1))
       by (inr c) =
           let places = copy_parts (uses_in P p mentions) to e c in
-          copied_known (order_shows S.declarations to e) (target_rank S to) (type_at to) (exp_of S to) (exp_of S e) (user_place P p mentions to places.0)
-          (place_flat P S same p mentions flat to places.0) (place_known P S same p mentions free to places.0) (group_known e places.1)
+          copied_known (order_shows S.declarations to e) (target_rank S to) (type_at to) (exp_of S to) (exp_of S e) places.0
+          (place_flat P S same p mentions flat to places.1) (place_known P S same p mentions free to places.1) (group_known e places.2)
+
+  target_known : (to : Expr) → (covers_place (uses_in P p mentions) to ≡ true) ⊎ (covers_object (uses_in P p mentions) to ≡ true) → HasKnown (exp_of S to)
+  target_known to (inl h) = place_known P S same p mentions free to h
+  target_known (typed ty t) (inr h) = object_known P S same p mentions free ty t h
+
+  set_known : (es : List Expr) → covers_set (uses_in P p mentions) es ≡ true → AreKnown (paths_of_line (set_line S es))
+  set_known [] h = absurd (cc h)
+  set_known (to ∷ []) h = absurd (cc h)
+  set_known (to ∷ e ∷ d ∷ es) h = absurd (cc h)
+  set_known (to ∷ e ∷ []) h =
+      let parts = set_parts (uses_in P p mentions) to e h in
+      known_append (paths_of_exp (target_exp S to)) (paths_of_exp (exp_of S e))
+      (subst (λ (t : Exp). HasKnown t) (sym (set_target P S same p mentions to parts.0 parts.1)) (target_known to parts.1))
+      (group_known e parts.2)
 
   value_known : (ty : Ty) (e : Expr) → covers_value (uses_in P p mentions) ty e ≡ true → HasKnown (exp_of S e)
   value_known ty e h = expr_known e (both_true (is_same_type ty (type_at e)) (covers_expr (uses_in P p mentions) e) h).1
@@ -297,7 +364,7 @@ module _ (P : Program) (S : Scope) (same : S.declarations ≡ P.declarations) (f
 
   with_known : (es : List Expr) → covers_with (uses_in P p mentions) es ≡ true → HasKnown (first_exp S es)
   with_known [] h = absurd (cc h)
-  with_known (e ∷ []) h = place_known P S same p mentions free e h
+  with_known (e ∷ []) h = place_known P S same p mentions free e (both_true (is_user (type_at e)) (covers_place (uses_in P p mentions) e) h).1
   with_known (e ∷ d ∷ es) h = absurd (cc h)
 
   items_of_case_known : (items : List CaseItem) (es : List Expr) → covers_items (uses_in P p mentions) items es ≡ true
@@ -368,6 +435,7 @@ module _ (P : Program) (S : Scope) (same : S.declarations ≡ P.declarations) (f
   form_known : (labels : List (Option Label)) (f : Form) (es : List Expr) → covers_form (uses_in P p mentions) f es ≡ true
       → AreKnown (paths_of_line (line_of S labels f es))
   form_known labels (source.assign target value) es h = store_known labels target value es h
+  form_known labels (source.set target value) es h = set_known es h
   form_known labels (source.debug_print items ended) es h =
       (λ s. (print_known ended, refl), known_append (paths_of_exp (items_exp S es)) [] (items_known es h) tt)
   form_known labels (source.if_head condition) es h = condition_known es h

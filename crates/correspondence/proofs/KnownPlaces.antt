@@ -1,13 +1,12 @@
 -- The paths in what is written for places of user types are known, and nothing copies these.
 use Rattle.std.proofs.Common.{◌⊎◌, inl, inr, ◌≡◌, ℕ, zero, suc, Bool, true, false, not, ◌&&◌, cond, List, [], ◌∷◌, ◌++◌, Option, Some, None, refl, sym, ap, subst, ◌∙◌, eqb-true}
-use Rattle.std.specs.List.{list_all, list_any}
+use Rattle.std.specs.List.{list_all}
 use Rattle.std.specs.Prelude.{◌||◌, slice_get}
 use Rattle.up_base.proofs.Lists.{both_true}
 use Rattle.vb_tree.specs.BoundTree as types
 use Rattle.vb_tree.specs.BoundTree.{Ty}
 use Rattle.vb_tree.specs.declared.declared.Owner.{Owner}
 use Rattle.vb_tree.specs.declared.declared.Owner.TheVariants as owner
-use Rattle.vb_tree.specs.declared.declared.VarId.{VarId}
 use Rattle.vb_tree.specs.Tree.{Module}
 use Rattle.bound_tree.specs.declared.body.Mention.{Mention}
 use Rattle.bound_tree.specs.Tree.{Constant, Declarations, Procedure, Program, Variable, Expr, typed, Term, field, variable, with_object}
@@ -20,15 +19,15 @@ use Rattle.written_trees.specs.Exprs.{exp_of, term_exp}
 use Rattle.written_trees.specs.Facts.{holds_array}
 use Rattle.written_trees.specs.Names.{Scope, is_foreign, module_name, owner_path}
 use Rattle.run_matches.specs.Covered.{covers_names, is_free_name}
-use Rattle.run_matches.specs.CoveredVariables.{covers_field_type, covers_group_owner, covers_group_use, covers_group_variable, covers_owner, covers_some_group, covers_user, field_type_in, field_type_of, is_foreign_name, is_loud, is_mention_of, is_reached}
-use Rattle.run_matches.specs.CoveredExprs.{covers_base, covers_place, covers_place_term, has_inner, has_scalar, is_kept, is_type, uses_in}
+use Rattle.run_matches.specs.CoveredVariables.{covers_field_type, covers_group_type, covers_owner, covers_user, field_type_in, field_type_of, is_foreign_name, is_reached}
+use Rattle.run_matches.specs.CoveredExprs.{covers_base, covers_object, covers_object_term, covers_place, covers_place_term, has_inner, has_member, has_scalar, is_kept, is_type, uses_in}
 use Rattle.run_matches.specs.Shared.{names_lead}
-use Rattle.run_matches.specs.UserTypes.{is_user_of}
+use Rattle.run_matches.specs.UserTypes.{is_class_type, is_user_of}
 use Rattle.agreeing_laws.proofs.UserShapes.{FieldShape, field_shape_is}
 use Rattle.correspondence.proofs.Among.{or_cases}
 use Rattle.correspondence.proofs.KnownPaths.{HasKnown, IsKnown, free_other}
-use Rattle.correspondence.proofs.Places.{Based, IsDotted, declared_type, inner_of, place_of, scalar_place}
-use Rattle.correspondence.proofs.Variables.{module_free}
+use Rattle.correspondence.proofs.Places.{Based, IsDotted, a_group, declared_type, inner_of, member_place, object_of, place_of, scalar_place}
+use Rattle.correspondence.proofs.Variables.{group_use_at, module_free}
 
 -- ---- paths that begin with a free name
 
@@ -99,10 +98,21 @@ module _ (P : Program) (S : Scope) (same : S.declarations ≡ P.declarations) (p
       → covers_base (uses_in P p mentions) e ≡ true → HasKnown (term_exp S ty (field e k))
   field_known free ty e k h c = path_known free ty (field e k) (scalar_place P S same p mentions ty e k h c)
 
+  pub object_known : covers_names D ≡ true → (ty : Ty) (t : Term) → covers_object_term (uses_in P p mentions) ty t ≡ true → HasKnown (term_exp S ty t)
+  object_known free ty t h = path_known free ty t (inl (object_of P S same p mentions ty t h))
+
+  pub member_known : covers_names D ≡ true → (ty : Ty) (e : Expr) (k : ℕ) (test : Ty → Bool) → has_member (uses_in P p mentions) (type_at e) k test ≡ true
+      → covers_object (uses_in P p mentions) e ≡ true → HasKnown (term_exp S ty (field e k))
+  member_known free ty e k test h c = path_known free ty (field e k) (inl (member_place P S same p mentions ty e k test h c))
+
   -- ---- the types of places
 
   abbrev IsCoveredUser : Ty → Type 0
   IsCoveredUser ty = (t : ℕ) × (ty ≡ types.user t) × (covers_user D t ≡ true)
+
+  -- no array is in it
+  abbrev IsFlatType : Ty → Type 0
+  IsFlatType ty = IsCoveredUser ty ⊎ (is_class_type ty ≡ true)
 
   of_user : (ty : Ty) → is_user_of (covers_user D) ty ≡ true → IsCoveredUser ty
   of_user (types.user t) h = (t, refl, h)
@@ -112,23 +122,10 @@ module _ (P : Program) (S : Scope) (same : S.declarations ≡ P.declarations) (p
   same_user t (types.user u) h = ap types.user (sym (eqb-true t u h))
   same_user t _ h = absurd (cc h)
 
-  variable_user : (t : ℕ) (k : VarId) → covers_group_use P p mentions k t ≡ true → covers_user D t ≡ true
-  variable_user t k h = by (slice_get D.vars k.0) (both_true (covers_some_group D p k.0 t o) (is_loud P k.0 o) both.1).0
-    where
-      o : Option Variable
-      o = slice_get D.vars k.0
-
-      both : (list_any (is_mention_of k) mentions ≡ true) × ((covers_some_group D p k.0 t o && is_loud P k.0 o) ≡ true)
-      both = both_true (list_any (is_mention_of k) mentions) (covers_some_group D p k.0 t o && is_loud P k.0 o) h
-
-      by : (o : Option Variable) → covers_some_group D p k.0 t o ≡ true → covers_user D t ≡ true
-      by None c = absurd (cc c)
-      by (Some y) c =
-          let f = both_true (is_reached D p k.0 y.name y.owner) (is_same_type (types.user t) y.ty && covers_group_variable D y) c in
-          let g = both_true (is_same_type (types.user t) y.ty) (covers_group_variable D y) f.1 in
-          let i = both_true (covers_group_owner y.owner) (is_user_of (covers_user D) y.ty && not y.auto) g.1 in
-          let j = both_true (is_user_of (covers_user D) y.ty) (not y.auto) i.1 in
-          subst (λ ty. is_user_of (covers_user D) ty ≡ true) (same_user t y.ty g.0) j.0
+  group_flat : (ty s : Ty) → is_same_type ty s ≡ true → covers_group_type D s ≡ true → IsFlatType ty
+  group_flat (types.user t) s h c = inl (t, refl, subst (λ z. covers_group_type D z ≡ true) (same_user t s h) c)
+  group_flat (types.class k) s h c = inr refl
+  group_flat ty s h c = absurd (cc (a_group D ty s h c))
 
   field_user : (s t k : ℕ) → covers_user D t ≡ true → is_type (types.user s) (field_type_in D mentions t k) ≡ true → covers_user D s ≡ true
   field_user s t k c h = by (field_of D (types.user t) k) refl h
@@ -158,22 +155,30 @@ module _ (P : Program) (S : Scope) (same : S.declarations ≡ P.declarations) (p
       the_number : (a b : ℕ) → types.user a ≡ types.user b → a ≡ b
       the_number a b e = cc e
 
-  base_user : (ty : Ty) (t : Term) → (is_kept (uses_in P p mentions) ty t ≡ true) ⊎ (covers_place_term (uses_in P p mentions) ty t ≡ true)
-      → (covers_place_term (uses_in P p mentions) ty t ≡ true → IsCoveredUser ty) → IsCoveredUser ty
-  base_user ty t (inl h) place = kept_user ty t h
-  base_user ty t (inr h) place = place h
+  base_flat : (ty : Ty) (t : Term) → (is_kept (uses_in P p mentions) ty t ≡ true) ⊎ (covers_place_term (uses_in P p mentions) ty t ≡ true)
+      → (covers_place_term (uses_in P p mentions) ty t ≡ true → IsFlatType ty) → IsFlatType ty
+  base_flat ty t (inl h) place = inl (kept_user ty t h)
+  base_flat ty t (inr h) place = place h
 
-  place_user : (ty : Ty) (t : Term) → covers_place_term (uses_in P p mentions) ty t ≡ true → IsCoveredUser ty
-  place_user (types.user t) (variable k q) h = (t, refl, variable_user t k h)
-  place_user ty (field (typed of u) k) h =
+  -- what a field is asked of is of a user type
+  outer_user : (of ty : Ty) (k : ℕ) → has_inner (uses_in P p mentions) of k ty ≡ true → IsFlatType of → IsCoveredUser of
+  outer_user of ty k h (inl u) = u
+  outer_user of ty k h (inr c) = absurd (cc (sym (ap is_class_type (inner_of P S same p mentions of k ty h).3) ∙ c))
+
+  place_type : (ty : Ty) (t : Term) → covers_place_term (uses_in P p mentions) ty t ≡ true → IsFlatType ty
+  place_type ty (variable k q) h = let found = group_use_at P p mentions k ty h in group_flat ty found.variable.ty found.same found.covers
+  place_type ty (field (typed of u) k) h =
       let both = both_true (has_inner (uses_in P p mentions) of k ty) (covers_base (uses_in P p mentions) (typed of u)) h in
-      inner_user of ty k both.0
-      (base_user of u (or_cases (is_kept (uses_in P p mentions) of u) (covers_place_term (uses_in P p mentions) of u) both.1) (λ c. place_user of u c))
-  place_user ty _ h = absurd (cc h)
+      let base = base_flat of u (or_cases (is_kept (uses_in P p mentions) of u) (covers_place_term (uses_in P p mentions) of u) both.1) (λ c. place_type of u c) in
+      inl (inner_user of ty k both.0 (outer_user of ty k both.0 base))
+  place_type ty _ h = absurd (cc h)
+
+  flat_type : ((t : ℕ) → covers_user D t ≡ true → S.facts.holds_array t ≡ false) → (ty : Ty) → IsFlatType ty → holds_array S.facts ty ≡ false
+  flat_type flat ty (inl u) = ap (holds_array S.facts) u.1 ∙ flat u.0 u.2
+  flat_type flat (types.class c) (inr h) = refl
+  flat_type flat _ (inr h) = absurd (cc h)
 
   -- nothing copies a place
   pub place_flat : ((t : ℕ) → covers_user D t ≡ true → S.facts.holds_array t ≡ false) → (e : Expr) → covers_place (uses_in P p mentions) e ≡ true
       → holds_array S.facts (type_at e) ≡ false
-  place_flat flat (typed ty t) h =
-      let u = place_user ty t h in
-      ap (holds_array S.facts) u.1 ∙ flat u.0 u.2
+  place_flat flat (typed ty t) h = flat_type flat ty (place_type ty t h)

@@ -15,7 +15,7 @@ use Rattle.written_trees.specs.Exprs.{exp_of, exps_of, index_at, indexes_of, is_
 use Rattle.written_trees.specs.Library.{absolute_path, low_at, low_exp}
 use Rattle.written_trees.specs.Names.{Path, Scope, owner_path, support, strings, procedure_path}
 use Rattle.written_trees.specs.Prologues.{one_if}
-use Rattle.run_matches.specs.Covered.{is_user}
+use Rattle.run_matches.specs.UserTypes.{is_group_type}
 use Rattle.run_matches.specs.CoveredExprs.{IsUsed, covers_array, covers_bounded, covers_dimension, is_bound, uses_in}
 use Rattle.correspondence.specs.Uses.{uses, exprs_uses, names, exps_name}
 use Rattle.correspondence.proofs.Variables.{IsCoveredAt}
@@ -29,8 +29,8 @@ pub record IsRight (P : Program) (S : Scope) (p : ℕ) (mentions : List Mention)
   pub used :
       (k : VarId) (q : Bool) (ty : Ty) → IsUsed (uses_in P p mentions) k → one_if (nat_eq v k.0) ≡ names count (exp_of S (typed ty (variable k q)))
   pub fields :
-      (k : VarId) (q : Bool) (t : ℕ) (y : Variable) (rest : List (List ℕ)) → IsCoveredAt P p k.0 y → is_user y.ty ≡ true
-      → test (typed (types.user t) (variable k q)) ≡ false → one_if (nat_eq v k.0) ≡ count (owner_path S q y.name y.owner ++ rest)
+      (k : VarId) (q : Bool) (ty : Ty) (y : Variable) (rest : List (List ℕ)) → IsCoveredAt P p k.0 y → is_group_type y.ty ≡ true
+      → is_group_type ty ≡ true → test (typed ty (variable k q)) ≡ false → one_if (nat_eq v k.0) ≡ count (owner_path S q y.name y.owner ++ rest)
   pub uncalled :
       (ty : Ty) (q : ProcId) (qualified : Bool) (args : Passed) → test (typed ty (call q qualified no_object args)) ≡ false
       → count (procedure_path S qualified q.0) ≡ 0

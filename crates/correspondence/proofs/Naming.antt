@@ -15,7 +15,7 @@ use Rattle.vb_tree.specs.declared.value.Value6.{Value6}
 use Rattle.vb_tree.specs.declared.value.Value6.TheVariants as v6
 use Rattle.bound_tree.specs.declared.body.Mention.{Mention}
 use Rattle.bound_tree.specs.declared.expression.Origin.{Origin}
-use Rattle.bound_tree.specs.Tree.{Program, Expr, typed, Term, constant, variable, field, element, library, unary, binary, convert, Exprs, no_exprs, next_expr, call, no_object, of_object, by_value, by_reference, Passed, no_passed, next_passed, err_number, err_raise}
+use Rattle.bound_tree.specs.Tree.{Program, Expr, typed, Term, constant, variable, field, element, library, unary, binary, convert, Exprs, no_exprs, next_expr, call, no_object, of_object, by_value, by_reference, Passed, no_passed, next_passed, err_number, err_raise, is_same}
 use Rattle.bound_facts.specs.Nodes.{nodes, nodes_in, nodes_of_all, nodes_of_passed}
 use Rattle.bound_facts.specs.Node.{type_at, is_variant}
 use Rattle.net_meaning.specs.WrittenRows.{write_operator, write_unary, write_conversion}
@@ -33,13 +33,15 @@ use Rattle.written_trees.specs.Literals.{Piece, quoted, unit, piece_exp, text, j
 use Rattle.written_trees.specs.Names.{Path, Scope, support, strings, procedure_path}
 use Rattle.written_trees.specs.Operators.{signed, checked, is_text, typed_operator, typed_unary, operand, is_product_in_currency, variant_operator, variant_unary}
 use Rattle.run_matches.specs.CoveredVariables.{covers_type}
-use Rattle.run_matches.specs.CoveredExprs.{covers_library, covers_operator, covers_expr, covers_term, covers_exprs, covers_passed, covers_array, covers_base, covers_group, covers_group_term, covers_place, covers_place_term, covers_bounded, has_scalar, is_bound, uses_in, is_passable, is_without_object}
+use Rattle.run_matches.specs.CoveredExprs.{covers_library, covers_operator, covers_expr, covers_term, covers_exprs, covers_passed, covers_array, covers_base, covers_object, has_member, covers_group, covers_group_term, covers_place, covers_place_term, covers_bounded, has_scalar, is_bound, is_nothing, uses_in, is_passable, is_without_object, covers_operand}
 use Rattle.run_matches.specs.Formed.{are_longs, has_elements, is_formed, is_formed_term, is_row_of_one, is_row_of_two, is_row_of_call, is_conversion_to, types_of, are_formed, passed_are_formed}
+use Rattle.bound_facts.specs.Locks.{is_same_type}
+use Rattle.run_matches.specs.UserTypes.{is_class_type}
 use Rattle.correspondence.specs.Uses.{uses, term_uses, exprs_uses, passed_uses, names, exps_name, total}
 use Rattle.correspondence.proofs.Among.{or_cases}
 use Rattle.correspondence.proofs.Variables.{passed_cases}
 use Rattle.correspondence.proofs.NamedArrays.{IsRight, array_names, bound_names, indexes_names}
-use Rattle.correspondence.proofs.Places.{path_counted, place_names, place_of, scalar_place}
+use Rattle.correspondence.proofs.Places.{Based, member_place, object_of, path_counted, place_names, place_of, scalar_place}
 use Rattle.correspondence.proofs.NamedCalls.{argument_names, bare_names, covered_type, full_names, neither, none_before, none_of_both, reference_names}
 
 module _ (count : Path → ℕ) (no_support : (name : List ℕ) → count (support name) ≡ 0) (no_strings : (name : List ℕ) → count (strings name) ≡ 0) where
@@ -210,6 +212,11 @@ none_first : (a b : Bool) → a ≡ false → b ≡ false → (a || b) ≡ false
 none_first true b h e = absurd (cc h)
 none_first false b h e = e
 
+pub is_nothing_converted : (b : Bool) (ty to : Ty) (e : Expr) → (b && (is_class_type ty && (is_same_type ty to && is_nothing e))) ≡ true → is_nothing e ≡ true
+is_nothing_converted b ty to e h =
+    (both_true (is_same_type ty to) (is_nothing e)
+    (both_true (is_class_type ty) (is_same_type ty to && is_nothing e) (both_true b (is_class_type ty && (is_same_type ty to && is_nothing e)) h).1).1).1
+
 module _ (P : Program) (S : Scope) (same : S.declarations ≡ P.declarations) (p v : ℕ) (count : Path → ℕ) (test : Expr → Bool) (mentions : List Mention)
     (right : IsRight P S p mentions v count test) where
   -- the test finds no node
@@ -237,19 +244,56 @@ module _ (P : Program) (S : Scope) (same : S.declarations ≡ P.declarations) (p
   given_names e (inr (inl c)) free scalar = array_names P S p v count test mentions right e c
   given_names e (inr (inr c)) free scalar = place_names P S same p mentions v count test right e c free
 
-  -- what a Function gives is covered as other calls are
-  given_group : (ty : Ty) (t : Term) → covers_group_term (uses_in P p mentions) ty t ≡ true → covers_term (uses_in P p mentions) t ≡ true
-  given_group (types.user u) (call q qualified of args) h =
-      (both_true ((uses_in P p mentions).user u) (is_without_object of && covers_passed (uses_in P p mentions) args) h).1
-  given_group (types.user u) _ h = absurd (cc h)
-  given_group _ t h = absurd (cc h)
+  -- a scalar field of a place, or a scalar that an object has
+  field_place : (ty : Ty) (e : Expr) (k : ℕ)
+      → ((has_scalar (uses_in P p mentions) (type_at e) k && covers_base (uses_in P p mentions) e) ≡ true)
+      ⊎ ((has_member (uses_in P p mentions) (type_at e) k covers_type && covers_object (uses_in P p mentions) e) ≡ true)
+      → Based P S same p mentions ty (field e k)
+  field_place ty e k (inl h) =
+      let both = both_true (has_scalar (uses_in P p mentions) (type_at e) k) (covers_base (uses_in P p mentions) e) h in
+      scalar_place P S same p mentions ty e k both.0 both.1
+  field_place ty e k (inr h) =
+      let both = both_true (has_member (uses_in P p mentions) (type_at e) k covers_type) (covers_object (uses_in P p mentions) e) h in
+      inl (member_place P S same p mentions ty e k covers_type both.0 both.1)
 
-  -- a value of a user type
+  abbrev IsNamed : Ty → Term → Type 0
+  IsNamed ty t = term_uses v t ≡ names count (term_exp S ty t)
+
+  -- Nothing names nothing
+  nothing_names : (e : Expr) → is_nothing e ≡ true → uses v e ≡ names count (exp_of S e)
+  nothing_names (typed types.nothing (constant v6.Nothing origin)) h =
+      sym (constant_names count right.no_support right.no_strings (is_hexadecimal origin) v6.Nothing)
+  nothing_names (typed types.nothing (constant _ origin)) h = absurd (cc h)
+  nothing_names (typed types.nothing _) h = absurd (cc h)
+  nothing_names (typed _ t) h = absurd (cc h)
+
+  -- what a Function gives is covered as other calls are
+  given_group : (ty : Ty) (t : Term) → covers_group_term (uses_in P p mentions) ty t ≡ true → Free (nodes (typed ty t))
+      → (covers_term (uses_in P p mentions) t ≡ true → IsNamed ty t) → IsNamed ty t
+  given_group ty (field e k) h free other =
+      path_counted P S same p mentions v count test right ty (field e k) (inl (object_of P S same p mentions ty (field e k) h)) free
+  given_group ty (call q qualified of args) h free other =
+      other (both_true ((uses_in P p mentions).given ty) (is_without_object of && covers_passed (uses_in P p mentions) args) h).1
+  given_group ty (convert to e) h free other =
+      nothing_names e (is_nothing_converted ((uses_in P p mentions).given ty) ty to e h)
+      ∙ sym (converted_names count right.no_support right.no_strings S to e)
+  given_group ty _ h free other = absurd (cc h)
+
+  -- a value of a user type or a class
   group_value : (ty : Ty) (t : Term)
       → (covers_place_term (uses_in P p mentions) ty t ≡ true) ⊎ (covers_group_term (uses_in P p mentions) ty t ≡ true) → Free (nodes (typed ty t))
-      → (covers_term (uses_in P p mentions) t ≡ true → term_uses v t ≡ names count (term_exp S ty t)) → term_uses v t ≡ names count (term_exp S ty t)
+      → (covers_term (uses_in P p mentions) t ≡ true → IsNamed ty t) → IsNamed ty t
   group_value ty t (inl c) free other = path_counted P S same p mentions v count test right ty t (place_of P S same p mentions ty t c) free
-  group_value ty t (inr c) free other = other (given_group ty t c)
+  group_value ty t (inr c) free other = given_group ty t c free other
+
+  -- what Is compares
+  compared_value : (ty : Ty) (t : Term) → (is_nothing (typed ty t) ≡ true) ⊎ ((is_class_type ty && covers_group (uses_in P p mentions) (typed ty t)) ≡ true)
+      → Free (nodes (typed ty t)) → (covers_term (uses_in P p mentions) t ≡ true → IsNamed ty t) → IsNamed ty t
+  compared_value ty t (inl c) free other = nothing_names (typed ty t) c
+  compared_value ty t (inr c) free other =
+      group_value ty t
+      (or_cases (covers_place_term (uses_in P p mentions) ty t) (covers_group_term (uses_in P p mentions) ty t)
+      (both_true (is_class_type ty) (covers_group (uses_in P p mentions) (typed ty t)) c).1) free other
 
   -- what is given by value
   value_names : (ty : Ty) (t : Term)
@@ -279,8 +323,10 @@ module _ (P : Program) (S : Scope) (same : S.declarations ≡ P.declarations) (p
         let written = indexes_names P S p v count test mentions right a 0 indexes in
         omega (arith, array, places, written)
     term_names ty (field e k) h f own free =
-        let both = both_true (has_scalar (uses_in P p mentions) (type_at e) k) (covers_base (uses_in P p mentions) e) h in
-        path_counted P S same p mentions v count test right ty (field e k) (scalar_place P S same p mentions ty e k both.0 both.1)
+        let cover = uses_in P p mentions in
+        path_counted P S same p mentions v count test right ty (field e k)
+        (field_place ty e k
+        (or_cases (has_scalar cover (type_at e) k && covers_base cover e) (has_member cover (type_at e) k covers_type && covers_object cover e) h))
         (none_first (test (typed ty (field e k))) (list_any test (nodes e)) own free)
     term_names ty (library g args) h f own free =
         let forms = both_true (is_row_of_call g (types_of args) ty) (are_formed args) f in
@@ -318,6 +364,20 @@ module _ (P : Program) (S : Scope) (same : S.declarations ≡ P.declarations) (p
         let both = both_true (covers_type to) (covers_expr (uses_in P p mentions) e) h in
         let form = both_true (is_some (write_conversion (type_at e) to)) (is_formed e) f in
         expr_names e both.1 form.1 free ∙ sym (converted_names count right.no_support right.no_strings S to e)
+    term_names ty (is_same (typed s t) (typed r u)) h f own free =
+        let cover = uses_in P p mentions in
+        let both = both_true (covers_operand cover (typed s t)) (covers_operand cover (typed r u)) h in
+        let form = both_true (is_formed_term s t) (is_formed_term r u) (both_true (is_same_type types.boolean ty) (is_formed_term s t && is_formed_term r u) f).1 in
+        let parted = none_of_both test (nodes (typed s t)) (nodes (typed r u)) free in
+        let first = neither (test (typed s t)) (list_any test (nodes_in t)) parted.0 in
+        let second = neither (test (typed r u)) (list_any test (nodes_in u)) parted.1 in
+        let left =
+        compared_value s t (or_cases (is_nothing (typed s t)) (is_class_type s && covers_group cover (typed s t)) both.0) parted.0
+        (λ c. term_names s t c form.0 first.0 first.1) in
+        let other =
+        compared_value r u (or_cases (is_nothing (typed r u)) (is_class_type r && covers_group cover (typed r u)) both.1) parted.1
+        (λ c. term_names r u c form.1 second.0 second.1) in
+        omega (arith, left, other)
     term_names ty (call q qualified (of_object e) args) h f own free = absurd (cc h)
     term_names ty (call q qualified no_object no_passed) h f own free =
         sym (bare_names count (is_bare S q.0 qualified no_object no_passed) (net.path (procedure_path S qualified q.0))
@@ -410,7 +470,7 @@ module _ (P : Program) (S : Scope) (same : S.declarations ≡ P.declarations) (p
       let value = expr_names e k g last.0 in
       omega (arith, left, value)
 
-  group_names : (e : Expr) → covers_group (uses_in P p mentions) e ≡ true → is_formed e ≡ true → Free (nodes e) → uses v e ≡ names count (exp_of S e)
+  pub group_names : (e : Expr) → covers_group (uses_in P p mentions) e ≡ true → is_formed e ≡ true → Free (nodes e) → uses v e ≡ names count (exp_of S e)
   group_names (typed ty t) h f free =
       let own = neither (test (typed ty t)) (list_any test (nodes_in t)) free in
       value_names ty t (inr h) free (λ c. term_names ty t c f own.0 own.1)

@@ -1,5 +1,5 @@
--- What is written for a covered place of a user type, and for a field of one, is a path, that of its variable with the names of the fields, or
--- stands behind the dot of a With.
+-- What is written for a covered place of a user type, for a field of one, and for an object that is kept is a path, that of its variable with the
+-- names of the fields, or stands behind the dot of a With.
 use Rattle.std.proofs.Common.{◌⊎◌, inl, inr, ◌≡◌, ℕ, Bool, true, false, not, ◌&&◌, cond, List, [], ◌∷◌, ◌++◌, Option, Some, None, refl, sym, ap, subst, ◌∙◌, nat_eq, append_assoc, append-nil}
 use Rattle.std.specs.List.{list_any}
 use Rattle.std.specs.Prelude.{slice_get}
@@ -11,22 +11,23 @@ use Rattle.bound_tree.specs.declared.body.Mention.{Mention}
 use Rattle.bound_tree.specs.Tree as tree
 use Rattle.bound_tree.specs.Tree.{Program, Variable, Expr, typed, Term, field, variable, with_object}
 use Rattle.bound_facts.specs.Locks.{is_same_type}
-use Rattle.bound_facts.specs.Members.{field_of}
+use Rattle.bound_facts.specs.Members.{class_files, field_of}
 use Rattle.bound_facts.specs.Node.{auto_class, class_in, type_at, variable_number}
 use Rattle.bound_facts.specs.Nodes.{nodes}
 use Rattle.net_tree.specs.Tree as net
-use Rattle.written_trees.specs.Exprs.{exp_of, made_if, member_in, term_exp}
+use Rattle.written_trees.specs.Exprs.{exp_of, made_if, member_in, target_exp, term_exp}
 use Rattle.written_trees.specs.Names.{Path, Scope, member, owner_path, variable_name}
 use Rattle.written_trees.specs.Prologues.{one_if}
-use Rattle.run_matches.specs.Covered.{is_user}
-use Rattle.run_matches.specs.CoveredVariables.{covers_type, field_type_in, field_type_of, is_mention_of}
-use Rattle.run_matches.specs.CoveredExprs.{covers_base, covers_place, covers_place_term, is_kept, has_field, has_inner, has_scalar, is_scalar_type, is_type, uses_in}
+use Rattle.run_matches.specs.UserTypes.{is_class_type, is_group_type}
+use Rattle.run_matches.specs.Shared.{is_alone_field}
+use Rattle.run_matches.specs.CoveredVariables.{covers_group_type, covers_group_use, covers_place_type, covers_type, field_type_in, field_type_of, is_member, is_mention_of, member_type_in, member_type_of}
+use Rattle.run_matches.specs.CoveredExprs.{covers_base, covers_object, covers_object_term, covers_place, covers_place_term, is_kept, is_passing, has_field, has_inner, has_member, has_scalar, is_scalar_type, is_type, uses_in}
 use Rattle.run_matches.specs.Upgrades.{is_unknown, type_of_some}
 use Rattle.correspondence.specs.Uses.{names, term_uses, uses}
 use Rattle.correspondence.proofs.Among.{or_cases}
 use Rattle.correspondence.proofs.NamedArrays.{IsRight}
 use Rattle.correspondence.proofs.NamedCalls.{neither}
-use Rattle.correspondence.proofs.Variables.{IsCoveredAt, group_use_at, variable_exp}
+use Rattle.correspondence.proofs.Variables.{IsCoveredAt, IsGroupAt, group_use_at, not_true, variable_exp}
 
 -- ---- fields
 
@@ -76,6 +77,42 @@ field_made D mentions t k a ty h none = by (field_of D (types.user t) k) h
     by None e = refl
     by (Some v) e = no_auto D a (slice_get D.vars v) ty (declared_type D mentions v ty e) none
 
+-- nor does the use of an object's variable
+member_made : (D : tree.Declarations) (mentions : List Mention) (c k : ℕ) (a : net.Exp) (ty : Ty) → member_type_in D mentions c k ≡ Some ty
+    → made_if D (auto_class (variable_number D.vars (field_of D (types.class c) k))) a ≡ a
+member_made D mentions c k a ty h = by (slice_get (class_files D.project) c) (field_of D (types.class c) k) h
+  where
+    of_variable : (file v : ℕ) (o : Option Variable) → is_member D file v o ≡ true → made_if D (auto_class o) a ≡ a
+    of_variable file v None e = refl
+    of_variable file v (Some x) e =
+        let plain = both_true (is_alone_field D v x.name file) (covers_place_type D x.ty && not x.auto) e in
+        ap (λ c. made_if D (cond c (class_in x.ty) None) a) (not_true x.auto (both_true (covers_place_type D x.ty) (not x.auto) plain.1).1)
+
+    by : (file v : Option ℕ) → member_type_of D mentions file v ≡ Some ty → made_if D (auto_class (variable_number D.vars v)) a ≡ a
+    by file None e = absurd (cc e)
+    by None (Some v) e = absurd (cc e)
+    by (Some file) (Some v) e =
+        of_variable file v (slice_get D.vars v)
+        (passed (list_any (is_mention_of (record { 0 = v })) mentions) (is_member D file v (slice_get D.vars v)) (type_of_some (slice_get D.vars v)) e)
+      where
+        passed : (a b : Bool) (o : Option Ty) → cond (a && b) o None ≡ Some ty → b ≡ true
+        passed true true o e = refl
+        passed true false o e = absurd (cc e)
+        passed false b o e = absurd (cc e)
+
+-- a group is of a user type or a class
+pub group_covered : (D : tree.Declarations) (ty : Ty) → covers_group_type D ty ≡ true → is_group_type ty ≡ true
+group_covered D (types.user t) c = refl
+group_covered D (types.class k) c = refl
+group_covered D _ c = absurd (cc c)
+
+pub a_group : (D : tree.Declarations) (ty s : Ty) → is_same_type ty s ≡ true → covers_group_type D s ≡ true → is_group_type ty ≡ true
+a_group D (types.user t) s h c = refl
+a_group D (types.class k) s h c = refl
+a_group D _ (types.user t) h c = absurd (cc h)
+a_group D _ (types.class k) h c = absurd (cc h)
+a_group D _ _ h c = absurd (cc c)
+
 -- what stands behind the dot of a With, which names no variable
 abbrev pub IsDotted : net.Exp → Type 0
 IsDotted (net.with_dot name) = Unit {0}
@@ -91,18 +128,19 @@ member_dotted _ name d = absurd d
 module _ (P : Program) (S : Scope) (same : S.declarations ≡ P.declarations) (p : ℕ) (mentions : List Mention) where
   -- ---- places
 
-  -- a variable of a user type with fields behind it
+  -- a variable of a user type or a class with fields behind it
   pub record Place (ty : Ty) (t : Term) : Type 0 where
     pub root : VarId
     pub qualified : Bool
-    pub user_type : ℕ
+    pub root_type : Ty
+    pub of_group : is_group_type root_type ≡ true
     pub root_variable : Variable
     pub covered : IsCoveredAt P p root.0 root_variable
-    pub is_group : is_user root_variable.ty ≡ true
+    pub is_group : is_group_type root_variable.ty ≡ true
     pub fields : List (List ℕ)
     pub written : term_exp S ty t ≡ net.path (owner_path S qualified root_variable.name root_variable.owner ++ fields)
     pub used : (v : ℕ) → term_uses v t ≡ one_if (nat_eq v root.0)
-    pub node : (test : Expr → Bool) → list_any test (nodes (typed ty t)) ≡ false → test (typed (types.user user_type) (variable root qualified)) ≡ false
+    pub node : (test : Expr → Bool) → list_any test (nodes (typed ty t)) ≡ false → test (typed root_type (variable root qualified)) ≡ false
 
   user_of : (of : Ty) (k : ℕ) (ty : Ty) → has_field (uses_in P p mentions) of k ty ≡ true
       → (t : ℕ) × (of ≡ types.user t) × (is_type ty (field_type_in P.declarations mentions t k) ≡ true)
@@ -127,41 +165,54 @@ module _ (P : Program) (S : Scope) (same : S.declarations ≡ P.declarations) (p
   some_scalar None h = absurd (cc h)
   some_scalar (Some ty) h = (ty, refl, no_class ty h)
 
+  -- no object is made where a field is used
+  abbrev IsPlainField : (of : Ty) (k : ℕ) → Type 0
+  IsPlainField of k = (a : net.Exp) → made_if S.declarations (auto_class (variable_number S.declarations.vars (field_of S.declarations of k))) a ≡ a
+
+  plain_field : (of : Ty) (k t : ℕ) → of ≡ types.user t → (f : Ty) × (field_type_in P.declarations mentions t k ≡ Some f) × (class_in f ≡ None)
+      → IsPlainField of k
+  plain_field of k t is f a =
+      ap (λ z. made_if S.declarations (auto_class (variable_number S.declarations.vars (field_of S.declarations z k))) a) is
+      ∙ subst (λ (d : tree.Declarations). made_if d (auto_class (variable_number d.vars (field_of d (types.user t) k))) a ≡ a) (sym same)
+      (field_made P.declarations mentions t k a f.0 f.1 f.2)
+
+  -- what is written for a term has members as a path has
+  abbrev HasPlainMembers : Term → Type 0
+  HasPlainMembers u = (names : Path) (name : List ℕ) → member_in u (net.path names) name ≡ net.path (names ++ name ∷ [])
+
+  plain_member : (ty : Ty) (u : Term) → covers_place_term (uses_in P p mentions) ty u ≡ true → HasPlainMembers u
+  plain_member ty (variable k q) h names name = refl
+  plain_member ty (field e k) h names name = refl
+  plain_member ty _ h names name = absurd (cc h)
+
+  plain_object_member : (ty : Ty) (u : Term) → covers_object_term (uses_in P p mentions) ty u ≡ true → HasPlainMembers u
+  plain_object_member ty (variable k q) h names name = refl
+  plain_object_member ty (field e k) h names name = refl
+  plain_object_member ty _ h names name = absurd (cc h)
+
   -- a field stands behind the path of its place
-  behind : (ty of : Ty) (u : Term) (k t : ℕ) (names : Path) → of ≡ types.user t → (member_in u (net.path names) (variable_name S.declarations (field_of S.declarations of k)) ≡ net.path (names ++ variable_name S.declarations (field_of S.declarations of k) ∷ []))
-      → (f : Ty) × (field_type_in P.declarations mentions t k ≡ Some f) × (class_in f ≡ None)
-      → term_exp S of u ≡ net.path names
+  behind : (ty of : Ty) (u : Term) (k : ℕ) (names : Path) → HasPlainMembers u → IsPlainField of k → term_exp S of u ≡ net.path names
       → term_exp S ty (field (typed of u) k) ≡ net.path (names ++ variable_name S.declarations (field_of S.declarations of k) ∷ [])
-  behind ty of u k t names is plain f e =
+  behind ty of u k names plain none e =
       let name : List ℕ = variable_name S.declarations (field_of S.declarations of k) in
       ap (λ (a : net.Exp). made_if S.declarations (auto_class (variable_number S.declarations.vars (field_of S.declarations of k))) (member_in u a name)) e
-      ∙ ap (λ (a : net.Exp). made_if S.declarations (auto_class (variable_number S.declarations.vars (field_of S.declarations of k))) a) plain
-      ∙ ap (λ z. made_if S.declarations (auto_class (variable_number S.declarations.vars (field_of S.declarations z k))) (net.path (names ++ name ∷ []))) is
-      ∙ subst (λ (d : tree.Declarations). made_if d (auto_class (variable_number d.vars (field_of d (types.user t) k))) (net.path (names ++ name ∷ []))
-      ≡ net.path (names ++ name ∷ [])) (sym same) (field_made P.declarations mentions t k (net.path (names ++ name ∷ [])) f.0 f.1 f.2)
+      ∙ none (member_in u (net.path names) name) ∙ plain names name
 
-  -- what a place is written as has members as a path has
-  plain_member : (ty : Ty) (u : Term) (names : Path) (name : List ℕ) → covers_place_term (uses_in P p mentions) ty u ≡ true
-      → member_in u (net.path names) name ≡ net.path (names ++ name ∷ [])
-  plain_member ty (variable k q) names name h = refl
-  plain_member ty (field e k) names name h = refl
-  plain_member ty _ names name h = absurd (cc h)
-
-  longer : (ty of : Ty) (u : Term) (k t : ℕ) → of ≡ types.user t → covers_place_term (uses_in P p mentions) of u ≡ true
-      → (f : Ty) × (field_type_in P.declarations mentions t k ≡ Some f) × (class_in f ≡ None) → Place of u → Place ty (field (typed of u) k)
-  longer ty of u k t is covers f L =
+  longer : (ty of : Ty) (u : Term) (k : ℕ) → HasPlainMembers u → IsPlainField of k → Place of u → Place ty (field (typed of u) k)
+  longer ty of u k plain none L =
       let name : List ℕ = variable_name S.declarations (field_of S.declarations of k) in
       let path : Path = owner_path S L.qualified L.root_variable.name L.root_variable.owner in
       record {
         root = L.root;
         qualified = L.qualified;
-        user_type = L.user_type;
+        root_type = L.root_type;
+        of_group = L.of_group;
         root_variable = L.root_variable;
         covered = L.covered;
         is_group = L.is_group;
         fields = L.fields ++ name ∷ [];
         written =
-            behind ty of u k t (path ++ L.fields) is (plain_member of u (path ++ L.fields) name covers) f L.written
+            behind ty of u k (path ++ L.fields) plain none L.written
             ∙ ap net.path (append_assoc path L.fields (name ∷ []));
         used = L.used;
         node = λ test h. L.node test (neither (test (typed ty (field (typed of u) k))) (list_any test (nodes (typed of u))) h).1;
@@ -179,21 +230,18 @@ module _ (P : Program) (S : Scope) (same : S.declarations ≡ P.declarations) (p
 
   made_dotted : (of : Ty) (k t : ℕ) (a : net.Exp) → of ≡ types.user t → (f : Ty) × (field_type_in P.declarations mentions t k ≡ Some f) × (class_in f ≡ None)
       → IsDotted a → IsDotted (made_if S.declarations (auto_class (variable_number S.declarations.vars (field_of S.declarations of k))) a)
-  made_dotted of k t a is f d =
-      subst IsDotted (sym (ap (λ z. made_if S.declarations (auto_class (variable_number S.declarations.vars (field_of S.declarations z k))) a) is
-      ∙ subst (λ (d : tree.Declarations). made_if d (auto_class (variable_number d.vars (field_of d (types.user t) k))) a ≡ a) (sym same)
-      (field_made P.declarations mentions t k a f.0 f.1 f.2))) d
+  made_dotted of k t a is f d = subst IsDotted (sym (plain_field of k t is f a)) d
 
   abbrev pub Based : Ty → Term → Type 0
   Based ty t = Place ty t ⊎ Kept ty t
 
   behind_base : (ty of : Ty) (u : Term) (k t : ℕ) → of ≡ types.user t → covers_place_term (uses_in P p mentions) of u ≡ true
       → (f : Ty) × (field_type_in P.declarations mentions t k ≡ Some f) × (class_in f ≡ None) → Based of u → Based ty (field (typed of u) k)
-  behind_base ty of u k t is covers f (inl L) = inl (longer ty of u k t is covers f L)
+  behind_base ty of u k t is covers f (inl L) = inl (longer ty of u k (plain_member of u covers) (plain_field of k t is f) L)
   behind_base ty of u k t is covers f (inr K) =
       inr (record {
         dotted = made_dotted of k t (member_in u (term_exp S of u) (variable_name S.declarations (field_of S.declarations of k))) is f
-        (dotted_member of u (term_exp S of u) (variable_name S.declarations (field_of S.declarations of k)) covers K.dotted);
+            (dotted_member of u (term_exp S of u) (variable_name S.declarations (field_of S.declarations of k)) covers K.dotted);
         unused = K.unused;
       })
 
@@ -212,22 +260,77 @@ module _ (P : Program) (S : Scope) (same : S.declarations ≡ P.declarations) (p
   field_of_base ty of u k t is f (inl h) place = kept_field ty of u k t is h f
   field_of_base ty of u k t is f (inr h) place = behind_base ty of u k t is h f (place h)
 
-  pub place_of : (ty : Ty) (t : Term) → covers_place_term (uses_in P p mentions) ty t ≡ true → Based ty t
-  place_of (types.user t) (variable k q) h =
-      let found = group_use_at P p mentions k t h in
-      let path : Path = owner_path S q found.0.name found.0.owner in
-      inl (record {
+  variable_place : (k : VarId) (q : Bool) (ty : Ty) → covers_group_use P p mentions k ty ≡ true → Place ty (variable k q)
+  variable_place k q ty h =
+      let found : IsGroupAt P p k.0 ty = group_use_at P p mentions k ty h in
+      let path : Path = owner_path S q found.variable.name found.variable.owner in
+      record {
         root = k;
         qualified = q;
-        user_type = t;
-        root_variable = found.0;
-        covered = found.1;
-        is_group = found.2;
+        root_type = ty;
+        of_group = a_group P.declarations ty found.variable.ty found.same found.covers;
+        root_variable = found.variable;
+        covered = found.covered;
+        is_group = group_covered P.declarations found.variable.ty found.covers;
         fields = [];
-        written = variable_exp P S same p k q (types.user t) found.0 found.1 ∙ ap net.path (sym (append-nil path));
+        written = variable_exp P S same p k q ty found.variable found.covered ∙ ap net.path (sym (append-nil path));
         used = λ v. refl;
-        node = λ test e. (neither (test (typed (types.user t) (variable k q))) false e).0;
-      })
+        node = λ test e. (neither (test (typed ty (variable k q))) false e).0;
+      }
+
+  -- ---- objects that are kept
+
+  -- an object has a variable of a type that passes
+  pub record MemberOf (of : Ty) (k : ℕ) (test : Ty → Bool) : Type 0 where
+    pub class : ℕ
+    pub of_class : of ≡ types.class class
+    pub member_type : Ty
+    pub is_type : member_type_in P.declarations mentions class k ≡ Some member_type
+    pub passes : test member_type ≡ true
+
+  member_of_class : (of : Ty) (k : ℕ) (test : Ty → Bool) → has_member (uses_in P p mentions) of k test ≡ true → MemberOf of k test
+  member_of_class (types.class c) k test h = by (member_type_in P.declarations mentions c k) refl h
+    where
+      by : (o : Option Ty) → member_type_in P.declarations mentions c k ≡ o → is_passing test o ≡ true → MemberOf (types.class c) k test
+      by None e h = absurd (cc h)
+      by (Some ty) e h = record { class = c; of_class = refl; member_type = ty; is_type = e; passes = h }
+  member_of_class _ k test h = absurd (cc h)
+
+  -- it is no As New one
+  plain_object_field : (of : Ty) (k : ℕ) (test : Ty → Bool) → MemberOf of k test → IsPlainField of k
+  plain_object_field of k test M a =
+      ap (λ z. made_if S.declarations (auto_class (variable_number S.declarations.vars (field_of S.declarations z k))) a) M.of_class
+      ∙ subst (λ (d : tree.Declarations). made_if d (auto_class (variable_number d.vars (field_of d (types.class M.class) k))) a ≡ a) (sym same)
+      (member_made P.declarations mentions M.class k a M.member_type M.is_type)
+
+  pub object_of : (ty : Ty) (t : Term) → covers_object_term (uses_in P p mentions) ty t ≡ true → Place ty t
+  object_of ty (variable k q) h = variable_place k q ty (both_true (is_class_type ty) (covers_group_use P p mentions k ty) h).1
+  object_of ty (field (typed of u) k) h =
+      let a = both_true (is_class_type ty)
+      (has_member (uses_in P p mentions) of k (is_same_type ty) && covers_object_term (uses_in P p mentions) of u) h in
+      let b = both_true (has_member (uses_in P p mentions) of k (is_same_type ty)) (covers_object_term (uses_in P p mentions) of u) a.1 in
+      longer ty of u k (plain_object_member of u b.1) (plain_object_field of k (is_same_type ty) (member_of_class of k (is_same_type ty) b.0)) (object_of of u b.1)
+  object_of ty _ h = absurd (cc h)
+
+  -- a variable of one
+  pub member_place : (ty : Ty) (e : Expr) (k : ℕ) (test : Ty → Bool) → has_member (uses_in P p mentions) (type_at e) k test ≡ true
+      → covers_object (uses_in P p mentions) e ≡ true → Place ty (field e k)
+  member_place ty (typed of u) k test h c =
+      longer ty of u k (plain_object_member of u c) (plain_object_field of k test (member_of_class of k test h)) (object_of of u c)
+
+  pub member_written : (ty : Ty) (e : Expr) (k : ℕ) → covers_object_term (uses_in P p mentions) ty (field e k) ≡ true
+      → exp_of S (typed ty (field e k)) ≡ target_exp S (typed ty (field e k))
+  member_written ty (typed of u) k h =
+      let a = both_true (is_class_type ty)
+      (has_member (uses_in P p mentions) of k (is_same_type ty) && covers_object_term (uses_in P p mentions) of u) h in
+      let b = both_true (has_member (uses_in P p mentions) of k (is_same_type ty)) (covers_object_term (uses_in P p mentions) of u) a.1 in
+      plain_object_field of k (is_same_type ty) (member_of_class of k (is_same_type ty) b.0)
+      (member_in u (term_exp S of u) (variable_name S.declarations (field_of S.declarations of k)))
+
+  -- ---- places of user types
+
+  pub place_of : (ty : Ty) (t : Term) → covers_place_term (uses_in P p mentions) ty t ≡ true → Based ty t
+  place_of ty (variable k q) h = inl (variable_place k q ty h)
   place_of ty (field (typed of u) k) h =
       let both = both_true (has_inner (uses_in P p mentions) of k ty) (covers_base (uses_in P p mentions) (typed of u)) h in
       let i = inner_of of k ty both.0 in
@@ -254,7 +357,7 @@ module _ (P : Program) (S : Scope) (same : S.declarations ≡ P.declarations) (p
     pub path_counted : (ty : Ty) (t : Term) → Based ty t → list_any test (nodes (typed ty t)) ≡ false → term_uses v t ≡ names count (term_exp S ty t)
     path_counted ty t (inl L) free =
         L.used v
-        ∙ right.fields L.root L.qualified L.user_type L.root_variable L.fields L.covered L.is_group (L.node test free)
+        ∙ right.fields L.root L.qualified L.root_type L.root_variable L.fields L.covered L.is_group L.of_group (L.node test free)
         ∙ sym (ap (names count) L.written)
     path_counted ty t (inr K) free = K.unused v ∙ sym (none_named (term_exp S ty t) K.dotted)
 

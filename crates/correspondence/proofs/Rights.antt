@@ -1,5 +1,5 @@
 -- The counts by which a variable's names are counted are right: for one of the procedure, and for one of a standard module.
-use Rattle.std.proofs.Common.{◌≡◌, ℕ, Bool, true, false, List, [], ◌∷◌, Some, refl, sym, ap, ◌∙◌, nat_eq, codes, inr}
+use Rattle.std.proofs.Common.{◌≡◌, ℕ, Bool, true, false, ◌&&◌, List, [], ◌∷◌, Some, refl, sym, ap, ◌∙◌, nat_eq, codes, inr}
 use Rattle.std.specs.List.{list_any}
 use Rattle.std.specs.Prelude.{◌||◌, slice_get}
 use Rattle.up_base.specs.Names.{is_same_name}
@@ -7,7 +7,7 @@ use Rattle.vb_tree.specs.declared.declared.Owner.TheVariants as owner
 use Rattle.bound_tree.specs.declared.body.Mention.{Mention}
 use Rattle.bound_tree.specs.Tree.{Declarations, Expr, typed, call, no_object, Program, Variable}
 use Rattle.written_trees.specs.Names.{Scope, module_name, variable_name_of}
-use Rattle.run_matches.specs.Covered.{is_user}
+use Rattle.run_matches.specs.UserTypes.{is_group_type}
 use Rattle.run_matches.specs.CoveredVariables.{belongs_to, is_reached}
 use Rattle.correspondence.specs.Uses.{IsAlone, IsFirst, IsSharedAlone, is_call_in, is_call_of, is_group_named, is_named_there, path_names, shared_names}
 use Rattle.correspondence.proofs.NamedArrays.{IsRight}
@@ -28,22 +28,22 @@ any_either f g (x ∷ xs) h e =
     none false true c h e k = absurd (cc e)
     none false false c h e k = k
 
--- a call of the name, or a variable of a user type that has the name of the module
+-- a call of the name, or a variable of a user type or a class that has the name of the module
 abbrev pub is_shared_test : Program → (file : ℕ) → Variable → Expr → Bool
 is_shared_test P file x e =
     is_call_in P.declarations (module_name P.declarations file) x.name e || is_group_named P.declarations (module_name P.declarations file) e
 
 module _ (P : Program) (S : Scope) (same : S.declarations ≡ P.declarations) (p v : ℕ) (x : Variable) where
   pub own_right : slice_get P.declarations.vars v ≡ Some x → belongs_to p x.owner ≡ true → IsAlone P.declarations p v x → IsFirst P.declarations x
-      → (mentions : List Mention) → IsRight P S p mentions v (path_names (is_user x.ty) x.name) (is_call_of S.declarations x.name)
+      → (mentions : List Mention) → IsRight P S p mentions v (path_names (is_group_type x.ty) x.name) (is_call_of S.declarations x.name)
   own_right at own alone first mentions = record {
     no_support = λ n. own_reserved P S same p v x at own alone first (codes "UpgradeSupport") n [] refl;
     no_strings = λ n. own_reserved P S same p v x at own alone first (codes "Microsoft") (codes "VisualBasic") (codes "Strings" ∷ n ∷ []) refl;
     no_math = own_reserved P S same p v x at own alone first (codes "System") (codes "Math") (codes "Abs" ∷ []) refl;
     used = own_use P S same p v x at own alone first mentions;
-    fields = λ k q t y rest is user free. own_named P S same p v x at own alone first k.0 y q rest is (inr user);
+    fields = λ k q ty y rest is group of_group free. own_named P S same p v x at own alone first k.0 y q rest is (inr group);
     uncalled = λ ty q qualified args e.
-        path_other S.declarations S refl (is_user x.ty) x.name (λ file a b. module_outer P.declarations file x.name (first a) (named file b)) qualified q.0 e;
+        path_other S.declarations S refl (is_group_type x.ty) x.name (λ file a b. module_outer P.declarations file x.name (first a) (named file b)) qualified q.0 e;
   }
     where
       named : (file : ℕ) → is_same_name (module_name S.declarations file) x.name ≡ true → is_same_name (module_name P.declarations file) x.name ≡ true
@@ -51,19 +51,20 @@ module _ (P : Program) (S : Scope) (same : S.declarations ≡ P.declarations) (p
 
   pub shared_right : (file : ℕ) → slice_get P.declarations.vars v ≡ Some x → x.owner ≡ owner.Module file
       → is_reached P.declarations p v x.name x.owner ≡ true → IsSharedAlone P.declarations v file x → IsFirst P.declarations x → (mentions : List Mention)
-      → IsRight P S p mentions v (shared_names (is_user x.ty) (nat_eq S.file file) (module_name P.declarations file) x.name) (is_shared_test P file x)
+      → IsRight P S p mentions v (shared_names (is_group_type x.ty) (nat_eq S.file file) (module_name P.declarations file) x.name) (is_shared_test P file x)
   shared_right file at of reached alone first mentions = record {
     no_support = λ n. shared_reserved P S same p v x file at of reached alone first (codes "UpgradeSupport") n [] refl;
     no_strings = λ n. shared_reserved P S same p v x file at of reached alone first (codes "Microsoft") (codes "VisualBasic") (codes "Strings" ∷ n ∷ []) refl;
     no_math = shared_reserved P S same p v x file at of reached alone first (codes "System") (codes "Math") (codes "Abs" ∷ []) refl;
     used = shared_use P S same p v x file at of reached alone first mentions;
-    fields = λ k q t y rest is user free.
+    fields = λ k q ty y rest is group of_group free.
+        let named : Bool = is_same_name (variable_name_of (slice_get P.declarations.vars k.0)) (module_name P.declarations file) in
         let other : is_same_name y.name (module_name P.declarations file) ≡ false =
         ap (λ o. is_same_name (variable_name_of o) (module_name P.declarations file)) (sym is.0)
-        ∙ (neither false (is_same_name (variable_name_of (slice_get P.declarations.vars k.0)) (module_name P.declarations file)) free).1 in
-        shared_named P S same p v x file at of reached alone first k.0 y q rest is (inr (user, other));
+        ∙ sym (ap {B = Bool} (λ b. b && named) of_group) ∙ (neither false (is_group_type ty && named) free).1 in
+        shared_named P S same p v x file at of reached alone first k.0 y q rest is (inr (group, other));
     uncalled = λ ty q qualified args e.
-        shared_path_other P.declarations S same (is_user x.ty) file x.name qualified q.0 (λ f a b. module_outer P.declarations f x.name (first a) b)
+        shared_path_other P.declarations S same (is_group_type x.ty) file x.name qualified q.0 (λ f a b. module_outer P.declarations f x.name (first a) b)
         (neither (is_named_there P.declarations (module_name P.declarations file) x.name (Some q.0))
         (is_group_named P.declarations (module_name P.declarations file) (typed ty (call q qualified no_object args))) e).0;
   }

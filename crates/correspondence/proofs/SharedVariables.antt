@@ -15,7 +15,7 @@ use Rattle.bound_tree.specs.Tree.{Variable, Program, typed, variable}
 use Rattle.written_trees.specs.Exprs.{exp_of}
 use Rattle.written_trees.specs.Names.{Path, Scope, module_at, is_standard_module, module_name, is_foreign, owner_path}
 use Rattle.written_trees.specs.Prologues.{one_if}
-use Rattle.run_matches.specs.Covered.{is_user}
+use Rattle.run_matches.specs.UserTypes.{is_group_type}
 use Rattle.run_matches.specs.CoveredVariables.{covers_owner, belongs_to, is_foreign_name, is_reached}
 use Rattle.run_matches.specs.CoveredExprs.{IsUsed, uses_in}
 use Rattle.run_matches.specs.Shared.{names_lead, leads_to_home, is_alone_static}
@@ -115,7 +115,7 @@ shared_itself fielded false true of name rest s = inside_itself fielded of name 
 
 -- fields stand behind the path of a variable of a user type alone, which hasn't the name of the module
 abbrev pub SuitsBy : (of : List ℕ) → Variable → List (List ℕ) → Type 0
-SuitsBy of y rest = (rest ≡ []) ⊎ ((is_user y.ty ≡ true) × (is_same_name y.name of ≡ false))
+SuitsBy of y rest = (rest ≡ []) ⊎ ((is_group_type y.ty ≡ true) × (is_same_name y.name of ≡ false))
 
 module _ (P : Program) (S : Scope) (same : S.declarations ≡ P.declarations) (p v : ℕ) (x : Variable) (file : ℕ)
     (at : slice_get P.declarations.vars v ≡ Some x) (of : x.owner ≡ owner.Module file) (reached : is_reached P.declarations p v x.name x.owner ≡ true)
@@ -124,7 +124,7 @@ module _ (P : Program) (S : Scope) (same : S.declarations ≡ P.declarations) (p
   D = P.declarations
 
   abbrev count : Path → ℕ
-  count = shared_names (is_user x.ty) (nat_eq S.file file) (module_name D file) x.name
+  count = shared_names (is_group_type x.ty) (nat_eq S.file file) (module_name D file) x.name
 
   abbrev home : List ℕ
   home = module_name D file
@@ -152,7 +152,7 @@ module _ (P : Program) (S : Scope) (same : S.declarations ≡ P.declarations) (p
   by_fields y rest (inl e) = inl e
   by_fields y rest (inr h) = inr h.1
 
-  by_type : (y : Variable) (rest : List (List ℕ)) → SuitsBy home y rest → (rest ≡ []) ⊎ (is_user y.ty ≡ true)
+  by_type : (y : Variable) (rest : List (List ℕ)) → SuitsBy home y rest → (rest ≡ []) ⊎ (is_group_type y.ty ≡ true)
   by_type y rest (inl e) = inl e
   by_type y rest (inr h) = inr h.0
 
@@ -160,7 +160,7 @@ module _ (P : Program) (S : Scope) (same : S.declarations ≡ P.declarations) (p
   own_shared : (k : ℕ) (y : Variable) (rest : List (List ℕ)) → SuitsBy home y rest → slice_get D.vars k ≡ Some y → belongs_to p y.owner ≡ true
       → count (y.name ∷ rest) ≡ 0
   own_shared k y rest s is h =
-      alone_none (is_user x.ty) (nat_eq S.file file) home x.name y.name rest
+      alone_none (is_group_type x.ty) (nat_eq S.file file) home x.name y.name rest
       (λ a b. cc (sym (foreign_name p x.name D.vars k y leading.1 is h) ∙ b)) (by_fields y rest s)
 
   other_shared : (k : ℕ) (y : Variable) (q : Bool) (rest : List (List ℕ)) → SuitsBy home y rest → slice_get D.vars k ≡ Some y → (o : Owner) → y.owner ≡ o
@@ -170,7 +170,7 @@ module _ (P : Program) (S : Scope) (same : S.declarations ≡ P.declarations) (p
       let differs : is_same_name (module_name D f) home ≡ true → is_same_name y.name x.name ≡ true → ⊥ =
       λ s t. cc (sym n ∙ eq-eqb v k (sym (alone k y f is e t s))) in
       ap (λ (path : Path). count (path ++ rest)) (module_path_is q y.name f (standard_at k f y.name leads.0))
-      ∙ shared_other (is_user x.ty) (nat_eq S.file file) home x.name q (nat_eq S.file f) (module_name D f) y.name rest differs
+      ∙ shared_other (is_group_type x.ty) (nat_eq S.file file) home x.name q (nat_eq S.file f) (module_name D f) y.name rest differs
       (λ a b. differs
       (subst (λ i. is_same_name (module_name D i) home ≡ true) (sym (eqb-true S.file file b) ∙ eqb-true S.file f a)
       (same_itself (lower_case home))))
@@ -189,17 +189,17 @@ module _ (P : Program) (S : Scope) (same : S.declarations ≡ P.declarations) (p
       by_test (nat_eq v k) (λ c. one_if c ≡ count (owner_path S q y.name y.owner ++ rest))
       (λ e.
       let found : x ≡ y = some_same x y (sym at ∙ ap (slice_get D.vars) (eqb-true v k e) ∙ is.0) in
-      let suits : (rest ≡ []) ⊎ (is_user x.ty ≡ true) = by_type x rest (subst (λ (z : Variable). SuitsBy home z rest) (sym found) s) in
+      let suits : (rest ≡ []) ⊎ (is_group_type x.ty ≡ true) = by_type x rest (subst (λ (z : Variable). SuitsBy home z rest) (sym found) s) in
       sym (ap (λ o. count (owner_path S q x.name o ++ rest)) of
       ∙ ap (λ (path : Path). count (path ++ rest)) (module_path_is q x.name file (standard_at v file x.name leading.0))
-      ∙ shared_itself (is_user x.ty) q (nat_eq S.file file) home x.name rest suits)
+      ∙ shared_itself (is_group_type x.ty) q (nat_eq S.file file) home x.name rest suits)
       ∙ ap (λ (z : Variable). count (owner_path S q z.name z.owner ++ rest)) found)
       (λ e. sym (other_shared k y q rest s is.0 y.owner refl is.1 is.2 e))
 
   -- no name of the support module or of the run-time library
   pub shared_reserved : (word n : List ℕ) (rest : List (List ℕ)) → is_reserved word ≡ true → count (word ∷ n ∷ rest) ≡ 0
   shared_reserved word n rest h =
-      behind_none (is_user x.ty) (nat_eq S.file file) home x.name word n rest (λ a b. cc (sym unreserved ∙ name_reserved word home h a))
+      behind_none (is_group_type x.ty) (nat_eq S.file file) home x.name word n rest (λ a b. cc (sym unreserved ∙ name_reserved word home h a))
       (λ a b. reserved_outer D x.name (first a) (name_reserved word x.name h b))
 
   module _ (mentions : List Mention) where

@@ -22,11 +22,10 @@ use Rattle.written_trees.specs.Exprs.{exp_of, made_if}
 use Rattle.written_trees.specs.Names.{Path, Scope, module_at, is_standard_module, module_name, name_in, is_foreign, variable_path_of, owner_path}
 use Rattle.written_trees.specs.Prologues.{one_if}
 use Rattle.written_trees.specs.Types.{element_type}
-use Rattle.run_matches.specs.CoveredVariables.{covers_type, covers_owner, covers_variable, belongs_to, is_foreign_name, is_reached, covers_some, is_mention_of, is_loud, covers_array_owner, covers_array_variable, covers_bounds, covers_declared, covers_group_owner, covers_group_use, covers_group_variable, covers_some_array, covers_some_group, covers_user, is_array_of, is_named_apart}
-use Rattle.run_matches.specs.Covered.{is_user}
+use Rattle.run_matches.specs.CoveredVariables.{covers_type, covers_owner, covers_variable, belongs_to, is_foreign_name, is_reached, covers_some, is_mention_of, is_loud, covers_array_owner, covers_array_variable, covers_bounds, covers_declared, covers_group_type, covers_group_use, covers_group_variable, covers_some_array, covers_some_group, is_array_of, is_named_apart}
+use Rattle.run_matches.specs.UserTypes.{is_group_type}
 use Rattle.run_matches.specs.CoveredExprs.{Uses, covers_expr, covers_array, covers_place, is_passable, IsUsed, uses_in}
 use Rattle.run_matches.specs.Shared.{names_lead, leads_to_home, is_alone_static}
-use Rattle.run_matches.specs.UserTypes.{is_user_of}
 use Rattle.correspondence.proofs.Among.{or_cases}
 use Rattle.correspondence.specs.Uses.{path_names, names, is_outer, IsAlone, IsFirst}
 
@@ -68,21 +67,14 @@ array_parts element y h =
     let d = both_true (covers_bounds y.ty y.bounds) (not y.auto) c.1 in
     (array_owner y.owner a.0, not_true y.auto d.1)
 
-group_owner : (o : Owner) → covers_group_owner o ≡ true → covers_owner o ≡ true
-group_owner (owner.Module file) h = refl
-group_owner (owner.Local p) h = refl
-group_owner (owner.Static p) h = refl
-group_owner (owner.Value p) h = refl
-group_owner (owner.Reference p) h = refl
-group_owner _ h = absurd (cc h)
-
-group_parts : (D : tree.Declarations) (y : Variable) → covers_group_variable D y ≡ true → (covers_owner y.owner ≡ true) × (y.auto ≡ false)
+group_parts : (D : tree.Declarations) (y : Variable) → covers_group_variable D y ≡ true
+    → (covers_owner y.owner ≡ true) × (y.auto ≡ false) × (covers_group_type D y.ty ≡ true)
 group_parts D y h =
-    let a = both_true (covers_group_owner y.owner) (is_user_of (covers_user D) y.ty && not y.auto) h in
-    let b = both_true (is_user_of (covers_user D) y.ty) (not y.auto) a.1 in
-    (group_owner y.owner a.0, not_true y.auto b.1)
+    let a = both_true (covers_owner y.owner) (covers_group_type D y.ty && not y.auto) h in
+    let b = both_true (covers_group_type D y.ty) (not y.auto) a.1 in
+    (a.0, not_true y.auto b.1, b.0)
 
--- a declared scalar, an array or a variable of a user type
+-- a declared scalar, an array or a variable of a user type or a class
 pub declared_owner : (D : tree.Declarations) (x : Variable) → covers_declared D x ≡ true → covers_owner x.owner ≡ true
 declared_owner D x h =
     by (or_cases (covers_variable x) (covers_array_variable (element_type x.ty) x || covers_group_variable D x) h)
@@ -108,32 +100,31 @@ array_at P p k element h = by (slice_get P.declarations.vars k) refl h
         let g = array_parts element y (both_true (covers_array_variable element y) apart f.1).0 in
         (y, (e, f.0, g.0, g.1))
 
-same_user : (t : ℕ) (ty : Ty) → is_same_type (types.user t) ty ≡ true → is_user ty ≡ true
-same_user t (types.user u) h = refl
-same_user t _ h = absurd (cc h)
+-- a variable of a user type or a class
+pub record IsGroupAt (P : Program) (p k : ℕ) (ty : Ty) : Type 0 where
+  pub variable : Variable
+  pub covered : IsCoveredAt P p k variable
+  pub same : is_same_type ty variable.ty ≡ true
+  pub covers : covers_group_type P.declarations variable.ty ≡ true
 
-group_at : (P : Program) (p k t : ℕ) → covers_some_group P.declarations p k t (slice_get P.declarations.vars k) ≡ true
-    → (y : Variable) × IsCoveredAt P p k y × (is_user y.ty ≡ true)
-group_at P p k t h = by (slice_get P.declarations.vars k) refl h
+group_at : (P : Program) (p k : ℕ) (ty : Ty) → covers_some_group P.declarations p k ty (slice_get P.declarations.vars k) ≡ true → IsGroupAt P p k ty
+group_at P p k ty h = by (slice_get P.declarations.vars k) refl h
   where
-    by : (o : Option Variable) → slice_get P.declarations.vars k ≡ o → covers_some_group P.declarations p k t o ≡ true
-        → (y : Variable) × IsCoveredAt P p k y × (is_user y.ty ≡ true)
+    by : (o : Option Variable) → slice_get P.declarations.vars k ≡ o → covers_some_group P.declarations p k ty o ≡ true → IsGroupAt P p k ty
     by None e c = absurd (cc c)
     by (Some y) e c =
-        let f = both_true (is_reached P.declarations p k y.name y.owner) (is_same_type (types.user t) y.ty && covers_group_variable P.declarations y) c in
-        let g = both_true (is_same_type (types.user t) y.ty) (covers_group_variable P.declarations y) f.1 in
+        let f = both_true (is_reached P.declarations p k y.name y.owner) (is_same_type ty y.ty && covers_group_variable P.declarations y) c in
+        let g = both_true (is_same_type ty y.ty) (covers_group_variable P.declarations y) f.1 in
         let i = group_parts P.declarations y g.1 in
-        (y, (e, f.0, i.0, i.1), same_user t y.ty g.0)
+        record { variable = y; covered = (e, f.0, i.0, i.1); same = g.0; covers = i.2 }
 
--- a variable of a user type
-pub group_use_at : (P : Program) (p : ℕ) (mentions : List Mention) (k : VarId) (t : ℕ) → covers_group_use P p mentions k t ≡ true
-    → (y : Variable) × IsCoveredAt P p k.0 y × (is_user y.ty ≡ true)
-group_use_at P p mentions k t h =
+pub group_use_at : (P : Program) (p : ℕ) (mentions : List Mention) (k : VarId) (ty : Ty) → covers_group_use P p mentions k ty ≡ true → IsGroupAt P p k.0 ty
+group_use_at P p mentions k ty h =
     let o : Option Variable = slice_get P.declarations.vars k.0 in
-    let both = both_true (list_any (is_mention_of k) mentions) (covers_some_group P.declarations p k.0 t o && is_loud P k.0 o) h in
-    group_at P p k.0 t (both_true (covers_some_group P.declarations p k.0 t o) (is_loud P k.0 o) both.1).0
+    let both = both_true (list_any (is_mention_of k) mentions) (covers_some_group P.declarations p k.0 ty o && is_loud P k.0 o) h in
+    group_at P p k.0 ty (both_true (covers_some_group P.declarations p k.0 ty o) (is_loud P k.0 o) both.1).0
 
--- a scalar, an array or a variable of a user type
+-- a scalar, an array or a variable of a user type or a class
 pub used_at : (P : Program) (p : ℕ) (mentions : List Mention) (k : VarId) → IsUsed (uses_in P p mentions) k → (y : Variable) × IsCoveredAt P p k.0 y
 used_at P p mentions k (inl h) =
     let o : Option Variable = slice_get P.declarations.vars k.0 in
@@ -142,7 +133,7 @@ used_at P p mentions k (inr (inl h)) =
     let o : Option Variable = slice_get P.declarations.vars k.0 in
     let both = both_true (list_any (is_mention_of k) mentions) (covers_some_array P.declarations p k.0 h.0 o && is_loud P k.0 o) h.1 in
     array_at P p k.0 h.0 (both_true (covers_some_array P.declarations p k.0 h.0 o) (is_loud P k.0 o) both.1).0
-used_at P p mentions k (inr (inr h)) = let found = group_use_at P p mentions k h.0 h.1 in (found.0, found.1)
+used_at P p mentions k (inr (inr h)) = let found = group_use_at P p mentions k h.0 h.1 in (found.variable, found.covered)
 
 -- what is given by reference: a scalar, an array or a place of a user type
 pub passed_cases : (uses : Uses) (e : Expr) → ((is_passable uses e && covers_expr uses e) || (covers_array uses e || covers_place uses e)) ≡ true
@@ -199,7 +190,7 @@ path_is P S same p k q y is = by y.owner is.1 is.2
 
 -- fields stand behind the path of a variable of a user type alone
 abbrev pub Suits : Variable → List (List ℕ) → Type 0
-Suits y rest = (rest ≡ []) ⊎ (is_user y.ty ≡ true)
+Suits y rest = (rest ≡ []) ⊎ (is_group_type y.ty ≡ true)
 
 or_true : (a b : Bool) → b ≡ true → (a || b) ≡ true
 or_true true b h = refl
@@ -281,17 +272,17 @@ name_reserved word name h e =
 module _ (P : Program) (S : Scope) (same : S.declarations ≡ P.declarations) (p v : ℕ) (x : Variable) (at : slice_get P.declarations.vars v ≡ Some x)
     (own : belongs_to p x.owner ≡ true) (alone : IsAlone P.declarations p v x) (first : IsFirst P.declarations x) where
   abbrev own_count : Path → ℕ
-  own_count = path_names (is_user x.ty) x.name
+  own_count = path_names (is_group_type x.ty) x.name
 
   -- a name that differs, with fields or without
   differing_named : (n : List ℕ) (rest : List (List ℕ)) → is_same_name n x.name ≡ false → own_count (n ∷ rest) ≡ 0
   differing_named n [] h = ap {B = ℕ} (λ c. cond c 1 0) h
-  differing_named n (f ∷ rest) h = one_of (is_user x.ty) (is_same_name n x.name) (λ a b. cc (sym h ∙ b))
+  differing_named n (f ∷ rest) h = one_of (is_group_type x.ty) (is_same_name n x.name) (λ a b. cc (sym h ∙ b))
 
   -- what stands behind the name of a module
   behind_module : (file : ℕ) (n : List ℕ) (rest : List (List ℕ)) → own_count (module_name S.declarations file ∷ n ∷ rest) ≡ 0
   behind_module file n rest =
-      one_of (is_user x.ty) (is_same_name (module_name S.declarations file) x.name)
+      one_of (is_group_type x.ty) (is_same_name (module_name S.declarations file) x.name)
       (λ a b. module_outer P.declarations file x.name (first a) (subst (λ (d : tree.Declarations). is_same_name (module_name d file) x.name ≡ true) same b))
 
   path_named : (b : Bool) (file : ℕ) (name : List ℕ) (rest : List (List ℕ)) → is_same_name name x.name ≡ false
@@ -349,14 +340,14 @@ module _ (P : Program) (S : Scope) (same : S.declarations ≡ P.declarations) (p
 
   module _ (mentions : List Mention) where
     pub own_use : (k : VarId) (q : Bool) (ty : Ty) → IsUsed (uses_in P p mentions) k
-        → one_if (nat_eq v k.0) ≡ names (path_names (is_user x.ty) x.name) (exp_of S (typed ty (variable k q)))
+        → one_if (nat_eq v k.0) ≡ names (path_names (is_group_type x.ty) x.name) (exp_of S (typed ty (variable k q)))
     own_use k q ty h =
         let found = used_at P p mentions k h in
         own_named k.0 found.0 q [] found.1 (inl refl)
         ∙ ap own_count (append-nil (owner_path S q found.0.name found.0.owner))
-        ∙ sym (ap (names (path_names (is_user x.ty) x.name)) (variable_exp P S same p k q ty found.0 found.1))
+        ∙ sym (ap (names (path_names (is_group_type x.ty) x.name)) (variable_exp P S same p k q ty found.0 found.1))
 
   -- no name of the support module or of the run-time library
   pub own_reserved : (word n : List ℕ) (rest : List (List ℕ)) → is_reserved word ≡ true → own_count (word ∷ n ∷ rest) ≡ 0
   own_reserved word n rest h =
-      one_of (is_user x.ty) (is_same_name word x.name) (λ a b. reserved_outer P.declarations x.name (first a) (name_reserved word x.name h b))
+      one_of (is_group_type x.ty) (is_same_name word x.name) (λ a b. reserved_outer P.declarations x.name (first a) (name_reserved word x.name h b))

@@ -3,7 +3,7 @@ use Rattle.std.specs.Prelude.{◌≡◌, ℕ, ◌+◌, nat_eq, true, cond, Some,
 use Rattle.std.specs.List.{flat_map, list_any}
 use Rattle.up_base.specs.Names.{is_same_name}
 use Rattle.vb_tree.specs.declared.declared.Owner.TheVariants as owner
-use Rattle.vb_tree.specs.BoundTree.{user}
+use Rattle.vb_tree.specs.BoundTree.{Ty}
 use Rattle.vb_tree.specs.ProjectLines.{is_reserved}
 use Rattle.vb_tree.specs.Tree.{Form, Module}
 use Rattle.vb_tree.specs.Tree as source
@@ -16,7 +16,7 @@ use Rattle.net_tree.specs.Tree as net
 use Rattle.written_trees.specs.Conversions.{one, two}
 use Rattle.written_trees.specs.Lines.{print_name}
 use Rattle.written_trees.specs.Names.{Path, Scope, is_standard_module, module_at, module_name, support, procedure_name, variable_name_of}
-use Rattle.run_matches.specs.Covered.{is_user}
+use Rattle.run_matches.specs.UserTypes.{is_group_type}
 use Rattle.run_matches.specs.CoveredVariables.{belongs_to, is_reached}
 
 -- ---- bound expressions
@@ -69,7 +69,8 @@ abbrev pub is_outer : Declarations → List ℕ → Bool
 is_outer D [] = true
 is_outer D (c ∷ cs) = is_reserved (c ∷ cs) || list_any (λ (m : Module). is_same_name m.name (c ∷ cs)) D.project.modules
 
--- Whether a path is a name alone, and this one; letters are compared without case. Behind the name of a variable of a user type stand fields.
+-- Whether a path is a name alone, and this one; letters are compared without case. Behind the name of a variable of a user type or a class
+-- stand fields.
 abbrev pub path_names : (fielded : Bool) → List ℕ → Path → ℕ
 path_names fielded name [] = 0
 path_names fielded name (n ∷ []) = cond (is_same_name n name) 1 0
@@ -145,29 +146,32 @@ is_named_there D of name (Some q) = is_same_name (procedure_name D q) name && no
 abbrev pub is_call_in : Declarations → (of name : List ℕ) → Expr → Bool
 is_call_in D of name e = is_named_there D of name (called e)
 
--- whether a node is a variable of a user type that has the name
-abbrev pub is_group_named : Declarations → List ℕ → Expr → Bool
-is_group_named D name (typed (user t) (variable v qualified)) = is_same_name (variable_name_of (slice_get D.vars v.0)) name
-is_group_named D name e = false
+abbrev pub is_group_named_in : Declarations → List ℕ → Ty → Term → Bool
+is_group_named_in D name ty (variable v qualified) = is_group_type ty && is_same_name (variable_name_of (slice_get D.vars v.0)) name
+is_group_named_in D name ty t = false
 
--- a path that begins with the name of a variable of a user type is that variable's
+-- whether a node is a variable of a user type or a class that has the name
+abbrev pub is_group_named : Declarations → List ℕ → Expr → Bool
+is_group_named D name (typed ty t) = is_group_named_in D name ty t
+
+-- a path that begins with the name of a variable of a user type or a class is that variable's
 abbrev pub IsFirst : Declarations → Variable → Type 0
-IsFirst D x = is_user x.ty ≡ true → is_outer D x.name ≡ false
+IsFirst D x = is_group_type x.ty ≡ true → is_outer D x.name ≡ false
 
 -- Expressions use each variable of the procedure, and each of a standard module to which names lead, as often as written ones name it, where
 -- they call no procedure of its name: a result variable has that of its procedure. What has the name of a module breaks U20 itself; a variable
--- of a user type with such a name might be taken for the module, since fields stand behind it.
+-- of a user type or a class with such a name might be taken for the module, since fields stand behind it.
 pub record SameUses (S : Scope) (p : ℕ) (es : List Expr) (ws : List Exp) : Type 0 where
   pub own :
       (v : ℕ) (x : Variable) → slice_get S.declarations.vars v ≡ Some x → belongs_to p x.owner ≡ true → IsAlone S.declarations p v x
       → IsFirst S.declarations x → list_any (is_call_of S.declarations x.name) (flat_map nodes es) ≡ false
-      → total (uses v) es ≡ total (names (path_names (is_user x.ty) x.name)) ws
+      → total (uses v) es ≡ total (names (path_names (is_group_type x.ty) x.name)) ws
   pub shared :
       (v : ℕ) (x : Variable) (file : ℕ) → slice_get S.declarations.vars v ≡ Some x → x.owner ≡ owner.Module file
       → is_reached S.declarations p v x.name x.owner ≡ true → IsSharedAlone S.declarations v file x
       → IsFirst S.declarations x → list_any (is_call_in S.declarations (module_name S.declarations file) x.name) (flat_map nodes es) ≡ false
       → list_any (is_group_named S.declarations (module_name S.declarations file)) (flat_map nodes es) ≡ false
-      → total (uses v) es ≡ total (names (shared_names (is_user x.ty) (nat_eq S.file file) (module_name S.declarations file) x.name)) ws
+      → total (uses v) es ≡ total (names (shared_names (is_group_type x.ty) (nat_eq S.file file) (module_name S.declarations file) x.name)) ws
 
 -- the expressions of an array that a ReDim makes anew, on both sides; a lower bound is a constant, which isn't written as it stands
 abbrev pub extent_exprs : Extent → List Expr
@@ -208,6 +212,7 @@ abbrev pub FormCorresponds : Scope → (procedure : ℕ) → Form → List Expr 
 FormCorresponds S p (source.assign target value) es (net.assign t v) = SameUses S p es (t ∷ v ∷ [])
 FormCorresponds S p (source.assign target value) es (net.call callee args) =
     (ty : List ℕ) × (t : Exp) × (v : Exp) × (callee ≡ net.path (support (codes "Put" ++ ty))) × (args ≡ two v t) × SameUses S p es (t ∷ v ∷ [])
+FormCorresponds S p (source.set target value) es (net.assign t v) = SameUses S p es (t ∷ v ∷ [])
 FormCorresponds S p (source.debug_print items ended) es (net.call callee args) =
     (text : Exp) × (callee ≡ net.path (support (print_name ended))) × (args ≡ one text) × SameUses S p es (text ∷ [])
 FormCorresponds S p (source.if_head condition) es (net.if_head e) = SameUses S p es (e ∷ [])

@@ -1,9 +1,8 @@
 -- The laws, under any pledge and under that of a frame.
 use Rattle.run_matches.specs.Keeping.{given_types}
 use Rattle.expression_laws.proofs.Giving.{called_giving_for, giving, stands_giving}
-use Rattle.vb_tree.specs.BoundTree.{user}
-use Rattle.std.proofs.Common.{inr, refl, sym, true≢false, ℕ, false, ◌&&◌, Some, inl}
-use Rattle.bound_tree.specs.Tree.{typed, variable, field, element, call, no_object, of_object}
+use Rattle.std.proofs.Common.{inr, refl, ℕ, false, ◌&&◌, Some, inl}
+use Rattle.bound_tree.specs.Tree.{typed, variable, element, call, no_object}
 use Rattle.bound_facts.specs.Node.{type_at}
 use Rattle.net_tree.specs.Tree.{call_of, path}
 use Rattle.vb6_run.specs.Expressions as source
@@ -15,18 +14,18 @@ use Rattle.net_run.specs.Lines.{scope_of}
 use Rattle.net_run.specs.Names as net_names
 use Rattle.written_trees.specs.Exprs.{exp_of, passed_of}
 use Rattle.written_trees.specs.Names.{procedure_path}
-use Rattle.run_matches.specs.CoveredExprs.{covers_array, covers_place, is_without_object, covers_passed}
 use Rattle.run_matches.specs.Frames.{frame_pledge}
 use Rattle.run_matches.specs.Maps.{World}
 use Rattle.run_matches.specs.Pledges.{Pledge}
 use Rattle.run_matches.specs.Upgrades.{Upgrade}
 use Rattle.run_statements.specs.Elements.{IndexesAgree}
 use Rattle.run_statements.specs.Groups.{GroupsAgree, PlacesAgree}
+use Rattle.run_statements.specs.Members.{MembersAgree}
 use Rattle.run_statements.specs.Frames.{ArraysAgree, ElementsAgree, AnyParts, CallsAreMade, context_of, ExpressionsAgree}
 use Rattle.run_matches.specs.Formed.{are_formed, are_longs, has_elements, types_of}
 use Rattle.agreeing_laws.proofs.Agreeing.{agrees_weaker}
 use Rattle.expression_laws.specs.Calls.{GivenMatch, Stands}
-use Rattle.expression_laws.specs.Statements.{ArraysAgreeBy, ElementsAgreeBy, IndexesAgreeBy, FormedExpressionsAgreeBy, FormedScalarsAgreeBy, FormedScalarsAgree, GroupsAgreeBy, ParametersAreSound, PlacesAgreeBy}
+use Rattle.expression_laws.specs.Statements.{ArraysAgreeBy, ElementsAgreeBy, IndexesAgreeBy, FormedExpressionsAgreeBy, FormedScalarsAgreeBy, FormedScalarsAgree, GroupsAgreeBy, MembersAgreeBy, ParametersAreSound, PlacesAgreeBy}
 use Rattle.expression_laws.proofs.Types.{both_true}
 use Rattle.expression_laws.proofs.Checks.{plain_agrees}
 use Rattle.expression_laws.proofs.Arguments.{stands_now}
@@ -35,8 +34,8 @@ use Rattle.expression_laws.proofs.Elements.{array_agrees}
 use Rattle.expression_laws.proofs.ElementValues.{element_agrees}
 use Rattle.expression_laws.proofs.ArrayUses.{all_long, from_none, indexed_by}
 use Rattle.expression_laws.proofs.CallsGiven.{call_made, from_first}
-use Rattle.expression_laws.proofs.Expressions.{expression_agrees, group_call, indexes_agree, or_false, passed_agree}
-use Rattle.expression_laws.proofs.FieldValues.{place_value_agrees}
+use Rattle.expression_laws.proofs.Expressions.{expression_agrees, group_agrees, indexes_agree, passed_agree}
+use Rattle.expression_laws.proofs.Objects.{members_agree_by}
 use Rattle.expression_laws.proofs.Places.{places_agree_by}
 use Rattle.expression_laws.proofs.Withs.{HavePlaces, places_giving, places_now}
 
@@ -77,23 +76,9 @@ arrays_agree_by U K w p f g oracle net_oracle l k c T uses d rank (variable v qu
 arrays_agree_by U K w p f g oracle net_oracle l k c T uses d rank _ start frames declarations readable placed covers = absurd (cc covers)
 
 pub groups_agree_by : (U : Upgrade) (sound : ParametersAreSound U) (K : Pledge) → GroupsAgreeBy U K
-groups_agree_by U sound K w p f g oracle net_oracle l k c T uses t (call q qualified no_object args) start frames declarations opened readable placed agree can
-    covers formed =
-    group_call U p f g oracle net_oracle l k c T uses declarations opened readable placed.leads agree sound K t q qualified args w start
-    (places_now U p f g oracle net_oracle l k c T uses K w frames start declarations readable placed) (stands_now U K w p f g frames) can (both_true (uses.user t) (covers_passed uses args) covers).1 formed
-groups_agree_by U sound K w p f g oracle net_oracle l k c T uses t (variable v qualified) start frames declarations opened readable placed agree can covers formed =
-    place_value_agrees U K p f g oracle net_oracle l k c T uses declarations readable w
-    (places_now U p f g oracle net_oracle l k c T uses K w frames start declarations readable placed) start t (variable v qualified) can
-    (or_false (covers_place uses (typed (user t) (variable v qualified))) covers)
-groups_agree_by U sound K w p f g oracle net_oracle l k c T uses t (field d j) start frames declarations opened readable placed agree can covers formed =
-    place_value_agrees U K p f g oracle net_oracle l k c T uses declarations readable w
-    (places_now U p f g oracle net_oracle l k c T uses K w frames start declarations readable placed) start t (field d j) can
-    (or_false (covers_place uses (typed (user t) (field d j))) covers)
-groups_agree_by U sound K w p f g oracle net_oracle l k c T uses t (call q qualified (of_object d) args) start frames declarations opened readable placed agree
-    can covers formed =
-    absurd (true≢false (sym (both_true (uses.user t) (is_without_object (of_object d) && covers_passed uses args) covers).1))
-groups_agree_by U sound K w p f g oracle net_oracle l k c T uses t _ start frames declarations opened readable placed agree can covers formed =
-    absurd (true≢false (sym covers))
+groups_agree_by U sound K w p f g oracle net_oracle l k c T uses ty tm start frames declarations opened readable placed agree can covers formed =
+    group_agrees U p f g oracle net_oracle l k c T uses declarations opened readable placed.leads agree sound K (typed ty tm) w start
+    (places_now U p f g oracle net_oracle l k c T uses K w frames start declarations readable placed) (stands_now U K w p f g frames) can covers formed
 
 pub indexes_agree_all : (U : Upgrade) → ParametersAreSound U → IndexesAgree U
 indexes_agree_all U sound K = indexes_agree_by U sound K
@@ -115,6 +100,9 @@ groups_agree U sound K = groups_agree_by U sound K
 
 pub places_agree : (U : Upgrade) → PlacesAgree U
 places_agree U K = places_agree_by U K
+
+pub members_agree : (U : Upgrade) → MembersAgree U
+members_agree U K = members_agree_by U K
 
 -- a covered call is made on both sides
 pub calls_are_made : (U : Upgrade) → ParametersAreSound U → CallsAreMade U
@@ -151,6 +139,9 @@ frame_arrays_agree U p w f = arrays_agree_by U (frame_pledge U p w f)
 
 pub frame_places_agree : (U : Upgrade) (p : ℕ) (w : World) (f : SourceFrame) → PlacesAgreeBy U (frame_pledge U p w f)
 frame_places_agree U p w f = places_agree_by U (frame_pledge U p w f)
+
+pub frame_members_agree : (U : Upgrade) (p : ℕ) (w : World) (f : SourceFrame) → MembersAgreeBy U (frame_pledge U p w f)
+frame_members_agree U p w f = members_agree_by U (frame_pledge U p w f)
 
 pub frame_groups_agree : (U : Upgrade) (sound : ParametersAreSound U) (p : ℕ) (w : World) (f : SourceFrame) → GroupsAgreeBy U (frame_pledge U p w f)
 frame_groups_agree U sound p w f = groups_agree_by U sound (frame_pledge U p w f)

@@ -2,12 +2,14 @@
 use Rattle.run_matches.specs.Keeping.{given_types, given_by}
 use Rattle.expression_laws.proofs.Giving.{called_giving_for, giving, stands_giving}
 use Rattle.std.proofs.Common.{◌≡◌, inr, ◌∙◌, refl, sym, ap, subst, ℕ, suc, ◌+◌, ◌≤◌, length, Bool, true, false, true≢false, ◌&&◌, ◌||◌, List, [], ◌∷◌, Some, inl, ◌++◌}
-use Rattle.std.specs.Prelude.{is_some}
+use Rattle.std.specs.Prelude.{is_some, slice_get}
 use Rattle.vb_tree.specs.BoundTree as types
 use Rattle.vb_tree.specs.BoundTree.{Ty}
 use Rattle.vb_tree.specs.declared.declared.ProcId.{ProcId}
 use Rattle.vb6_meaning.specs.Values.{operate}
 use Rattle.bound_tree.specs.Tree.{Expr, typed, constant, variable, field, element, call, library, unary, binary, convert, new_object, me, with_object, err_number, err_raise, err_clear, is_same, loose, Exprs, no_exprs, next_expr, no_object, of_object, by_value, by_reference, Passed, no_passed, next_passed}
+use Rattle.bound_facts.specs.Effects.{params_at}
+use Rattle.bound_facts.specs.Locks.{is_same_type}
 use Rattle.bound_facts.specs.Node.{type_at}
 use Rattle.up_base.proofs.Tests.{by_test}
 use Rattle.net_tree.specs.declared.declaration.NetPassing.{NetPassing}
@@ -15,13 +17,12 @@ use Rattle.net_tree.specs.declared.declaration.NetPassing.TheVariants as passing
 use Rattle.net_tree.specs.Tree.{call_of, path}
 use Rattle.net_meaning.specs.declared.value.ValueN.TheVariants as net_scalar
 use Rattle.net_meaning.specs.WrittenRows.{write_operator, write_unary, write_conversion}
-use Rattle.run_base.specs.Outcomes.{Outcome, gives, then, answered}
+use Rattle.run_base.specs.Outcomes.{Outcome, then, answered}
 use Rattle.vb6_run.specs.Expressions as source
 use Rattle.vb6_run.specs.Expressions.{Context}
 use Rattle.vb6_run.specs.Forms.{SourceLine}
-use Rattle.vb6_run.specs.Shapes.{user_shapes}
-use Rattle.vb6_run.specs.Store.{Memory, SourceCalls, SourceFrame, SourceGiven}
-use Rattle.net_run.specs.Calls.{Arguments, passings_at}
+use Rattle.vb6_run.specs.Store.{SourceCalls, SourceFrame}
+use Rattle.net_run.specs.Calls.{passings_at}
 use Rattle.net_run.specs.Expressions as target
 use Rattle.net_run.specs.Lines.{NetFrame, NetLine, scope_of}
 use Rattle.net_run.specs.Making.{Jobs}
@@ -35,8 +36,9 @@ use Rattle.written_trees.specs.Library.{low_at}
 use Rattle.written_trees.specs.Names.{Scope, procedure_path}
 use Rattle.run_matches.specs.Agreeing.{Agrees}
 use Rattle.run_matches.specs.CoveredVariables.{covers_type}
-use Rattle.run_matches.specs.CoveredExprs.{Uses, covers_array, covers_base, covers_bounded, covers_exprs, covers_library, is_bound, covers_operator, covers_expr, covers_group, covers_passed, covers_place, has_scalar, is_passable, is_variable, is_without_object}
-use Rattle.run_matches.specs.Covered.{is_referred, suits_array, suits_group, suits_passed, hands_argument, hands_passed, is_group_field, is_item}
+use Rattle.run_matches.specs.CoveredExprs.{Uses, covers_array, covers_bounded, covers_exprs, covers_library, is_bound, covers_operand, covers_operator, covers_expr, covers_group, covers_passed, covers_place, is_passable, is_variable}
+use Rattle.run_matches.specs.Covered.{is_referred, suits_array, suits_group, suits_passed, hands_argument, hands_passed, is_group_field, is_item, is_type_at}
+use Rattle.run_matches.specs.UserTypes.{is_group_type}
 use Rattle.run_matches.specs.Likeness.{are_same}
 use Rattle.run_matches.specs.Maps.{World}
 use Rattle.run_matches.specs.Match.{MemoryMatch}
@@ -44,22 +46,25 @@ use Rattle.run_matches.specs.Pledges.{Pledge, Later}
 use Rattle.run_matches.specs.Upgrades.{Upgrade, runnable_of}
 use Rattle.run_matches.specs.Runs.{CallsAgree}
 use Rattle.run_statements.specs.Fitting.{FitsPassed}
-use Rattle.run_statements.specs.Frames.{AllCalled, AllCalledAll, AllCalledFor, CanCall, Demands, demands, ScalarMatch, PlainMatch, IsOpen, context_of, AreReadable, passing_at, passing_by, IsOne}
+use Rattle.run_statements.specs.Frames.{AllCalled, AllCalledAll, AllCalledFor, CanCall, Demands, demands, ScalarMatch, PlainMatch, IsOpen, context_of, AreReadable, passing_at, passing_by, IsOne, type_shape}
 use Rattle.run_statements.specs.Groups.{ValueMatch}
 use Rattle.run_statements.specs.Written.{Passes}
 use Rattle.row_laws.proofs.Stated as rows
 use Rattle.run_matches.specs.Formed.{are_formed, are_longs, has_elements, types_of, is_row_of_one, is_row_of_two, passed_are_formed, is_formed}
 use Rattle.agreeing_laws.proofs.Agreeing.{agrees_gives}
 use Rattle.expression_laws.specs.Calls.{ArgumentsMatch, Stands, no_arguments}
-use Rattle.expression_laws.proofs.Types.{both_true, covered_type, covered_typed}
+use Rattle.expression_laws.proofs.Types.{both_true, covered_type, covered_typed, or_false}
 use Rattle.expression_laws.proofs.Checks.{TermMatch, term_agrees, plain_agrees}
 use Rattle.expression_laws.proofs.Conversions.{formed_constant, constant_agrees, conversion_agrees}
 use Rattle.expression_laws.proofs.Arguments.{stands_later}
 use Rattle.expression_laws.proofs.Calls.{call_value_agrees, callee_is, no_copy}
-use Rattle.expression_laws.proofs.FieldValues.{scalar_field_agrees}
-use Rattle.expression_laws.proofs.GroupArguments.{group_goes, place_given}
+use Rattle.expression_laws.proofs.FieldValues.{place_value_agrees}
+use Rattle.expression_laws.proofs.GroupArguments.{group_goes, grouped}
 use Rattle.expression_laws.proofs.GroupCalls.{group_value_agrees}
 use Rattle.expression_laws.proofs.FieldReferences.{field_passed}
+use Rattle.expression_laws.proofs.Is.{is_agrees}
+use Rattle.expression_laws.proofs.MemberValues.{field_agrees, group_field_agrees}
+use Rattle.expression_laws.proofs.Nothings.{nothing_agrees, nothing_converted, operand_agrees, operand_reference}
 use Rattle.expression_laws.specs.Statements.{ParametersAreSound}
 use Rattle.expression_laws.proofs.Handed.{scalar_lasts, taken_agrees}
 use Rattle.expression_laws.proofs.Handled.{Handles}
@@ -68,11 +73,11 @@ use Rattle.expression_laws.proofs.IndexRows.{index_is_row}
 use Rattle.expression_laws.proofs.Elements.{IndexesLike, index_agrees, next_agrees}
 use Rattle.expression_laws.proofs.ElementValues.{element_agrees, element_value}
 use Rattle.expression_laws.proofs.ErrNumbers.{err_number_agrees}
-use Rattle.expression_laws.proofs.References.{IsPassed, or_true, further, here, passed_by, reference_agrees, scalar_passed}
+use Rattle.expression_laws.proofs.References.{IsPassed, or_true, further, here, passed_by, reference_agrees, scalar_passed, suited}
 use Rattle.expression_laws.proofs.Temporaries.{conversion_given, conversion_goes, value_goes}
 use Rattle.expression_laws.proofs.Variables.{variable_agrees}
 use Rattle.expression_laws.proofs.Withs.{HavePlaces, places_giving, places_later}
-use Rattle.expression_laws.proofs.WrittenValues.{called_handles, exp_handles}
+use Rattle.expression_laws.proofs.WrittenValues.{exp_handles, group_handles}
 use Rattle.expression_laws.proofs.RowsAgree.{any_same}
 use Rattle.expression_laws.proofs.Operators.{binary_agrees, formed_held, same_operator, same_unary, typed_binary, typed_unary, unary_agrees}
 use Rattle.expression_laws.proofs.ArrayUses.{AllLead, AllLong, all_long, bounded_by, from_none, in_two, in_two_more, indexed_by}
@@ -87,10 +92,6 @@ one_left (x ∷ xs) ys t (inr o) = inr (one_left xs ys t o)
 one_right : (xs ys : List Ty) (t : Ty) → IsOne ys t → IsOne (xs ++ ys) t
 one_right [] ys t o = o
 one_right (x ∷ xs) ys t o = inr (one_right xs ys t o)
-
-pub or_false : (a : Bool) → (a || false) ≡ true → a ≡ true
-or_false true h = refl
-or_false false h = h
 
 module _ (U : Upgrade) (p : ℕ) (f : SourceFrame) (g : NetFrame) (oracle : SourceCalls) (net_oracle : Jobs)
     (l : SourceLine) (k : NetLine) (c : Code) (T : Scope) (uses : Uses) (same_declarations : T.declarations ≡ U.program.declarations)
@@ -120,19 +121,22 @@ module _ (U : Upgrade) (p : ℕ) (f : SourceFrame) (g : NetFrame) (oracle : Sour
   handles K e can covers formed none =
       exp_handles U K p l k (scope_of U.written c g k) opened T uses same_declarations e can covers formed (ap (λ E. has_address E (kept e)) (sym same_declarations) ∙ none)
 
-  -- a call of a user type whose arguments agree
-  call_gives : (K : Pledge) (t : ℕ) (q : ProcId) (qualified : Bool) (args : Passed) (w : World) → MemoryMatch U w → Stands U K w f g → (can : Can K q.0 args)
-      → Agrees U (giving K (given_types args)) w (ArgumentsMatch U (giving K (given_types args)) q.0 0) (source.args_of C q.0 0 args w.src)
+  handles_group : (K : Pledge) (e : Expr) → AllCalled (Asked K) e → covers_group uses e ≡ true → has_address T.declarations (kept e) ≡ false → Handles S (exp_of T e)
+  handles_group K e can covers none =
+      group_handles U K p l k (scope_of U.written c g k) opened T uses same_declarations e can covers (ap (λ E. has_address E (kept e)) (sym same_declarations) ∙ none)
+
+  -- a call of a user type or a class whose arguments agree
+  call_gives : (K : Pledge) (ty : Ty) (q : ProcId) (qualified : Bool) (args : Passed) (w : World) → is_group_type ty ≡ true → MemoryMatch U w → Stands U K w f g
+      → (can : Can K q.0 args) → Agrees U (giving K (given_types args)) w (ArgumentsMatch U (giving K (given_types args)) q.0 0) (source.args_of C q.0 0 args w.src)
       (target.args_of S net_oracle (passings_at U.written (Some can.number)) (passed_of T q.0 0 args) w.net)
-      → Agrees U K w (ValueMatch U (user_shapes U.program.declarations t))
-      (source.value_of C (typed (types.user t) (call q qualified no_object args)) w.src) (written (typed (types.user t) (call q qualified no_object args)) w)
-  call_gives K t q qualified args w start stands can given =
-      let ty : Ty = types.user t in
+      → Agrees U K w (ValueMatch U (type_shape U ty))
+      (source.value_of C (typed ty (call q qualified no_object args)) w.src) (written (typed ty (call q qualified no_object args)) w)
+  call_gives K ty q qualified args w is_group start stands can given =
       let parted = call_of (path (procedure_path T qualified q.0)) (passed_of T q.0 0 args) in
-      subst (λ x. Agrees U K w (ValueMatch U (user_shapes U.program.declarations t)) (source.value_of C (typed ty (call q qualified no_object args)) w.src)
+      subst (λ x. Agrees U K w (ValueMatch U (type_shape U ty)) (source.value_of C (typed ty (call q qualified no_object args)) w.src)
       (target.value_of S net_oracle x w.net))
       (sym (callee_is T ty q qualified args (ap (λ D. is_property D q.0) same_declarations ∙ can.plain)))
-      (group_value_agrees U K p f oracle l t q qualified args w (target.address_of S net_oracle parted w.net) start
+      (group_value_agrees U K p f oracle l ty is_group q qualified args w (target.address_of S net_oracle parted w.net) start
       (call_made U p f g oracle net_oracle l k c T agree K ty q qualified args w start stands can given))
 
   mutual
@@ -188,9 +192,7 @@ module _ (U : Upgrade) (p : ℕ) (f : SourceFrame) (g : NetFrame) (oracle : Sour
         (conversion_agrees U K S net_oracle opened C from to t (exp_of T (typed from t)) w (covered_type uses (typed from t) operand.1) forms.1 forms.0 start
         (plain_agrees U K C (typed from t) from w (written (typed from t) w) start (expression_agrees K (typed from t) w start have stands can operand.1 forms.1)))
     expression_agrees K (typed ty (field e i)) w start have stands can covers formed =
-        let both = both_true (covers_type ty) (has_scalar uses (type_at e) i && covers_base uses e) covers in
-        let inner = both_true (has_scalar uses (type_at e) i) (covers_base uses e) both.1 in
-        scalar_field_agrees U K p f g oracle net_oracle l k c T uses same_declarations readable w have start ty e i both.0 inner.0 can inner.1
+        field_agrees U K p f g oracle net_oracle l k c T uses same_declarations readable w have start ty e i can covers
     expression_agrees K (typed ty (element e indexes)) w start have stands can covers formed =
         let both = both_true (covers_type ty) (covers_array uses e && covers_exprs uses indexes) covers in
         let inner = both_true (covers_array uses e) (covers_exprs uses indexes) both.1 in
@@ -253,8 +255,38 @@ module _ (U : Upgrade) (p : ℕ) (f : SourceFrame) (g : NetFrame) (oracle : Sour
     expression_agrees K (typed ty err_number) w start have stands can covers formed = err_number_agrees U K C S net_oracle opened.support T w start ty formed
     expression_agrees K (typed ty (err_raise e)) w start have stands can covers formed = absurd (cc (both_true (covers_type ty) false covers).1)
     expression_agrees K (typed ty err_clear) w start have stands can covers formed = absurd (cc (both_true (covers_type ty) false covers).1)
-    expression_agrees K (typed ty (is_same d e)) w start have stands can covers formed = absurd (cc formed)
+    expression_agrees K (typed ty (is_same d e)) w start have stands can covers formed =
+        let both = both_true (covers_type ty) (covers_operand uses d && covers_operand uses e) covers in
+        let operands = both_true (covers_operand uses d) (covers_operand uses e) both.1 in
+        let forms = both_true (is_same_type types.boolean ty) (is_formed d && is_formed e) formed in
+        let inner = both_true (is_formed d) (is_formed e) forms.1 in
+        is_agrees U K C S net_oracle ty d e (exp_of T d) (exp_of T e) w forms.0 (operand_reference uses d operands.0) (operand_reference uses e operands.1) start
+        (operand_agrees U K C S net_oracle T w start uses d operands.0 (λ h. group_agrees K d w start have stands can.0 h inner.0))
+        (λ v later.
+        operand_agrees U K C S net_oracle T v later.match uses e operands.1 (λ h.
+        group_agrees K e v later.match (places_later U p f g oracle net_oracle l k c T uses K w v start later have) (stands_later U K w v f g later stands) can.1 h inner.1))
     expression_agrees K (typed ty (loose e rules)) w start have stands can covers formed = absurd (cc formed)
+
+    -- a user type or an object as a value
+    pub group_agrees : (K : Pledge) (e : Expr) (w : World) → MemoryMatch U w → Have K w → Stands U K w f g → AllCalled (Asked K) e
+        → covers_group uses e ≡ true → is_formed e ≡ true
+        → Agrees U K w (ValueMatch U (type_shape U (type_at e))) (source.value_of C e w.src) (written e w)
+    group_agrees K (typed ty (variable v qualified)) w start have stands can covers formed =
+        place_value_agrees U K p f g oracle net_oracle l k c T uses same_declarations readable w have start ty (variable v qualified) can
+        (or_false (covers_place uses (typed ty (variable v qualified))) covers)
+    group_agrees K (typed ty (field d j)) w start have stands can covers formed =
+        group_field_agrees U K p f g oracle net_oracle l k c T uses same_declarations readable w have start ty d j can covers
+    group_agrees K (typed ty (call q qualified no_object args)) w start have stands can covers formed =
+        let ts = given_types args in
+        call_gives K ty q qualified args w (grouped U T uses readable (typed ty (call q qualified no_object args)) covers) start stands can.0
+        (passed_agree (giving K ts) q.0 0 can.0.passes args (passings_at U.written (Some can.0.number)) w (from_first U p f g oracle net_oracle l k c T agree K can.0)
+        can.0.suits can.0.hands start (places_giving U p f g oracle net_oracle l k c T uses K ts w start have) (stands_giving U K ts w start f g stands)
+        (called_giving_for U K S T ts p l k args can.0.inside can.1) (both_true (uses.given ty) (covers_passed uses args) covers).1 formed can.0.ranks (λ t o. inr o))
+    group_agrees K (typed ty (call q qualified (of_object e) args)) w start have stands can covers formed =
+        absurd (true≢false (sym (both_true (uses.given ty) false covers).1))
+    group_agrees K (typed ty (convert to e)) w start have stands can covers formed =
+        nothing_agrees U K C S net_oracle T w start ty to e (nothing_converted (uses.given ty) ty to e covers)
+    group_agrees K (typed ty _) w start have stands can covers formed = absurd (true≢false (sym covers))
 
     -- an element, as a place
     item_agrees : (K : Pledge) (e : Expr) (w : World) → MemoryMatch U w → Have K w → Stands U K w f g → AllCalled (Asked K) e
@@ -345,7 +377,7 @@ module _ (U : Upgrade) (p : ℕ) (f : SourceFrame) (g : NetFrame) (oracle : Sour
         (λ here item any.
         let scalar : covers_expr uses e ≡ true = scalar_passed uses e passed is (ap (λ b. is_conversion e || b) item ∙ or_true (is_conversion e)) in
         item_passed U C S net_oracle T K q i w ((runnable_of U).quiet q i) (target.first_passing modes) (takes_reference T.declarations q i) e
-        (source.args_of C q (suc i) rest) (target.args_of S net_oracle (target.rest_passings modes) (passed_of T q (suc i) rest)) mode item
+        (source.args_of C q (suc i) rest) (target.args_of S net_oracle (target.rest_passings modes) (passed_of T q (suc i) rest)) mode item (covered_type uses e scalar)
         (λ t o. kept t (one_left (given_by (by_reference e)) (given_types rest) t o)) hand.0 start (item_agrees K e w start have stands can.0 scalar forms.0)
         (λ v later.
         passed_agree K q (suc i) passes rest (target.rest_passings modes) v next fit.1 hand.1 later.match (places_later U p f g oracle net_oracle l k c T uses K w v start later have)
@@ -379,48 +411,10 @@ module _ (U : Upgrade) (p : ℕ) (f : SourceFrame) (g : NetFrame) (oracle : Sour
         (takes_reference D q i) (target.first_passing modes) (takes_reference T.declarations q i) mode (ap (λ E. takes_reference E q i) same_declarations))
         start (expression_agrees K e w start have stands can.0 scalar forms.0) more)
         (λ of_group.
-        group_passed K q i e ((runnable_of U).quiet q i) (target.first_passing modes) (source.args_of C q (suc i) rest)
-        (target.args_of S net_oracle (target.rest_passings modes) (passed_of T q (suc i) rest)) w mode passes fit.0 start have stands can.0 of_group forms.0 more)
-
-    -- a user type as an argument by value
-    group_passed : (K : Pledge) (q i : ℕ) (e : Expr) (quiet : Bool) (mode : NetPassing) (rest : Memory → Outcome Memory (List SourceGiven))
-        (rest' : net.Memory → Outcome net.Memory Arguments) (w : World) → mode ≡ passing_by (takes_reference U.program.declarations q i) → Passes U q
-        → suits_group U.program.declarations q i e ≡ true → MemoryMatch U w → Have K w → Stands U K w f g → AllCalled (Asked K) e → covers_group uses e ≡ true
-        → is_formed e ≡ true → ((v : World) → Later U K w v → Agrees U K v (ArgumentsMatch U K q (suc i)) (rest v.src) (rest' v.net))
-        → Agrees U K w (ArgumentsMatch U K q i)
-        (then (source.argument_of C quiet (by_value e) w.src) (λ g w. then (rest w) (λ gs w. gives [] (g ∷ gs) w)))
-        (then (target.given S net_oracle mode
-        (target.reach S net_oracle false (argument_exp T (takes_reference T.declarations q i) (by_value e) (exp_of T e)) w.net))
-        (λ g w. then (rest' w) (λ gs w. gives [] (g ∷ gs) w)))
-    group_passed K q i (typed (types.user t) (call r qualified no_object args)) quiet mode rest rest' w m passes suits start have stands can covers formed more =
-        group_goes U K p f g oracle net_oracle l k c T uses same_declarations readable w start have q i quiet mode t (call r qualified no_object args) rest rest' m
-        (sound q i t passes suits) (λ none. called_handles U K p l k S opened T uses same_declarations (types.user t) r qualified args can.0)
-        (call_gives K t r qualified args w start stands can.0
-        (passed_agree (giving K (given_types args)) r.0 0 can.0.passes args (passings_at U.written (Some can.0.number)) w
-        (from_first U p f g oracle net_oracle l k c T agree K can.0) can.0.suits can.0.hands start
-        (places_giving U p f g oracle net_oracle l k c T uses K (given_types args) w start have) (stands_giving U K (given_types args) w start f g stands)
-        (called_giving_for U K S T (given_types args) p l k args can.0.inside can.1) (both_true (uses.user t) (covers_passed uses args) covers).1 formed can.0.ranks (λ t o. inr o))) more
-    group_passed K q i (typed (types.user t) (variable v qualified)) quiet mode rest rest' w m passes suits start have stands can covers formed more =
-        place_given U K p f g oracle net_oracle l k c T uses same_declarations readable w start have q i quiet mode t (variable v qualified) rest rest' m can
-        (or_false (covers_place uses (typed (types.user t) (variable v qualified))) covers) more
-    group_passed K q i (typed (types.user t) (field d j)) quiet mode rest rest' w m passes suits start have stands can covers formed more =
-        place_given U K p f g oracle net_oracle l k c T uses same_declarations readable w start have q i quiet mode t (field d j) rest rest' m can
-        (or_false (covers_place uses (typed (types.user t) (field d j))) covers) more
-    group_passed K q i (typed _ (variable v qualified)) quiet mode rest rest' w m passes suits start have stands can covers formed more =
-        absurd (true≢false (sym covers))
-    group_passed K q i (typed _ (field d j)) quiet mode rest rest' w m passes suits start have stands can covers formed more = absurd (true≢false (sym covers))
-    group_passed K q i (typed (types.user t) (call r qualified (of_object d) args)) quiet mode rest rest' w m passes suits start have stands can covers formed more =
-        absurd (true≢false (sym (both_true (uses.user t) (is_without_object (of_object d) && covers_passed uses args) covers).1))
-    group_passed K q i (typed _ _) quiet mode rest rest' w m passes suits start have stands can covers formed more = absurd (true≢false (sym covers))
-
-  -- what a call gives that is of a user type
-  pub group_call : (K : Pledge) (t : ℕ) (q : ProcId) (qualified : Bool) (args : Passed) (w : World) → MemoryMatch U w → Have K w → Stands U K w f g
-      → AllCalled (Asked K) (typed (types.user t) (call q qualified no_object args)) → covers_passed uses args ≡ true → passed_are_formed args ≡ true
-      → Agrees U K w (ValueMatch U (user_shapes U.program.declarations t))
-      (source.value_of C (typed (types.user t) (call q qualified no_object args)) w.src) (written (typed (types.user t) (call q qualified no_object args)) w)
-  group_call K t q qualified args w start have stands can covers formed =
-      call_gives K t q qualified args w start stands can.0
-      (passed_agree (giving K (given_types args)) q.0 0 can.0.passes args (passings_at U.written (Some can.0.number)) w
-      (from_first U p f g oracle net_oracle l k c T agree K can.0) can.0.suits can.0.hands start
-      (places_giving U p f g oracle net_oracle l k c T uses K (given_types args) w start have) (stands_giving U K (given_types args) w start f g stands)
-      (called_giving_for U K S T (given_types args) p l k args can.0.inside can.1) covers formed can.0.ranks (λ t o. inr o))
+        let is_group = grouped U T uses readable e of_group in
+        group_goes U K p f g oracle net_oracle l k c T uses same_declarations readable w start q i ((runnable_of U).quiet q i) (target.first_passing modes) e
+        (source.args_of C q (suc i) rest) (target.args_of S net_oracle (target.rest_passings modes) (passed_of T q (suc i) rest)) mode
+        (sound q i (type_at e) passes is_group
+        (suited (is_group_type (type_at e)) (is_type_at D (type_at e) (slice_get (params_at (slice_get D.procs q)) i)) is_group fit.0))
+        (handles_group K e can.0 of_group)
+        (group_agrees K e w start have stands can.0 of_group forms.0) more)

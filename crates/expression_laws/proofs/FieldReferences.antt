@@ -11,7 +11,7 @@ use Rattle.run_base.specs.Outcomes.{Outcome, after, gives, then}
 use Rattle.vb6_run.specs.Expressions as source
 use Rattle.vb6_run.specs.Expressions.{Context, at_address}
 use Rattle.vb6_run.specs.Forms.{SourceLine}
-use Rattle.vb6_run.specs.Shapes.{Shape, shape_by, user_shapes}
+use Rattle.vb6_run.specs.Shapes.{Shape}
 use Rattle.vb6_run.specs.Store.{Address, Memory, SourceCalls, SourceFrame, SourceGiven, root}
 use Rattle.net_run.specs.Calls.{Arguments}
 use Rattle.net_run.specs.Expressions as target
@@ -27,20 +27,20 @@ use Rattle.written_trees.specs.Exprs.{exp_of}
 use Rattle.written_trees.specs.Names.{Scope}
 use Rattle.run_matches.specs.Agreeing.{Agrees}
 use Rattle.run_matches.specs.Covered.{is_group_field}
-use Rattle.run_matches.specs.CoveredVariables.{covers_type, covers_field_type, covers_user}
+use Rattle.run_matches.specs.CoveredVariables.{covers_place_type, covers_type}
 use Rattle.run_matches.specs.CoveredExprs.{Uses, covers_base, has_inner, has_scalar}
 use Rattle.run_matches.specs.Maps.{World}
 use Rattle.run_matches.specs.Match.{MemoryMatch}
 use Rattle.run_matches.specs.Pledges.{Pledge}
 use Rattle.run_matches.specs.Upgrades.{Upgrade}
-use Rattle.run_statements.specs.Frames.{AllCalled, AreReadable, Demands, context_of, demands}
+use Rattle.run_statements.specs.Frames.{AllCalled, AreReadable, Demands, context_of, demands, type_shape}
 use Rattle.row_laws.proofs.Composing.{after_nil}
 use Rattle.agreeing_laws.proofs.Agreeing.{agrees_outside}
 use Rattle.expression_laws.specs.Calls.{ArgumentsMatch}
 use Rattle.expression_laws.proofs.FieldValues.{scalar_is}
 use Rattle.expression_laws.proofs.Places.{place_is}
 use Rattle.expression_laws.proofs.References.{IsPassed, given_agrees, group_ranked, image_given, or_true, scalar_of_passed}
-use Rattle.expression_laws.proofs.Types.{both_true}
+use Rattle.expression_laws.proofs.Types.{both_true, or_false}
 use Rattle.expression_laws.proofs.Withs.{HavePlaces, PlaceIs, missing, placed, root_plain}
 use Rattle.run_matches.specs.Addresses.{IsDeclaredShape}
 use Rattle.agreeing_laws.proofs.UserShapes.{declared_user}
@@ -76,8 +76,7 @@ module _ (uses : Uses) (ty : Ty) (s j : ℕ) (tm : Term) (base : covers_base use
 -- ---- both
 
 -- a field of a user type has the fields that its type declares
-declared_field : (U : Upgrade) (ty : Ty) → covers_field_type (covers_user U.program.declarations) ty ≡ true
-    → IsDeclaredShape U (shape_by (user_shapes U.program.declarations) [] ty)
+declared_field : (U : Upgrade) (ty : Ty) → covers_place_type U.program.declarations ty ≡ true → IsDeclaredShape U (type_shape U ty)
 declared_field U (types.user t) h = declared_user U t h
 declared_field U _ h = tt
 
@@ -118,7 +117,7 @@ module _ (U : Upgrade) (K : Pledge) (p : ℕ) (f : SourceFrame) (g : NetFrame) (
         (sym (none w.src)) (agrees_outside U K w (ArgumentsMatch U K q i) given')
     at_place fty ty s j tm base (placed r plain x) =
         let e : Expr = typed ty (field (typed (types.user s) tm) j) in
-        let d : Shape = shape_by (user_shapes U.program.declarations) [] fty in
+        let d : Shape = type_shape U fty in
         let a : Address = root d x.position in
         let goes = λ (z : Outcome Memory SourceGiven). then z (λ g w. then (rest w) (λ gs w. gives [] (g ∷ gs) w)) in
         let goes' = λ (z : Outcome net.Memory (Given net_value.Value net.Address)). then z (λ g w. then (rest' w) (λ gs w. gives [] (g ∷ gs) w)) in
@@ -143,15 +142,15 @@ module _ (U : Upgrade) (K : Pledge) (p : ℕ) (f : SourceFrame) (g : NetFrame) (
     pub field_passed : (e : Expr) → is_group_field e ≡ true → IsPassed uses e → AllCalled (demands U K p l k (scope_of U.written c g k) T) e
         → FirstAgrees quiet mode referred e rest rest'
     field_passed (typed ty (field (typed (types.user s) tm) j)) is (inl h) can =
-        let both = both_true (covers_type ty) (has_scalar uses (types.user s) j && covers_base uses (typed (types.user s) tm))
-        (scalar_of_passed uses (typed ty (field (typed (types.user s) tm) j)) h) in
-        let inner = both_true (has_scalar uses (types.user s) j) (covers_base uses (typed (types.user s) tm)) both.1 in
+        let in_place : Bool = has_scalar uses (types.user s) j && covers_base uses (typed (types.user s) tm) in
+        let both = both_true (covers_type ty) (in_place || false) (scalar_of_passed uses (typed ty (field (typed (types.user s) tm) j)) h) in
+        let inner = both_true (has_scalar uses (types.user s) j) (covers_base uses (typed (types.user s) tm)) (or_false in_place both.1) in
         let x = scalar_is U K p f g oracle net_oracle l k c T uses same_declarations readable w have ty s tm j inner.0 can inner.1 in
         at_place x.0.ty ty s j tm inner.1 x.1
     field_passed (typed (types.user t) (field (typed (types.user s) tm) j)) is (inr (inr h)) can =
         at_place (types.user t) (types.user t) s j tm
         (both_true (has_inner uses (types.user s) j (types.user t)) (covers_base uses (typed (types.user s) tm)) h).1
-        (place_is U K p f g oracle net_oracle l k c T uses same_declarations readable w have t (field (typed (types.user s) tm) j) can h)
+        (place_is U K p f g oracle net_oracle l k c T uses same_declarations readable w have (types.user t) (field (typed (types.user s) tm) j) can h)
     field_passed (typed _ (field (typed (types.user s) tm) j)) is (inr (inr h)) can = absurd (true≢false (sym h))
     field_passed (typed (types.array e rank) (field (typed (types.user s) tm) j)) is (inr (inl h)) can = absurd (true≢false (sym h))
     field_passed (typed _ (field (typed (types.user s) tm) j)) is (inr (inl h)) can = absurd (true≢false (sym h))

@@ -1,15 +1,14 @@
--- The values of scalar fields of places of user types, and of the places as a whole.
+-- The values of scalar fields of places of user types, and of places as a whole.
 use Rattle.std.proofs.Common.{◌≡◌, refl, sym, subst, inl, true, Option, Some, None, [], ℕ, true≢false}
 use Rattle.vb_tree.specs.BoundTree.{Ty}
 use Rattle.vb_tree.specs.BoundTree as types
-use Rattle.bound_tree.specs.Tree.{Declarations, Expr, typed, Term, field}
+use Rattle.bound_tree.specs.Tree.{Expr, typed, Term, field}
 use Rattle.bound_facts.specs.Node.{class_in, type_at}
 use Rattle.run_base.specs.Positions.{Position}
 use Rattle.run_base.specs.Outcomes.{Outcome, after, gives, then}
 use Rattle.vb6_run.specs.Expressions as source
-use Rattle.vb6_run.specs.Expressions.{Context, declared, type_shape}
+use Rattle.vb6_run.specs.Expressions.{Context, declared}
 use Rattle.vb6_run.specs.Forms.{SourceLine}
-use Rattle.vb6_run.specs.Shapes.{Shape, shape_by, user_shapes}
 use Rattle.vb6_run.specs.Store as store
 use Rattle.vb6_run.specs.Store.{Address, root, Memory, SourceCalls, SourceFrame, provided}
 use Rattle.vb6_run.specs.Values.{Value, is_of_shape}
@@ -31,7 +30,7 @@ use Rattle.run_matches.specs.Match.{MemoryMatch}
 use Rattle.run_matches.specs.Pledges.{Pledge}
 use Rattle.run_matches.specs.SoundShapes.{IsField, IsSoundShape}
 use Rattle.run_matches.specs.Upgrades.{Upgrade}
-use Rattle.run_statements.specs.Frames.{AllCalled, AreReadable, ScalarMatch, context_of, demands}
+use Rattle.run_statements.specs.Frames.{AllCalled, AreReadable, ScalarMatch, context_of, demands, type_shape}
 use Rattle.run_statements.specs.Groups.{ValueMatch}
 use Rattle.agreeing_laws.proofs.Agreeing.{agrees_gives, agrees_outside, left_alone}
 use Rattle.row_laws.proofs.Composing.{after_nil}
@@ -68,9 +67,6 @@ module _ (U : Upgrade) (K : Pledge) (p : ℕ) (f : SourceFrame) (g : NetFrame) (
   abbrev S : net_names.Scope
   S = scope_of U.written c g k
 
-  abbrev D : Declarations
-  D = U.program.declarations
-
   abbrev Stands : Ty → Expr → Type 0
   Stands ty e = PlaceIs U K C S net_oracle T w ty e
 
@@ -87,21 +83,18 @@ module _ (U : Upgrade) (K : Pledge) (p : ℕ) (f : SourceFrame) (g : NetFrame) (
       )
 
   abbrev read_as : Ty → Value → Memory → Outcome Memory Value
-  read_as ty x v = provided (is_of_shape (type_shape (declared C) ty) x) (λ v. gives [] x v) v
-
-  abbrev shape_in : Ty → Shape
-  shape_in ty = shape_by (user_shapes U.program.declarations) [] ty
+  read_as ty x v = provided (is_of_shape (source.type_shape (declared C) ty) x) (λ v. gives [] x v) v
 
   -- where it stands, its value is read there
   value_at : (R : World → Value → net_value.Value → Type 0) (fty ty : Ty) (tm : Term) → is_alone (typed ty tm) ≡ true → Stands fty (typed ty tm)
-      → ((q : Position) (b : net.Address) → IsSoundShape U (shape_in fty) → Same U K w (root (shape_in fty) q) b
-      → Agrees U K w R (then (store.read (root (shape_in fty) q) w.src) (read_as ty)) (target.read b w.net))
+      → ((q : Position) (b : net.Address) → IsSoundShape U (type_shape U fty) → Same U K w (root (type_shape U fty) q) b
+      → Agrees U K w R (then (store.read (root (type_shape U fty) q) w.src) (read_as ty)) (target.read b w.net))
       → Agrees U K w R (source.value_of C (typed ty tm) w.src) (target.value_of S net_oracle (exp_of T (typed ty tm)) w.net)
   value_at R fty ty tm alone (missing none) go =
       subst (λ z. Agrees U K w R (then z (source.value_in C (typed ty tm))) (target.value_of S net_oracle (exp_of T (typed ty tm)) w.net)) (sym (none w.src))
       (agrees_outside U K w R (target.value_of S net_oracle (exp_of T (typed ty tm)) w.net))
   value_at R fty ty tm alone (placed r plain x) go =
-      let a : Address = root (shape_in fty) x.position in
+      let a : Address = root (type_shape U fty) x.position in
       subst (λ z. Agrees U K w R (then z (source.value_in C (typed ty tm))) (target.value_of S net_oracle (exp_of T (typed ty tm)) w.net)) (sym (x.found w.src))
       (subst (λ z. Agrees U K w R (after [] (then (after [] (store.read a w.src)) (read_as ty))) (target.value_from S net_oracle z))
       (sym (x.written.reached alone w.net))
@@ -117,22 +110,22 @@ module _ (U : Upgrade) (K : Pledge) (p : ℕ) (f : SourceFrame) (g : NetFrame) (
     scalar_field_agrees ty (typed (types.user s) tm) j covers scalar can base =
         let x = scalar_is ty s tm j scalar can base in
         value_at (ScalarMatch U ty) x.0.ty ty (field (typed (types.user s) tm) j) refl x.1 (λ q b sound same.
-        subst (λ z. Agrees U K w (ScalarMatch U ty) (then z (read_as ty)) (target.read b w.net)) (after_nil (store.read (root (shape_in x.0.ty) q) w.src))
-        (same_agrees U K C ty (root (shape_in x.0.ty) q) b w (inl refl) covers start same))
+        subst (λ z. Agrees U K w (ScalarMatch U ty) (then z (read_as ty)) (target.read b w.net)) (after_nil (store.read (root (type_shape U x.0.ty) q) w.src))
+        (same_agrees U K C ty (root (type_shape U x.0.ty) q) b w (inl refl) covers start same))
     scalar_field_agrees ty (typed _ tm) j covers scalar can base = absurd (true≢false (sym scalar))
 
     -- ---- as a whole
 
-    pub place_value_agrees : (t : ℕ) (tm : Term) → AllCalled (demands U K p l k (scope_of U.written c g k) T) (typed (types.user t) tm)
-        → covers_place uses (typed (types.user t) tm) ≡ true
-        → Agrees U K w (ValueMatch U (user_shapes U.program.declarations t))
-        (source.value_of (context_of U oracle p f l) (typed (types.user t) tm) w.src)
-        (target.value_of (scope_of U.written c g k) net_oracle (exp_of T (typed (types.user t) tm)) w.net)
-    place_value_agrees t tm can place =
-        value_at (ValueMatch U (user_shapes D t)) (types.user t) (types.user t) tm (place_alone uses (types.user t) tm place)
-        (place_is U K p f g oracle net_oracle l k c T uses same_declarations readable w have t tm can place) (λ q b sound same.
-        source_then U K w (ValueMatch U (user_shapes D t)) (ValueMatch U (user_shapes D t)) (store.read (root (user_shapes D t) q) w.src) (target.read b w.net)
-        (read_as (types.user t)) start (groups_are_read U K w (user_shapes D t) q b sound start same)
+    pub place_value_agrees : (ty : Ty) (tm : Term) → AllCalled (demands U K p l k (scope_of U.written c g k) T) (typed ty tm)
+        → covers_place uses (typed ty tm) ≡ true
+        → Agrees U K w (ValueMatch U (type_shape U ty))
+        (source.value_of (context_of U oracle p f l) (typed ty tm) w.src)
+        (target.value_of (scope_of U.written c g k) net_oracle (exp_of T (typed ty tm)) w.net)
+    place_value_agrees ty tm can place =
+        value_at (ValueMatch U (type_shape U ty)) ty ty tm (place_alone uses ty tm place)
+        (place_is U K p f g oracle net_oracle l k c T uses same_declarations readable w have ty tm can place) (λ q b sound same.
+        source_then U K w (ValueMatch U (type_shape U ty)) (ValueMatch U (type_shape U ty)) (store.read (root (type_shape U ty) q) w.src) (target.read b w.net)
+        (read_as ty) start (groups_are_read U K w (type_shape U ty) q b sound start same)
         (λ x z v m later.
-        provided_agrees U K v (ValueMatch U (user_shapes D t)) (is_of_shape (type_shape (declared C) (types.user t)) x) x (gives [] z v.net) (λ ok.
-        agrees_gives U K v (ValueMatch U (user_shapes D t)) x z later.match m)))
+        provided_agrees U K v (ValueMatch U (type_shape U ty)) (is_of_shape (source.type_shape (declared C) ty) x) x (gives [] z v.net) (λ ok.
+        agrees_gives U K v (ValueMatch U (type_shape U ty)) x z later.match m)))

@@ -134,7 +134,8 @@ module _ (U : Upgrade) (K : Pledge) (S : net_names.Scope) (T : Scope) (ts : List
       called_giving (typed ty err_number) s h = tt
       called_giving (typed ty (err_raise e)) s h = called_giving e s.1 h
       called_giving (typed ty err_clear) s h = tt
-      called_giving (typed ty (is_same d e)) s h = tt
+      called_giving (typed ty (is_same d e)) s h =
+          (called_giving d (nodes_left U ts (nodes d) (nodes e) s.1) h.0, called_giving e (nodes_right U ts (nodes d) (nodes e) s.1) h.1)
       called_giving (typed ty (loose e rules)) s h = tt
 
       called_giving_all : (es : Exprs) → Keep (nodes_of_all es) → AllCalledAll Q es → AllCalledAll R es

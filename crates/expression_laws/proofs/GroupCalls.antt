@@ -1,17 +1,19 @@
--- What a call gives that is of a user type.
+-- What a call gives that is of a user type or of a class.
 use Rattle.std.proofs.Common.{◌≡◌, ◌⊎◌, ◌∙◌, refl, sym, ap, subst, inl, inr, ℕ, zero, suc, Bool, true, true≢false, eqb-true, [], Option, Some, None}
 use Rattle.std.specs.Prelude.{slice_get, length}
 use Rattle.vb_tree.specs.BoundTree as types
+use Rattle.vb_tree.specs.BoundTree.{Ty}
 use Rattle.vb_tree.specs.declared.declared.ProcId.{ProcId}
 use Rattle.bound_tree.specs.declared.declared.TypeDecl.{TypeDecl}
 use Rattle.bound_tree.specs.Tree.{Declarations, Expr, typed, call, no_object, Passed}
+use Rattle.bound_facts.specs.Locks.{is_same_type}
 use Rattle.run_base.specs.Outcomes.{Outcome, after, gives, then}
 use Rattle.vb6_run.specs.Expressions as source
-use Rattle.vb6_run.specs.Expressions.{Context, Parts, declared, result_parts, type_shape}
+use Rattle.vb6_run.specs.Expressions.{Context, Parts, declared, result_parts}
 use Rattle.vb6_run.specs.Forms.{SourceLine}
-use Rattle.vb6_run.specs.Shapes.{Shape, Shapes, endless, group, group_by, user_shape, user_shapes}
+use Rattle.vb6_run.specs.Shapes.{Shape, Shapes, endless, group, group_by, simple, user_shape, user_shapes}
 use Rattle.vb6_run.specs.Store.{Memory, SourceCalls, SourceFrame, provided}
-use Rattle.vb6_run.specs.Values.{Value, elements, fields, is_of_shape, scalar}
+use Rattle.vb6_run.specs.Values.{Value, elements, fields, is_of_shape, is_typed, scalar}
 use Rattle.net_run.specs.Calls.{result_address}
 use Rattle.net_run.specs.Expressions as target
 use Rattle.net_run.specs.Shapes as shape
@@ -23,12 +25,14 @@ use Rattle.run_matches.specs.Maps.{World}
 use Rattle.run_matches.specs.Match.{MemoryMatch}
 use Rattle.run_matches.specs.Pledges.{Pledge}
 use Rattle.run_matches.specs.Upgrades.{Upgrade}
-use Rattle.run_statements.specs.Frames.{context_of}
+use Rattle.run_matches.specs.UserTypes.{is_group_type}
+use Rattle.run_statements.specs.Frames.{context_of, type_shape}
 use Rattle.run_statements.specs.Groups.{ValueMatch}
 use Rattle.row_laws.proofs.Composing.{then_assoc}
 use Rattle.agreeing_laws.proofs.Agreeing.{agrees_gives, agrees_outside, left_alone, then_agrees}
 use Rattle.expression_laws.specs.Calls.{GivenMatch}
 use Rattle.expression_laws.proofs.Checks.{provided_agrees}
+use Rattle.expression_laws.proofs.Types.{both_true, same_class}
 
 -- ---- values that have all fields
 
@@ -63,20 +67,32 @@ all_fields U t s is (inr (fs, i)) (fields u xs) ok whole =
     (subst (λ n. IsValueOf (user_shapes U.program.declarations n) (fields u xs))
     (sym (eqb-true t u (sym (ap (λ z. is_of_shape z (fields u xs)) i) ∙ ok))) whole)
 
+-- so is an object of its class
+object_value : (c : ℕ) (x : Value) → is_of_shape (simple (types.class c)) x ≡ true → IsValueOf (simple (types.class c)) x
+object_value c (scalar s z) ok = same_class c s (both_true (is_same_type (types.class c) s) (is_typed s z) ok).0
+object_value c (fields t xs) ok = absurd (true≢false (sym ok))
+object_value c (elements e dims xs) ok = absurd (true≢false (sym ok))
+
+pub group_value : (U : Upgrade) (ty : Ty) (x : Value) → is_group_type ty ≡ true → is_of_shape (type_shape U ty) x ≡ true → HasAllFields U x
+    → IsValueOf (type_shape U ty) x
+group_value U (types.user t) x grouped ok whole =
+    let D : Declarations = U.program.declarations in
+    all_fields U t (user_shapes D t) refl (shape_is D (length D.types) t) x ok whole
+group_value U (types.class c) x grouped ok whole = object_value c x ok
+group_value U _ x grouped ok whole = absurd (true≢false (sym grouped))
+
 -- ---- what a call gives
 
-module _ (U : Upgrade) (K : Pledge) (p : ℕ) (f : SourceFrame) (oracle : SourceCalls) (l : SourceLine) (t : ℕ) (q : ProcId) (qualified : Bool) (args : Passed) where
+module _ (U : Upgrade) (K : Pledge) (p : ℕ) (f : SourceFrame) (oracle : SourceCalls) (l : SourceLine) (ty : Ty) (grouped : is_group_type ty ≡ true)
+    (q : ProcId) (qualified : Bool) (args : Passed) where
   abbrev C : Context
   C = context_of U oracle p f l
 
-  abbrev D : Declarations
-  D = U.program.declarations
-
   abbrev e : Expr
-  e = typed (types.user t) (call q qualified no_object args)
+  e = typed ty (call q qualified no_object args)
 
   abbrev R : World → Value → net_value.Value → Type 0
-  R = ValueMatch U (user_shapes D t)
+  R = ValueMatch U (type_shape U ty)
 
   abbrev behind : Parts → Memory → Outcome Memory Value
   behind x v = then (source.as_new C (call q qualified no_object args) x v) (source.value_in C e)
@@ -87,19 +103,19 @@ module _ (U : Upgrade) (K : Pledge) (p : ℕ) (f : SourceFrame) (oracle : Source
   result_agrees v None (Some y) s start m = absurd m
   result_agrees v (Some x) None s start m = absurd m
   result_agrees v (Some x) (Some y) s start m =
-      let is = provided (is_of_shape (type_shape (declared C) (types.user t)) x) (λ w. gives [] x w) v.src in
+      let is = provided (is_of_shape (source.type_shape (declared C) ty) x) (λ w. gives [] x w) v.src in
       left_alone U K v R (after [] is) (gives [] y v.net)
       (left_alone U K v R is (gives [] y v.net)
-      (provided_agrees U K v R (is_of_shape (type_shape (declared C) (types.user t)) x) x (gives [] y v.net) (λ ok.
-      agrees_gives U K v R x y start (all_fields U t (user_shapes D t) refl (shape_is D (length D.types) t) x ok m.whole, m.like))))
+      (provided_agrees U K v R (is_of_shape (source.type_shape (declared C) ty) x) x (gives [] y v.net) (λ ok.
+      agrees_gives U K v R x y start (group_value U ty x grouped ok m.whole, m.like))))
 
-  -- a call that gives what matches gives a value of the user type that does
+  -- a call that gives what matches gives a value of the type that does
   pub group_value_agrees : (w : World) (r' : Outcome net.Memory net.Address) → MemoryMatch U w
-      → Agrees U K w (GivenMatch U) (source.term_parts (context_of U oracle p f l) (types.user t) (call q qualified no_object args) w.src) r'
-      → Agrees U K w (ValueMatch U (user_shapes U.program.declarations t))
-      (source.value_of (context_of U oracle p f l) (typed (types.user t) (call q qualified no_object args)) w.src) (then r' target.read)
+      → Agrees U K w (GivenMatch U) (source.term_parts (context_of U oracle p f l) ty (call q qualified no_object args) w.src) r'
+      → Agrees U K w (ValueMatch U (type_shape U ty))
+      (source.value_of (context_of U oracle p f l) (typed ty (call q qualified no_object args)) w.src) (then r' target.read)
   group_value_agrees w r' start h =
-      let r = source.term_parts C (types.user t) (call q qualified no_object args) w.src in
+      let r = source.term_parts C ty (call q qualified no_object args) w.src in
       subst (λ z. Agrees U K w R z (then r' target.read))
       (sym (then_assoc r (source.as_new C (call q qualified no_object args)) (source.value_in C e)))
       (then_agrees U K w (GivenMatch U) R r r' behind target.read start h

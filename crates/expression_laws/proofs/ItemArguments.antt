@@ -4,7 +4,7 @@ use Rattle.expression_laws.proofs.GivenElements as given_elements
 use Rattle.std.proofs.Common.{◌≡◌, ◌∙◌, refl, ap, ℕ, suc, Bool, true, false, cond, List, [], ◌∷◌, inl}
 use Rattle.vb_tree.specs.BoundTree.{Ty}
 use Rattle.bound_tree.specs.Tree.{Expr, typed, element, Exprs, by_reference}
-use Rattle.bound_facts.specs.Node.{is_array_type}
+use Rattle.bound_facts.specs.Node.{is_array_type, type_at}
 use Rattle.net_tree.specs.declared.declaration.NetPassing.{NetPassing}
 use Rattle.net_tree.specs.declared.declaration.NetPassing.TheVariants as passing
 use Rattle.net_tree.specs.Tree.{Exp}
@@ -22,6 +22,7 @@ use Rattle.written_trees.specs.Exprs.{exp_of}
 use Rattle.written_trees.specs.Names.{Scope}
 use Rattle.run_matches.specs.Agreeing.{Agrees}
 use Rattle.run_matches.specs.Covered.{hands_argument, is_item}
+use Rattle.run_matches.specs.CoveredVariables.{covers_type}
 use Rattle.run_matches.specs.Maps.{World}
 use Rattle.run_matches.specs.Match.{MemoryMatch}
 use Rattle.run_matches.specs.Pledges.{Pledge, Later}
@@ -43,19 +44,19 @@ module _ (U : Upgrade) (C : Context) (S : net_names.Scope) (net_oracle : Jobs) (
   ItemAgrees K w (typed ty t) = Unit {0}
 
   pub item_passed : (K : Pledge) (q i : ℕ) (w : World) (quiet : Bool) (mode : NetPassing) (referred : Bool) (e : Expr) (rest : Memory → Outcome Memory (List SourceGiven))
-      (rest' : net.Memory → Outcome net.Memory Arguments) → mode ≡ passing.Reference → is_item e ≡ true
+      (rest' : net.Memory → Outcome net.Memory Arguments) → mode ≡ passing.Reference → is_item e ≡ true → covers_type (type_at e) ≡ true
       → ((t : Ty) → IsOne (given_by (by_reference e)) t → K.keeps t) → hands_argument U.program q i (by_reference e) ≡ true → MemoryMatch U w → ItemAgrees K w e
       → ((v : World) → Later U K w v → Agrees U K v (ArgumentsMatch U K q (suc i)) (rest v.src) (rest' v.net))
       → Agrees U K w (ArgumentsMatch U K q i)
       (then (source.argument_of C quiet (by_reference e) w.src) (λ g w. then (rest w) (λ gs w. gives [] (g ∷ gs) w)))
       (then (target.given S net_oracle mode (target.reach S net_oracle false (argument_exp T referred (by_reference e) (exp_of T e)) w.net))
       (λ g w. then (rest' w) (λ gs w. gives [] (g ∷ gs) w)))
-  item_passed K q i w quiet mode referred (typed ty (element a indexes)) rest rest' m is kept hands start first more =
+  item_passed K q i w quiet mode referred (typed ty (element a indexes)) rest rest' m is covers kept hands start first more =
       let e : Expr = typed ty (element a indexes) in
-      given_elements.element_agrees U K ty (kept ty (inl refl)) q i quiet (λ b r. absurd (cc (hands, r))) C a indexes S net_oracle w
+      given_elements.element_agrees U K ty covers (kept ty (inl refl)) q i quiet (λ b r. absurd (cc (hands, r))) C a indexes S net_oracle w
       (target.reach S net_oracle false (exp_of T e) w.net)
       (target.given S net_oracle mode (target.reach S net_oracle false (argument_exp T referred (by_reference e) (exp_of T e)) w.net))
       (ap (λ z. target.given S net_oracle z (target.reach S net_oracle false (argument_exp T referred (by_reference e) (exp_of T e)) w.net)) m
       ∙ ap (λ z. target.given S net_oracle passing.Reference (target.reach S net_oracle false z w.net)) (item_written T referred ty a indexes (exp_of T e)))
       start first rest rest' more
-  item_passed K q i w quiet mode referred (typed ty _) rest rest' m is kept hands start first more = absurd (cc is)
+  item_passed K q i w quiet mode referred (typed ty _) rest rest' m is covers kept hands start first more = absurd (cc is)

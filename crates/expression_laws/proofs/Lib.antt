@@ -19,6 +19,10 @@ pub mod Calls
 pub mod References
 pub mod GivenElements
 pub mod Temporaries
+pub mod Nothings
+pub mod Objects
+pub mod MemberValues
+pub mod Is
 pub mod GroupArguments
 pub mod GroupCalls
 pub mod FieldReferences

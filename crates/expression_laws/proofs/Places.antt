@@ -1,4 +1,4 @@
--- Places of user types: variables, and fields of these that are of user types themselves.
+-- Places: variables of user types and of classes, and fields of these that are of user types themselves.
 use Rattle.std.proofs.Common.{◌≡◌, refl, sym, ap, subst, ◌∙◌, inr, ℕ, Bool, true, false, List, [], ◌++◌, Option, Some, None, eqb-true, true≢false}
 use Rattle.std.proofs.lemmas.Bool.{or_right}
 use Rattle.std.specs.Prelude.{slice_get}
@@ -14,7 +14,7 @@ use Rattle.vb6_run.specs.Expressions as source
 use Rattle.vb6_run.specs.Expressions.{Context, at_address}
 use Rattle.vb6_run.specs.Forms.{SourceLine}
 use Rattle.vb6_run.specs.Runnables.{variable_address}
-use Rattle.vb6_run.specs.Shapes.{Shape, user_shapes}
+use Rattle.vb6_run.specs.Shapes.{Shape}
 use Rattle.vb6_run.specs.Store.{Address, root, Memory, SourceCalls, SourceFrame}
 use Rattle.net_run.specs.Expressions as target
 use Rattle.net_run.specs.Lines.{NetFrame, NetLine, scope_of}
@@ -28,12 +28,13 @@ use Rattle.written_trees.specs.Exprs.{exp_of}
 use Rattle.written_trees.specs.Names.{Scope, variable_path}
 use Rattle.run_matches.specs.Addresses.{IsTarget, Same, same_item, same_root, position_of}
 use Rattle.run_matches.specs.Agreeing.{Agrees}
-use Rattle.run_matches.specs.CoveredExprs.{Uses, covers_base, covers_place, is_kept, is_type}
+use Rattle.run_matches.specs.CoveredExprs.{Uses, covers_base, covers_place, is_type}
+use Rattle.run_matches.specs.CoveredVariables.{covers_group_type, covers_type}
 use Rattle.run_matches.specs.Maps.{World, moved_at}
 use Rattle.run_matches.specs.Pledges.{Pledge}
 use Rattle.run_matches.specs.SoundShapes.{IsField}
 use Rattle.run_matches.specs.Upgrades.{Upgrade}
-use Rattle.run_statements.specs.Frames.{AllCalled, AreReadable, Demands, IsGroup, context_of, demands}
+use Rattle.run_statements.specs.Frames.{AllCalled, AreReadable, Demands, IsGroup, context_of, demands, type_shape}
 use Rattle.run_statements.specs.Groups.{PlaceMatch}
 use Rattle.agreeing_laws.proofs.Agreeing.{agrees_gives, agrees_outside}
 use Rattle.expression_laws.specs.Images.{HasImage, HaveImages, IsImage}
@@ -93,12 +94,12 @@ module _ (U : Upgrade) (K : Pledge) (p : ℕ) (f : SourceFrame) (g : NetFrame) (
   module _ (w : World) where
     -- ---- variables
 
-    module _ (have : HaveImages U K w f S T uses) (t : ℕ) (v : VarId) (qualified : Bool) (used : uses.group v t ≡ true) where
+    module _ (have : HaveImages U K w f S T uses) (ty : Ty) (v : VarId) (qualified : Bool) (used : uses.group v ty ≡ true) where
       abbrev the_variable : Expr
-      the_variable = typed (types.user t) (variable v qualified)
+      the_variable = typed ty (variable v qualified)
 
-      of_type : IsGroup U v.0 t
-      of_type = readable.groups v t used
+      of_type : IsGroup U v.0 ty
+      of_type = readable.groups v ty used
 
       variable_parts : (o : Option Address) → variable_address D f v.0 ≡ o → (s : Memory)
           → source.parts_of C the_variable s ≡ some_of o (λ a w. gives [] (at_address a) w) s
@@ -109,7 +110,7 @@ module _ (U : Upgrade) (K : Pledge) (p : ℕ) (f : SourceFrame) (g : NetFrame) (
 
       module _ (a : Address) (at : variable_address D f v.0 ≡ Some a) where
         image : HasImage U K w S T v.0 a
-        image = have v a (inr (inr (t, used))) at
+        image = have v a (inr (inr (ty, used))) at
 
         exact : IsImage U K w v.0 a image.address
         exact = image.image of_type.exact
@@ -117,42 +118,42 @@ module _ (U : Upgrade) (K : Pledge) (p : ℕ) (f : SourceFrame) (g : NetFrame) (
         abbrev q : Position
         q = exact.position
 
-        stands : a ≡ root (user_shapes D t) exact.position
-        stands = group_stands U v.0 t of_type a q exact.stands
+        stands : a ≡ root (type_shape U ty) exact.position
+        stands = group_stands U v.0 ty of_type a q exact.stands exact.target
 
         leads :
             (more : List (List ℕ)) (m : net.Memory) → target.started S net_oracle (path_start S false (variable_path T qualified v.0 ++ more)) m
             ≡ target.members_from S net_oracle (at_place image.address) more m
         leads more m =
-            let b : StandsAt image.address = image_stands U K w (user_shapes D t) q a image.address stands exact.same in
+            let b : StandsAt image.address = image_stands U K w (type_shape U ty) q a image.address stands exact.same in
             ap (λ z. target.started S net_oracle z m)
             (path_more S b.0 b.1 (variable_path T qualified v.0) more (image.found qualified ∙ ap (λ z. starts (at_place z) []) b.2)
             ∙ ap (λ z. starts (at_place z) more) (sym b.2))
 
-        variable_found : Found w exact.position.root (types.user t) the_variable
+        variable_found : Found w exact.position.root ty the_variable
         variable_found = record {
           position = q;
           address = image.address;
           in_root = refl;
           found = λ s. variable_parts (Some a) at s ∙ ap (λ z. gives [] (at_address z) s) stands;
-          sound = of_type.fields;
-          covers = of_type.covers;
+          sound = of_type.sound;
+          covers = or_right (covers_type ty) (covers_group_type D ty) of_type.covers;
           same = subst (λ z. Same U K w z image.address) stands exact.same;
           target = subst (λ z. IsTarget U z) stands exact.target;
           written =
               path_leads S net_oracle T the_variable image.address (variable_path T qualified v.0)
-              (known_exp T (types.user t) v qualified of_type.known.variable
+              (known_exp T ty v qualified of_type.known.variable
               (ap (λ E. slice_get E.vars v.0) same_declarations ∙ of_type.known.is_variable) of_type.known.plain)
               (λ name. refl) leads;
         }
 
-        variable_placed : Is w (types.user t) the_variable
+        variable_placed : Is w ty the_variable
         variable_placed = placed exact.position.root (exact.plain q (ap position_of stands)) variable_found
 
-      variable_is : Is w (types.user t) the_variable
+      variable_is : Is w ty the_variable
       variable_is = by (variable_address D f v.0) refl
         where
-          by : (o : Option Address) → variable_address D f v.0 ≡ o → Is w (types.user t) the_variable
+          by : (o : Option Address) → variable_address D f v.0 ≡ o → Is w ty the_variable
           by None e = missing (variable_parts None e)
           by (Some a) e = variable_placed a e
 
@@ -174,7 +175,7 @@ module _ (U : Upgrade) (K : Pledge) (p : ℕ) (f : SourceFrame) (g : NetFrame) (
           → covers_base uses (typed (types.user t) tm) ≡ true
           → PlaceIs U K (context_of U oracle p f l) (scope_of U.written c g k) net_oracle T w (types.user t) (typed (types.user t) tm)
       base_is t (with_object r) can covers = have.withs t r can
-      base_is t (variable v qualified) can covers = variable_is have.variables t v qualified covers
+      base_is t (variable v qualified) can covers = variable_is have.variables (types.user t) v qualified covers
       base_is t (field (typed (types.user s) tm) j) can covers =
           let both = both_true (is_type (types.user t) (uses.field_type s j)) (covers_base uses (typed (types.user s) tm)) covers in
           field_is s j tm (types.user t) (types.user t) (field_declared U T uses readable s t j (uses.field_type s j) refl both.0) refl
@@ -182,10 +183,12 @@ module _ (U : Upgrade) (K : Pledge) (p : ℕ) (f : SourceFrame) (g : NetFrame) (
       base_is t (field (typed _ tm) j) can covers = absurd (true≢false (sym covers))
       base_is t _ can covers = absurd (true≢false (sym covers))
 
-      pub place_is : (t : ℕ) (tm : Term) → AllCalled (demands U K p l k (scope_of U.written c g k) T) (typed (types.user t) tm)
-          → covers_place uses (typed (types.user t) tm) ≡ true
-          → PlaceIs U K (context_of U oracle p f l) (scope_of U.written c g k) net_oracle T w (types.user t) (typed (types.user t) tm)
-      place_is t tm can covers = base_is t tm can (or_right (is_kept uses (types.user t) tm) (covers_place uses (typed (types.user t) tm)) covers)
+      pub place_is : (ty : Ty) (tm : Term) → AllCalled (demands U K p l k (scope_of U.written c g k) T) (typed ty tm) → covers_place uses (typed ty tm) ≡ true
+          → PlaceIs U K (context_of U oracle p f l) (scope_of U.written c g k) net_oracle T w ty (typed ty tm)
+      place_is ty (variable v qualified) can covers = variable_is have.variables ty v qualified covers
+      place_is (types.user t) (field d j) can covers = base_is t (field d j) can covers
+      place_is _ (field d j) can covers = absurd (true≢false (sym covers))
+      place_is ty _ can covers = absurd (true≢false (sym covers))
 
 -- what stands by itself is written
 pub place_alone : (uses : Uses) (ty : Ty) (tm : Term) → covers_place uses (typed ty tm) ≡ true → is_alone (typed ty tm) ≡ true
@@ -195,30 +198,30 @@ place_alone uses ty _ covers = refl
 -- ---- the law
 
 pub places_agree_by : (U : Upgrade) (K : Pledge) → PlacesAgreeBy U K
-places_agree_by U K w p f g oracle net_oracle l k c T uses t tm start frames declarations readable stands can covers =
+places_agree_by U K w p f g oracle net_oracle l k c T uses ty tm start frames declarations readable stands can covers =
     by
     (place_is U K p f g oracle net_oracle l k c T uses declarations readable w
-    (places_now U p f g oracle net_oracle l k c T uses K w frames start declarations readable stands) t tm can covers)
+    (places_now U p f g oracle net_oracle l k c T uses K w frames start declarations readable stands) ty tm can covers)
   where
-    by : PlaceIs U K (context_of U oracle p f l) (scope_of U.written c g k) net_oracle T w (types.user t) (typed (types.user t) tm)
-        → Agrees U K w (PlaceMatch U K t) (source.address_of (context_of U oracle p f l) (typed (types.user t) tm) w.src)
-        (target.address_of (scope_of U.written c g k) net_oracle (exp_of T (typed (types.user t) tm)) w.net)
+    by : PlaceIs U K (context_of U oracle p f l) (scope_of U.written c g k) net_oracle T w ty (typed ty tm)
+        → Agrees U K w (PlaceMatch U K ty) (source.address_of (context_of U oracle p f l) (typed ty tm) w.src)
+        (target.address_of (scope_of U.written c g k) net_oracle (exp_of T (typed ty tm)) w.net)
     by (missing none) =
-        subst (λ z. Agrees U K w (PlaceMatch U K t) (then z source.finished)
-        (target.address_of (scope_of U.written c g k) net_oracle (exp_of T (typed (types.user t) tm)) w.net)) (sym (none w.src))
-        (agrees_outside U K w (PlaceMatch U K t) (target.address_of (scope_of U.written c g k) net_oracle (exp_of T (typed (types.user t) tm)) w.net))
+        subst (λ z. Agrees U K w (PlaceMatch U K ty) (then z source.finished)
+        (target.address_of (scope_of U.written c g k) net_oracle (exp_of T (typed ty tm)) w.net)) (sym (none w.src))
+        (agrees_outside U K w (PlaceMatch U K ty) (target.address_of (scope_of U.written c g k) net_oracle (exp_of T (typed ty tm)) w.net))
     by (placed r plain x) =
-        subst (λ z. Agrees U K w (PlaceMatch U K t) (then z source.finished)
-        (target.address_of (scope_of U.written c g k) net_oracle (exp_of T (typed (types.user t) tm)) w.net)) (sym (x.found w.src))
-        (subst (λ z. Agrees U K w (PlaceMatch U K t) (gives [] (root (user_shapes U.program.declarations t) x.position) w.src)
+        subst (λ z. Agrees U K w (PlaceMatch U K ty) (then z source.finished)
+        (target.address_of (scope_of U.written c g k) net_oracle (exp_of T (typed ty tm)) w.net)) (sym (x.found w.src))
+        (subst (λ z. Agrees U K w (PlaceMatch U K ty) (gives [] (root (type_shape U ty) x.position) w.src)
         (target.address_from (scope_of U.written c g k) net_oracle z))
-        (sym (x.written.reached (place_alone uses (types.user t) tm covers) w.net))
-        (agrees_gives U K w (PlaceMatch U K t) (root (user_shapes U.program.declarations t) x.position) x.address start
+        (sym (x.written.reached (place_alone uses ty tm covers) w.net))
+        (agrees_gives U K w (PlaceMatch U K ty) (root (type_shape U ty) x.position) x.address start
         (record {
           position = x.position;
           stands = refl;
           sound = x.sound;
           same = x.same;
           target = x.target;
-          plain = root_plain U w (user_shapes U.program.declarations t) x.position r x.in_root plain;
+          plain = root_plain U w (type_shape U ty) x.position r x.in_root plain;
         })))

@@ -17,7 +17,7 @@ use Rattle.vb6_run.specs.Expressions as source
 use Rattle.vb6_run.specs.Expressions.{Context, at_address}
 use Rattle.vb6_run.specs.Forms.{SourceLine}
 use Rattle.vb6_run.specs.Runnables.{variable_address}
-use Rattle.vb6_run.specs.Shapes.{Shape, simple, endless, part_shape, user_shapes}
+use Rattle.vb6_run.specs.Shapes.{Shape, simple, endless, part_shape}
 use Rattle.vb6_run.specs.Store.{Address, Memory, SourceCalls, SourceFrame, SourceGiven, held_at, root, item, constant}
 use Rattle.vb6_run.specs.Values.{Value}
 use Rattle.net_run.specs.Calls.{Arguments}
@@ -45,15 +45,15 @@ use Rattle.run_matches.specs.Pledges.{Pledge}
 use Rattle.run_matches.specs.SoundShapes.{IsSoundShape}
 use Rattle.run_matches.specs.Upgrades.{Upgrade, takes_array}
 use Rattle.run_statements.specs.Fitting.{FitsArgument}
-use Rattle.run_statements.specs.Frames.{AreReadable, IsGroup, IsKnown, IsReadable, context_of}
+use Rattle.run_statements.specs.Frames.{AreReadable, IsGroup, IsKnown, IsReadable, context_of, type_shape}
 use Rattle.row_laws.proofs.Composing.{after_nil}
 use Rattle.agreeing_laws.proofs.Agreeing.{agrees_outside}
-use Rattle.agreeing_laws.proofs.UserShapes.{declared_user}
+use Rattle.agreeing_laws.proofs.UserShapes.{declared_group}
 use Rattle.expression_laws.specs.Calls.{ArgumentsMatch}
 use Rattle.expression_laws.specs.Images.{HasImage, HaveImages, IsImage}
 use Rattle.expression_laws.proofs.Calls.{address_agrees}
 use Rattle.expression_laws.proofs.Elements.{ArrayThere, array_there, sound_array}
-use Rattle.expression_laws.proofs.UsedShapes.{array_stands, group_stands, known_used, scalar_stands}
+use Rattle.expression_laws.proofs.UsedShapes.{array_stands, group_stands, known_used, no_root_item, scalar_stands}
 use Rattle.expression_laws.proofs.Types.{both_true, either_true}
 use Rattle.expression_laws.proofs.Variables.{known_exp, known_none}
 
@@ -98,13 +98,7 @@ array_typed : (uses : Uses) (ty : Ty) (v : VarId) (qualified : Bool) → covers_
 array_typed uses (types.array e rank) v qualified h = refl
 array_typed uses _ v qualified h = absurd (cc h)
 
--- a variable of a user type
-group_used : (uses : Uses) (ty : Ty) (v : VarId) (qualified : Bool) → covers_place uses (typed ty (variable v qualified)) ≡ true
-    → (user_type : ℕ) × (uses.group v user_type ≡ true)
-group_used uses (types.user t) v qualified h = (t, h)
-group_used uses _ v qualified h = absurd (true≢false (sym h))
-
--- a scalar, an array or a user type
+-- a scalar, an array, or a user type or an object
 abbrev pub IsPassed : Uses → Expr → Type 0
 IsPassed uses e = ((is_passable uses e && covers_expr uses e) ≡ true) ⊎ ((covers_array uses e ≡ true) ⊎ (covers_place uses e ≡ true))
 
@@ -122,7 +116,7 @@ used_by : (uses : Uses) (ty : Ty) (v : VarId) (qualified : Bool) → IsPassed us
 used_by uses ty v qualified (inl h) =
     inl (both_true (covers_type ty) (uses.scalar v) (scalar_of_passed uses (typed ty (variable v qualified)) h)).1
 used_by uses ty v qualified (inr (inl h)) = inr (inl (array_used uses ty v qualified h))
-used_by uses ty v qualified (inr (inr h)) = inr (inr (group_used uses ty v qualified h))
+used_by uses ty v qualified (inr (inr h)) = inr (inr (ty, h))
 
 -- it is no quiet parameter
 passed_exact : (U : Upgrade) (T : Scope) (uses : Uses) → AreReadable U T uses → (ty : Ty) (v : VarId) (qualified : Bool)
@@ -132,9 +126,7 @@ passed_exact U T uses readable ty v qualified (inl h) =
 passed_exact U T uses readable ty v qualified (inr (inl h)) =
     let used = array_used uses ty v qualified h in
     (readable.arrays v used.0 used.1).exact
-passed_exact U T uses readable ty v qualified (inr (inr h)) =
-    let used = group_used uses ty v qualified h in
-    (readable.groups v used.0 used.1).exact
+passed_exact U T uses readable ty v qualified (inr (inr h)) = (readable.groups v ty h).exact
 
 no_array : (uses : Uses) (e : Expr) → covers_array uses e ≡ true → is_variable e ≡ false → ⊥
 no_array uses (typed (types.array e rank) (variable v qualified)) h other = true≢false other
@@ -164,9 +156,6 @@ plain_shape U q i _ _ ty e (same_array x bounds d rank same) = absurd (cc e)
 shape_of_root : (s t : Shape) (p q : Position) → root s p ≡ root t q → s ≡ t
 shape_of_root s t p q e = cc e
 
-no_root_item : (e s : Shape) (q p : Position) (j : ℕ) (inside : List ℕ) → item e q j inside ≡ root s p → ⊥
-no_root_item e s q p j inside f = cc f
-
 abbrev element_in : Address → Shape
 element_in (root s q) = s
 element_in (item e q j inside) = e
@@ -183,8 +172,8 @@ some_shape s t f = cc f
 plain_ranked : (U : Upgrade) (K : Pledge) (w : World) (q i : ℕ) (a : Address) (b : net.Address) (ty : Ty) (p : Position) → IsScalarAt ty a p → Same U K w a b
     → HasParameterRank U q i (net.shape_at b)
 plain_ranked U K w q i _ _ ty p (inl e) (same_root s d p' sh m r) = plain_shape U q i s d ty (shape_of_root s (simple ty) p' p e) sh
-plain_ranked U K w q i _ _ ty p (inl e) (same_item x t d p' k j inside keeps m has part sh) = absurd (no_root_item x (simple ty) p' p j inside e)
-plain_ranked U K w q i _ _ ty p (inr e) (same_root s d p' sh m r) = absurd (no_root_item (simple ty) s p p' e.0 [] (sym e.1))
+plain_ranked U K w q i _ _ ty p (inl e) (same_item x t d p' k j inside keeps m has part sh) = absurd (no_root_item e)
+plain_ranked U K w q i _ _ ty p (inr e) (same_root s d p' sh m r) = absurd (no_root_item (sym e.1))
 plain_ranked U K w q i _ _ ty p (inr e) (same_item x t d p' k j inside keeps m has part sh) =
     plain_shape U q i t d ty
     (some_shape t (simple ty) (sym part ∙ (ap (λ z. part_shape z x) (ap inside_of e.1) ∙ ap (λ z. Some z) (ap element_in e.1)))) sh
@@ -200,9 +189,9 @@ pub group_ranked : (U : Upgrade) (K : Pledge) (w : World) (q i : ℕ) (s : Shape
     → Same U K w a b → HasParameterRank U q i (net.shape_at b)
 group_ranked U K w q i s _ _ p c e (same_root t d p' sh m r) =
     sound_ranked U q i t d sh (subst (λ z. IsSoundShape U z) (sym (shape_of_root t s p' p e)) c)
-group_ranked U K w q i s _ _ p c e (same_item x t d p' k j inside keeps m has part sh) = absurd (no_root_item x s p' p j inside e)
+group_ranked U K w q i s _ _ p c e (same_item x t d p' k j inside keeps m has part sh) = absurd (no_root_item e)
 
-suited : (b t : Bool) → b ≡ true → (not b || t) ≡ true → t ≡ true
+pub suited : (b t : Bool) → b ≡ true → (not b || t) ≡ true → t ≡ true
 suited true t e h = h
 suited false t e h = absurd (cc e)
 
@@ -215,9 +204,8 @@ parameter_ranked U K w T uses readable q i ty v qualified (inl h) fits suits a b
     let r : IsReadable U v.0 = readable.scalars v (both_true (covers_type ty) (uses.scalar v) (scalar_of_passed uses (typed ty (variable v qualified)) h)).1 in
     plain_ranked U K w q i a b r.variable.ty x.position (scalar_stands U v.0 r a x.position x.stands) x.same
 parameter_ranked U K w T uses readable q i ty v qualified (inr (inr h)) fits suits a b x =
-    let used = group_used uses ty v qualified h in
-    let r : IsGroup U v.0 used.0 = readable.groups v used.0 used.1 in
-    group_ranked U K w q i (user_shapes U.program.declarations used.0) a b x.position r.fields (group_stands U v.0 used.0 r a x.position x.stands) x.same
+    let r : IsGroup U v.0 ty = readable.groups v ty h in
+    group_ranked U K w q i (type_shape U ty) a b x.position r.sound (group_stands U v.0 ty r a x.position x.stands x.target) x.same
 parameter_ranked U K w T uses readable q i ty v qualified (inr (inl h)) fits suits a b x =
     let used = array_used uses ty v qualified h in
     let stands = array_stands U v.0 used.0 (readable.arrays v used.0 used.1) a x.position x.stands in
@@ -242,9 +230,8 @@ parameter_declared U K w T uses readable ty v qualified (inr (inl h)) a b x =
     let stands = array_stands U v.0 used.0 (readable.arrays v used.0 used.1) a x.position x.stands in
     subst (λ z. IsDeclaredAt U z) (sym stands.1) tt
 parameter_declared U K w T uses readable ty v qualified (inr (inr h)) a b x =
-    let used = group_used uses ty v qualified h in
-    let r : IsGroup U v.0 used.0 = readable.groups v used.0 used.1 in
-    subst (λ z. IsDeclaredAt U z) (sym (group_stands U v.0 used.0 r a x.position x.stands)) (declared_user U used.0 r.covers)
+    let r : IsGroup U v.0 ty = readable.groups v ty h in
+    subst (λ z. IsDeclaredAt U z) (sym (group_stands U v.0 ty r a x.position x.stands x.target)) (declared_group U ty r.covers)
 
 -- ---- the target
 

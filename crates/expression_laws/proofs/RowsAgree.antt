@@ -23,9 +23,10 @@ use Rattle.run_matches.specs.Match.{MemoryMatch}
 use Rattle.run_matches.specs.Pledges.{Pledge, Later}
 use Rattle.run_matches.specs.Upgrades.{Upgrade}
 use Rattle.run_statements.specs.Frames.{PlainMatch}
-use Rattle.agreeing_laws.proofs.Agreeing.{agrees_gives, left_alone, then_agrees, answered_agrees}
+use Rattle.agreeing_laws.proofs.Agreeing.{agrees_gives, then_agrees, answered_agrees}
 use Rattle.agreeing_laws.proofs.Lasting.{later_then}
 use Rattle.agreeing_laws.proofs.Scalars.{matches_more, same_later}
+use Rattle.row_laws.proofs.Composing.{after_nil}
 use Rattle.row_laws.specs.Follows.{single_value, answers, on_three_values, Any, Follows, RowOfOne, RowOfTwo}
 use Rattle.row_laws.specs.Rows.{IsOf}
 use Rattle.expression_laws.proofs.Checks.{TermMatch}
@@ -64,19 +65,17 @@ module _ (U : Upgrade) (K : Pledge) (S : Scope) (oracle : Jobs) where
           subst (λ q. Agrees U K v (TermMatch U t) (source.answer_as t (f z) v.src) q) (sym (h.on_single x v.net tt))
           (answer_agrees U K v t (f z) (row x) start (law v z x m))
 
-  -- a row on the values of two
-  pub two_agree : (s s' t : Ty) (f : Value6 → Value6 → Answer Value6) (row : ValueN → ValueN → Answer ValueN) (whole first second : Exp)
+  -- a row on the values of two, which may ask that the memories match
+  pub both_agree : (s s' t : Ty) (f : Value6 → Value6 → Answer Value6) (row : ValueN → ValueN → Answer ValueN) (whole first second : Exp)
       (r : Outcome Memory Value6) (r' : Memory → Outcome Memory Value6) (w : World) → RowOfTwo S oracle (IsOf any_same s) whole first second row
-      → ((v : World) (z z' : Value6) (x x' : ValueN) → At v s z x → At v s' z' x' → values.Agrees (At v t) (f z z') (row x x')) → MemoryMatch U w
-      → Agrees U K w (PlainMatch U s) r (target.value_of S oracle first w.net)
+      → ((v : World) → MemoryMatch U v → (z z' : Value6) (x x' : ValueN) → At v s z x → At v s' z' x' → values.Agrees (At v t) (f z z') (row x x'))
+      → MemoryMatch U w → Agrees U K w (PlainMatch U s) r (target.value_of S oracle first w.net)
       → ((v : World) → Later U K w v → Agrees U K v (PlainMatch U s') (r' v.src) (target.value_of S oracle second v.net))
-      → Agrees U K w (TermMatch U t) (then r (λ z v. after [] (then (r' v) (λ z' u. source.answer_as t (f z z') u)))) (target.value_of S oracle whole w.net)
-  two_agree s s' t f row whole first second r r' w h law start operand other =
-      subst (λ q. Agrees U K w (TermMatch U t) (then r (λ z v. after [] (then (r' v) (λ z' u. source.answer_as t (f z z') u)))) q) (sym (h.is w.net))
+      → Agrees U K w (TermMatch U t) (then r (λ z v. then (r' v) (λ z' u. source.answer_as t (f z z') u))) (target.value_of S oracle whole w.net)
+  both_agree s s' t f row whole first second r r' w h law start operand other =
+      subst (λ q. Agrees U K w (TermMatch U t) (then r (λ z v. then (r' v) (λ z' u. source.answer_as t (f z z') u))) q) (sym (h.is w.net))
       (then_agrees U K w (PlainMatch U s) (TermMatch U t) r (target.value_of S oracle first w.net)
-      (λ z v. after [] (then (r' v) (λ z' u. source.answer_as t (f z z') u))) h.behind start operand
-      (λ z y v like l.
-      left_alone U K v (TermMatch U t) (then (r' v.src) (λ z' u. source.answer_as t (f z z') u)) (h.behind y v.net) (behind z y v like l)))
+      (λ z v. then (r' v) (λ z' u. source.answer_as t (f z z') u)) h.behind start operand (λ z y v like l. behind z y v like l))
     where
       last : (z z' : Value6) (x : ValueN) (y : net_value.Value) (v u : World)
           (g : Follows Any (h.behind (net_value.single x)) (target.value_of S oracle second) (λ x'. answers (row x x')))
@@ -85,7 +84,7 @@ module _ (U : Upgrade) (K : Pledge) (S : Scope) (oracle : Jobs) where
       last z _ x _ v u g m l (like_scalar _ z' x' m') =
           let now : At u s z x = matches_more (are_same v) (are_same u) (same_later v u l.extends l.grows) s z x m in
           subst (λ q. Agrees U K u (TermMatch U t) (source.answer_as t (f z z') u.src) q) (sym (g.on_single x' u.net tt))
-          (answer_agrees U K u t (f z z') (row x x') l.match (law u z z' x x' now m'))
+          (answer_agrees U K u t (f z z') (row x x') l.match (law u l.match z z' x x' now m'))
 
       behind : (z : Value6) (y : net_value.Value) (v : World) → LikeV U v (scalar s z) y → Later U K w v
           → Agrees U K v (TermMatch U t) (then (r' v.src) (λ z' u. source.answer_as t (f z z') u)) (h.behind y v.net)
@@ -95,6 +94,17 @@ module _ (U : Upgrade) (K : Pledge) (S : Scope) (oracle : Jobs) where
           subst (λ q. Agrees U K v (TermMatch U t) (then (r' v.src) (λ z' u. source.answer_as t (f z z') u)) q) (sym (g.is v.net))
           (then_agrees U K v (PlainMatch U s') (TermMatch U t) (r' v.src) (target.value_of S oracle second v.net) (λ z' u. source.answer_as t (f z z') u)
           g.behind l.match (other v l) (λ z' y u like l'. last z z' x y v u g m l' like))
+
+  pub two_agree : (s s' t : Ty) (f : Value6 → Value6 → Answer Value6) (row : ValueN → ValueN → Answer ValueN) (whole first second : Exp)
+      (r : Outcome Memory Value6) (r' : Memory → Outcome Memory Value6) (w : World) → RowOfTwo S oracle (IsOf any_same s) whole first second row
+      → ((v : World) (z z' : Value6) (x x' : ValueN) → At v s z x → At v s' z' x' → values.Agrees (At v t) (f z z') (row x x')) → MemoryMatch U w
+      → Agrees U K w (PlainMatch U s) r (target.value_of S oracle first w.net)
+      → ((v : World) → Later U K w v → Agrees U K v (PlainMatch U s') (r' v.src) (target.value_of S oracle second v.net))
+      → Agrees U K w (TermMatch U t) (then r (λ z v. after [] (then (r' v) (λ z' u. source.answer_as t (f z z') u)))) (target.value_of S oracle whole w.net)
+  two_agree s s' t f row whole first second r r' w h law start operand other =
+      subst (λ k. Agrees U K w (TermMatch U t) (then r k) (target.value_of S oracle whole w.net))
+      (λ i z v. sym (after_nil (then (r' v) (λ z' u. source.answer_as t (f z z') u))) i)
+      (both_agree s s' t f row whole first second r r' w h (λ v m z z' x x' like like'. law v z z' x x' like like') start operand other)
 
   -- a row on the values of three, by its equation
   pub three_agree : (s s' s'' t : Ty) (f : Value6 → Value6 → Value6 → Answer Value6) (row : ValueN → ValueN → ValueN → Answer ValueN) (whole first second third : Exp)

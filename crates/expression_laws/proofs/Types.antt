@@ -1,5 +1,5 @@
 -- Types of which one is covered are equal where they are the same.
-use Rattle.std.proofs.Common.{◌≡◌, ◌⊎◌, inl, inr, ℕ, ℤ, Bool, true, false, ◌&&◌, ◌||◌, List, refl}
+use Rattle.std.proofs.Common.{◌≡◌, ◌⊎◌, inl, inr, ℕ, ℤ, Bool, true, false, ◌&&◌, ◌||◌, List, refl, sym, ap, eqb-true, true≢false}
 use Rattle.vb_tree.specs.BoundTree as types
 use Rattle.vb_tree.specs.BoundTree.{Ty}
 use Rattle.bound_tree.specs.Tree.{Declarations, Expr, typed}
@@ -8,8 +8,9 @@ use Rattle.bound_facts.specs.Node.{type_at}
 use Rattle.net_meaning.specs.SameValues.{is_typed}
 use Rattle.vb6_run.specs.Expressions.{type_shape}
 use Rattle.vb6_run.specs.Shapes.{Shape, simple, shape_by}
-use Rattle.run_matches.specs.CoveredVariables.{covers_type}
+use Rattle.run_matches.specs.CoveredVariables.{covers_group_type, covers_type}
 use Rattle.run_matches.specs.CoveredExprs.{Uses, covers_expr, covers_term}
+use Rattle.run_matches.specs.UserTypes.{is_class_type, is_group_type}
 
 pub both_true : (a b : Bool) → (a && b) ≡ true → (a ≡ true) × (b ≡ true)
 both_true true b h = (refl, h)
@@ -18,6 +19,10 @@ both_true false b h = absurd (cc h)
 pub either_true : (a b : Bool) → (a || b) ≡ true → (a ≡ true) ⊎ (b ≡ true)
 either_true true b h = inl refl
 either_true false b h = inr h
+
+pub or_false : (a : Bool) → (a || false) ≡ true → a ≡ true
+or_false true h = refl
+or_false false h = h
 
 -- ---- the second is covered
 
@@ -102,6 +107,22 @@ same_of types.variant t c h = absurd (cc c)
 same_of (types.array x k) t c h = absurd (cc c)
 same_of types.nothing t c h = absurd (cc c)
 same_of types.unknown t c h = absurd (cc c)
+
+-- ---- user types and classes
+
+pub same_class : (c : ℕ) (ty : Ty) → is_same_type (types.class c) ty ≡ true → ty ≡ types.class c
+same_class c (types.class k) h = ap types.class (sym (eqb-true c k h))
+same_class c _ h = absurd (true≢false (sym h))
+
+pub class_of : (ty : Ty) → is_class_type ty ≡ true → (c : ℕ) × (ty ≡ types.class c)
+class_of (types.class c) h = (c, refl)
+class_of _ h = absurd (true≢false (sym h))
+
+-- what is covered as one of these is one
+pub is_group : (D : Declarations) (ty : Ty) → covers_group_type D ty ≡ true → is_group_type ty ≡ true
+is_group D (types.user t) h = refl
+is_group D (types.class c) h = refl
+is_group D _ h = absurd (true≢false (sym h))
 
 -- ---- what a covered type is
 

@@ -10,12 +10,12 @@ use Rattle.net_meaning.specs.declared.value.ValueN.TheVariants as n
 use Rattle.run_base.specs.Positions.{Position, Root, shared, whole}
 use Rattle.written_trees.specs.Names.{Scope}
 use Rattle.vb6_run.specs.Shapes.{Shape, simple, group, array, endless, shape_by, variable_shape, declared_shape, user_shapes}
-use Rattle.vb6_run.specs.Store.{Address, root, Held, table}
+use Rattle.vb6_run.specs.Store.{Address, root, item, Held, table}
 use Rattle.vb6_run.specs.Values.{Dimension, Values}
 use Rattle.net_run.specs.Shapes as net_shapes
 use Rattle.net_run.specs.Store as net
-use Rattle.run_matches.specs.Addresses.{AllMatched, AllRanked, IsScalarAt}
-use Rattle.run_matches.specs.CoveredVariables.{covers_owner, covers_type, covers_variable}
+use Rattle.run_matches.specs.Addresses.{AllMatched, AllRanked, IsScalarAt, IsTarget}
+use Rattle.run_matches.specs.CoveredVariables.{covers_group_type, covers_owner, covers_type, covers_variable}
 use Rattle.run_matches.specs.CoveredExprs.{Uses, IsUsed}
 use Rattle.run_matches.specs.Frames.{StandsAs}
 use Rattle.run_matches.specs.Kinds.{AreKinds}
@@ -25,9 +25,9 @@ use Rattle.run_matches.specs.Match.{HasRank, HeldAs, Holds, holds_blank, holds_s
 use Rattle.run_matches.specs.Pledges.{type_of_shape}
 use Rattle.run_matches.specs.SoundShapes.{IsSoundShape}
 use Rattle.run_matches.specs.Upgrades.{Upgrade, has_bounds, is_auto, is_fixed, type_of, type_of_some}
-use Rattle.run_statements.specs.Frames.{HasRankOf, IsArray, IsGroup, IsKnown, IsReadable, AreReadable}
+use Rattle.run_statements.specs.Frames.{HasRankOf, IsArray, IsGroup, IsKnown, IsReadable, AreReadable, type_shape}
 use Rattle.agreeing_laws.proofs.SoundParts.{all_matched_made, all_ranked_sound}
-use Rattle.agreeing_laws.proofs.UserShapes.{covered_type_of}
+use Rattle.agreeing_laws.proofs.UserShapes.{covered_type_of, group_type_of, group_unbounded}
 use Rattle.expression_laws.proofs.Types.{both_true, simple_type}
 
 pub type_covered : (x : Variable) → covers_variable x ≡ true → covers_type x.ty ≡ true
@@ -59,7 +59,7 @@ known_used U T uses readable v (inr (inr h)) = (readable.groups v h.0 h.1).known
 pub not_auto : (U : Upgrade) (v : ℕ) → IsKnown U v → is_auto U v ≡ false
 not_auto U v r = ap (λ o. is_some (auto_class o)) r.is_variable ∙ ap (λ b. is_some (cond b (class_in r.variable.ty) None)) r.plain
 
--- the shape of a variable that is used: that of a scalar, of an array of scalars, which has bounds where it is fixed, or of a user type
+-- the shape of a variable that is used: that of a scalar, of an array of scalars, which has bounds where it is fixed, of a user type or of a class
 pub data UsedShape (U : Upgrade) (v : ℕ) : Shape → Type 0 where
   used_scalar : (ty : Ty) → UsedShape U v (simple ty)
   used_array : (ty : Ty) (bounds : List (ℤ × ℤ)) → (is_fixed U v ≡ true → bounds ≡ [] → ⊥) → UsedShape U v (array (simple ty) bounds)
@@ -93,24 +93,47 @@ array_stands U v element r a q h = subst (λ s. StandsAs s a q) (array_shape_is 
 fixed_bounds : (U : Upgrade) (v : ℕ) (x : Variable) → slice_get U.program.declarations.vars v ≡ Some x → is_fixed U v ≡ true → x.bounds ≡ [] → ⊥
 fixed_bounds U v x is fixed none = true≢false (sym fixed ∙ ap has_bounds is ∙ ap (λ b. is_some (slice_get b 0)) none)
 
-pub group_shape_is : (U : Upgrade) (v t : ℕ) (r : IsGroup U v t) → variable_shape U.program.declarations v ≡ user_shapes U.program.declarations t
-group_shape_is U v t r =
+pub group_shape_is : (U : Upgrade) (v : ℕ) (ty : Ty) (r : IsGroup U v ty) → variable_shape U.program.declarations v ≡ type_shape U ty
+group_shape_is U v ty r =
     let x : Variable = r.known.variable in
     let users : ℕ → Shape = user_shapes U.program.declarations in
-    ap (declared_shape users) r.known.is_variable ∙ ap (shape_by users x.bounds) r.is_user
+    ap (declared_shape users) r.known.is_variable ∙ ap (shape_by users x.bounds) r.is_type ∙ group_unbounded U.program.declarations x.bounds ty r.covers
 
 -- what is a user type without arrays stands as it is declared
-sound_stands : (U : Upgrade) (s : Shape) (t : ℕ) (a : Address) (q : Position) → IsSoundShape U s → type_of_shape s ≡ types.user t → StandsAs s a q → a ≡ root s q
-sound_stands U (simple ty) t a q c of h = absurd (true≢false (sym c ∙ ap covers_type of))
-sound_stands U (group u fs) t a q c of h = h
-sound_stands U (array e bounds) t a q c of h = absurd c
-sound_stands U endless t a q c of h = absurd c
+user_stands : (U : Upgrade) (s : Shape) (t : ℕ) (a : Address) (q : Position) → IsSoundShape U s → type_of_shape s ≡ types.user t → StandsAs s a q → a ≡ root s q
+user_stands U (simple ty) t a q (inl c) of h = absurd (true≢false (sym c ∙ ap covers_type of))
+user_stands U (simple ty) t a q (inr c) of h = absurd (other_type c.2 of)
+  where
+    other_type : {c : ℕ} → ty ≡ types.class c → ty ≡ types.user t → ⊥
+    other_type e f = cc
+user_stands U (group u fs) t a q c of h = h
+user_stands U (array e bounds) t a q c of h = absurd c
+user_stands U endless t a q c of h = absurd c
 
-pub group_stands : (U : Upgrade) (v t : ℕ) (r : IsGroup U v t) (a : Address) (q : Position) → StandsAs (variable_shape U.program.declarations v) a q
-    → a ≡ root (user_shapes U.program.declarations t) q
-group_stands U v t r a q h =
-    sound_stands U (user_shapes U.program.declarations t) t a q r.fields (covered_type_of U.program.declarations t r.covers)
-    (subst (λ s. StandsAs s a q) (group_shape_is U v t r) h)
+pub no_root_item : {e s : Shape} {q p : Position} {j : ℕ} {inside : List ℕ} → item e q j inside ≡ root s p → ⊥
+no_root_item f = cc f
+
+same_element : {s t : Ty} {q p : Position} {i j : ℕ} → item (simple s) q i [] ≡ item (simple t) p j [] → s ≡ t
+same_element f = cc f
+
+-- no element that can be written is an object
+no_object_item : (U : Upgrade) (c : ℕ) (q : Position) (j : ℕ) (a : Address) → a ≡ item (simple (types.class c)) q j [] → IsTarget U a → ⊥
+no_object_item U c q j a e (inl (inl x)) = no_root_item (sym e ∙ x.stands)
+no_object_item U c q j a e (inl (inr (inl x))) = no_root_item (sym e ∙ x.stands)
+no_object_item U c q j a e (inl (inr (inr x))) = no_root_item (sym e ∙ x.stands)
+no_object_item U c q j a e (inr x) = true≢false (sym x.covers ∙ ap covers_type (same_element (sym x.stands ∙ e)))
+
+pub group_stands : (U : Upgrade) (v : ℕ) (ty : Ty) (r : IsGroup U v ty) (a : Address) (q : Position) → StandsAs (variable_shape U.program.declarations v) a q
+    → IsTarget U a → a ≡ root (type_shape U ty) q
+group_stands U v ty r a q h target = by ty r.sound r.covers (subst (λ s. StandsAs s a q) (group_shape_is U v ty r) h)
+  where
+    by : (ty : Ty) → IsSoundShape U (type_shape U ty) → covers_group_type U.program.declarations ty ≡ true → StandsAs (type_shape U ty) a q
+        → a ≡ root (type_shape U ty) q
+    by (types.user t) c covers h =
+        user_stands U (user_shapes U.program.declarations t) t a q c (covered_type_of U.program.declarations t covers) h
+    by (types.class k) c covers (inl e) = e
+    by (types.class k) c covers (inr x) = absurd (no_object_item U k q x.0 a x.1 target)
+    by _ c covers h = absurd (true≢false (sym covers))
 
 pub shape_used : (U : Upgrade) (T : Scope) (uses : Uses) → AreReadable U T uses → (v : VarId) → IsUsed uses v
     → UsedShape U v.0 (variable_shape U.program.declarations v.0)
@@ -122,10 +145,10 @@ shape_used U T uses readable v (inl h) =
     (used_scalar r.variable.ty)
 shape_used U T uses readable v (inr (inr h)) =
     let r : IsGroup U v.0 h.0 = readable.groups v h.0 h.1 in
-    let is : variable_shape U.program.declarations v.0 ≡ user_shapes U.program.declarations h.0 = group_shape_is U v.0 h.0 r in
+    let is : variable_shape U.program.declarations v.0 ≡ type_shape U h.0 = group_shape_is U v.0 h.0 r in
     subst (λ s. UsedShape U v.0 s) (sym is)
-    (used_group (user_shapes U.program.declarations h.0) r.fields
-    (ap type_of_some r.known.is_variable ∙ ap (λ t. Some t) (r.is_user ∙ sym (covered_type_of U.program.declarations h.0 r.covers))))
+    (used_group (type_shape U h.0) r.sound
+    (ap type_of_some r.known.is_variable ∙ ap (λ t. Some t) (r.is_type ∙ sym (group_type_of U.program.declarations h.0 r.covers))))
 shape_used U T uses readable v (inr (inl h)) =
     let r : IsArray U v.0 h.0 = readable.arrays v h.0 h.1 in
     let x : Variable = r.known.variable in

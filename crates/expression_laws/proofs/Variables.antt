@@ -106,7 +106,7 @@ path_read S oracle names b w h = ap (λ x. target.value_from S oracle (target.st
 -- ---- reading
 
 -- a value, checked to be of a type
-abbrev Checked : Context → Ty → Value → Does Value
+abbrev pub Checked : Context → Ty → Value → Does Value
 Checked C ty x w = provided (is_of_shape (type_shape (declared C) ty) x) (λ v. gives [] x v) w
 
 module _ (U : Upgrade) (K : Pledge) where

@@ -32,13 +32,14 @@ use Rattle.written_trees.specs.Names.{procedure_path, strings}
 use Rattle.written_trees.specs.Operators.{binary_exp, checked, is_product_in_currency, is_text, operand, typed_operator, typed_unary, unary_exp, variant_operator, variant_unary}
 use Rattle.row_laws.proofs.Support.{free_start}
 use Rattle.run_matches.specs.CoveredVariables.{covers_type}
-use Rattle.run_matches.specs.CoveredExprs.{Uses, covers_bounded, covers_expr, covers_library, covers_term, is_bound}
+use Rattle.run_matches.specs.CoveredExprs.{Uses, covers_bounded, covers_expr, covers_group, covers_library, covers_term, is_bound}
 use Rattle.run_matches.specs.Formed.{is_formed, is_row_of_call, are_formed, types_of}
 use Rattle.run_matches.specs.Pledges.{Pledge}
 use Rattle.run_matches.specs.Upgrades.{Upgrade}
 use Rattle.run_statements.specs.Frames.{AllCalled, CanCall, IsOpen, demands}
 use Rattle.expression_laws.proofs.Calls.{callee_is}
 use Rattle.expression_laws.proofs.Handled.{Handles, as_call, as_value, is_valued}
+use Rattle.expression_laws.proofs.Nothings.{nothing_converted, nothing_exp}
 use Rattle.expression_laws.proofs.Types.{both_true}
 
 -- ---- constants
@@ -229,6 +230,16 @@ module _ (U : Upgrade) (K : Pledge) (p : ℕ) (l : SourceLine) (k : NetLine) (S 
       subst (Handles S) (sym (callee_is T ty q qualified args (ap (λ D. is_property D q.0) same_declarations ∙ c.plain)))
       (as_call (to_procedure None c.number) (procedure_path T qualified q.0) (passed_of T q.0 0 args) (c.found qualified) tt)
 
+  -- what is given as a user type or an object, where it is no place
+  pub group_handles : (e : Expr) → AllCalled (demands U K p l k S T) e → covers_group uses e ≡ true → NoAddress e → Handles S (exp_of T e)
+  group_handles (typed ty (variable v qualified)) can covers none = absurd (true≢false none)
+  group_handles (typed ty (field e k)) can covers none = absurd (true≢false none)
+  group_handles (typed ty (call q qualified no_object args)) can covers none = called_handles ty q qualified args can.0
+  group_handles (typed ty (call q qualified (of_object e) args)) can covers none = absurd (true≢false (sym (both_true (uses.given ty) false covers).1))
+  group_handles (typed ty (convert to e)) can covers none =
+      subst (Handles S) (sym (nothing_exp T ty to e (nothing_converted (uses.given ty) ty to e covers))) (as_value tree.nothing refl)
+  group_handles (typed ty _) can covers none = absurd (true≢false (sym covers))
+
   pub exp_handles : (e : Expr) → AllCalled (demands U K p l k S T) e → covers_expr uses e ≡ true → is_formed e ≡ true → NoAddress e → Handles S (exp_of T e)
   exp_handles (typed ty (constant x origin)) can covers formed none = constant_handles S opened x origin
   exp_handles (typed ty (variable v qualified)) can covers formed none = absurd (true≢false none)
@@ -268,5 +279,5 @@ module _ (U : Upgrade) (K : Pledge) (p : ℕ) (l : SourceLine) (k : NetLine) (S 
   exp_handles (typed ty err_number) can covers formed none = support_handles S opened (codes "ErrNumber") tree.no_exps
   exp_handles (typed ty (err_raise e)) can covers formed none = absurd (true≢false (sym (both_true (covers_type ty) false covers).1))
   exp_handles (typed ty err_clear) can covers formed none = absurd (true≢false (sym (both_true (covers_type ty) false covers).1))
-  exp_handles (typed ty (is_same d e)) can covers formed none = absurd (true≢false (sym formed))
+  exp_handles (typed ty (is_same d e)) can covers formed none = as_value (tree.binary op.Is (exp_of T d) (exp_of T e)) refl
   exp_handles (typed ty (loose e rules)) can covers formed none = absurd (true≢false (sym formed))

@@ -1,14 +1,13 @@
 -- The statements: expressions that are covered and well formed do the same as what is written for them.
 use Rattle.std.specs.Prelude.{◌≡◌, ℕ, true, false, [], slice_get}
-use Rattle.vb_tree.specs.BoundTree.{Ty, array, user}
-use Rattle.bound_tree.specs.Tree.{Expr, typed, element, Exprs, Term}
+use Rattle.vb_tree.specs.BoundTree.{Ty, array, class}
+use Rattle.bound_tree.specs.Tree.{Expr, typed, element, field, Exprs, Term}
 use Rattle.bound_facts.specs.Effects.{params_at}
 use Rattle.bound_facts.specs.Node.{type_at}
 use Rattle.run_base.specs.Outcomes.{gives, then}
 use Rattle.vb6_run.specs.Expressions as source
 use Rattle.vb6_run.specs.Expressions.{lows_at}
 use Rattle.vb6_run.specs.Forms.{SourceLine}
-use Rattle.vb6_run.specs.Shapes.{user_shapes}
 use Rattle.vb6_run.specs.Store.{SourceCalls, SourceFrame}
 use Rattle.net_run.specs.Expressions as target
 use Rattle.net_run.specs.Lines.{NetFrame, NetLine, scope_of}
@@ -17,10 +16,11 @@ use Rattle.net_run.specs.Members.{Code}
 use Rattle.written_trees.specs.Exprs.{exp_of}
 use Rattle.written_trees.specs.Names.{Scope}
 use Rattle.run_matches.specs.Agreeing.{Agrees}
-use Rattle.run_matches.specs.CoveredExprs.{Uses, covers_array, covers_expr, covers_exprs, covers_group, covers_place}
+use Rattle.run_matches.specs.CoveredExprs.{Uses, covers_array, covers_expr, covers_exprs, covers_group, covers_object, covers_place}
 use Rattle.run_matches.specs.Covered.{is_type_at}
-use Rattle.run_matches.specs.CoveredVariables.{covers_user}
+use Rattle.run_matches.specs.CoveredVariables.{covers_group_type}
 use Rattle.run_matches.specs.SoundShapes.{IsSoundShape}
+use Rattle.run_matches.specs.UserTypes.{is_group_type}
 use Rattle.run_matches.specs.Frames.{FrameMatch}
 use Rattle.run_matches.specs.Maps.{World}
 use Rattle.run_matches.specs.Match.{MemoryMatch}
@@ -29,23 +29,24 @@ use Rattle.run_matches.specs.Upgrades.{Upgrade}
 use Rattle.run_statements.specs.Elements.{IndexedMatch}
 use Rattle.run_statements.specs.Fitting.{rank_of}
 use Rattle.run_statements.specs.Groups.{PlaceMatch, ValueMatch}
-use Rattle.run_statements.specs.Frames.{ArrayMatch, ElementMatch, ScalarMatch, PlainMatch, IsOpen, context_of, ArePlaced, AreReadable, AllCalled, demands}
+use Rattle.run_statements.specs.Members.{ReachedMember}
+use Rattle.run_statements.specs.Frames.{ArrayMatch, ElementMatch, IsMember, ScalarMatch, PlainMatch, IsOpen, context_of, ArePlaced, AreReadable, AllCalled, demands, type_shape}
 use Rattle.run_matches.specs.Runs.{CallsAgree}
 use Rattle.run_statements.specs.Written.{Passes}
 use Rattle.run_matches.specs.Formed.{is_formed}
 
 -- ---- what is handed in
 
--- a covered user type, none of whose declarations carries an issue
-pub record IsSoundType (U : Upgrade) (user_type : ℕ) : Type 0 where
-  pub covers : covers_user U.program.declarations user_type ≡ true
-  pub sound : IsSoundShape U (user_shapes U.program.declarations user_type)
+-- a covered user type, none of whose declarations carries an issue, or a covered class
+pub record IsSoundType (U : Upgrade) (ty : Ty) : Type 0 where
+  pub covers : covers_group_type U.program.declarations ty ≡ true
+  pub sound : IsSoundShape U (type_shape U ty)
 
--- the user types of parameters of what passes are so
+-- the user types and classes of parameters of what passes are so
 abbrev pub ParametersAreSound : Upgrade → Type 0
 ParametersAreSound U =
-    (q i t : ℕ) → Passes U q → is_type_at U.program.declarations (user t) (slice_get (params_at (slice_get U.program.declarations.procs q)) i) ≡ true
-    → IsSoundType U t
+    (q i : ℕ) (ty : Ty) → Passes U q → is_group_type ty ≡ true
+    → is_type_at U.program.declarations ty (slice_get (params_at (slice_get U.program.declarations.procs q)) i) ≡ true → IsSoundType U ty
 
 -- ---- under one pledge
 
@@ -106,28 +107,39 @@ ArraysAgreeBy U K =
     (source.address_of (context_of U oracle p f l) (typed (array d rank) t) w.src)
     (target.address_of (scope_of U.written c g k) net_oracle (exp_of T (typed (array d rank) t)) w.net)
 
--- the address of a covered place of a user type
+-- the address of a covered place
 abbrev pub PlacesAgreeBy : Upgrade → Pledge → Type 0
 PlacesAgreeBy U K =
     (w : World) (p : ℕ) (f : SourceFrame) (g : NetFrame) (oracle : SourceCalls) (net_oracle : Jobs) (l : SourceLine) (k : NetLine) (c : Code)
-    (T : Scope) (uses : Uses) (t : ℕ) (tm : Term) → MemoryMatch U w → FrameMatch U K w p f g → T.declarations ≡ U.program.declarations
+    (T : Scope) (uses : Uses) (ty : Ty) (tm : Term) → MemoryMatch U w → FrameMatch U K w p f g → T.declarations ≡ U.program.declarations
     → AreReadable U T uses → ArePlaced U p f (scope_of U.written c g k) T uses
-    → AllCalled (demands U K p l k (scope_of U.written c g k) T) (typed (user t) tm) → covers_place uses (typed (user t) tm) ≡ true
-    → Agrees U K w (PlaceMatch U K t)
-    (source.address_of (context_of U oracle p f l) (typed (user t) tm) w.src)
-    (target.address_of (scope_of U.written c g k) net_oracle (exp_of T (typed (user t) tm)) w.net)
+    → AllCalled (demands U K p l k (scope_of U.written c g k) T) (typed ty tm) → covers_place uses (typed ty tm) ≡ true
+    → Agrees U K w (PlaceMatch U K ty)
+    (source.address_of (context_of U oracle p f l) (typed ty tm) w.src)
+    (target.address_of (scope_of U.written c g k) net_oracle (exp_of T (typed ty tm)) w.net)
 
--- a user type as a value
+-- the parts of a variable of an object
+abbrev pub MembersAgreeBy : Upgrade → Pledge → Type 0
+MembersAgreeBy U K =
+    (w : World) (p : ℕ) (f : SourceFrame) (g : NetFrame) (oracle : SourceCalls) (net_oracle : Jobs) (l : SourceLine) (k : NetLine) (c : Code)
+    (T : Scope) (uses : Uses) (ty : Ty) (of_class i : ℕ) (tm : Term) (member_type : Ty) (m : IsMember U of_class i member_type) → MemoryMatch U w
+    → FrameMatch U K w p f g → T.declarations ≡ U.program.declarations → AreReadable U T uses → ArePlaced U p f (scope_of U.written c g k) T uses
+    → covers_object uses (typed (class of_class) tm) ≡ true
+    → Agrees U K w (ReachedMember U of_class m.number)
+    (source.parts_of (context_of U oracle p f l) (typed ty (field (typed (class of_class) tm) i)) w.src)
+    (target.reach (scope_of U.written c g k) net_oracle false (exp_of T (typed ty (field (typed (class of_class) tm) i))) w.net)
+
+-- a user type or an object as a value
 abbrev pub GroupsAgreeBy : Upgrade → Pledge → Type 0
 GroupsAgreeBy U K =
     (w : World) (p : ℕ) (f : SourceFrame) (g : NetFrame) (oracle : SourceCalls) (net_oracle : Jobs) (l : SourceLine) (k : NetLine) (c : Code)
-    (T : Scope) (uses : Uses) (t : ℕ) (tm : Term) → MemoryMatch U w → FrameMatch U K w p f g → T.declarations ≡ U.program.declarations
+    (T : Scope) (uses : Uses) (ty : Ty) (tm : Term) → MemoryMatch U w → FrameMatch U K w p f g → T.declarations ≡ U.program.declarations
     → IsOpen (scope_of U.written c g k) → AreReadable U T uses → ArePlaced U p f (scope_of U.written c g k) T uses → CallsAgree U (Passes U) oracle net_oracle
-    → AllCalled (demands U K p l k (scope_of U.written c g k) T) (typed (user t) tm) → covers_group uses (typed (user t) tm) ≡ true
-    → is_formed (typed (user t) tm) ≡ true
-    → Agrees U K w (ValueMatch U (user_shapes U.program.declarations t))
-    (source.value_of (context_of U oracle p f l) (typed (user t) tm) w.src)
-    (target.value_of (scope_of U.written c g k) net_oracle (exp_of T (typed (user t) tm)) w.net)
+    → AllCalled (demands U K p l k (scope_of U.written c g k) T) (typed ty tm) → covers_group uses (typed ty tm) ≡ true
+    → is_formed (typed ty tm) ≡ true
+    → Agrees U K w (ValueMatch U (type_shape U ty))
+    (source.value_of (context_of U oracle p f l) (typed ty tm) w.src)
+    (target.value_of (scope_of U.written c g k) net_oracle (exp_of T (typed ty tm)) w.net)
 
 -- ---- under any pledge
 

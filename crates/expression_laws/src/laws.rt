@@ -4,7 +4,7 @@ ghost use Rattle.vb6_run.specs.Store.{SourceFrame};
 ghost use Rattle.run_matches.specs.Frames.{frame_pledge};
 ghost use Rattle.run_matches.specs.Maps.{World};
 ghost use Rattle.run_matches.specs.Upgrades.{Upgrade};
-ghost use Rattle.expression_laws.specs.Statements.{ArraysAgreeBy, ElementsAgreeBy, FormedExpressionsAgreeBy, FormedScalarsAgreeBy, GroupsAgreeBy, IndexesAgreeBy, ParametersAreSound, PlacesAgreeBy};
+ghost use Rattle.expression_laws.specs.Statements.{ArraysAgreeBy, ElementsAgreeBy, FormedExpressionsAgreeBy, FormedScalarsAgreeBy, GroupsAgreeBy, IndexesAgreeBy, MembersAgreeBy, ParametersAreSound, PlacesAgreeBy};
 
 /// A law: under the pledge of a frame, an expression that is covered and well formed gives a value that matches what is written
 /// for it.
@@ -32,12 +32,20 @@ pub fn arrays_agree()
     ensures { (U : Upgrade) (p : ℕ) (w : World) (f : SourceFrame) → ArraysAgreeBy U (frame_pledge U p w f) }
 {}
 
-/// A law: a covered place of a user type, a variable or a field of one, has an address that is the image of the source's.
+/// A law: a covered place, a variable of a user type or of a class or a field of a user type, has an address that is the image of the
+/// source's.
 pub fn places_agree()
     ensures { (U : Upgrade) (p : ℕ) (w : World) (f : SourceFrame) → PlacesAgreeBy U (frame_pledge U p w f) }
 {}
 
-/// A law: a user type as a value, of a place or what a Function gives, matches what is written for it.
+/// A law: a variable of an object that is kept, by a variable or by a variable of such an object, has parts that are the images of the
+/// source's; whether there is an object is seen behind them.
+pub fn members_agree()
+    ensures { (U : Upgrade) (p : ℕ) (w : World) (f : SourceFrame) → MembersAgreeBy U (frame_pledge U p w f) }
+{}
+
+/// A law: a user type or an object as a value, of a place, of a variable of an object, what a Function gives or Nothing, matches what is
+/// written for it.
 pub fn groups_agree()
     ensures { (U : Upgrade) (sound : ParametersAreSound U) (p : ℕ) (w : World) (f : SourceFrame) → GroupsAgreeBy U (frame_pledge U p w f) }
 {}

@@ -4,6 +4,6 @@
 mod laws;
 
 pub use laws::{
-    arrays_agree, elements_agree, expressions_agree, groups_agree, indexes_agree, places_agree,
-    scalars_agree,
+    arrays_agree, elements_agree, expressions_agree, groups_agree, indexes_agree, members_agree,
+    places_agree, scalars_agree,
 };

@@ -1,5 +1,7 @@
--- An assignment to a variable, a field or an element, or of a user type, does the same as what is written for it.
-use Rattle.std.proofs.Common.{◌≡◌, refl, sym, subst, ⊎_elim, ℕ, Bool, true, false, ◌&&◌, ◌||◌, List, [], ◌∷◌, ◌++◌, codes, true≢false}
+-- An assignment to a variable, a field, an element or a variable of an object, or of a user type, does the same as what is written for it.
+use Rattle.std.proofs.Common.{◌≡◌, ◌∙◌, refl, sym, ap, subst, ⊎_elim, ℕ, Bool, true, false, ◌&&◌, ◌||◌, List, [], ◌∷◌, ◌++◌, codes, true≢false}
+use Rattle.std.proofs.Math.Bool.{or-false}
+use Rattle.vb_tree.specs.BoundTree as types
 use Rattle.vb_tree.specs.BoundTree.{Ty}
 use Rattle.bound_tree.specs.Tree.{Expr, typed, Term, variable, field, element, with_object}
 use Rattle.bound_facts.proofs.Chains.{both_true}
@@ -11,7 +13,7 @@ use Rattle.run_base.specs.Outcomes.{gives, then}
 use Rattle.written_trees.specs.Conversions.{support_call, two}
 use Rattle.written_trees.specs.Exprs.{exp_of}
 use Rattle.written_trees.specs.Names.{Scope}
-use Rattle.written_trees.specs.Puts.{put_line, store_line}
+use Rattle.written_trees.specs.Puts.{order_shows, put_line, store_line}
 use Rattle.vb6_run.specs.Expressions as source
 use Rattle.vb6_run.specs.Forms.{SourceLine}
 use Rattle.vb6_run.specs.Lines.{let_to}
@@ -23,8 +25,8 @@ use Rattle.net_run.specs.Members.{Code}
 use Rattle.net_run.specs.Names as net_names
 use Rattle.run_matches.specs.Agreeing.{Agrees}
 use Rattle.run_matches.specs.CoveredVariables.{covers_type}
-use Rattle.run_matches.specs.CoveredExprs.{Uses, covers_array, covers_expr, covers_base, covers_exprs, has_scalar, is_changeable_in, keeps_order}
-use Rattle.run_matches.specs.CoveredLines.{covers_copy, covers_store, is_ordered_in}
+use Rattle.run_matches.specs.CoveredExprs.{Uses, covers_array, covers_expr, covers_base, covers_exprs, covers_object, has_member, has_scalar, is_changeable_in, keeps_order}
+use Rattle.run_matches.specs.CoveredLines.{covers_copy, covers_store, is_member_ordered_in, is_ordered_in}
 use Rattle.run_matches.specs.Formed.{is_formed}
 use Rattle.run_matches.specs.Frames.{OwnsAll, is_own_of}
 use Rattle.run_matches.specs.Maps.{World}
@@ -35,6 +37,7 @@ use Rattle.run_matches.specs.Upgrades.{Upgrade}
 use Rattle.run_statements.specs.Elements.{IndexesAgree}
 use Rattle.run_statements.specs.Frames.{AllCalled, AnyUnits, AreReadable, ArePlaced, ElementsAgree, ExpressionsAgree, IsOpen, ScalarsAreWritten, context_of, demands}
 use Rattle.run_statements.specs.Groups.{GroupsAgree, GroupsAreWritten}
+use Rattle.run_statements.specs.Members.{MembersAgree, MembersAreFound}
 use Rattle.run_statements.specs.Memory.{ElementsAreWritten}
 use Rattle.run_statements.specs.Written.{Passes}
 use Rattle.agreeing_laws.proofs.Lasting.{later_now}
@@ -43,17 +46,15 @@ use Rattle.line_laws.proofs.Copies.{copy_stored}
 use Rattle.line_laws.proofs.ElementLines.{element_stored, not_outside}
 use Rattle.line_laws.proofs.ElementStores.{either_true}
 use Rattle.line_laws.proofs.FieldStores.{field_stored, order_is_hidden}
+use Rattle.line_laws.proofs.MemberLines.{member_stored}
+use Rattle.line_laws.proofs.MemberOrders.{member_order_hidden}
 use Rattle.line_laws.proofs.Stores.{assignment_agrees, line_is, same_type}
 use Rattle.line_laws.proofs.Targets.{SameStore}
 use Rattle.line_laws.proofs.Uses.{good}
 
-first_of_two : (b : Bool) → (b || false) ≡ true → b ≡ true
-first_of_two true h = refl
-first_of_two false h = h
-
 module _ (U : Upgrade) (expressions : ExpressionsAgree U) (scalars : ScalarsAreWritten U) (elements : ElementsAgree U) (indexed : IndexesAgree U)
-    (writes : ElementsAreWritten U) (groups : GroupsAgree U) (writes_groups : GroupsAreWritten U) (K : Pledge) (p : ℕ)
-    (f : SourceFrame) (g : NetFrame) (l : SourceLine) (k : NetLine) (c : Code) (T : Scope) (declared : T.declarations ≡ U.program.declarations)
+    (writes : ElementsAreWritten U) (groups : GroupsAgree U) (writes_groups : GroupsAreWritten U) (members : MembersAgree U) (finds : MembersAreFound U)
+    (K : Pledge) (p : ℕ) (f : SourceFrame) (g : NetFrame) (l : SourceLine) (k : NetLine) (c : Code) (T : Scope) (declared : T.declarations ≡ U.program.declarations)
     (oracle : SourceCalls) (net_oracle : Jobs) (is_open : IsOpen (scope_of U.written c g k)) (uses : Uses) (readable : AreReadable U T uses)
     (placed : ArePlaced U p f (scope_of U.written c g k) T uses) (agree : CallsAgree U (Passes U) oracle net_oracle) (w : World) (h : MemoryMatch U w)
     (G : GoOnMatching U K p f g w) (owns : OwnsAll U K p f) where
@@ -83,8 +84,37 @@ module _ (U : Upgrade) (expressions : ExpressionsAgree U) (scalars : ScalarsAreW
         (SameStore U K w C S T net_oracle to e → P (net.assign (exp_of T to) (exp_of T e)))
         → ((name : List ℕ) → SamePut name to e → P (put_line name (exp_of T to) (exp_of T e))) → P (store_line T to e)
 
+    abbrev Places : Ty → Term → Expr → Bool
+    Places ty t e = is_changeable_in uses t || (is_ordered_in uses ty t e || is_member_ordered_in uses t e)
+
+    -- a scalar to a variable of an object, or a field of a user type
+    part_stored : (ty of : Ty) (t : Term) (j : ℕ) (e : Expr) → Can (typed of t) → Can e → Places ty (field (typed of t) j) e ≡ true
+        → covers_expr uses (typed ty (field (typed of t) j)) ≡ true → covers_expr uses e ≡ true → is_formed e ≡ true
+        → IsOwnTarget (typed ty (field (typed of t) j)) → Stored (typed ty (field (typed of t) j)) e
+    part_stored ty (types.user s) t j e can_to can is to_covers covers formed own assigns puts =
+        let d : Expr = typed (types.user s) t in
+        let scalar : Bool = has_scalar uses (types.user s) j && covers_base uses d in
+        let parts : (covers_type ty ≡ true) × ((scalar || false) ≡ true) = both_true (covers_type ty) (scalar || false) to_covers in
+        let part : scalar ≡ true = sym (or-false scalar) ∙ parts.1 in
+        subst (λ x. P x) (sym (line_is T (typed ty (field d j)) e (order_is_hidden T.declarations uses ty d j e part) parts.0))
+        (assigns
+        (field_stored U expressions scalars K p f g l k c T declared oracle net_oracle is_open uses readable placed agree w h (G w (later_now U K w h)) e can
+        (good uses e covers formed) owns ty d j can_to part own))
+    part_stored ty (types.class s) t j e can_to can is to_covers covers formed own assigns puts =
+        let d : Expr = typed (types.class s) t in
+        let member : Bool = has_member uses (types.class s) j covers_type && covers_object uses d in
+        let parts : (covers_type ty ≡ true) × (member ≡ true) = both_true (covers_type ty) member to_covers in
+        let object = (both_true (has_member uses (types.class s) j covers_type) (covers_object uses d) parts.1).1 in
+        subst (λ x. P x)
+        (sym (line_is T (typed ty (field d j)) e
+        (ap (λ D. order_shows D (typed ty (field d j)) e) declared ∙ member_order_hidden U T uses readable ty s j t e is object) parts.0))
+        (assigns
+        (member_stored U expressions scalars members finds K p f g l k c T declared oracle net_oracle is_open uses readable placed agree w h G owns e can
+        (good uses e covers formed) ty s j t own is parts.1))
+    part_stored ty _ t j e can_to can is to_covers covers formed own assigns puts = absurd (true≢false (sym is))
+
     -- a scalar
-    value_stored : (ty : Ty) (t : Term) (e : Expr) → Can (typed ty t) → Can e → (is_changeable_in uses t || is_ordered_in uses ty t e) ≡ true
+    value_stored : (ty : Ty) (t : Term) (e : Expr) → Can (typed ty t) → Can e → Places ty t e ≡ true
         → covers_expr uses (typed ty t) ≡ true → is_formed (typed ty t) ≡ true → covers_expr uses e ≡ true → is_formed e ≡ true → IsOwnTarget (typed ty t)
         → Stored (typed ty t) e
     value_stored ty (variable v qualified) e can_to can is to_covers to_formed covers formed own assigns puts =
@@ -92,17 +122,12 @@ module _ (U : Upgrade) (expressions : ExpressionsAgree U) (scalars : ScalarsAreW
         subst (λ x. P x) (sym (line_is T (typed ty (variable v qualified)) e refl parts.0))
         (assigns
         (assignment_agrees U expressions scalars K p f g l k c T declared oracle net_oracle is_open uses readable placed agree w h (G w (later_now U K w h)) e can
-        (good uses e covers formed) owns ty v qualified parts.1 (readable.exact v (first_of_two (uses.exact v) is))
+        (good uses e covers formed) owns ty v qualified parts.1 (readable.exact v (sym (or-false (uses.exact v)) ∙ is))
         (λ steady. not_outside (is_own_of U p v.0) (own steady))))
-    value_stored ty (field d j) e can_to can is to_covers to_formed covers formed own assigns puts =
-        let parts : (covers_type ty ≡ true) × ((has_scalar uses (type_at d) j && covers_base uses d) ≡ true) =
-        both_true (covers_type ty) (has_scalar uses (type_at d) j && covers_base uses d) to_covers in
-        subst (λ x. P x) (sym (line_is T (typed ty (field d j)) e (order_is_hidden T.declarations uses ty d j e parts.1) parts.0))
-        (assigns
-        (field_stored U expressions scalars K p f g l k c T declared oracle net_oracle is_open uses readable placed agree w h (G w (later_now U K w h)) e can
-        (good uses e covers formed) owns ty d j can_to parts.1 own))
+    value_stored ty (field (typed of t) j) e can_to can is to_covers to_formed covers formed own assigns puts =
+        part_stored ty of t j e can_to can is to_covers covers formed own assigns puts
     value_stored ty (element a indexes) e can_to can is to_covers to_formed covers formed own assigns puts =
-        let both = both_true (is_same_type ty (type_at e)) (keeps_order uses indexes e) is in
+        let both = both_true (is_same_type ty (type_at e)) (keeps_order uses indexes e) (sym (or-false (is_same_type ty (type_at e) && keeps_order uses indexes e)) ∙ is) in
         let of_type = (both_true (covers_type ty) (covers_array uses a && covers_exprs uses indexes) to_covers).0 in
         element_stored U expressions elements indexed writes K p f g l k c T declared oracle net_oracle is_open uses readable placed agree w h G owns ty a indexes e
         can_to can to_covers to_formed covers formed own (same_type ty (type_at e) of_type both.0) P assigns puts both.1
@@ -112,7 +137,7 @@ module _ (U : Upgrade) (expressions : ExpressionsAgree U) (scalars : ScalarsAreW
 
     pub stored : (to e : Expr) → Can to → Can e → covers_store uses (to ∷ e ∷ []) ≡ true → is_formed to ≡ true → is_formed e ≡ true → IsOwnTarget to → Stored to e
     stored (typed ty t) e can_to can covers to_formed formed own assigns puts =
-        let places : Bool = is_changeable_in uses t || is_ordered_in uses ty t e in
+        let places : Bool = Places ty t e in
         let values : Bool = covers_expr uses (typed ty t) && covers_expr uses e in
         ⊎_elim
         (λ x.

@@ -1,17 +1,23 @@
 -- What the expressions of a line call are calls of the line.
-use Rattle.std.proofs.Common.{◌≡◌, refl, sym, subst, ℕ, zero, suc, ◌<◌, true, Option, Some, List, [], ◌∷◌, ◌++◌, length, true≢false, arith}
+use Rattle.std.proofs.Common.{◌≡◌, ⊎_elim, sym, subst, ℕ, zero, suc, ◌<◌, Bool, true, ◌&&◌, ◌||◌, Option, Some, List, [], ◌∷◌, ◌++◌, length, true≢false, arith}
+use Rattle.std.proofs.lemmas.Bool.{or_cases}
 use Rattle.std.specs.Prelude.{slice_index_or}
 use Rattle.std.specs.List.{Contains, flat_map}
 use Rattle.std.proofs.lemmas.List.Elements.{Contains-append_left, Contains-append_right, Contains-push}
-use Rattle.vb_tree.specs.Tree.{Form}
+use Rattle.vb_tree.specs.BoundTree as types
+use Rattle.vb_tree.specs.BoundTree.{Ty}
+use Rattle.vb_tree.specs.Tree.{Exp, Form}
 use Rattle.vb_tree.specs.Tree as source_form
-use Rattle.bound_tree.specs.Tree.{Declarations, Expr, typed, constant, variable, field, element, call, library, unary, binary, convert, new_object, me, with_object, err_number, err_raise, err_clear, is_same, loose, Exprs, no_exprs, next_expr, by_value, by_reference, Passed, no_passed, next_passed, Line}
+use Rattle.bound_tree.specs.Tree.{Declarations, Expr, typed, Term, constant, variable, field, element, call, library, unary, binary, convert, new_object, me, with_object, err_number, err_raise, err_clear, is_same, loose, Exprs, no_exprs, next_expr, by_value, by_reference, Passed, no_passed, next_passed, Line}
+use Rattle.bound_facts.proofs.Chains.{both_true}
 use Rattle.bound_facts.specs.Calls.{initialized, line_calls, node_calls, pair_to}
-use Rattle.bound_facts.specs.Node.{called}
+use Rattle.bound_facts.specs.Locks.{is_same_type}
+use Rattle.bound_facts.specs.Node.{called, type_at}
 use Rattle.bound_facts.specs.Nodes.{nodes, nodes_in, nodes_of_all, nodes_of_object, nodes_of_passed}
-use Rattle.bound_facts.specs.Parts.{line_uses, used_nodes}
-use Rattle.run_matches.specs.CoveredExprs.{Uses}
-use Rattle.run_matches.specs.CoveredLines.{covers_form}
+use Rattle.bound_facts.specs.Parts.{line_uses, target_nodes, used_nodes}
+use Rattle.run_matches.specs.CoveredExprs.{Uses, covers_group, covers_object, covers_place, has_member, is_changeable}
+use Rattle.run_matches.specs.CoveredLines.{covers_form, covers_set, covers_set_member, covers_set_variable, is_member_ordered}
+use Rattle.run_matches.specs.UserTypes.{is_class_type}
 use Rattle.run_statements.specs.Frames.{Demands, AllCalled, AllCalledAll, AllCalledFor}
 
 abbrev pub AllIn : {A : Type 0} → (A → Type 0) → List A → Type 0
@@ -84,7 +90,9 @@ module _ (Q : Demands) where
     nodes_called (typed ty err_number) h = tt
     nodes_called (typed ty (err_raise e)) h = nodes_called e (of_rest (typed ty (err_raise e)) (nodes e) h)
     nodes_called (typed ty err_clear) h = tt
-    nodes_called (typed ty (is_same d e)) h = tt
+    nodes_called (typed ty (is_same d e)) h =
+        let more = of_rest (typed ty (is_same d e)) (nodes d ++ nodes e) h in
+        (nodes_called d (of_left (nodes d) (nodes e) more), nodes_called e (of_right (nodes d) (nodes e) more))
     nodes_called (typed ty (loose e rules)) h = tt
 
     exprs_called : (args : Exprs) → OfNodes (nodes_of_all args) → AllCalledAll Q args
@@ -109,18 +117,54 @@ module _ (Q : Demands) where
 called_first : (D : Declarations) (p q : ℕ) (o : Option ℕ) (more : List (ℕ × ℕ)) → o ≡ Some q → Contains (pair_to p o more) (p, q)
 called_first D p q o more e = subst (λ o. Contains (pair_to p o more) (p, q)) (sym e) (contains_first (p, q) more)
 
-uses_are : (uses : Uses) (f : Form) (es : List Expr) → covers_form uses f es ≡ true → used_nodes f es ≡ flat_map nodes es
-uses_are uses (source_form.set target value) es h = absurd (true≢false (sym h))
-uses_are uses _ es h = refl
-
 -- what a line uses is among what it calls
 pub use_calls : (D : Declarations) (p q : ℕ) (l : Line) (d : Expr) → Contains (line_uses l) d → called d ≡ Some q → Contains (line_calls D p l) (p, q)
 use_calls D p q l d m e =
     contains_flat (node_calls D p) (line_uses l) d (p, q) m.0 m.1 m.2 (called_first D p q (called d) (pair_to p (initialized D d) []) e)
 
+-- a Set stores to a variable, or to one of an object that a variable keeps, of which nothing is demanded
+target_called : (Q : Demands) (uses : Uses) (ty : Ty) (t : Term) → is_class_type ty ≡ true → covers_place uses (typed ty t) ≡ true → AllCalled Q (typed ty t)
+target_called Q uses ty (variable v qualified) of covers = tt
+target_called Q uses (types.user s) (field e k) of covers = absurd (true≢false (sym of))
+target_called Q uses _ (field e k) of covers = absurd (true≢false (sym covers))
+target_called Q uses ty _ of covers = absurd (true≢false (sym covers))
+
+object_called : (Q : Demands) (uses : Uses) (ty : Ty) (t : Term) → covers_object uses (typed ty t) ≡ true → AllCalled Q (typed ty t)
+object_called Q uses ty (variable v qualified) covers = tt
+object_called Q uses ty (field (typed of t) k) covers =
+    let member = both_true (is_class_type ty) (has_member uses of k (is_same_type ty) && covers_object uses (typed of t)) covers in
+    object_called Q uses of t (both_true (has_member uses of k (is_same_type ty)) (covers_object uses (typed of t)) member.1).1
+object_called Q uses ty _ covers = absurd (true≢false (sym covers))
+
+set_target_called : (Q : Demands) (uses : Uses) (ty : Ty) (t : Term) (e : Expr) → covers_set uses (typed ty t ∷ e ∷ []) ≡ true → AllCalled Q (typed ty t)
+set_target_called Q uses ty t e covers =
+    let to : Expr = typed ty t in
+    let places : Bool = covers_place uses to && covers_group uses e in
+    let objects : Bool = covers_object uses to && covers_group uses e in
+    let first = both_true (is_class_type ty) (covers_set_variable uses to e || covers_set_member uses to e) covers in
+    ⊎_elim
+    (λ x.
+    let second = both_true (is_changeable uses to) (is_same_type ty (type_at e) && places) x in
+    target_called Q uses ty t first.0
+    (both_true (covers_place uses to) (covers_group uses e) (both_true (is_same_type ty (type_at e)) places second.1).1).0)
+    (λ x.
+    let second = both_true (is_member_ordered uses to e) (is_same_type ty (type_at e) && objects) x in
+    object_called Q uses ty t (both_true (covers_object uses to) (covers_group uses e) (both_true (is_same_type ty (type_at e)) objects second.1).1).0)
+    (or_cases (covers_set_variable uses to e) (covers_set_member uses to e) first.1)
+
+set_called : (Q : Demands) (uses : Uses) (target value : Exp) (es : List Expr) → covers_set uses es ≡ true
+    → OfNodes Q (used_nodes (source_form.set target value) es) → AllIn (AllCalled Q) es
+set_called Q uses target value [] covers h = tt
+set_called Q uses target value (to ∷ []) covers h = absurd (true≢false (sym covers))
+set_called Q uses target value (typed ty t ∷ e ∷ []) covers h =
+    (set_target_called Q uses ty t e covers, all_called Q (e ∷ []) (of_right Q (target_nodes (typed ty t)) (flat_map nodes (e ∷ [])) h))
+set_called Q uses target value (to ∷ e ∷ d ∷ es) covers h = absurd (true≢false (sym covers))
+
+form_called : (Q : Demands) (uses : Uses) (f : Form) (es : List Expr) → covers_form uses f es ≡ true → OfNodes Q (used_nodes f es) → AllIn (AllCalled Q) es
+form_called Q uses (source_form.set target value) es covers h = set_called Q uses target value es covers h
+form_called Q uses _ es covers h = all_called Q es h
+
 -- what holds of the nodes of a covered line holds of those of its expressions
 pub line_called : (Q : Demands) (uses : Uses) (l : Line) → covers_form uses l.source.form l.bindings.exprs ≡ true
     → ((d : Expr) → Contains (line_uses l) d → NodeHas Q d) → AllIn (AllCalled Q) l.bindings.exprs
-line_called Q uses l covers h =
-    all_called Q l.bindings.exprs
-    (λ d c. h d (subst (λ ns. Contains ns d) (sym (uses_are uses l.source.form l.bindings.exprs covers)) c))
+line_called Q uses l covers h = form_called Q uses l.source.form l.bindings.exprs covers h

@@ -162,12 +162,17 @@ module _ (C : source.Context) where
   scalar_shape ty c = simple_type (user_shapes (declared C)) [] ty c
 
   -- what stands at an address is the value
+  pub typed_read : (e : Expr) (a : Address) (s : Memory) (z : Value6) → type_shape (declared C) (type_at e) ≡ simple (type_at e)
+      → is_of_shape (simple (type_at e)) (scalar (type_at e) z) ≡ true
+      → read a s ≡ gives [] (scalar (type_at e) z) s → value_in C e (at_address a) s ≡ gives [] (scalar (type_at e) z) s
+  typed_read e a s z of shaped is =
+      ap (λ r. then (after [] r) (check e)) is
+      ∙ ap (λ d. after [] (provided (is_of_shape d (scalar (type_at e) z)) (λ w. gives [] (scalar (type_at e) z) w) s)) of
+      ∙ ap (λ b. after [] (provided b (λ w. gives [] (scalar (type_at e) z) w) s)) shaped
+
   pub value_read : (e : Expr) (a : Address) (s : Memory) (z : Value6) → covers_type (type_at e) ≡ true → is_typed (type_at e) z ≡ true
       → read a s ≡ gives [] (scalar (type_at e) z) s → value_in C e (at_address a) s ≡ gives [] (scalar (type_at e) z) s
-  value_read e a s z c t is =
-      ap (λ r. then (after [] r) (check e)) is
-      ∙ ap (λ d. after [] (provided (is_of_shape d (scalar (type_at e) z)) (λ w. gives [] (scalar (type_at e) z) w) s)) (scalar_shape (type_at e) c)
-      ∙ ap (λ b. after [] (provided b (λ w. gives [] (scalar (type_at e) z) w) s)) (typed_shape (type_at e) z c t)
+  value_read e a s z c t is = typed_read e a s z (scalar_shape (type_at e) c) (typed_shape (type_at e) z c t) is
 
   -- the value of an expression is known
   abbrev pub Gives : Expr → Value6 → Memory → Type 0
@@ -184,12 +189,16 @@ module _ (C : source.Context) where
   constant_gives ty x o s c t = ap (after []) (value_read (typed ty (constant x o)) (source_store.constant (scalar ty x)) s x c t refl)
 
   -- a conversion that has a value
-  pub converted_gives : (ty : Ty) (e : Expr) (z x : Value6) (s : Memory) → covers_type ty ≡ true → Gives e z s → coerce z ty ≡ answer.gives x → is_typed ty x ≡ true
-      → Gives (typed ty (convert ty e)) x s
-  converted_gives ty e z x s c is made t =
+  pub typed_converted : (ty : Ty) (e : Expr) (z x : Value6) (s : Memory) → type_shape (declared C) ty ≡ simple ty
+      → is_of_shape (simple ty) (scalar ty x) ≡ true → Gives e z s → coerce z ty ≡ answer.gives x → Gives (typed ty (convert ty e)) x s
+  typed_converted ty e z x s of shaped is made =
       ap (λ r. then (then (then r (λ x w. answer_as ty (coerce x ty) w)) (source.as_new C (convert ty e))) (value_in C (typed ty (convert ty e)))) (as_scalar e z s is)
       ∙ ap (λ a. then (then (after [] (answer_as ty a s)) (source.as_new C (convert ty e))) (value_in C (typed ty (convert ty e)))) made
-      ∙ ap (after []) (value_read (typed ty (convert ty e)) (source_store.constant (scalar ty x)) s x c t refl)
+      ∙ ap (after []) (typed_read (typed ty (convert ty e)) (source_store.constant (scalar ty x)) s x of shaped refl)
+
+  pub converted_gives : (ty : Ty) (e : Expr) (z x : Value6) (s : Memory) → covers_type ty ≡ true → Gives e z s → coerce z ty ≡ answer.gives x → is_typed ty x ≡ true
+      → Gives (typed ty (convert ty e)) x s
+  converted_gives ty e z x s c is made t = typed_converted ty e z x s (scalar_shape ty c) (typed_shape ty x c t) is made
 
 -- ---- constants
 

@@ -43,27 +43,27 @@ use Rattle.run_matches.specs.CoveredExprs.{Uses, are_calm, are_still, covers_arr
 use Rattle.run_matches.specs.Formed.{are_formed, are_longs, has_elements, is_formed, types_of}
 use Rattle.run_matches.specs.Frames.{FrameMatch, IsOwnAddress, OwnsAll, is_own_of}
 use Rattle.run_matches.specs.Likeness.{LikeV, SameShape, same_class, same_scalar, scalar_word}
-use Rattle.run_matches.specs.Maps.{Map, World, IsMade, is_auto_root, is_auto_variable, mark}
+use Rattle.run_matches.specs.Maps.{Map, World, is_auto_root}
 use Rattle.run_matches.specs.Match.{MemoryMatch}
-use Rattle.run_matches.specs.Pledges.{IsHeld, IsOld, Later, Pledge}
+use Rattle.run_matches.specs.Pledges.{IsOld, Later, Pledge}
 use Rattle.run_matches.specs.Runs.{CallsAgree}
 use Rattle.run_matches.specs.Upgrades.{Upgrade}
 use Rattle.run_statements.specs.Frames.{AllCalled, AnyUnits, AreReadable, ArePlaced, ElementMatch, ElementsAgree, ExpressionsAgree, IsKnown, IsOpen, IsPlaced, ScalarMatch, context_of, demands}
 use Rattle.run_statements.specs.Elements.{IndexedMatch, IndexesAgree, takes}
 use Rattle.run_statements.specs.Memory.{ElementsAreWritten}
 use Rattle.run_statements.specs.Written.{Passes}
-use Rattle.agreeing_laws.proofs.Agreeing.{agrees_gives, agrees_later, agrees_outside, agrees_weaker, agrees_yields, given_agrees, left_alone, right_alone, then_agrees}
+use Rattle.agreeing_laws.proofs.Agreeing.{agrees_gives, agrees_later, agrees_outside, agrees_weaker, agrees_yields, left_alone, right_alone, then_agrees}
 use Rattle.agreeing_laws.proofs.Lasting.{later_now, later_then}
-use Rattle.agreeing_laws.proofs.Made.{same_variable}
 use Rattle.agreeing_laws.proofs.Scalars.{scalar_later}
 use Rattle.agreeing_laws.specs.Promises.{Yields}
 use Rattle.line_laws.specs.Lasting.{GoOnMatching}
 use Rattle.line_laws.proofs.Bounds.{some_is}
+use Rattle.line_laws.proofs.EitherOrder.{parts_first, value_first}
 use Rattle.line_laws.proofs.Elements.{ArrayVariable, IsElementIn, array_variable, element_array, element_in, let_is, indexed, known_address, known_found, own_element, parts_are, parts_by, spelt, stored_by}
 use Rattle.line_laws.proofs.Calm.{IsConstant, calm_still, literal_is_constant, literal_still, scalar_part}
-use Rattle.line_laws.proofs.Orders.{element_stays, indexed_stays}
-use Rattle.line_laws.proofs.Standing.{calm_known, indexes_known, longs_are, known_plain, known_there}
-use Rattle.line_laws.proofs.Still.{called_in_still, called_in_still_all, frame_still, stays_still, still}
+use Rattle.line_laws.proofs.Orders.{element_stays, indexed_stays, stable_behind, stable_later}
+use Rattle.line_laws.proofs.Standing.{Stable, calm_known, indexes_known, longs_are, known_plain, known_there}
+use Rattle.line_laws.proofs.Still.{called_in_still, called_in_still_all, frame_still, still}
 use Rattle.line_laws.proofs.Puts.{PutOf, put_is, put_stores}
 use Rattle.line_laws.proofs.Prints.{AnyAddress}
 
@@ -221,19 +221,12 @@ module _ (U : Upgrade) (expressions : ExpressionsAgree U) (elements : ElementsAg
       → ((u : World) → Later U K w u → Agrees U K u (SteadyValue u) (source.value_of C e u.src) (target.value_of S net_oracle (exp_of T e) u.net))
       → Agrees U K w AnyUnits (Stored w) (assignment S net_oracle (exp_of T to) (exp_of T e) w.net)
   steady_value w h z X now later parts value =
-      let net_stores : Outcome net_store.Memory Unit = assignment S net_oracle (exp_of T to) (exp_of T e) w.net in
-      subst (λ i. Agrees U K w AnyUnits (then i (let_to C to)) net_stores) (sym now)
-      (left_alone U K w AnyUnits (let_to C to (scalar ty z) w.src) net_stores
-      (subst (λ i. Agrees U K w AnyUnits i net_stores) (sym (let_is C ty a indexes z w.src))
-      (then_agrees U K w (λ u x r. PlainElement u x r × X u) AnyUnits (source.term_parts C ty (element a indexes) w.src) (reach S net_oracle false (exp_of T to) w.net)
-      (stored_by C ty a indexes z) (λ r t. then (target.value_of S net_oracle (exp_of T e) t) (λ y t. assigned S net_oracle r y t)) h parts
-      (λ x r u m lat.
-      given_agrees U K u (SteadyValue u) AnyUnits (scalar ty z) u.src (target.value_of S net_oracle (exp_of T e) u.net) (λ v s. stored_by C ty a indexes z x s)
-      (λ y t. assigned S net_oracle r y t) lat.match
-      (subst (λ i. Agrees U K u (SteadyValue u) i (target.value_of S net_oracle (exp_of T e) u.net)) (later u m.1) (value u lat))
-      (λ y q t v lat2.
-      let u2 : World = world_of q u.src t in
-      written u2 lat2.match x r (element_stays U K u u2 v.1 ty x r m.0.0.0 m.0.1, m.0.0.1) z y (like_as u2 y v.0))))))
+      value_first U K w h source.Parts (source.value_of C e) (target.value_of S net_oracle (exp_of T e)) (source.term_parts C ty (element a indexes))
+      (reach S net_oracle false (exp_of T to)) (let_to C to) (assigned S net_oracle) PlainElement SteadyValue value (scalar ty z) (stored_by C ty a indexes z) now
+      (let_is C ty a indexes z)
+      (agrees_weaker U K w (λ u x r. PlainElement u x r × X u) (λ u x r. PlainElement u x r × (source.value_of C e u.src ≡ gives [] (scalar ty z) u.src))
+      (source.term_parts C ty (element a indexes) w.src) (reach S net_oracle false (exp_of T to) w.net) (λ u x r lat m. (m.0, later u m.1)) parts)
+      (λ u v x r y m more val. written v more.match x r (element_stays U K u v val.1 ty x r m.0.0 m.1, m.0.1) z y (like_as v y val.0))
     where
       like_as : (u : World) (y : net_value.Value) → ScalarMatch U ty u (scalar ty z) y → LikeV U u (scalar ty z) y
       like_as u y m = subst (λ (x : Value6). LikeV U u (scalar ty x) y) (sym (ap (λ x. scalar_part x z) m.1)) m.2
@@ -295,21 +288,16 @@ module _ (U : Upgrade) (expressions : ExpressionsAgree U) (elements : ElementsAg
       → ((u : World) → Later U K w u → Agrees U K u (SteadyValue u) (source.value_of C e u.src) (target.value_of S net_oracle (exp_of T e) u.net))
       → Agrees U K w AnyUnits (Stored w) (assignment S net_oracle (exp_of T to) (exp_of T e) w.net)
   steady_parts w h x now later parts own value =
-      given_agrees U K w (IndexedMatch U (lows_at C a) ty) AnyUnits x w.src (reach S net_oracle false (exp_of T to) w.net) (λ i s. then (source.value_of C e s) (let_to C to))
-      (λ r t. then (target.value_of S net_oracle (exp_of T e) t) (λ y t. assigned S net_oracle r y t)) h
-      (subst (λ i. Agrees U K w (IndexedMatch U (lows_at C a) ty) i (reach S net_oracle false (exp_of T to) w.net)) now parts)
-      (λ r q t m lat.
-      let v : World = world_of q w.src t in
-      then_agrees U K v (SteadyValue v) AnyUnits (source.value_of C e v.src) (target.value_of S net_oracle (exp_of T e) v.net) (let_to C to)
-      (λ y t. assigned S net_oracle r y t) lat.match (value v lat)
-      (λ i y u y_is more.
-      let z : Value6 = y_is.0.0 in
-      let target_stores : Outcome net_store.Memory Unit = assigned S net_oracle r y u.net in
-      subst (λ j. Agrees U K u AnyUnits (let_to C to j u.src) target_stores) (sym y_is.0.1)
-      (subst (λ j. Agrees U K u AnyUnits j target_stores)
-      (sym (let_is C ty a indexes z u.src
-      ∙ ap (λ j. then j (stored_by C ty a indexes z)) (parts_are C ty a indexes u.src ∙ ap (λ j. then j (parts_by C ty a indexes)) (later u q t lat y_is.1))))
-      (from_parts u more.match x r z y (indexed_stays U K v u y_is.1 (lows_at C a) ty x r m) own y_is.0.2))))
+      parts_first U K w h (Address × List ℤ) (source.value_of C e) (target.value_of S net_oracle (exp_of T e)) (indexed C ty a indexes)
+      (reach S net_oracle false (exp_of T to)) (let_to C to) (assigned S net_oracle) (IndexedMatch U (lows_at C a) ty) SteadyValue value x now parts
+      (λ q t r v i y m lat val more.
+      let z : Value6 = val.0.0 in
+      let target_stores : Outcome net_store.Memory Unit = assigned S net_oracle r y v.net in
+      subst (λ j. Agrees U K v AnyUnits (let_to C to j v.src) target_stores) (sym val.0.1)
+      (subst (λ j. Agrees U K v AnyUnits j target_stores)
+      (sym (let_is C ty a indexes z v.src
+      ∙ ap (λ j. then j (stored_by C ty a indexes z)) (parts_are C ty a indexes v.src ∙ ap (λ j. then j (parts_by C ty a indexes)) (later v q t lat val.1))))
+      (from_parts v more.match x r z y (indexed_stays U K (world_of q w.src t) v val.1 (lows_at C a) ty x r m) own val.0.2)))
 
   -- ---- the orders
 
@@ -344,19 +332,14 @@ module _ (U : Upgrade) (expressions : ExpressionsAgree U) (elements : ElementsAg
         (reach S net_oracle false (exp_of T to) w.net) (λ u x r lat y. (y, tt)) (element_is w h G owns inward))
         (value_steady (literal_still uses e is))
 
-    -- what was there is as it was
-    stable_later : (u : World) → Later U (still K w) w u → (q : Position) → IsMade (mark w.src) q.root → is_auto_root U w.map q.root ≡ false → IsHeld w q
-        → u.src.held q ≡ w.src.held q
-    stable_later u lat q m plain held = lat.same_values q (stays_still U K w q m plain) held
-
     -- a calm value, and still indexes
     calm_first : is_calm uses e ≡ true → are_still uses (nodes_of_all indexes) ≡ true → Goal
     calm_first calm is_still =
         let x = calm_known U expressions K p f g l k c T declared oracle net_oracle is_open uses readable placed agree w h F e calm can_value covers formed_value in
-        let gives_it : (s : Memory) → ((q : Position) → IsMade (mark w.src) q.root → is_auto_root U w.map q.root ≡ false → IsHeld w q → s.held q ≡ w.src.held q)
+        let gives_it : (s : Memory) → Stable U w s
         → source.value_of C e s ≡ gives [] (scalar ty x.value) s =
         λ s stable. x.gives s stable ∙ ap (λ t. gives [] (scalar t x.value) s) same in
-        steady_value w h x.value (λ u. Later U (still K w) w u) (gives_it w.src (λ q m i j. refl)) (λ u lat. gives_it u.src (stable_later u lat))
+        steady_value w h x.value (λ u. Later U (still K w) w u) (gives_it w.src (λ q m i j. refl)) (λ u lat. gives_it u.src (stable_later U K w u lat))
         (agrees_later U K (still K w) w PlainElement (ElementMatch U ty) (source.term_parts C ty (element a indexes) w.src)
         (reach S net_oracle false (exp_of T to) w.net) (λ i x. x) (element_is w h G owns inward)
         (elements (still K w) w p f g oracle net_oracle l k c T uses ty a indexes h (frame_still U K w h p f g F) declared is_open readable placed agree
@@ -376,17 +359,13 @@ module _ (U : Upgrade) (expressions : ExpressionsAgree U) (elements : ElementsAg
         subst (λ i. source.address_of C i s ≡ gives [] b.0 s) (sym variable.is)
         (known_found U C refl (types.array variable.of variable.rank) variable.number variable.qualified known s
         ∙ ap (λ o. some_of o (λ a w. gives [] a w) s) b.1) in
-        let gives_it : (s : Memory) → ((q : Position) → IsMade (mark w.src) q.root → is_auto_root U w.map q.root ≡ false → IsHeld w q → s.held q ≡ w.src.held q)
+        let gives_it : (s : Memory) → Stable U w s
         → indexed C ty a indexes s ≡ gives [] (b.0, zs.0) s =
         λ s stable.
         ap (λ r. then r (λ i s. then (source.indexes_of C indexes s) (λ zs s. gives [] (i, zs) s))) (address s)
         ∙ ap (λ r. after [] (then r (λ zs s. gives [] (b.0, zs) s))) (zs.1 s stable) in
         steady_parts w h (b.0, zs.0) (gives_it w.src (λ q m i j. refl))
-        (λ u m t lat more.
-        gives_it u.src
-        (λ q made plain held.
-        more.same_values q
-        (stays_still U K (world_of m w.src t) q made (subst (λ i. is_auto_variable U i ≡ false) (sym (same_variable U w (world_of m w.src t) lat.extends q.root made)) plain)) held))
+        (λ u m t lat more. gives_it u.src (stable_behind U K w m t u lat more))
         (indexes_agree K w p f g oracle net_oracle l k c T uses ty a indexes h F declared is_open readable placed agree can array all_indexes formed)
         (λ steady q d is old.
         subst (λ i. IsOwnAddress K i) is

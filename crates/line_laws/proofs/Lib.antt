@@ -30,8 +30,16 @@ pub mod ElementStores
 pub mod ElementLines
 pub mod Settled
 pub mod Places
+pub mod EitherOrder
+pub mod CalmObjects
+pub mod MemberParts
+pub mod MemberStores
+pub mod MemberOrders
+pub mod MemberLines
+pub mod MemberSets
 pub mod FieldStores
 pub mod Copies
+pub mod Sets
 pub mod WithLines
 pub mod Assignments
 pub mod Constants

@@ -8,7 +8,7 @@ use Rattle.vb_tree.specs.declared.form_parts.Label6.{Label6}
 use Rattle.vb_tree.specs.Tree.{Form}
 use Rattle.vb_tree.specs.Tree as source_form
 use Rattle.bound_tree.specs.Labels.{Label, labels}
-use Rattle.bound_tree.specs.Tree.{Expr, Line, typed, element, call, library, me, with_object, err_raise, err_clear, no_object, of_object, Passed}
+use Rattle.bound_tree.specs.Tree.{Expr, Line, typed, element, call, library, with_object, err_raise, err_clear, no_object, of_object, Passed}
 use Rattle.bound_facts.proofs.Chains.{both_true}
 use Rattle.bound_facts.specs.Effects.{is_outside}
 use Rattle.bound_facts.specs.Node.{args_at, called, declared_at, root, type_at}
@@ -20,7 +20,7 @@ use Rattle.run_base.specs.Machines.{go, handled, nth_line}
 use Rattle.run_base.specs.Outcomes.{Outcome, gives, then, some_of}
 use Rattle.written_trees.specs.Bodies.{inside_procedure}
 use Rattle.written_trees.specs.Conversions.{one, support_call, two}
-use Rattle.written_trees.specs.Exprs.{exp_of, has_none, passed_of, reads_itself}
+use Rattle.written_trees.specs.Exprs.{exp_of, has_none, passed_of, reads_itself, target_exp}
 use Rattle.written_trees.specs.Lines.{assign_line, first_exp, items_exp, jump, print_name, line_of, call_line, as_call, empty_extents, resized_array}
 use Rattle.written_trees.specs.Types.{element_type, written_type}
 use Rattle.written_trees.specs.Puts as written_puts
@@ -31,7 +31,7 @@ use Rattle.vb6_run.specs.Arrays.{erase}
 use Rattle.vb6_run.specs.Expressions as source
 use Rattle.vb6_run.specs.Forms as source_forms
 use Rattle.vb6_run.specs.Forms.{SourceLine}
-use Rattle.vb6_run.specs.Lines.{goes_if, goes_on, handles_by, let_to, line_of_label, items_text, print, when_done, with_one, redim_does}
+use Rattle.vb6_run.specs.Lines.{goes_if, goes_on, handles_by, let_to, line_of_label, items_text, print, set_to, when_done, with_one, redim_does}
 use Rattle.vb6_run.specs.Lines as source_lines
 use Rattle.vb6_run.specs.Programs as source_program
 use Rattle.vb6_run.specs.Store.{Memory, SourceCalls, SourceFrame}
@@ -61,6 +61,7 @@ use Rattle.run_statements.specs.Frames.{ArraysAgree, ElementsAgree, ExpressionsA
 use Rattle.run_statements.specs.Fitting.{FitsNode}
 use Rattle.run_statements.specs.Groups.{GroupsAgree, GroupsAreWritten}
 use Rattle.run_statements.specs.Kept.{AllSameWays, LinesAgree}
+use Rattle.run_statements.specs.Members.{MembersAgree, MembersAreFound}
 use Rattle.run_statements.specs.Written.{Passes, site_scope}
 use Rattle.agreeing_laws.specs.Beside.{with_steps}
 use Rattle.agreeing_laws.proofs.Agreeing.{agrees_gives, agrees_weaker, then_agrees}
@@ -88,6 +89,7 @@ use Rattle.line_laws.proofs.Resizes.{MayStore, erase_agrees, redim_agrees}
 use Rattle.line_laws.proofs.Rounds.{next_agrees}
 use Rattle.line_laws.proofs.Unkept.{resizing_not_kept}
 use Rattle.line_laws.proofs.Assignments.{stored}
+use Rattle.line_laws.proofs.Sets.{set_agrees}
 use Rattle.line_laws.proofs.Uses.{all_good, good}
 
 -- ---- forms
@@ -104,7 +106,7 @@ call_is U T declared ty q qualified args h =
     (ap (λ D. is_property D q.0) declared ∙ h)
 
 module _ (U : Upgrade) (expressions : ExpressionsAgree U) (calls : CallsAreMade U) (reads : ScalarsAreRead U) (scalars : ScalarsAreWritten U) (elements : ElementsAgree U) (indexed : IndexesAgree U)
-    (writes : ElementsAreWritten U) (groups : GroupsAgree U) (writes_groups : GroupsAreWritten U) (arrays : ArraysAgree U) (resizing : ArraysAreResized U) (erasing : ArraysAreErased U) (K : Pledge) (p q : ℕ) (f : SourceFrame) (g : NetFrame) (l : SourceLine) (k : NetLine) (c : Code) (T : Scope)
+    (writes : ElementsAreWritten U) (groups : GroupsAgree U) (writes_groups : GroupsAreWritten U) (members : MembersAgree U) (finds : MembersAreFound U) (arrays : ArraysAgree U) (resizing : ArraysAreResized U) (erasing : ArraysAreErased U) (K : Pledge) (p q : ℕ) (f : SourceFrame) (g : NetFrame) (l : SourceLine) (k : NetLine) (c : Code) (T : Scope)
     (declared : T.declarations ≡ U.program.declarations) (oracle : SourceCalls) (net_oracle : Jobs)
     (is_open : IsOpen (scope_of U.written c g k)) (uses : Uses) (readable : AreReadable U T uses)
     (placed : ArePlaced U p f (scope_of U.written c g k) T uses) (agree : CallsAgree U (Passes U) oracle net_oracle)
@@ -180,7 +182,7 @@ module _ (U : Upgrade) (expressions : ExpressionsAgree U) (calls : CallsAreMade 
       → Agrees U K w R (then (then (source.value_of C value w.src) (let_to C target)) (λ x s. goes_on C s)) (does (assign_line T (target ∷ value ∷ [])))
   assigned to e can_to can covers to_formed formed own =
       let stores : Outcome Memory Unit = then (source.value_of C e w.src) (let_to C to) in
-      stored U expressions scalars elements indexed writes groups writes_groups K p f g l k c T declared oracle net_oracle is_open uses readable placed
+      stored U expressions scalars elements indexed writes groups writes_groups members finds K p f g l k c T declared oracle net_oracle is_open uses readable placed
       agree w h F owns (λ x. Agrees U K w R (then stores (λ x s. goes_on C s)) (does x)) to e can_to can covers to_formed formed own
       (λ x. goes AnyUnits stores (assignment S net_oracle (exp_of T to) (exp_of T e) w.net) x)
       (λ name x.
@@ -238,6 +240,13 @@ module _ (U : Upgrade) (expressions : ExpressionsAgree U) (calls : CallsAreMade 
       let first : (is_formed x ≡ true) × (list_all is_formed (y ∷ []) ≡ true) = both_true (is_formed x) (list_all is_formed (y ∷ [])) formed in
       assigned x y can.0 can.1.0 covers first.0 (both_true (is_formed y) true first.1).0 (may.own x (Contains-push [] x))
   form_agrees ls (source_form.assign to value) (x ∷ y ∷ z ∷ es) can covers formed found may keep stands ways = absurd (true≢false (sym covers))
+  form_agrees ls (source_form.set to value) [] can covers formed found may keep stands ways = absurd (true≢false (sym covers))
+  form_agrees ls (source_form.set to value) (x ∷ []) can covers formed found may keep stands ways = absurd (true≢false (sym covers))
+  form_agrees ls (source_form.set to value) (x ∷ y ∷ []) can covers formed found may keep stands ways =
+      goes AnyUnits (then (source.value_of C y w.src) (set_to C x)) (assignment S net_oracle (target_exp T x) (exp_of T y) w.net)
+      (set_agrees U groups writes_groups members finds K p f g l k c T declared oracle net_oracle is_open uses readable placed agree w h F owns x y
+      can.1.0 covers (both_true (is_formed y) true (both_true (is_formed x) (list_all is_formed (y ∷ [])) formed).1).0 (may.own x (Contains-push [] x)))
+  form_agrees ls (source_form.set to value) (x ∷ y ∷ z ∷ es) can covers formed found may keep stands ways = absurd (true≢false (sym covers))
   form_agrees ls (source_form.debug_print items ended) es can covers formed found may keep stands ways =
       goes AnyUnits (then (items_text C es w.src) (print ended))
       (then (target.address_of S net_oracle (support_call (print_name ended) (one (items_exp T es))) w.net) (λ a t. gives [] tt t))
@@ -339,8 +348,8 @@ node_has U K p l k S T (typed ty t) can fits aims within = tt
 
 -- A covered line does the same as what is written for it, in frames that go on to match.
 pub steady_lines_agree : (U : Upgrade) → ExpressionsAgree U → CallsAreMade U → ScalarsAreRead U → ScalarsAreWritten U → ElementsAgree U → IndexesAgree U → ElementsAreWritten U
-    → GroupsAgree U → GroupsAreWritten U → ArraysAgree U → ArraysAreResized U → ArraysAreErased U → SteadyLinesAgree U
-steady_lines_agree U expressions calls reads scalars elements indexed writes groups writes_groups arrays resizing erasing p s written number turns l c L code opens readable placed own agree can fits remade covers stands w f g at h F given =
+    → GroupsAgree U → GroupsAreWritten U → MembersAgree U → MembersAreFound U → ArraysAgree U → ArraysAreResized U → ArraysAreErased U → SteadyLinesAgree U
+steady_lines_agree U expressions calls reads scalars elements indexed writes groups writes_groups members finds arrays resizing erasing p s written number turns l c L code opens readable placed own agree can fits remade covers stands w f g at h F given =
     let K : Pledge = frame_pledge U p w f in
     let owns : OwnsAll U K p f = owns_now U p f K w w g (F w (later_now U K w h)) in
     let R : World → SourceFrame → NetFrame → Type 0 = SteadyNext U K p f.me in
@@ -379,7 +388,7 @@ steady_lines_agree U expressions calls reads scalars elements indexed writes gro
     (target_lines.line_in U.written (target_program.frames_of U.written) net_oracle written g L.line o w1.net)) (sym code)
     (subst (λ x. Agrees U K w1 R (source_program.line_does (runnable_of U) oracle p f l w1.src)
     (target_lines.form_does (target_program.frames_of U.written) net_oracle written c (scope_of U.written c g L.line) g L.line x w1.net)) (sym L.form)
-    (form_agrees U expressions calls reads scalars elements indexed writes groups writes_groups arrays resizing erasing K p written f g l L.line c T refl oracle net_oracle (opens g L.line now.names)
+    (form_agrees U expressions calls reads scalars elements indexed writes groups writes_groups members finds arrays resizing erasing K p written f g l L.line c T refl oracle net_oracle (opens g L.line now.names)
     (uses_in U.program p l.form.bindings.mentions) readable (placed f g L.line now.names given) agree R w1 later.match F1 owns L.aims next
     (λ n m i j t u d e c w2 more. placed_at U K p f g w1 later.match F1 owns w2 more n m i j t u d e c)
     (labels (site_lines s)) l.form.source.form l.form.bindings.exprs
@@ -399,13 +408,13 @@ steady_now : (U : Upgrade) (K : Pledge) (w : World) (p : ℕ) (f : SourceFrame) 
 steady_now U K w p f g h F w1 l = frame_later U K w w1 p f g h l F
 
 pub lines_agree : (U : Upgrade) → ExpressionsAgree U → CallsAreMade U → ScalarsAreRead U → ScalarsAreWritten U → ElementsAgree U → IndexesAgree U → ElementsAreWritten U
-    → GroupsAgree U → GroupsAreWritten U → ArraysAgree U → ArraysAreResized U → ArraysAreErased U → LinesAgree U
-lines_agree U expressions calls reads scalars elements indexed writes groups writes_groups arrays resizing erasing p s written number turns l c L code opens readable placed own agree can fits remade covers stands w f g at h F given =
+    → GroupsAgree U → GroupsAreWritten U → MembersAgree U → MembersAreFound U → ArraysAgree U → ArraysAreResized U → ArraysAreErased U → LinesAgree U
+lines_agree U expressions calls reads scalars elements indexed writes groups writes_groups members finds arrays resizing erasing p s written number turns l c L code opens readable placed own agree can fits remade covers stands w f g at h F given =
     let K : Pledge = frame_pledge U p w f in
     agrees_weaker U K w (SteadyNext U K p f.me) (NextMatch U K p f.me)
     (line_result (source_program.machine_of (runnable_of U)) turns p f l w.src)
     (line_result (target_program.machine_of U.written) turns written g L.line w.net)
     (λ w1 f1 g1 later x.
     record { same_object = x.same_object; frames = x.frames w1 (later_now U K w1 later.match); owns = x.owns })
-    (steady_lines_agree U expressions calls reads scalars elements indexed writes groups writes_groups arrays resizing erasing p s written number turns l c L code opens readable placed own agree can fits remade covers stands w f g at h
+    (steady_lines_agree U expressions calls reads scalars elements indexed writes groups writes_groups members finds arrays resizing erasing p s written number turns l c L code opens readable placed own agree can fits remade covers stands w f g at h
     (steady_now U K w p f g h F) given)

@@ -10,13 +10,15 @@ use Rattle.vb6_run.specs.Store.{Address, Held, blank, table}
 use Rattle.vb6_run.specs.Values.{Dimension, Values}
 use Rattle.net_run.specs.Names as net_names
 use Rattle.net_run.specs.Store as net
-use Rattle.run_matches.specs.Maps.{World, IsMatched, is_auto_root, is_auto_variable, moved_at}
+use Rattle.run_matches.specs.Agreeing.{world_of}
+use Rattle.run_matches.specs.Maps.{Map, World, IsMatched, is_auto_root, is_auto_variable, moved_at}
 use Rattle.run_matches.specs.Match.{HasArray}
 use Rattle.run_matches.specs.Pledges.{IsLasting, Later, Pledge, lasting}
 use Rattle.run_matches.specs.Upgrades.{Upgrade}
 use Rattle.run_statements.specs.Elements.{IndexedMatch}
 use Rattle.run_statements.specs.Frames.{ElementMatch}
 use Rattle.agreeing_laws.proofs.Made.{matched_later, same_variable}
+use Rattle.line_laws.proofs.Standing.{Stable}
 use Rattle.line_laws.proofs.Still.{stays_still, still}
 
 pub held_array : (h : Held) (e : Shape) (dims : List Dimension) (xs : Values) → h ≡ table e dims xs → h ≡ blank → ⊥
@@ -80,3 +82,15 @@ indexed_stays U K w u l lows ty x r m = record {
   same_indexes = m.same_indexes;
   counted = ap (λ (a : net.Array). length a.counts) (elements_stay U K w u l m.position m.is_matched m.plain m.array m.has.cell) ∙ m.counted;
 }
+
+-- what was there is as it was
+pub stable_later : (U : Upgrade) (K : Pledge) (w u : World) → Later U (still K w) w u → Stable U w u.src
+stable_later U K w u l q made plain held = l.same_values q (stays_still U K w q made plain) held
+
+-- so is what was there before the target alone changed
+pub stable_behind : (U : Upgrade) (K : Pledge) (w : World) (m : Map) (t : net.Memory) (u : World) → Later U K w (world_of m w.src t)
+    → Later U (still K (world_of m w.src t)) (world_of m w.src t) u → Stable U w u.src
+stable_behind U K w m t u lat l q made plain held =
+    l.same_values q
+    (stays_still U K (world_of m w.src t) q made
+    (subst (λ v. is_auto_variable U v ≡ false) (sym (same_variable U w (world_of m w.src t) lat.extends q.root made)) plain)) held

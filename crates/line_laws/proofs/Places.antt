@@ -1,4 +1,4 @@
--- Places of user types: variables, what a With keeps, and fields of these, are found on both sides whatever was done before.
+-- Places of user types and objects: variables, what a With keeps, and fields of these, are found on both sides whatever was done before.
 use Rattle.std.proofs.Common.{◌≡◌, ◌∙◌, ◌⊎◌, refl, sym, ap, subst, inl, inr, ℕ, zero, suc, nat_eq, Bool, true, false, not, ◌&&◌, Option, Some, None, List, [], slice_get, true≢false}
 use Rattle.std.proofs.lemmas.Bool.{or_right}
 use Rattle.std.specs.Map.{lookup}
@@ -34,8 +34,8 @@ use Rattle.net_run.specs.Names.{at_place, starts}
 use Rattle.net_run.specs.Shapes as shape
 use Rattle.net_run.specs.Store as net_store
 use Rattle.run_matches.specs.Addresses.{IsInPlace, IsTarget, Same, position_of, same_item, same_root}
-use Rattle.run_matches.specs.CoveredVariables.{covers_type}
-use Rattle.run_matches.specs.CoveredExprs.{Uses, covers_base, covers_place, has_scalar, is_kept, is_scalar_type, is_type}
+use Rattle.run_matches.specs.CoveredVariables.{covers_group_type, covers_type}
+use Rattle.run_matches.specs.CoveredExprs.{Uses, covers_base, covers_place, has_scalar, is_scalar_type, is_type}
 use Rattle.run_matches.specs.CoveredLines.{is_with}
 use Rattle.run_matches.specs.Frames.{FrameMatch, HasPlace, OwnsAll, StandsAs, is_own_first, is_own_head, is_own_line, is_own_of, lines_of}
 use Rattle.run_matches.specs.Maps.{World, is_auto_root, moved_at}
@@ -43,12 +43,13 @@ use Rattle.run_matches.specs.Match.{MemoryMatch}
 use Rattle.run_matches.specs.Pledges.{IsOld, Pledge}
 use Rattle.run_matches.specs.SoundShapes.{IsField}
 use Rattle.run_matches.specs.Upgrades.{Upgrade}
-use Rattle.run_statements.specs.Frames.{AllCalled, AreReadable, ArePlaced, Demands, IsGroup, MayChange, StandsWithin, context_of, demands}
+use Rattle.run_matches.specs.UserTypes.{is_user}
+use Rattle.run_statements.specs.Frames.{AllCalled, AreReadable, ArePlaced, Demands, IsGroup, MayChange, StandsWithin, context_of, demands, type_shape}
 use Rattle.agreeing_laws.proofs.FieldPaths.{path_more}
 use Rattle.agreeing_laws.proofs.FieldPlaces.{PlaceAbsent, PlaceFound, field_absent, field_found}
 use Rattle.agreeing_laws.proofs.Members.{is_alone, path_leads}
 use Rattle.agreeing_laws.proofs.WithPlaces.{IsHeadOf, IsWithPlace, head_of, same_user, with_found}
-use Rattle.agreeing_laws.proofs.UserShapes.{covered_type_of}
+use Rattle.agreeing_laws.proofs.UserShapes.{group_type_of}
 use Rattle.line_laws.proofs.Bounds.{some_is}
 use Rattle.line_laws.proofs.ElementLines.{not_outside}
 use Rattle.line_laws.proofs.Elements.{known_address, known_auto}
@@ -89,12 +90,9 @@ own_with : (U : Upgrade) (p : ℕ) (form : Form) (es : List Expr) → is_with fo
 own_with U p (source_form.with_head e) es h = refl
 own_with U p _ es h = absurd (true≢false (sym h))
 
--- a place is of a user type
-pub place_type : (uses : Uses) (ty : Ty) (tm : Term) → covers_place uses (typed ty tm) ≡ true → (t : ℕ) × (ty ≡ types.user t)
-place_type uses (types.user t) tm covers = (t, refl)
-place_type uses _ (variable v qualified) covers = absurd (true≢false (sym covers))
-place_type uses _ (field e j) covers = absurd (true≢false (sym covers))
-place_type uses _ _ covers = absurd (true≢false (sym covers))
+pub user_type : (ty : Ty) → is_user ty ≡ true → (t : ℕ) × (ty ≡ types.user t)
+user_type (types.user t) is = (t, refl)
+user_type _ is = absurd (true≢false (sym is))
 
 -- what stands by itself is written
 pub place_alone : (uses : Uses) (ty : Ty) (tm : Term) → covers_place uses (typed ty tm) ≡ true → is_alone (typed ty tm) ≡ true
@@ -143,16 +141,16 @@ module _ (U : Upgrade) (K : Pledge) (p : ℕ) (f : SourceFrame) (g : NetFrame) (
 
   -- ---- variables
 
-  variable_place : (t : ℕ) (v : VarId) (qualified : Bool) → uses.group v t ≡ true
-      → Place U K p w C S T net_oracle (types.user t) (typed (types.user t) (variable v qualified))
-  variable_place t v qualified used =
-      let r : IsGroup U v.0 t = readable.groups v t used in
-      let x : PlacedVariable U K w f S T v.0 = placed_variable U K w p f g k c T declared F v.0 r.known (placed.places v (inr (inr (t, used)))) in
-      let i : FlatImages U K w v.0 x.address x.net_address = x.flat h (flat_group U v.0 t r) r.exact in
-      let stands : x.address ≡ root (user_shapes D t) i.position =
-      group_stands U (user_shapes D t) t x.address i.position r.fields (covered_type_of D t r.covers)
-      (subst (λ s. StandsAs s x.address i.position) (group_shape_is U v.0 t r) i.stands) in
-      let b : StandsAt x.net_address = image_stands U K w (user_shapes D t) i.position x.address x.net_address stands i.same in
+  pub variable_place : (ty : Ty) (v : VarId) (qualified : Bool) → uses.group v ty ≡ true
+      → Place U K p w C S T net_oracle ty (typed ty (variable v qualified))
+  variable_place ty v qualified used =
+      let r : IsGroup U v.0 ty = readable.groups v ty used in
+      let x : PlacedVariable U K w f S T v.0 = placed_variable U K w p f g k c T declared F v.0 r.known (placed.places v (inr (inr (ty, used)))) in
+      let i : FlatImages U K w v.0 x.address x.net_address = x.flat h (flat_group U v.0 ty r) r.exact in
+      let stands : x.address ≡ root (type_shape U ty) i.position =
+      group_stands U (type_shape U ty) ty x.address i.position r.sound (group_type_of D ty r.covers) r.covers i.target
+      (subst (λ s. StandsAs s x.address i.position) (group_shape_is U v.0 ty r) i.stands) in
+      let b : StandsAt x.net_address = image_stands U K w (type_shape U ty) i.position x.address x.net_address stands i.same in
       record {
         root = i.position.root;
         place = record {
@@ -163,13 +161,13 @@ module _ (U : Upgrade) (K : Pledge) (p : ℕ) (f : SourceFrame) (g : NetFrame) (
               ap (λ o. then (some_of o (λ a s. gives [] (at_address a) s) s) (source.as_new C (variable v qualified))) x.found
               ∙ ap (λ m. after [] (source.made_for C m (at_address x.address) s)) (known_auto U v.0 r.known)
               ∙ ap (λ a. gives [] (at_address a) s) stands;
-          sound = r.fields;
-          covers = r.covers;
+          sound = r.sound;
+          covers = or_right (covers_type ty) (covers_group_type D ty) r.covers;
           same = subst (λ a. Same U K w a x.net_address) stands i.same;
           target = subst (λ a. IsTarget U a) stands i.target;
           written =
-              path_leads S net_oracle T (typed (types.user t) (variable v qualified)) x.net_address (variable_path T qualified v.0)
-              (known_path U T declared (types.user t) v qualified r.known) (λ name. refl)
+              path_leads S net_oracle T (typed ty (variable v qualified)) x.net_address (variable_path T qualified v.0)
+              (known_path U T declared ty v qualified r.known) (λ name. refl)
               (λ more m.
               ap (λ z. target.started S net_oracle z m)
               (path_more S b.0 b.1 (variable_path T qualified v.0) more (x.leads qualified ∙ ap (λ z. starts (at_place z) []) b.2)
@@ -250,16 +248,19 @@ module _ (U : Upgrade) (K : Pledge) (p : ℕ) (f : SourceFrame) (g : NetFrame) (
   base_is : (t : ℕ) (tm : Term) → AllCalled Q (typed (types.user t) tm) → covers_base uses (typed (types.user t) tm) ≡ true
       → At (types.user t) (typed (types.user t) tm)
   base_is t (with_object r) can covers = with_place t r can
-  base_is t (variable v qualified) can covers = inl (variable_place t v qualified covers)
+  base_is t (variable v qualified) can covers = inl (variable_place (types.user t) v qualified covers)
   base_is t (field (typed (types.user s) tm) j) can covers =
       let both = both_true (is_type (types.user t) (uses.field_type s j)) (covers_base uses (typed (types.user s) tm)) covers in
       field_place s j tm (types.user t) (types.user t) (field_declared U T uses readable s t j (uses.field_type s j) refl both.0) refl (base_is s tm can both.1)
   base_is t (field (typed _ tm) j) can covers = absurd (true≢false (sym covers))
   base_is t _ can covers = absurd (true≢false (sym covers))
 
-  pub place_is : (t : ℕ) (tm : Term) → AllCalled Q (typed (types.user t) tm) → covers_place uses (typed (types.user t) tm) ≡ true
-      → At (types.user t) (typed (types.user t) tm)
-  place_is t tm can covers = base_is t tm can (or_right (is_kept uses (types.user t) tm) (covers_place uses (typed (types.user t) tm)) covers)
+  -- an object stands in no field
+  pub place_is : (ty : Ty) (tm : Term) → AllCalled Q (typed ty tm) → covers_place uses (typed ty tm) ≡ true → At ty (typed ty tm)
+  place_is ty (variable v qualified) can covers = inl (variable_place ty v qualified covers)
+  place_is (types.user t) (field e j) can covers = base_is t (field e j) can covers
+  place_is _ (field e j) can covers = absurd (true≢false (sym covers))
+  place_is ty _ can covers = absurd (true≢false (sym covers))
 
   -- ---- scalars in places
 

@@ -60,7 +60,7 @@ pub record Standing (U : Upgrade) (w : World) (f : SourceFrame) (v : ℕ) (ty : 
   pub matched : AllMatched U w (simple ty) position
   pub plain : is_auto_root U w.map position.root ≡ false
 
-same_matched : (U : Upgrade) (K : Pledge) (w : World) (ty : Ty) (q : Position) (a : Address) (b : net.Address) → a ≡ root (simple ty) q → Same U K w a b
+pub same_matched : (U : Upgrade) (K : Pledge) (w : World) (ty : Ty) (q : Position) (a : Address) (b : net.Address) → a ≡ root (simple ty) q → Same U K w a b
     → AllMatched U w (simple ty) q
 same_matched U K w ty q _ _ e (same_root s d p sh m r) = subst (λ a. of_address a) e m
   where
@@ -105,6 +105,25 @@ standing U K w h p f g k c T declared F v r loud relied placed =
       plain = y.plain i.position (ap position_of at);
     }
 
+-- ---- what stands there
+
+-- what was there, and is no As New variable, is as it was
+abbrev pub Stable : Upgrade → World → Memory → Type 0
+Stable U w s = (q : Position) → IsMade (mark w.src) q.root → is_auto_root U w.map q.root ≡ false → IsHeld w q → s.held q ≡ w.src.held q
+
+-- something stands for the scalar that a position holds
+pub held_fit : (U : Upgrade) (w : World) (ty : Ty) (z : Value6) (x : Held) (y : net.Cell) → x ≡ single ty z → Holds U w x y → IsFit ty z
+held_fit U w ty z _ _ e (holds_single t x y m) =
+    let a : t ≡ ty = cc e in let b : x ≡ z = cc e in subst (λ t. IsFit t z) a (subst (λ x. IsFit t x) b (_, y, m))
+held_fit U w ty z _ _ e _ = cc
+
+pub read_single : (ty : Ty) (z : Value6) (q : Position) (s : Memory) → is_same_type ty ty ≡ true → s.held q ≡ single ty z
+    → read (root (simple ty) q) s ≡ gives [] (scalar ty z) s
+read_single ty z q s same is = ap (λ x. found (single_in ty x) s) is ∙ ap (λ b. found (value_if b (scalar ty z)) s) same
+
+pub not_blank : (ty : Ty) (z : Value6) → single ty z ≡ blank → ⊥
+not_blank ty z e = cc
+
 -- ---- the types of indexes
 
 abbrev pub all_longs : List Ty → Bool
@@ -131,14 +150,10 @@ module _ (U : Upgrade) (expressions : ExpressionsAgree U) (K : Pledge) (p : ℕ)
   abbrev S : net_names.Scope
   S = scope_of U.written c g k
 
-  -- what was there, and is no As New variable, is as it was
-  abbrev pub Stable : Memory → Type 0
-  Stable s = (q : Position) → IsMade (mark w.src) q.root → is_auto_root U w.map q.root ≡ false → IsHeld w q → s.held q ≡ w.src.held q
-
   pub record Known (e : Expr) : Type 0 where
     pub value : Value6
     pub fit : IsFit (type_at e) value
-    pub gives : (s : Memory) → Stable s → Gives C e value s
+    pub gives : (s : Memory) → Stable U w s → Gives C e value s
 
   abbrev Can : Expr → Type 0
   Can e = AllCalled (demands U K p l k S T) e
@@ -150,22 +165,10 @@ module _ (U : Upgrade) (expressions : ExpressionsAgree U) (K : Pledge) (p : ℕ)
       (subst (λ r. Agrees U K w (ScalarMatch U (type_at e)) r (target.value_of S net_oracle (exp_of T e) w.net)) is
       (expressions K w p f g oracle net_oracle l k c T uses e h F declared is_open readable placed agree can covers formed))
 
-  known : (e : Expr) (z : Value6) → Can e → covers_expr uses e ≡ true → is_formed e ≡ true → ((s : Memory) → Stable s → Gives C e z s) → Known e
+  known : (e : Expr) (z : Value6) → Can e → covers_expr uses e ≡ true → is_formed e ≡ true → ((s : Memory) → Stable U w s → Gives C e z s) → Known e
   known e z can covers formed is = record { value = z; fit = fitting e z can covers formed (is w.src (λ q m a i. refl)); gives = is }
 
   -- ---- variables
-
-  held_fit : (ty : Ty) (z : Value6) (x : Held) (y : net.Cell) → x ≡ single ty z → Holds U w x y → IsFit ty z
-  held_fit ty z _ _ e (holds_single t x y m) = let a : t ≡ ty = cc e in let b : x ≡ z = cc e in subst (λ t. IsFit t z) a (subst (λ x. IsFit t x) b (_, y, m))
-  held_fit ty z _ _ e _ = cc
-
-  read_single : (ty : Ty) (z : Value6) (q : Position) (s : Memory) → covers_type ty ≡ true → s.held q ≡ single ty z
-      → read (root (simple ty) q) s ≡ gives [] (scalar ty z) s
-  read_single ty z q s covers is =
-      ap (λ x. found (single_in ty x) s) is ∙ ap (λ b. found (value_if b (scalar ty z)) s) (same_self ty covers)
-
-  not_blank : (ty : Ty) (z : Value6) → single ty z ≡ blank → ⊥
-  not_blank ty z e = cc
 
   parts_found : (ty : Ty) (v : VarId) (qualified : Bool) (r : IsReadable U v.0) (a : Address) (s : Memory)
       → variable_address U.program.declarations f v.0 ≡ Some a → source.parts_of C (typed ty (variable v qualified)) s ≡ gives [] (at_address a) s
@@ -174,19 +177,19 @@ module _ (U : Upgrade) (expressions : ExpressionsAgree U) (K : Pledge) (p : ℕ)
       ∙ ap (λ m. after [] (source.made_for C m (at_address a) s)) (no_auto U v.0 r)
 
   variable_gives : (ty : Ty) (v : VarId) (qualified : Bool) (r : IsReadable U v.0) → covers_type ty ≡ true → Standing U w f v.0 ty
-      → (z : Value6) × ((s : Memory) → Stable s → Gives C (typed ty (variable v qualified)) z s)
+      → (z : Value6) × ((s : Memory) → Stable U w s → Gives C (typed ty (variable v qualified)) z s)
   variable_gives ty v qualified r covers at =
       let e : Expr = typed ty (variable v qualified) in
       let a : Address = root (simple ty) at.position in
       let kind : (z : Value6) × (w.src.held at.position ≡ single ty z) = at.matched.1 in
       let fit : IsFit ty kind.0 =
-      held_fit ty kind.0 (w.src.held at.position) (w.net.cell (moved_at U w.map at.position)) kind.1 (h.stores.values at.position at.matched.0) in (
+      held_fit U w ty kind.0 (w.src.held at.position) (w.net.cell (moved_at U w.map at.position)) kind.1 (h.stores.values at.position at.matched.0) in (
         kind.0,
         λ s stable.
             let is : s.held at.position ≡ single ty kind.0 =
             stable at.position at.matched.0.is_made at.plain (λ z. not_blank ty kind.0 (sym kind.1 ∙ z)) ∙ kind.1 in
             ap (λ r. then r (value_in C e)) (parts_found ty v qualified r a s at.found)
-            ∙ ap (after []) (value_read C e a s kind.0 covers (fit_typed ty kind.0 covers fit) (read_single ty kind.0 at.position s covers is)),
+            ∙ ap (after []) (value_read C e a s kind.0 covers (fit_typed ty kind.0 covers fit) (read_single ty kind.0 at.position s (same_self ty covers) is)),
       )
 
   -- ---- expressions
@@ -232,7 +235,7 @@ module _ (U : Upgrade) (expressions : ExpressionsAgree U) (K : Pledge) (p : ℕ)
 
   -- the indexes of an element
   pub indexes_known : (es : Exprs) → are_calm uses es ≡ true → AllCalledAll (demands U K p l k S T) es → covers_exprs uses es ≡ true → all_longs (types_of es) ≡ true
-      → are_formed es ≡ true → (zs : List ℤ) × ((s : Memory) → Stable s → indexes_of C es s ≡ gives [] zs s)
+      → are_formed es ≡ true → (zs : List ℤ) × ((s : Memory) → Stable U w s → indexes_of C es s ≡ gives [] zs s)
   indexes_known no_exprs calm can covers long formed = ([], λ s stable. refl)
   indexes_known (next_expr e rest) calm can covers long formed =
       let is_calm_e = both_true (is_calm uses e) (are_calm uses rest) calm in

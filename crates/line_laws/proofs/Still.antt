@@ -149,7 +149,9 @@ module _ (uses : Uses) (Q R : Demands) (elements : (a : Expr) (indexes : Exprs) 
     still_called (typed ty err_number) s h = tt
     still_called (typed ty (err_raise e)) s h = still_called e (behind_node (typed ty (err_raise e)) (nodes e) s) h
     still_called (typed ty err_clear) s h = tt
-    still_called (typed ty (is_same d e)) s h = tt
+    still_called (typed ty (is_same d e)) s h =
+        let more = behind_node (typed ty (is_same d e)) (nodes d ++ nodes e) s in
+        (still_called d (all_left seen (nodes d) (nodes e) more) h.0, still_called e (all_right seen (nodes d) (nodes e) more) h.1)
     still_called (typed ty (loose e rules)) s h = tt
 
     still_all : (args : Exprs) → IsStill (nodes_of_all args) → AllCalledAll Q args → AllCalledAll R args

@@ -1,22 +1,23 @@
--- Assignments to elements that are covered, and one that isn't.
+-- Assignments to elements and to variables of objects that are covered, and some that aren't.
 use Rattle.std.proofs.Common.{◌≡◌, refl, ℕ, pos, true, false, not, nat_eq, None}
 use Rattle.vb_tree.specs.BoundTree as types
 use Rattle.vb_tree.specs.declared.expression.BinOp.TheVariants as b
 use Rattle.vb_tree.specs.declared.value.Value6.TheVariants as v
 use Rattle.bound_tree.specs.declared.expression.Origin.TheVariants.{Literal}
-use Rattle.bound_tree.specs.Tree.{Expr, typed, constant, variable, element, call, binary, no_object, no_passed, no_exprs, next_expr}
+use Rattle.bound_tree.specs.Tree.{Expr, typed, constant, variable, field, element, call, binary, convert, no_object, no_passed, no_exprs, next_expr}
 use Rattle.bound_facts.specs.Locks.{is_same_type}
 use Rattle.run_matches.specs.CoveredExprs.{Uses}
-use Rattle.run_matches.specs.CoveredLines.{is_ordered}
+use Rattle.run_matches.specs.CoveredLines.{is_member_ordered, is_ordered}
 
 -- all variables are Longs or arrays of Longs, the variable 8 is a quiet parameter, and the procedure 0 is inward
 abbrev uses : Uses
 uses = record {
   scalar = λ w. true;
   array = λ w e. true;
-  group = λ w t. false;
+  group = λ w ty. false;
   field_type = λ t k. None;
-  user = λ t. false;
+  member_type = λ k i. None;
+  given = λ ty. false;
   is_of = λ w ty. is_same_type ty types.long;
   inward = λ q. nat_eq q 0;
   exact = λ w. not (nat_eq w.0 8);
@@ -74,3 +75,43 @@ quiet_index = refl
 -- a(q) = x
 quiet_before_value : is_ordered uses (at (long_variable 8)) (long_variable 1) ≡ true
 quiet_before_value = refl
+
+-- ---- variables of objects
+
+abbrev object : ℕ → Expr
+object k = typed (types.class 0) (variable (record { 0 = k }) false)
+
+-- a Long and an object that each object has
+abbrev count_of : Expr → Expr
+count_of e = typed types.long (field e 0)
+
+abbrev next_of : Expr → Expr
+next_of e = typed (types.class 0) (field e 1)
+
+-- o.Count = o.Count + 1
+calm_object : is_member_ordered uses (count_of (object 0)) (plus_one (count_of (object 0))) ≡ true
+calm_object = refl
+
+-- o.Count = f(), where f is inward
+inward_behind_object : is_member_ordered uses (count_of (object 0)) (call_of 0) ≡ true
+inward_behind_object = refl
+
+-- o.NextOne.Count = x
+calm_behind_object : is_member_ordered uses (count_of (next_of (object 0))) (long_variable 1) ≡ true
+calm_behind_object = refl
+
+-- Set o.NextOne.NextOne = Nothing
+nothing_behind_object : is_member_ordered uses (next_of (next_of (object 0))) (typed (types.class 0) (convert (types.class 0) (typed types.nothing (constant v.Nothing Literal)))) ≡ true
+nothing_behind_object = refl
+
+-- o.Count = g(), which could set o
+outward_behind_object : is_member_ordered uses (count_of (object 0)) (call_of 1) ≡ false
+outward_behind_object = refl
+
+-- o.NextOne.Count = x + 1, by a Put function: both can raise
+both_raise_behind_object : is_member_ordered uses (count_of (next_of (object 0))) (plus_one (long_variable 1)) ≡ false
+both_raise_behind_object = refl
+
+-- q.Count = x + 1, where q is a quiet parameter
+quiet_object : is_member_ordered uses (count_of (object 8)) (plus_one (long_variable 1)) ≡ false
+quiet_object = refl

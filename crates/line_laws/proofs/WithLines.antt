@@ -4,6 +4,7 @@ use Rattle.vb_tree.specs.BoundTree as types
 use Rattle.vb_tree.specs.BoundTree.{Ty}
 use Rattle.vb_tree.specs.Tree as source_form
 use Rattle.bound_tree.specs.Tree.{Expr, typed, Term}
+use Rattle.bound_facts.proofs.Chains.{both_true}
 use Rattle.bound_facts.specs.Effects.{is_outside}
 use Rattle.bound_facts.specs.Node.{root}
 use Rattle.run_base.specs.Frames.{Kept, keeping, keeps_address}
@@ -27,6 +28,7 @@ use Rattle.net_run.specs.Store as net
 use Rattle.run_matches.specs.Addresses.{IsInPlace, Same, both_addresses, images}
 use Rattle.run_matches.specs.Agreeing.{Agrees}
 use Rattle.run_matches.specs.CoveredExprs.{Uses, covers_place}
+use Rattle.run_matches.specs.CoveredLines.{covers_with}
 use Rattle.run_matches.specs.CoveredVariables.{covers_type}
 use Rattle.run_matches.specs.Frames.{FrameMatch, IsOwnAddress, OwnsAll, WithPlace}
 use Rattle.run_matches.specs.Maps.{World, is_auto_root}
@@ -34,6 +36,7 @@ use Rattle.run_matches.specs.Match.{MemoryMatch}
 use Rattle.run_matches.specs.Pledges.{IsOld, Pledge, type_of_shape}
 use Rattle.run_matches.specs.SoundShapes.{IsSoundShape}
 use Rattle.run_matches.specs.Upgrades.{Upgrade}
+use Rattle.run_matches.specs.UserTypes.{is_user}
 use Rattle.run_statements.specs.Frames.{AllCalled, AreReadable, ArePlaced, context_of, demands}
 use Rattle.agreeing_laws.proofs.Agreeing.{agrees_gives, agrees_outside}
 use Rattle.agreeing_laws.proofs.FieldPlaces.{group_image}
@@ -42,14 +45,18 @@ use Rattle.agreeing_laws.proofs.Lasting.{later_now}
 use Rattle.agreeing_laws.proofs.UserShapes.{covered_type_of}
 use Rattle.line_laws.proofs.Bounds.{some_is}
 use Rattle.line_laws.proofs.FrameLater.{Keeps}
-use Rattle.line_laws.proofs.Places.{IsOwnRoot, Located, Place, place_alone, place_is, place_type}
+use Rattle.line_laws.proofs.Places.{IsOwnRoot, Located, Place, place_alone, place_is, user_type}
 use Rattle.line_laws.proofs.Uses.{not_true}
 use Rattle.line_laws.proofs.KeptPlaces.{CanKeep}
+
+no_class : (t c : ℕ) → types.user t ≡ types.class c → ⊥
+no_class t c e = cc e
 
 -- a structure in a variable is kept where it stands
 structure_stays : (U : Upgrade) (K : Pledge) (w : World) (s : Shape) (t : ℕ) (q : Position) (b : net.Address) → IsSoundShape U s → type_of_shape s ≡ types.user t
     → Same U K w (source_store.root s q) b → (v : net.Memory) → with_kept (net.shape_at b) b v ≡ gives [] b v
-structure_stays U K w (simple ty) t q b sound is same v = absurd (true≢false (sym sound ∙ ap covers_type is))
+structure_stays U K w (simple ty) t q b (inl covers) is same v = absurd (true≢false (sym covers ∙ ap covers_type is))
+structure_stays U K w (simple ty) t q b (inr x) is same v = absurd (no_class t x.0 (sym is ∙ x.2))
 structure_stays U K w (group u fs) t q b sound is same v =
     let x : GroupImage U w u fs b q = group_image U K w u fs q (source_store.root (group u fs) q) b refl same in
     ap (λ z. with_kept (net.shape_at z) z v) x.stands ∙ ap (λ z. gives [] z v) (sym x.stands)
@@ -146,11 +153,12 @@ module _ (U : Upgrade) (K : Pledge) (p : ℕ) (f : SourceFrame) (g : NetFrame) (
 
     with_user : AllCalled (demands U K p l k S T) e → covers_place uses e ≡ true → CanGoOn e → Agrees U K w R (with_does C e (types.user t) w.src) (keeps e)
     with_user can covers keep =
-        by_place (place_is U K p f g l k c T declared oracle net_oracle uses readable placed w h F owns t tm can covers) covers keep
+        by_place (place_is U K p f g l k c T declared oracle net_oracle uses readable placed w h F owns (types.user t) tm can covers) covers keep
 
-  pub with_agrees : (ty : Ty) (tm : Term) → AllCalled (demands U K p l k S T) (typed ty tm) → covers_place uses (typed ty tm) ≡ true → CanGoOn (typed ty tm)
+  pub with_agrees : (ty : Ty) (tm : Term) → AllCalled (demands U K p l k S T) (typed ty tm) → covers_with uses (typed ty tm ∷ []) ≡ true → CanGoOn (typed ty tm)
       → Agrees U K w R (with_does C (typed ty tm) ty w.src) (keeps (typed ty tm))
   with_agrees ty tm can covers keep =
-      let is : (t : ℕ) × (ty ≡ types.user t) = place_type uses ty tm covers in
+      let both = both_true (is_user ty) (covers_place uses (typed ty tm)) covers in
+      let is : (t : ℕ) × (ty ≡ types.user t) = user_type ty both.0 in
       subst (λ (z : Ty). AllCalled (demands U K p l k S T) (typed z tm) → covers_place uses (typed z tm) ≡ true → CanGoOn (typed z tm)
-      → Agrees U K w R (with_does C (typed z tm) z w.src) (keeps (typed z tm))) (sym is.1) (with_user is.0 tm) can covers keep
+      → Agrees U K w R (with_does C (typed z tm) z w.src) (keeps (typed z tm))) (sym is.1) (with_user is.0 tm) can both.1 keep

@@ -1,8 +1,10 @@
--- Values of user types that match fill a root on both sides; what variables begin with matches.
-use Rattle.std.proofs.Common.{◌≡◌, refl, sym, ap, subst, ◌∙◌, ℕ, suc, true, false, Some, List, [], ◌∷◌, true≢false}
-use Rattle.vb_tree.specs.BoundTree.{Ty, user}
+-- Values of user types and objects that match fill a root on both sides; what variables begin with matches.
+use Rattle.std.proofs.Common.{◌≡◌, refl, sym, ap, subst, ◌∙◌, inl, inr, ℕ, suc, true, false, Some, List, [], ◌∷◌, true≢false}
+use Rattle.vb_tree.specs.BoundTree.{Ty, class, user}
 use Rattle.vb_tree.specs.declared.value.Value6.{Value6}
+use Rattle.vb_tree.specs.declared.value.Value6.TheVariants as v
 use Rattle.net_meaning.specs.declared.value.ValueN.TheVariants as n
+use Rattle.net_meaning.specs.ValueMatch.{no_object_of}
 use Rattle.run_base.specs.Positions.{Position, Root, updated}
 use Rattle.vb6_run.specs.Shapes.{Shape, simple, group, array, endless, Shapes, no_shapes, next_shape}
 use Rattle.vb6_run.specs.Store.{Held, single, parts}
@@ -17,7 +19,6 @@ use Rattle.run_matches.specs.Maps.{World, IsMade, IsMatched, has_counterpart, ma
 use Rattle.run_matches.specs.Match.{Holds, holds_single, holds_parts, StoreMatch}
 use Rattle.run_matches.specs.Pledges.{type_of_shape}
 use Rattle.run_matches.specs.SoundShapes.{IsSoundShape, AreSoundShapes}
-use Rattle.run_matches.specs.CoveredVariables.{covers_type}
 use Rattle.run_matches.specs.Upgrades.{Upgrade, is_flagged_field, is_sound}
 use Rattle.agreeing_laws.proofs.SoundParts.{field_is_sound, field_type_is, part_matched, part_type}
 use Rattle.memory_laws.specs.Changes.{IsNoArray}
@@ -27,6 +28,7 @@ use Rattle.memory_laws.proofs.GroupWriting.{StandsAlone}
 use Rattle.memory_laws.proofs.Groups.{field_sound, unranked}
 use Rattle.memory_laws.proofs.Positions.{at}
 use Rattle.memory_laws.proofs.Scalars.{FirstMatch, first_match, scalar_is_no_array}
+use Rattle.memory_laws.proofs.SimpleShapes.{no_word}
 
 no_structure : (k : ℕ) → net.structure ≡ net.holds (n.Array k) → ⊥
 no_structure k e = cc
@@ -93,9 +95,11 @@ module _ (U : Upgrade) (w : World) where
         (unranked U w u k m.value (λ j e. scalar_is_no_array (are_same w) ty (first_scalar ty) m.value m.like j (ap net.holds e)));
   }
 
-  simple_matches : (ty : Ty) (d : shape.Shape) → covers_type ty ≡ true → SameShape U (simple ty) d → FirstValue U w (simple ty) d
-  simple_matches _ _ c (same_scalar ty t word) = first_scalar_matches ty t (first_match (are_same w) ty t c word)
-  simple_matches _ _ c (same_class k home e) = absurd (true≢false (sym c))
+  simple_matches : (ty : Ty) (d : shape.Shape) → IsSoundShape U (simple ty) → SameShape U (simple ty) d → FirstValue U w (simple ty) d
+  simple_matches _ _ (inl c) (same_scalar ty t word) = first_scalar_matches ty t (first_match (are_same w) ty t c word)
+  simple_matches _ _ (inr k) (same_scalar ty t word) = absurd (no_word U ty t k word)
+  simple_matches _ _ c (same_class k home e) =
+      record { of = refl; like = like_scalar (class k) v.Nothing n.Nothing (no_object_of k); ranked = λ t i. tt }
 
   mutual
     pub first_value_matches : (s : Shape) (d : shape.Shape) → IsSoundShape U s → SameShape U s d → FirstValue U w s d

@@ -1,5 +1,5 @@
--- Values of user types go on to match, are of the written shape, and are kept as they are.
-use Rattle.std.proofs.Common.{◌≡◌, refl, sym, ap, subst, ◌∙◌, ℕ, suc, true, false, nat_eq, Some, eq-eqb, true≢false}
+-- Values of user types and objects go on to match, are of the written shape, and are kept as they are.
+use Rattle.std.proofs.Common.{◌≡◌, refl, sym, ap, subst, ◌∙◌, ℕ, suc, true, false, nat_eq, Some, true≢false}
 use Rattle.up_base.proofs.Tests.{and_true}
 use Rattle.vb_tree.specs.BoundTree.{Ty}
 use Rattle.vb_tree.specs.declared.value.Value6.{Value6}
@@ -8,22 +8,19 @@ use Rattle.net_meaning.specs.ValueMatch.{Matches}
 use Rattle.vb6_run.specs.Shapes.{Shape, simple, group, array, endless, Shapes, no_shapes, next_shape}
 use Rattle.vb6_run.specs.Values.{Value, scalar, fields, elements, Values, no_values, next_value, kept_as, if_of_shape}
 use Rattle.net_run.specs.Shapes as shape
-use Rattle.net_run.specs.Shapes.{is_of, are_of, is_of_word}
+use Rattle.net_run.specs.Shapes.{is_of, are_of}
 use Rattle.net_run.specs.Store as net
 use Rattle.net_run.specs.Values as net_value
 use Rattle.run_matches.specs.Upgrades.{Upgrade}
 use Rattle.run_matches.specs.Maps.{World}
-use Rattle.run_matches.specs.Likeness.{SameShape, same_scalar, same_class, same_group, SameFields, no_fields, same_field, flagged_field, LikeV, like_scalar, like_fields, like_elements, FieldsLike, like_none, like_field, like_flagged, IsFieldRanked, are_same, numbers_of}
+use Rattle.run_matches.specs.Likeness.{SameShape, same_group, SameFields, no_fields, same_field, flagged_field, LikeV, like_scalar, like_fields, like_elements, FieldsLike, like_none, like_field, like_flagged, IsFieldRanked, are_same, numbers_of}
 use Rattle.run_matches.specs.Pledges.{Later, Pledge, type_of_shape}
-use Rattle.run_matches.specs.CoveredVariables.{covers_type}
 use Rattle.run_matches.specs.SoundShapes.{IsSoundShape, AreSoundShapes}
 use Rattle.run_matches.specs.Kinds.{IsValueOf, AreValuesOf}
 use Rattle.agreeing_laws.proofs.Scalars.{matches_more, same_later}
 use Rattle.memory_laws.proofs.Groups.{field_sound, unranked}
-use Rattle.memory_laws.proofs.Scalars.{scalar_is_no_array, scalar_of_word, kept_scalar}
-
-pub number_itself : (t : ℕ) → nat_eq t t ≡ true
-number_itself t = eq-eqb t t refl
+use Rattle.memory_laws.proofs.Scalars.{scalar_is_no_array}
+use Rattle.memory_laws.proofs.SimpleShapes.{kept_simple, number_itself, simple_suits}
 
 -- ---- at a later world
 
@@ -70,16 +67,11 @@ module _ (U : Upgrade) (K : Pledge) (w0 w1 : World) (l : Later U K w0 w1) where
 -- ---- the written shape
 
 module _ (U : Upgrade) (w : World) where
-  scalar_suits : (ty s : Ty) (d : shape.Shape) (z : Value6) (y : ValueN) → covers_type ty ≡ true → s ≡ ty → SameShape U (simple ty) d
-      → Matches (are_same w) s z y → is_of d (net_value.single y) ≡ true
-  scalar_suits _ s _ z y c e (same_scalar ty t word) m =
-      scalar_of_word (are_same w) ty z y t c word (subst (λ u. Matches (are_same w) u z y) e m)
-  scalar_suits _ s _ z y c e (same_class k home is) m = absurd (true≢false (sym c))
-
   mutual
     pub value_suits : (s : Shape) (d : shape.Shape) (x : Value) (y : net_value.Value) → IsSoundShape U s → SameShape U s d → IsValueOf s x
         → LikeV U w x y → is_of d y ≡ true
-    value_suits (simple ty) d _ _ c sh of (like_scalar s z y m) = scalar_suits ty s d z y c of sh m
+    value_suits (simple ty) d _ _ c sh of (like_scalar s z y m) =
+        simple_suits U (are_same w) ty d z y c sh (subst (λ u. Matches (are_same w) u z y) of m)
     value_suits (simple ty) d _ _ c sh of (like_fields u xs ys m) = absurd of
     value_suits (simple ty) d _ _ c sh of (like_elements e dims xs j m) = absurd of
     value_suits (group t fs) d _ _ c sh of (like_scalar s z y m) = absurd of
@@ -105,7 +97,7 @@ module _ (U : Upgrade) (w : World) where
   pub value_kept : (s : Shape) (x : Value) (y : net_value.Value) → IsSoundShape U s → IsValueOf s x → LikeV U w x y → kept_as s x ≡ Some x
   value_kept (simple ty) _ _ c of (like_scalar s z y m) =
       subst (λ u. kept_as (simple u) (scalar s z) ≡ Some (scalar s z)) of
-      (kept_scalar (are_same w) s z y (subst (λ u. covers_type u ≡ true) (sym of) c) m)
+      (kept_simple U (are_same w) s z y (subst (λ u. IsSoundShape U (simple u)) (sym of) c) m)
   value_kept (simple ty) _ _ c of (like_fields u xs ys m) = absurd of
   value_kept (simple ty) _ _ c of (like_elements e dims xs j m) = absurd of
   value_kept (group t fs) _ _ c of (like_scalar s z y m) = absurd of

@@ -1,4 +1,4 @@
--- Variables of user types are given values as a whole, field by field.
+-- Variables of user types are given values as a whole, field by field, and those of classes objects.
 use Rattle.std.proofs.Common.{◌≡◌, refl, sym, ap, subst, ◌∙◌, inl, inr, ℕ, suc, true, false, not, cond, List, [], ◌∷◌, true≢false}
 use Rattle.vb_tree.specs.BoundTree.{Ty}
 use Rattle.vb_tree.specs.declared.value.Value6.{Value6}
@@ -19,7 +19,6 @@ use Rattle.run_matches.specs.Likeness.{SameShape, LikeV, like_scalar, like_field
 use Rattle.run_matches.specs.Pledges.{IsOld, Later, Pledge, type_of_shape}
 use Rattle.run_matches.specs.Addresses.{AllMatched, FieldsMatched, IsTarget, Same, same_root}
 use Rattle.run_matches.specs.Agreeing.{Agrees}
-use Rattle.run_matches.specs.CoveredVariables.{covers_type}
 use Rattle.run_matches.specs.SoundShapes.{IsSoundShape, AreSoundShapes}
 use Rattle.run_statements.specs.Frames.{AnyUnits}
 use Rattle.run_matches.specs.Kinds.{IsValueOf, AreValuesOf}
@@ -32,6 +31,7 @@ use Rattle.memory_laws.proofs.GroupValues.{value_kept, value_suits, values_later
 use Rattle.memory_laws.proofs.Groups.{field_sound, unflagged}
 use Rattle.memory_laws.proofs.Moved.{field_goes_alone, part_goes_alone, place_goes_alone}
 use Rattle.memory_laws.proofs.Positions.{at}
+use Rattle.memory_laws.proofs.SimpleShapes.{simple_same}
 use Rattle.memory_laws.proofs.Writing.{put_agrees}
 
 -- no other position goes to where the parts of a root stand
@@ -59,12 +59,12 @@ target_stands_alone U s q (inr x) = absurd (no_item x.ty x.array x.index s q (sy
     no_item t p j s q f = cc
 
 module _ (U : Upgrade) (K : Pledge) (locked : Locked) where
-  scalar_stored : (w : World) (ty s : Ty) (z : Value6) (y : ValueN) (q : Position) → MemoryMatch U w → covers_type ty ≡ true → s ≡ ty → IsMatched U w q
+  scalar_stored : (w : World) (ty s : Ty) (z : Value6) (y : ValueN) (q : Position) → MemoryMatch U w → IsSoundShape U (simple ty) → s ≡ ty → IsMatched U w q
       → StandsAlone U q.root → (K.steady → IsOld K q.root → ⊥) → Matches (are_same w) s z y
       → Agrees U K w AnyUnits (store locked (scalar s z) q w.src) (net.stored (net_value.single y) (moved_at U w.map q) w.net)
   scalar_stored w ty s z y q h c e m alone free l =
-      put_agrees U K w s z y q (subst (λ u. covers_type u ≡ true) (sym e) c) h m (alone w h.stores q.path m) (λ lasts held. free lasts.steady lasts.old) l
-      (w.src.held q) (w.net.cell (moved_at U w.map q)) refl refl (h.stores.values q m)
+      put_agrees U K w s z y q (λ t x. simple_same U t s (subst (λ u. IsSoundShape U (simple u)) (sym e) c) x) h m (alone w h.stores q.path m)
+      (λ lasts held. free lasts.steady lasts.old) l (w.src.held q) (w.net.cell (moved_at U w.map q)) refl refl (h.stores.values q m)
 
   mutual
     pub value_stored : (w : World) (s : Shape) (q : Position) (x : Value) (y : net_value.Value) → MemoryMatch U w → IsSoundShape U s → AllMatched U w s q

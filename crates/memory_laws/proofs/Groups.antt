@@ -1,9 +1,7 @@
--- Variables of user types are read as a whole.
+-- Variables of user types and of classes are read as a whole.
 use Rattle.std.proofs.Common.{◌≡◌, ◌⊎◌, inl, inr, refl, sym, ap, subst, ◌∙◌, ℕ, suc, Bool, true, false, Option, Some, None, [], true≢false}
-use Rattle.vb_tree.specs.BoundTree.{Ty}
-use Rattle.vb_tree.specs.BoundTree as types
+use Rattle.vb_tree.specs.BoundTree.{Ty, class}
 use Rattle.vb_tree.specs.declared.value.Value6.{Value6}
-use Rattle.bound_facts.specs.Locks.{is_same_type}
 use Rattle.net_meaning.specs.declared.value.ValueN.{ValueN}
 use Rattle.net_meaning.specs.declared.value.ValueN.TheVariants as n
 use Rattle.net_meaning.specs.ValueMatch.{Matches}
@@ -23,20 +21,11 @@ use Rattle.run_matches.specs.Likeness.{SameShape, same_scalar, same_class, same_
 use Rattle.run_matches.specs.Pledges.{type_of_shape}
 use Rattle.run_matches.specs.Addresses.{AllMatched, FieldsMatched, Same, same_root}
 use Rattle.run_matches.specs.Agreeing.{Agrees}
-use Rattle.run_matches.specs.CoveredVariables.{covers_type}
 use Rattle.run_matches.specs.SoundShapes.{IsField, IsSoundShape, AreSoundShapes}
 use Rattle.run_statements.specs.Groups.{ValueMatch, GroupsAreRead}
 use Rattle.agreeing_laws.proofs.Agreeing.{agrees_gives}
 use Rattle.memory_laws.proofs.Scalars.{scalar_is_no_array}
-
-pub type_itself : (ty : Ty) → covers_type ty ≡ true → is_same_type ty ty ≡ true
-type_itself types.boolean c = refl
-type_itself types.byte c = refl
-type_itself types.integer c = refl
-type_itself types.long c = refl
-type_itself types.currency c = refl
-type_itself types.str c = refl
-type_itself _ c = absurd (true≢false (sym c))
+use Rattle.memory_laws.proofs.SimpleShapes.{type_itself}
 
 -- what is no array has no rank
 pub unranked : (U : Upgrade) (w : World) (t k : ℕ) (y : ValueN) → ((j : ℕ) → y ≡ n.Array j → ⊥) → IsFieldRanked U (numbers_of w) t k (net_value.single y)
@@ -74,21 +63,25 @@ module _ (U : Upgrade) (w : World) (h : MemoryMatch U w) where
   standing : (ty : Ty) (z : Value6) (c : net.Cell) → Holds U w (single ty z) c → Standing ty z c
   standing ty z _ (holds_single _ _ y m) = (y, refl, m)
 
-  simple_gathered : (ty : Ty) (q : Position) (d : shape.Shape) → covers_type ty ≡ true → SameShape U (simple ty) d → IsMatched U w q
-      → IsKind (simple ty) (w.src.held q) → Gathered U w (simple ty) q (net.gathered d (moved_at U w.map q) w.net.cell)
-  simple_gathered _ q _ c (same_class k home e) m i = absurd (true≢false (sym c))
-  simple_gathered _ q _ c (same_scalar ty t e) m i =
+  single_gathered : (ty : Ty) (q : Position) → IsMatched U w q → IsKind (simple ty) (w.src.held q)
+      → Gathered U w (simple ty) q (net.held (w.net.cell (moved_at U w.map q)))
+  single_gathered ty q m i =
       let l : Standing ty i.0 (w.net.cell (moved_at U w.map q)) =
       standing ty i.0 (w.net.cell (moved_at U w.map q)) (subst (λ x. Holds U w x (w.net.cell (moved_at U w.map q))) i.1 (h.stores.values q m)) in
       record {
         value = scalar ty i.0;
-        is = ap (single_in ty) i.1 ∙ ap (λ b. value_if b (scalar ty i.0)) (type_itself ty c);
+        is = ap (single_in ty) i.1 ∙ ap (λ b. value_if b (scalar ty i.0)) (type_itself ty);
         of = refl;
         like = subst (λ x. LikeV U w (scalar ty i.0) (net.held x)) (sym l.1) (like_scalar ty i.0 l.0 l.2);
         ranked = λ u k.
             subst (λ x. IsFieldRanked U (numbers_of w) u k (net.held x)) (sym l.1)
             (unranked U w u k l.0 (λ j f. scalar_is_no_array (are_same w) ty i.0 l.0 l.2 j (ap net.holds f)));
       }
+
+  simple_gathered : (ty : Ty) (q : Position) (d : shape.Shape) → SameShape U (simple ty) d → IsMatched U w q → IsKind (simple ty) (w.src.held q)
+      → Gathered U w (simple ty) q (net.gathered d (moved_at U w.map q) w.net.cell)
+  simple_gathered _ q _ (same_scalar ty t e) m i = single_gathered ty q m i
+  simple_gathered _ q _ (same_class k home e) m i = single_gathered (class k) q m i
 
   group_gathered : (t : ℕ) (fs : Shapes) (q : Position) (ys : net_value.Values) → GatheredAll U w t 0 fs q ys
       → Gathered U w (group t fs) q (net_value.fields ys)
@@ -113,7 +106,7 @@ module _ (U : Upgrade) (w : World) (h : MemoryMatch U w) where
   mutual
     pub gathered_like : (s : Shape) (q : Position) (d : shape.Shape) → IsSoundShape U s → SameShape U s d → AllMatched U w s q
         → Gathered U w s q (net.gathered d (moved_at U w.map q) w.net.cell)
-    gathered_like (simple ty) q d c sh m = simple_gathered ty q d c sh m.0 m.1
+    gathered_like (simple ty) q d c sh m = simple_gathered ty q d sh m.0 m.1
     gathered_like (group t fs) q _ c (same_group _ home member _ gs is sh) m =
         group_gathered t fs q (net.all_gathered gs (moved_at U w.map q) 0 w.net.cell) (all_gathered_like t 0 fs q gs c sh m.2)
     gathered_like (array e bounds) q d c sh m = absurd c

@@ -1,6 +1,7 @@
--- Variables of user types are made on both sides, with their first values or with a value that is given.
+-- Variables of user types and of classes are made on both sides, with their first values or with a value that is given.
 use Rattle.std.proofs.Common.{◌≡◌, refl, sym, ap, subst, ◌∙◌, ℕ, suc, true, not, ◌&&◌, cond, Some, None, List, [], ◌∷◌}
 use Rattle.up_base.proofs.Tests.{and_true}
+use Rattle.vb_tree.specs.BoundTree.{Ty}
 use Rattle.run_base.specs.Outcomes.{after, gives, outside, some_of, then}
 use Rattle.run_base.specs.Positions.{Position, Root, made, whole}
 use Rattle.vb6_run.specs.Shapes.{Shape, simple, group, array, endless, Shapes, no_shapes, next_shape, declared_shape, shape_by, user_shapes, variable_shape}
@@ -18,12 +19,12 @@ use Rattle.run_matches.specs.Match.{IsBlank, MemoryMatch}
 use Rattle.run_matches.specs.Pledges.{Later, Pledge, type_of_shape}
 use Rattle.run_matches.specs.SoundShapes.{IsSoundShape, AreSoundShapes}
 use Rattle.run_matches.specs.Upgrades.{Upgrade, is_sound, type_of_some}
-use Rattle.run_statements.specs.Frames.{IsGroup}
+use Rattle.run_statements.specs.Frames.{IsGroup, type_shape}
 use Rattle.run_statements.specs.Groups.{GroupMade, GroupsAreGiven, GroupsAreMade}
 use Rattle.agreeing_laws.proofs.Lasting.{later_then}
 use Rattle.agreeing_laws.proofs.Made.{up_self}
 use Rattle.agreeing_laws.proofs.SoundParts.{all_matched_made, all_ranked_sound, part_type}
-use Rattle.agreeing_laws.proofs.UserShapes.{covered_type_of}
+use Rattle.agreeing_laws.proofs.UserShapes.{group_type_of, group_unbounded}
 use Rattle.memory_laws.specs.Changes.{with_place}
 use Rattle.memory_laws.specs.Laying.{Fills, cells_with, filled, held_with}
 use Rattle.memory_laws.proofs.Filling.{filled_later, fills_none}
@@ -36,21 +37,22 @@ use Rattle.memory_laws.proofs.Overwritten.{stored_over}
 use Rattle.memory_laws.proofs.Places.{declared_here, place_here, place_is_matched, place_later}
 use Rattle.memory_laws.proofs.Positions.{at}
 
--- ---- a variable of a user type
+-- ---- a variable of a user type or a class
 
-module _ (U : Upgrade) (v t : ℕ) (r : IsGroup U v t) where
-  pub group_shape_is : variable_shape U.program.declarations v ≡ user_shapes U.program.declarations t
+module _ (U : Upgrade) (v : ℕ) (ty : Ty) (r : IsGroup U v ty) where
+  pub group_shape_is : variable_shape U.program.declarations v ≡ type_shape U ty
   group_shape_is =
       ap (declared_shape (user_shapes U.program.declarations)) r.known.is_variable
-      ∙ ap (shape_by (user_shapes U.program.declarations) r.known.variable.bounds) r.is_user
+      ∙ (ap (shape_by (user_shapes U.program.declarations) r.known.variable.bounds) r.is_type
+      ∙ group_unbounded U.program.declarations r.known.variable.bounds ty r.covers)
 
   pub group_shape : IsSoundShape U (variable_shape U.program.declarations v)
-  group_shape = subst (λ s. IsSoundShape U s) (sym group_shape_is) r.fields
+  group_shape = subst (λ s. IsSoundShape U s) (sym group_shape_is) r.sound
 
   pub group_type : part_type U v [] ≡ Some (type_of_shape (variable_shape U.program.declarations v))
   group_type =
       ap type_of_some r.known.is_variable
-      ∙ (ap (λ z. Some z) r.is_user ∙ ap (λ z. Some z) (sym (ap type_of_shape group_shape_is ∙ covered_type_of U.program.declarations t r.covers)))
+      ∙ (ap (λ z. Some z) r.is_type ∙ ap (λ z. Some z) (sym (ap type_of_shape group_shape_is ∙ group_type_of U.program.declarations ty r.covers)))
 
   pub group_sound : is_sound U v [] ≡ true
   group_sound = ap not r.known.sound
@@ -105,7 +107,7 @@ module _ (U : Upgrade) (s : Shape) (c : IsSoundShape U s) (w : Memory) where
 
 -- ---- in a place
 
-module _ (U : Upgrade) (K : Pledge) (w : World) (h : MemoryMatch U w) (v t : ℕ) (r : IsGroup U v t) (d : shape.Shape)
+module _ (U : Upgrade) (K : Pledge) (w : World) (h : MemoryMatch U w) (v : ℕ) (ty : Ty) (r : IsGroup U v ty) (d : shape.Shape)
     (sh : SameShape U (variable_shape U.program.declarations v) d) (x : Value) (y : net_value.Value)
     (of : IsValueOf (variable_shape U.program.declarations v) x) (like : LikeV U w x y) where
   abbrev there : Shape
@@ -130,7 +132,7 @@ module _ (U : Upgrade) (K : Pledge) (w : World) (h : MemoryMatch U w) (v t : ℕ
   first = place_later U w (Some v) h K
 
   matched : IsMatched U placed (whole place)
-  matched = place_is_matched U w (Some v) (group_sound U v t r)
+  matched = place_is_matched U w (Some v) (group_sound U v ty r)
 
   none : IsBlank place w.src.held
   none path = h.stores.unmade (at place path) (up_self w.src.next)
@@ -138,8 +140,8 @@ module _ (U : Upgrade) (K : Pledge) (w : World) (h : MemoryMatch U w) (v t : ℕ
   fills : Fills U placed place held cells
   fills =
       value_fills U placed place v matched.is_made matched.counterpart (declared_here U w (Some v)) first.match.stores
-      (λ u s path m. place_goes_alone U u s w.src.next path m) there [] x y w.src.held w.net.cell (group_shape U v t r) (group_type U v t r)
-      (group_sound U v t r) of like (fills_none U placed place first.match.stores)
+      (λ u s path m. place_goes_alone U u s w.src.next path m) there [] x y w.src.held w.net.cell (group_shape U v ty r) (group_type U v ty r)
+      (group_sound U v ty r) of like (fills_none U placed place first.match.stores)
 
   made_later : Later U K w done
   made_later =
@@ -151,9 +153,9 @@ module _ (U : Upgrade) (K : Pledge) (w : World) (h : MemoryMatch U w) (v t : ℕ
     place = record { place = w.src.next; stands = refl; is_made = matched.is_made; declared = declared_here U w (Some v) };
     same =
         same_root there d (whole place) sh
-        (all_matched_made U done place v matched.is_made matched.counterpart (declared_here U w (Some v)) there [] (group_shape U v t r)
-        (group_type U v t r) (group_sound U v t r) (kinds_laid U there x (whole place) w.src.held (group_shape U v t r) of))
-        (all_ranked_sound U done there d (whole place) (group_shape U v t r));
+        (all_matched_made U done place v matched.is_made matched.counterpart (declared_here U w (Some v)) there [] (group_shape U v ty r)
+        (group_type U v ty r) (group_sound U v ty r) (kinds_laid U there x (whole place) w.src.held (group_shape U v ty r) of))
+        (all_ranked_sound U done there d (whole place) (group_shape U v ty r));
     target_shape = (placed.map.places w.src.next, refl);
   }
 
@@ -165,7 +167,7 @@ module _ (U : Upgrade) (K : Pledge) (w : World) (h : MemoryMatch U w) (v t : ℕ
       (cond b
       (gives [] (net.root d (whole (made w.net.next))) (net.laid y (whole (made w.net.next)) (record w.net { next = suc w.net.next })))
       (outside [])))
-      (sym (value_suits U w there d x y (group_shape U v t r) sh of like))
+      (sym (value_suits U w there d x y (group_shape U v ty r) sh of like))
       (subst
       (λ m. Agrees U K w (GroupMade U K v d) (gives [] (root there (whole place)) (record w.src { held = held; next = suc w.src.next }))
       (gives [] (net.root d (whole (made w.net.next))) m))
@@ -178,17 +180,17 @@ module _ (U : Upgrade) (K : Pledge) (w : World) (h : MemoryMatch U w) (v t : ℕ
 -- ---- the laws
 
 pub groups_are_made : (U : Upgrade) → GroupsAreMade U
-groups_are_made U K w v t r d sh h =
-    let c : IsSoundShape U (variable_shape U.program.declarations v) = group_shape U v t r in
+groups_are_made U K w v ty r d sh h =
+    let c : IsSoundShape U (variable_shape U.program.declarations v) = group_shape U v ty r in
     let f : FirstValue U w (variable_shape U.program.declarations v) d = first_value_matches U w (variable_shape U.program.declarations v) d c sh in
     subst (λ o. Agrees U K w (GroupMade U K v d) o (net.made_with d (shape.default_of d) w.net))
     (sym (make_is U (variable_shape U.program.declarations v) c w.src))
-    (value_is_made U K w h v t r d sh (first_value (variable_shape U.program.declarations v)) (shape.default_of d) f.of f.like)
+    (value_is_made U K w h v ty r d sh (first_value (variable_shape U.program.declarations v)) (shape.default_of d) f.of f.like)
 
 pub groups_are_given : (U : Upgrade) → GroupsAreGiven U
-groups_are_given U K w0 w v t r d x y sh l of =
-    let c : IsSoundShape U (variable_shape U.program.declarations v) = group_shape U v t r in
+groups_are_given U K w0 w v ty r d x y sh l of =
+    let c : IsSoundShape U (variable_shape U.program.declarations v) = group_shape U v ty r in
     let like : LikeV U w x y = value_later U K w0 w l (variable_shape U.program.declarations v) x y c of.0 of.1 in
     subst (λ o. Agrees U K w (GroupMade U K v d) o (net.made_with d y w.net))
     (sym (make_with_is U (variable_shape U.program.declarations v) c w.src w x y of.0 like))
-    (value_is_made U K w l.match v t r d sh x y of.0 like)
+    (value_is_made U K w l.match v ty r d sh x y of.0 like)

@@ -14,6 +14,7 @@ pub mod Places
 pub mod Scalars
 pub mod Reading
 pub mod Writing
+mod SimpleShapes
 pub mod Groups
 pub mod GroupValues
 pub mod GroupWriting
@@ -34,3 +35,4 @@ mod FirstArrays
 pub mod Alone
 pub mod Quiet
 pub mod ArraysMade
+pub mod Members

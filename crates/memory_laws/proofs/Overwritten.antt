@@ -7,14 +7,13 @@ use Rattle.run_base.specs.Positions.{Position, inner, is_same_position, updated}
 use Rattle.vb6_run.specs.Shapes.{Shape, simple, group, array, endless, Shapes, no_shapes, next_shape}
 use Rattle.vb6_run.specs.Store.{Held, Locked, Memory, single, parts, provided, put_single, store, store_all, with_held}
 use Rattle.vb6_run.specs.Values.{Value, scalar, fields, elements, Values, no_values, next_value, first_scalar, first_value, first_values}
-use Rattle.run_matches.specs.CoveredVariables.{covers_type}
 use Rattle.run_matches.specs.Kinds.{IsValueOf, AreValuesOf}
 use Rattle.run_matches.specs.SoundShapes.{IsSoundShape, AreSoundShapes}
 use Rattle.run_matches.specs.Upgrades.{Upgrade}
 use Rattle.memory_laws.specs.Laying.{held_with, all_held_with}
-use Rattle.memory_laws.proofs.Groups.{type_itself}
 use Rattle.memory_laws.proofs.LaidValues.{field_swapped}
 use Rattle.memory_laws.proofs.Positions.{updated_here}
+use Rattle.memory_laws.proofs.SimpleShapes.{type_itself}
 
 -- of two changes of one position the last stays
 twice : (b : Bool) (x y h : Held) → cond b y (cond b x h) ≡ cond b y h
@@ -28,12 +27,12 @@ abbrev holding : Memory → (Position → Held) → Memory
 holding w h = record w { held = h }
 
 module _ (U : Upgrade) (locked : Locked) where
-  scalar_over : (ty : Ty) (z : Value6) (q : Position) (w : Memory) → covers_type ty ≡ true
+  scalar_over : (ty : Ty) (z : Value6) (q : Position) (w : Memory)
       → store locked (scalar ty z) q (holding w (updated w.held q (single ty (first_scalar ty)))) ≡ gives [] tt (holding w (updated w.held q (single ty z)))
-  scalar_over ty z q w c =
+  scalar_over ty z q w =
       let old : Held = single ty (first_scalar ty) in
       ap (λ h. put_single h q ty z (holding w (updated w.held q old))) (updated_here w.held q old)
-      ∙ (ap (λ b. provided b (λ v. gives [] tt (with_held q (single ty z) v)) (holding w (updated w.held q old))) (type_itself ty c)
+      ∙ (ap (λ b. provided b (λ v. gives [] tt (with_held q (single ty z) v)) (holding w (updated w.held q old))) (type_itself ty)
       ∙ ap (λ h. gives [] tt (holding w h)) (overwritten w.held q old (single ty z)))
 
   mutual
@@ -42,7 +41,7 @@ module _ (U : Upgrade) (locked : Locked) where
     stored_over (simple ty) (scalar t z) q w c of =
         subst
         (λ u. store locked (scalar u z) q (holding w (held_with (first_value (simple ty)) q w.held)) ≡ gives [] tt (holding w (held_with (scalar u z) q w.held)))
-        (sym of) (scalar_over ty z q w c)
+        (sym of) (scalar_over ty z q w)
     stored_over (simple ty) (fields u xs) q w c of = absurd of
     stored_over (simple ty) (elements e dims xs) q w c of = absurd of
     stored_over (group t fs) (scalar s z) q w c of = absurd of

@@ -1,6 +1,7 @@
--- A Static of a user type is made on both sides where none is there yet.
+-- A Static of a user type or a class is made on both sides where none is there yet.
 use Rattle.std.proofs.Common.{◌≡◌, inl, inr, ⊎_elim, refl, sym, ap, subst, ◌∙◌, ℕ, suc, true, cond, Some, None, List, [], ◌∷◌}
 use Rattle.std.specs.Prelude.{is_some}
+use Rattle.vb_tree.specs.BoundTree.{Ty}
 use Rattle.net_tree.specs.Tree as net_tree
 use Rattle.run_base.specs.Outcomes.{after, gives, outside, then}
 use Rattle.run_base.specs.Positions.{Key, Position, Root, shared, whole}
@@ -40,7 +41,7 @@ not_blank (group t fs) q h k e = absurd (cc (sym k.0 ∙ e))
 not_blank (array f bounds) q h k e = absurd (cc (sym k.2 ∙ e))
 not_blank endless q h k e = k
 
-module _ (U : Upgrade) (K : Pledge) (w : World) (v t : ℕ) (r : IsGroup U v t) (home : ℕ) (key : Key) (h : MemoryMatch U w) (is : variable_key U v ≡ Some key)
+module _ (U : Upgrade) (K : Pledge) (w : World) (v : ℕ) (ty : Ty) (r : IsGroup U v ty) (home : ℕ) (key : Key) (h : MemoryMatch U w) (is : variable_key U v ≡ Some key)
     (differs : (u : ℕ) → variable_key U u ≡ Some key → v ≡ u) (d : net_tree.Variable) (plain : d.value ≡ None)
     (sh : SameShape U (variable_shape U.program.declarations v) (shape.shape_of U.written home d.ty)) where
   abbrev there : Shape
@@ -65,13 +66,13 @@ module _ (U : Upgrade) (K : Pledge) (w : World) (v t : ℕ) (r : IsGroup U v t) 
   cells = cells_with (shape.default_of written) (whole to) w.net.cell
 
   sound : IsSoundShape U there
-  sound = group_shape U v t r
+  sound = group_shape U v ty r
 
   first : FirstValue U w there written
   first = first_value_matches U w there written sound sh
 
   matched : IsMatched U w q
-  matched = record { is_made = tt; counterpart = ap is_some is; sound = group_sound U v t r }
+  matched = record { is_made = tt; counterpart = ap is_some is; sound = group_sound U v ty r }
 
   -- a Static that isn't there is blank with all its fields
   none : w.src.held q ≡ blank → IsBlank place w.src.held
@@ -81,7 +82,7 @@ module _ (U : Upgrade) (K : Pledge) (w : World) (v t : ℕ) (r : IsGroup U v t) 
   fills : Fills U w place held cells
   fills =
       value_fills U w place v tt matched.counterpart refl h.stores (λ u s path m. part_goes_alone U u v key is differs path) there [] (first_value there)
-      (shape.default_of written) w.src.held w.net.cell sound (group_type U v t r) (group_sound U v t r) first.of first.like
+      (shape.default_of written) w.src.held w.net.cell sound (group_type U v ty r) (group_sound U v ty r) first.of first.like
       (fills_none U w place h.stores)
 
   laid_later : w.src.held q ≡ blank → Later U K w (filled w held cells)
@@ -118,4 +119,4 @@ module _ (U : Upgrade) (K : Pledge) (w : World) (v t : ℕ) (r : IsGroup U v t) 
       (laid_by (w.src.held q) (w.net.cell (moved_at U w.map q)) refl (h.stores.values q matched))
 
 pub static_groups_are_laid : (U : Upgrade) → StaticGroupsAreLaid U
-static_groups_are_laid U K w v t r home key d h is differs plain sh = laid_there U K w v t r home key h is differs d plain sh
+static_groups_are_laid U K w v ty r home key d h is differs plain sh = laid_there U K w v ty r home key h is differs d plain sh

@@ -48,8 +48,8 @@ not_blank t x h e f = no_single (sym e ∙ f)
     no_single : single t x ≡ blank → ⊥
     no_single g = cc
 
-module _ (U : Upgrade) (K : Pledge) (w : World) (ty : Ty) (z : Value6) (y : ValueN) (q : Position) (c : covers_type ty ≡ true) (h : MemoryMatch U w)
-    (m : IsMatched U w q) (alone : GoesAlone U w q) (free : IsLasting U K w q → IsHeld w q → ⊥) (like : Like w ty z y) where
+module _ (U : Upgrade) (K : Pledge) (w : World) (ty : Ty) (z : Value6) (y : ValueN) (q : Position) (same : (t : Ty) → is_same_type t ty ≡ true → t ≡ ty)
+    (h : MemoryMatch U w) (m : IsMatched U w q) (alone : GoesAlone U w q) (free : IsLasting U K w q → IsHeld w q → ⊥) (like : Like w ty z y) where
   single_suits : (t : Ty) (old : Value6) → w.src.held q ≡ single t old → IsSuited U w q (single t z)
   single_suits t old is = record {
     kept = subst (λ k. KeepsKind k (single t z)) (sym is) (z, refl);
@@ -58,8 +58,8 @@ module _ (U : Upgrade) (K : Pledge) (w : World) (ty : Ty) (z : Value6) (y : Valu
 
   written_later : (t : Ty) (old : Value6) (before : ValueN) → t ≡ ty → w.src.held q ≡ single t old → w.net.cell (moved_at U w.map q) ≡ net.holds before
       → Like w t old before → Later U K w (changed U w q (single t z) (net.holds y))
-  written_later t old before same is net_is l =
-      changed_later U w q (single t z) (net.holds y) h m alone (holds_single t z y (subst (λ u. Like w u z y) (sym same) like))
+  written_later t old before is_type is net_is l =
+      changed_later U w q (single t z) (net.holds y) h m alone (holds_single t z y (subst (λ u. Like w u z y) (sym is_type) like))
       (no_table_in t old (w.src.held q) is) (λ k e. scalar_is_no_array (are_same w) t old before l k (sym net_is ∙ e))
       (scalar_is_no_array (are_same w) ty z y like) (single_suits t old is) K free
 
@@ -71,7 +71,7 @@ module _ (U : Upgrade) (K : Pledge) (w : World) (ty : Ty) (z : Value6) (y : Valu
       by_test (is_same_type t ty)
       (λ b. Agrees U K w AnyUnits (provided b (λ v. gives [] tt (with_held q (single t z) v)) w.src)
       (gives [] tt (net.with_cell (moved_at U w.map q) (net.holds y) w.net)))
-      (λ e. (refl, w.map, tt, written_later t old before (covered_same t ty c e) is net_is l))
+      (λ e. (refl, w.map, tt, written_later t old before (same t e) is net_is l))
       (λ e. agrees_outside U K w AnyUnits (gives [] tt (net.with_cell (moved_at U w.map q) (net.holds y) w.net)))
 
   pub put_agrees : (x : Held) (d : net.Cell) → w.src.held q ≡ x → w.net.cell (moved_at U w.map q) ≡ d → Holds U w x d
@@ -83,10 +83,10 @@ module _ (U : Upgrade) (K : Pledge) (w : World) (ty : Ty) (z : Value6) (y : Valu
   put_agrees _ _ is net_is holds_parts = agrees_outside U K w AnyUnits (net.put net.structure (moved_at U w.map q) y w.net)
 
   -- a value of the type is written
-  pub value_is_written : (locked : Locked) (t : TypeName) → scalar_word ty ≡ Some t
+  pub value_is_written : (locked : Locked) (t : TypeName) → covers_type ty ≡ true → scalar_word ty ≡ Some t
       → Agrees U K w AnyUnits (write locked (scalar ty z) (root (simple ty) q) w.src)
       (net.written (net.root (shape.scalar t) (moved_at U w.map q)) (net_value.single y) w.net)
-  value_is_written locked t e =
+  value_is_written locked t c e =
       subst
       (λ o. Agrees U K w AnyUnits (some_of o (λ x v. store locked x q v) w.src)
       (net.written (net.root (shape.scalar t) (moved_at U w.map q)) (net_value.single y) w.net))
@@ -103,7 +103,8 @@ module _ (U : Upgrade) where
       → LikeV U w (scalar ty z) y
       → Agrees U K w AnyUnits (write locked (scalar ty z) (root (simple ty) q) w.src)
       (net.written (net.root (shape.scalar t) (moved_at U w.map q)) y w.net)
-  like_is_written K w locked _ _ _ q t c h m alone free e (like_scalar ty z y l) = value_is_written U K w ty z y q c h m alone free l locked t e
+  like_is_written K w locked _ _ _ q t c h m alone free e (like_scalar ty z y l) =
+      value_is_written U K w ty z y q (λ s x. covered_same s ty c x) h m alone free l locked t c e
 
   -- where no other position goes to where the variable stands
   image_is_written : (K : Pledge) (w : World) (a : Address) (b : net.Address) (locked : Locked) (ty : Ty) (z : Value6) (y : net_value.Value)

@@ -1,4 +1,4 @@
-//! What becomes of scalar variables on both sides.
+//! What becomes of variables on both sides.
 ghost use Rattle.std.specs.Prelude.{ℕ, Option, List};
 ghost use Rattle.vb6_run.specs.Store.{SourceFrame, SourceGiven};
 ghost use Rattle.run_matches.specs.Upgrades.{Upgrade};
@@ -6,6 +6,7 @@ ghost use Rattle.run_matches.specs.Maps.{Mark, World};
 ghost use Rattle.run_matches.specs.Pledges.{NetGiven};
 ghost use Rattle.run_matches.specs.Frames.{frame_pledge};
 ghost use Rattle.run_matches.specs.Runs.{call_pledge};
+ghost use Rattle.run_statements.specs.Members.{MembersAreFoundBy};
 ghost use Rattle.memory_laws.specs.Statements.{VariablesAreReadBy, ScalarsAreWrittenBy, LocalsAreMadeBy};
 
 /// A law: in memories that match, a variable of a covered type and what stands for it hold values that match.
@@ -22,4 +23,9 @@ pub fn scalars_are_written()
 pub fn locals_are_made()
     ensures { (U : Upgrade) (p : ℕ) (base : Mark) (me : Option ℕ) (xs : List SourceGiven) (ys : List NetGiven)
         → LocalsAreMadeBy U (call_pledge U p base me xs ys) }
+{}
+
+/// A law: where it is seen whether there is an object, both sides go on with a variable of it that is a scalar or an object, or raise 91.
+pub fn members_are_found()
+    ensures { (U : Upgrade) (p : ℕ) (start : World) (f : SourceFrame) → MembersAreFoundBy U (frame_pledge U p start f) }
 {}

@@ -1,6 +1,6 @@
 -- What the tests say of names that lead to a variable of a standard module, and the modules that are written.
 use Rattle.std.proofs.Common.{◌≡◌, refl, ap, sym, subst, ◌∙◌, ℕ, zero, suc, ◌+◌, arith, Bool, true, false, cond, not, ◌&&◌, nat_eq, List, [], ◌∷◌, Option, Some, None, slice_get}
-use Rattle.std.specs.Prelude.{position, ◌||◌}
+use Rattle.std.specs.Prelude.{option_and_then, position, ◌||◌}
 use Rattle.std.specs.List.{list_all, list_any}
 use Rattle.std.proofs.lemmas.Bool.{eqb-true}
 use Rattle.up_base.specs.Names.{is_same_name}
@@ -15,7 +15,7 @@ use Rattle.written_trees.specs.Placing.{Numbers, Placed, placed_members, behind_
 use Rattle.written_trees.specs.Projects.{next_module, written_module, modules_from}
 use Rattle.vb6_run.specs.Runnables.{is_class_file}
 use Rattle.net_run.specs.Shapes.{first_from, module_in}
-use Rattle.run_matches.specs.Shared.{placed_from, placed_module, declares_in, is_other_member, declares_alone, declares_none, is_of_module, others_differ, is_free_in, leads_from, is_module, leads_to_member, leads_to_home, names_lead}
+use Rattle.run_matches.specs.Shared.{placed_from, placed_module, declares_in, is_other_member, declares_alone, declares_none, is_of_module, others_differ, is_free_in, leads_from, is_module, leads_to_member, leads_to_home, names_lead, keeps_alone, is_alone_field}
 use Rattle.run_matches.specs.Sites.{Site, site_of}
 use Rattle.name_laws.proofs.Lists.{both_true, some_same}
 use Rattle.name_laws.proofs.Looked.{not_true}
@@ -63,22 +63,26 @@ first_written P F name k at (m ∷ ms) f e = by (is_same_name m.name name) e (fi
 
 -- ---- what the tests say
 
--- the variable stands in the module of a number, and the name of that module leads there
-pub record Led (D : Declarations) (p v : ℕ) (name : List ℕ) (file : ℕ) : Type 0 where
+-- the variable stands in the module of a number, which declares nothing else of its name
+pub record Stands (D : Declarations) (v : ℕ) (name : List ℕ) (file : ℕ) : Type 0 where
   pub home : ℕ
   pub is_home : position (λ (m : Module). nat_eq m.file file) D.project.modules ≡ Some home
   pub placed : Module × List Placed
   pub is_placed : placed_module D home ≡ Some placed
-  pub outer : is_class_file D file ≡ false
-  pub standard : placed.0.class ≡ false
   pub declares : list_any (declares_in D v placed.0.file) placed.1 ≡ true
   pub others : list_all (is_other_member D name (Some v) placed.0.file) placed.1 ≡ true
-  pub first : ℕ × Module
-  pub is_first : first_from (λ (n : Module). is_same_name n.name placed.0.name) 0 D.project.modules ≡ Some first
-  pub first_home : first.0 ≡ home
-  pub first_standard : first.1.class ≡ false
   pub differs : others_differ (is_of_module file) v name 0 D.vars ≡ true
-  pub leads : leads_from D name placed.0.name file home (site_of D p) (slice_get D.procs p) ≡ true
+
+-- which is a standard module, and the name of that module leads there
+pub record Led (D : Declarations) (p v : ℕ) (name : List ℕ) (file : ℕ) : Type 0 where
+  pub stands : Stands D v name file
+  pub outer : is_class_file D file ≡ false
+  pub standard : stands.placed.0.class ≡ false
+  pub first : ℕ × Module
+  pub is_first : first_from (λ (n : Module). is_same_name n.name stands.placed.0.name) 0 D.project.modules ≡ Some first
+  pub first_home : first.0 ≡ stands.home
+  pub first_standard : first.1.class ≡ false
+  pub leads : leads_from D name stands.placed.0.name file stands.home (site_of D p) (slice_get D.procs p) ≡ true
 
 abbrev found_in : Declarations → Module → Option (ℕ × Module)
 found_in D m = first_from (λ (n : Module). is_same_name n.name m.name) 0 D.project.modules
@@ -99,19 +103,13 @@ led D p v name file h =
         let b = both_true (list_any (declares_in D v m.0.file) m.1) (list_all (is_other_member D name (Some v) m.0.file) m.1) a.1 in
         let c = both_true (nat_eq f.0 home) (not f.1.class) k in
         record {
-          home = home;
-          is_home = i;
-          placed = m;
-          is_placed = j;
+          stands = record { home = home; is_home = i; placed = m; is_placed = j; declares = b.0; others = b.1; differs = differ };
           outer = outer;
           standard = not_true m.0.class a.0;
-          declares = b.0;
-          others = b.1;
           first = f;
           is_first = e;
           first_home = eqb-true f.0 home c.0;
           first_standard = not_true f.1.class c.1;
-          differs = differ;
           leads = leads;
         }
 
@@ -129,6 +127,28 @@ led D p v name file h =
 
     by_home : (o : Option ℕ) → position (λ (m : Module). nat_eq m.file file) D.project.modules ≡ o → leads_to_home D p v name file o ≡ true
         → Led D p v name file
+    by_home None e k = absurd (cc k)
+    by_home (Some home) e k = by_module home e (placed_module D home) refl k
+
+-- so does a variable of a class that declares it alone
+pub stands_alone : (D : Declarations) (v : ℕ) (name : List ℕ) (file : ℕ) → is_alone_field D v name file ≡ true → Stands D v name file
+stands_alone D v name file h =
+    by_home (position (λ (m : Module). nat_eq m.file file) D.project.modules) refl
+    (both_true (is_class_file D file)
+    (keeps_alone D v name (option_and_then (placed_module D) (position (λ (m : Module). nat_eq m.file file) D.project.modules)) && others_differ (is_of_module file) v name 0 D.vars) h).1
+  where
+    by_module : (home : ℕ) → position (λ (m : Module). nat_eq m.file file) D.project.modules ≡ Some home → (o : Option (Module × List Placed))
+        → placed_module D home ≡ o → (keeps_alone D v name o && others_differ (is_of_module file) v name 0 D.vars) ≡ true → Stands D v name file
+    by_module home i None j k = absurd (cc k)
+    by_module home i (Some m) j k =
+        let declares = list_any (declares_in D v m.0.file) m.1 in
+        let others = list_all (is_other_member D name (Some v) m.0.file) m.1 in
+        let a = both_true (m.0.class && (declares && others)) (others_differ (is_of_module file) v name 0 D.vars) k in
+        let b = both_true declares others (both_true m.0.class (declares && others) a.0).1 in
+        record { home = home; is_home = i; placed = m; is_placed = j; declares = b.0; others = b.1; differs = a.1 }
+
+    by_home : (o : Option ℕ) → position (λ (m : Module). nat_eq m.file file) D.project.modules ≡ o
+        → (keeps_alone D v name (option_and_then (placed_module D) o) && others_differ (is_of_module file) v name 0 D.vars) ≡ true → Stands D v name file
     by_home None e k = absurd (cc k)
     by_home (Some home) e k = by_module home e (placed_module D home) refl k
 

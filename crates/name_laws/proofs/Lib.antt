@@ -3,6 +3,7 @@ pub mod Depths
 pub mod CoveredTypes
 pub mod WrittenTypes
 pub mod Structures
+pub mod ClassTypes
 pub mod TypeShapes
 pub mod GroupTypes
 pub mod Names
@@ -32,6 +33,8 @@ pub mod Framed
 pub mod Led
 pub mod Reached
 pub mod Words
+pub mod Standing
+pub mod Members
 pub mod Shared
 pub mod Placed
 pub mod Outward

@@ -28,12 +28,13 @@ use Rattle.vb6_run.specs.Programs.{is_static_of}
 use Rattle.vb6_run.specs.Runnables.{is_class_file}
 use Rattle.run_matches.specs.CleanLines.{lines_at}
 use Rattle.run_matches.specs.CoveredVariables.{covers_type, is_foreign_name, is_reached}
-use Rattle.run_matches.specs.CoveredExprs.{Uses, covers_array, covers_exprs, covers_expr, covers_base, covers_group, covers_place, covers_term, has_field, has_inner, has_scalar, is_changeable, is_changeable_in, is_kept, uses_in}
-use Rattle.run_matches.specs.CoveredLines.{covers_copy, covers_store, is_ordered, is_ordered_in, covers_form, covers_line}
+use Rattle.run_matches.specs.CoveredExprs.{Uses, covers_array, covers_exprs, covers_expr, covers_base, covers_group, covers_place, covers_term, has_field, has_inner, has_scalar, is_changeable, is_kept, uses_in, covers_object, covers_object_term, has_member}
+use Rattle.run_matches.specs.CoveredLines.{covers_copy, covers_store, is_ordered, is_member_ordered, covers_form, covers_line}
 use Rattle.run_matches.specs.Formed.{is_formed}
 use Rattle.run_matches.specs.Pledges.{stands_in_class}
 use Rattle.run_matches.specs.Shared.{names_lead, is_alone_static, is_outer, others_differ}
 use Rattle.run_matches.specs.Upgrades.{Upgrade}
+use Rattle.run_matches.specs.UserTypes.{is_user}
 use Rattle.run_statements.specs.Kept.{StoresAreOwn}
 use Rattle.run_statements.specs.Written.{IsWritten}
 use Rattle.name_laws.proofs.Lists.{both_true, same_number, Among, among, among_at}
@@ -166,8 +167,8 @@ module _ (P : Program) (p : ℕ) (x : Procedure) (is_procedure : slice_get P.dec
   mine_array (typed (types.array e rank) _) covers h = absurd (cc covers)
   mine_array (typed _ t) covers h = absurd (cc covers)
 
-  -- nor is a variable of a user type, or a field in it
-  mine_group_variable : (v : VarId) (of : ℕ) → uses.group v of ≡ true → is_own_variable p (slice_get D.vars v.0) ≡ false
+  -- nor is a variable of a user type or a class, or a field in it
+  mine_group_variable : (v : VarId) (of : Ty) → uses.group v of ≡ true → is_own_variable p (slice_get D.vars v.0) ≡ false
       → is_mine_variable D p (slice_get D.vars v.0) ≡ false
   mine_group_variable v of h e =
       let u : GroupUse P p v.0 of = (group_use P p mentions v of h).1 in
@@ -183,6 +184,21 @@ module _ (P : Program) (p : ℕ) (x : Procedure) (is_procedure : slice_get P.dec
   inner_no_object of k (types.user t) h = has_no_object of k (types.user t) h
   inner_no_object of k _ h = absurd (cc h)
 
+  -- an object that is kept isn't Me, so that its variables aren't the procedure's
+  not_me : (ty : Ty) (t : Term) → covers_object_term uses ty t ≡ true → is_me (typed ty t) ≡ false
+  not_me ty (variable v qualified) h = refl
+  not_me ty (field e k) h = refl
+  not_me ty _ h = absurd (cc h)
+
+  member_is_object : (of : Ty) (k : ℕ) → has_member uses of k covers_type ≡ true → is_object_type of ≡ true
+  member_is_object (types.class c) k h = refl
+  member_is_object _ k h = absurd (cc h)
+
+  mine_member : (ty of : Ty) (t : Term) (k : ℕ) → has_member uses of k covers_type ≡ true → covers_object uses (typed of t) ≡ true
+      → is_mine D p (typed ty (field (typed of t) k)) ≡ false
+  mine_member ty of t k h kept =
+      ap (λ b. cond b (is_me (typed of t)) (is_mine D p (typed of t))) (member_is_object of k h) ∙ not_me of t kept
+
   scalar_no_object : (of : Ty) (k : ℕ) → has_scalar uses of k ≡ true → is_object_type of ≡ false
   scalar_no_object (types.user t) k h = refl
   scalar_no_object _ k h = absurd (cc h)
@@ -197,36 +213,42 @@ module _ (P : Program) (p : ℕ) (x : Procedure) (is_procedure : slice_get P.dec
 
   mine_base : (ty : Ty) (t : Term) → covers_base uses (typed ty t) ≡ true → is_outside D.vars p (root (typed ty t)) ≡ true → is_mine D p (typed ty t) ≡ false
   mine_base ty (with_object r) covers h = refl
-  mine_base (types.user of) (variable v qualified) covers h =
-      mine_group_variable v of covers (not_true (is_own_variable p (slice_get D.vars v.0)) h)
+  mine_base ty (variable v qualified) covers h =
+      mine_group_variable v ty covers (not_true (is_own_variable p (slice_get D.vars v.0)) h)
   mine_base ty (field (typed of t) k) covers h =
       let b = both_true (has_inner uses of k ty) (covers_base uses (typed of t)) covers in
       mine_field ty of t k (inner_no_object of k ty b.0) (mine_base of t b.1) h
   mine_base ty _ covers h = absurd (true≢false (sym covers))
 
-  mine : (ty : Ty) (t : Term) (e : Expr) → (is_changeable_in uses t || is_ordered_in uses ty t e) ≡ true → covers_term uses t ≡ true → is_outside D.vars p (root (typed ty t)) ≡ true
+  abbrev Stores : Expr → Expr → Bool
+  Stores to e = is_changeable uses to || (is_ordered uses to e || is_member_ordered uses to e)
+
+  mine : (ty : Ty) (t : Term) (e : Expr) → Stores (typed ty t) e ≡ true → covers_term uses t ≡ true → is_outside D.vars p (root (typed ty t)) ≡ true
       → is_mine D p (typed ty t) ≡ false
   mine ty (variable v qualified) e is covers h = mine_variable v covers (not_true (is_own_variable p (slice_get D.vars v.0)) h)
   mine ty (field (typed of t) k) e is covers h =
-      let b = both_true (has_scalar uses of k) (covers_base uses (typed of t)) covers in
-      mine_field ty of t k (scalar_no_object of k b.0) (mine_base of t b.1) h
+      either (has_scalar uses of k && covers_base uses (typed of t)) (has_member uses of k covers_type && covers_object uses (typed of t)) covers
+      (λ s. let b = both_true (has_scalar uses of k) (covers_base uses (typed of t)) s in
+      mine_field ty of t k (scalar_no_object of k b.0) (mine_base of t b.1) h)
+      (λ m. let b = both_true (has_member uses of k covers_type) (covers_object uses (typed of t)) m in mine_member ty of t k b.0 b.1)
   mine ty (element a indexes) e is covers h = mine_array a (both_true (covers_array uses a) (covers_exprs uses indexes) covers).0 h
   mine ty (with_object r) e is covers h = refl
-  mine ty _ e is covers h = absurd (cc is)
+  mine ty _ e is covers h = absurd (true≢false (sym is))
 
-  target : (to e : Expr) → (is_changeable uses to || is_ordered uses to e) ≡ true → covers_expr uses to ≡ true → is_outside D.vars p (root to) ≡ true → is_mine D p to ≡ false
+  target : (to e : Expr) → Stores to e ≡ true → covers_expr uses to ≡ true → is_outside D.vars p (root to) ≡ true → is_mine D p to ≡ false
   target (typed ty t) e is covers h = mine ty t e is (both_true (covers_type ty) (covers_term uses t) covers).1 h
 
   copied : (to e : Expr) → covers_copy uses to e ≡ true → is_outside D.vars p (root to) ≡ true → is_mine D p to ≡ false
   copied (typed ty t) e c h =
-      let a = both_true (is_changeable uses (typed ty t)) (is_same_type ty (type_at e) && (covers_place uses (typed ty t) && covers_group uses e)) c in
+      let rest = is_same_type ty (type_at e) && (covers_place uses (typed ty t) && covers_group uses e) in
+      let a = both_true (is_changeable uses (typed ty t)) rest (both_true (is_user ty) (is_changeable uses (typed ty t) && rest) c).1 in
       let b = both_true (is_same_type ty (type_at e)) (covers_place uses (typed ty t) && covers_group uses e) a.1 in
       mine_base ty t (or_right (is_kept uses ty t) (covers_place uses (typed ty t)) (both_true (covers_place uses (typed ty t)) (covers_group uses e) b.1).0) h
 
   stored : (to e : Expr) → covers_store uses (to ∷ e ∷ []) ≡ true → is_outside D.vars p (root to) ≡ true → is_mine D p to ≡ false
   stored to e c h =
-      either ((is_changeable uses to || is_ordered uses to e) && (covers_expr uses to && covers_expr uses e)) (covers_copy uses to e) c
-      (λ s. let a = both_true (is_changeable uses to || is_ordered uses to e) (covers_expr uses to && covers_expr uses e) s in
+      either (Stores to e && (covers_expr uses to && covers_expr uses e)) (covers_copy uses to e) c
+      (λ s. let a = both_true (Stores to e) (covers_expr uses to && covers_expr uses e) s in
       target to e a.0 (both_true (covers_expr uses to) (covers_expr uses e) a.1).0 h)
       (λ k. copied to e k h)
 

@@ -21,13 +21,12 @@ use Rattle.written_trees.specs.Names.{Scope}
 use Rattle.written_trees.specs.Prologues.{declares, constant_dim_by, constant_dim, is_static}
 use Rattle.written_trees.specs.Types.{element_type}
 use Rattle.vb6_run.specs.Programs.{is_local_of, owned_from, is_static_of}
-use Rattle.run_matches.specs.CoveredVariables.{covers_type, covers_owner, covers_variable, belongs_to, are_different, is_loud, is_loud_owner, is_touched, covers_array_owner, covers_array_variable, covers_bounds, covers_declared, covers_group_owner, covers_group_variable, covers_user, has_extents, is_array_of, is_in_order}
+use Rattle.run_matches.specs.CoveredVariables.{covers_type, covers_owner, covers_variable, belongs_to, are_different, is_loud, is_loud_owner, is_touched, covers_array_owner, covers_array_variable, covers_bounds, covers_declared, covers_group_type, covers_group_variable, has_extents, is_array_of, is_in_order}
 use Rattle.run_matches.specs.Covered.{covers_head, covers_variables, covers_body, covers_names, covers_all_calls, covers_own, covers_owns, covers_site, covers_procedure, is_scalar_or_loud}
 use Rattle.run_matches.specs.Callees.{frame_owns}
 use Rattle.run_matches.specs.CleanLines.{IsSoundPoint}
 use Rattle.run_matches.specs.Sites.{Site, site_of, site_lines, first_statement, Own, own_variable, own_constant, own_name, owns_from, owns_of, local_number, local_numbers, static_number, static_numbers}
 use Rattle.run_matches.specs.Upgrades.{Upgrade, is_flagged, is_unknown, type_of_some, type_of}
-use Rattle.run_matches.specs.UserTypes.{is_user_of}
 use Rattle.run_statements.specs.Frames.{AreBounds, IsArray, IsGroup, IsReadable, IsUsable}
 use Rattle.run_statements.specs.Kept.{IsConstantDim}
 use Rattle.run_statements.specs.Written.{IsWritten, site_scope}
@@ -39,7 +38,7 @@ use Rattle.name_laws.proofs.Owned.{IsOwn, lines_own, owned_is}
 
 -- ---- what can be read
 
-type_known : (ty : Ty) → covers_type ty ≡ true → is_unknown (Some ty) ≡ false
+pub type_known : (ty : Ty) → covers_type ty ≡ true → is_unknown (Some ty) ≡ false
 type_known types.boolean h = refl
 type_known types.byte h = refl
 type_known types.integer h = refl
@@ -213,52 +212,57 @@ array_loud : (P : Program) (v : ℕ) (x : Variable) (e : Ty) → covers_array_va
     → is_loud_owner P v x.owner ≡ true
 array_loud P v x e h loud = subst (λ ty. (covers_type ty || is_loud_owner P v x.owner) ≡ true) (array_parts e x h).is_array loud
 
--- ---- user types
+-- ---- user types and classes
 
-pub user_of : (test : ℕ → Bool) (ty : Ty) → is_user_of test ty ≡ true → (t : ℕ) × (ty ≡ types.user t) × (test t ≡ true)
-user_of test (types.user t) h = (t, refl, h)
-user_of test _ h = absurd (cc h)
+pub group_known : (D : Declarations) (ty : Ty) → covers_group_type D ty ≡ true → is_unknown (Some ty) ≡ false
+group_known D (types.user t) h = refl
+group_known D (types.class c) h = refl
+group_known D _ h = absurd (cc h)
 
--- what is covered of a variable of a user type
+no_scalar : (D : Declarations) (ty : Ty) → covers_group_type D ty ≡ true → covers_type ty ≡ false
+no_scalar D (types.user t) h = refl
+no_scalar D (types.class c) h = refl
+no_scalar D _ h = absurd (cc h)
+
+-- what is covered of a variable of a user type or a class
 pub record GroupParts (D : Declarations) (x : Variable) : Type 0 where
-  pub owner : covers_group_owner x.owner ≡ true
-  pub user_type : ℕ
-  pub is_user : x.ty ≡ types.user user_type
-  pub covers : covers_user D user_type ≡ true
+  pub owner : covers_owner x.owner ≡ true
+  pub covers : covers_group_type D x.ty ≡ true
   pub plain : x.auto ≡ false
 
 pub group_parts : (D : Declarations) (x : Variable) → covers_group_variable D x ≡ true → GroupParts D x
 group_parts D x h =
-    let a = both_true (covers_group_owner x.owner) (is_user_of (covers_user D) x.ty && not x.auto) h in
-    let b = both_true (is_user_of (covers_user D) x.ty) (not x.auto) a.1 in
-    let u = user_of (covers_user D) x.ty b.0 in
-    record { owner = a.0; user_type = u.0; is_user = u.1; covers = u.2; plain = not_true x.auto b.1 }
+    let a = both_true (covers_owner x.owner) (covers_group_type D x.ty && not x.auto) h in
+    let b = both_true (covers_group_type D x.ty) (not x.auto) a.1 in
+    record { owner = a.0; covers = b.0; plain = not_true x.auto b.1 }
 
 -- one from which no chain leads to what breaks a rule
 pub usable_group : (U : Upgrade) → IsWritten U → (v : ℕ) (x : Variable) → slice_get U.program.declarations.vars v ≡ Some x
-    → (h : covers_group_variable U.program.declarations x ≡ true) → is_loud_owner U.program v x.owner ≡ true
-    → IsSoundPoint U.program U.facts.marks (variable v) → IsGroup U v (group_parts U.program.declarations x h).user_type
+    → covers_group_variable U.program.declarations x ≡ true → is_loud_owner U.program v x.owner ≡ true
+    → IsSoundPoint U.program U.facts.marks (variable v) → IsGroup U v x.ty
 usable_group U I v x is h loud sound =
     let parts : GroupParts U.program.declarations x = group_parts U.program.declarations x h in
-    let known : is_unknown (Some x.ty) ≡ false = ap (λ ty. is_unknown (Some ty)) parts.is_user in
     record {
       known = record {
         variable = x;
         is_variable = is;
         plain = parts.plain;
-        sound = is_unflagged U v x is known (sound_unbroken U.program U.facts.marks (variable v) sound);
+        sound =
+            is_unflagged U v x is (group_known U.program.declarations x.ty parts.covers)
+            (sound_unbroken U.program U.facts.marks (variable v) sound);
       };
       exact = loud_exact U I.known v x is loud;
-      is_user = parts.is_user;
+      is_type = refl;
       covers = parts.covers;
-      fields = group_sound U I v parts.user_type x is parts.is_user parts.covers sound;
+      sound = group_sound U I v x is x.ty refl parts.covers sound;
     }
 
 group_loud : (P : Program) (v : ℕ) (x : Variable) → covers_group_variable P.declarations x ≡ true → is_scalar_or_loud P v x ≡ true
     → is_loud_owner P v x.owner ≡ true
-group_loud P v x h loud = subst (λ ty. (covers_type ty || is_loud_owner P v x.owner) ≡ true) (group_parts P.declarations x h).is_user loud
+group_loud P v x h loud =
+    sym (ap (λ b. b || is_loud_owner P v x.owner) (no_scalar P.declarations x.ty (group_parts P.declarations x h).covers)) ∙ loud
 
--- a scalar, an array or of a user type
+-- a scalar, an array, or of a user type or a class
 pub usable : (U : Upgrade) → IsWritten U → (v : ℕ) (x : Variable) → slice_get U.program.declarations.vars v ≡ Some x
     → covers_declared U.program.declarations x ≡ true → is_scalar_or_loud U.program v x ≡ true
     → IsSoundPoint U.program U.facts.marks (variable v) → IsUsable U v
@@ -271,7 +275,7 @@ usable U I v x is h loud sound = by (covers_variable x) refl h
     not_scalar true e k =
         inr (inl (element_type x.ty, usable_array U I v x (element_type x.ty) is e (array_loud U.program v x (element_type x.ty) e loud) unbroken))
     not_scalar false e k =
-        inr (inr ((group_parts U.program.declarations x k).user_type, usable_group U I v x is k (group_loud U.program v x k loud) sound))
+        inr (inr (x.ty, usable_group U I v x is k (group_loud U.program v x k loud) sound))
 
     by : (b : Bool) → covers_variable x ≡ b
         → (b || (covers_array_variable (element_type x.ty) x || covers_group_variable U.program.declarations x)) ≡ true → IsUsable U v

@@ -119,14 +119,14 @@ module _ (U : Upgrade) (I : IsWritten U) (p : ℕ) (s : Site) (x : Procedure) (i
       s x is_site is_procedure W g k names)
       y.owner refl (subst (λ (z : Variable). is_reached D p v z.name z.owner ≡ true) same u.reached)
 
-  -- of a user type
-  group_placed : (v t : ℕ) (r : IsGroup U v t) → Given v → GroupUse U.program p v t → Goal v
-  group_placed v t r given u =
+  -- of a user type or a class
+  group_placed : (v : ℕ) (ty : Ty) (r : IsGroup U v ty) → Given v → GroupUse U.program p v ty → Goal v
+  group_placed v ty r given u =
       let y : Variable = r.known.variable in
       let same : u.used ≡ y = some_same u.used y (sym u.is_used ∙ r.known.is_variable) in
       by_owner v y r.known.is_variable given
       (λ file of lead. shared_variable U I p v y r.known.is_variable r.known.sound
-      (λ at home e. group_type U I v y t at home r.is_user r.covers e) file of lead
+      (λ at home e. group_type U I v y ty at home r.is_type r.covers e) file of lead
       s x is_site is_procedure W g k names)
       y.owner refl (subst (λ (z : Variable). is_reached D p v z.name z.owner ≡ true) same u.reached)
 

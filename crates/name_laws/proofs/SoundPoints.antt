@@ -12,14 +12,16 @@ use Rattle.bound_facts.specs.Clean.{Point, procedure, variable, user_type, Arrow
 use Rattle.bound_facts.specs.Locks.{user_in}
 use Rattle.bound_facts.specs.Members.{at_option, type_fields}
 use Rattle.written_trees.specs.Facts.{is_flagged_variable}
-use Rattle.vb6_run.specs.Shapes.{Shape, declared_shape, field_shapes, group_by, shape_by, user_shape, user_shapes}
+use Rattle.vb6_run.specs.Shapes.{Shape, declared_shape, field_shapes, group_by, shape_by, user_shape}
 use Rattle.run_matches.specs.CleanLines.{IsSoundPoint}
-use Rattle.run_matches.specs.CoveredVariables.{belongs_to, covers_field, covers_field_type, covers_user, covers_user_within}
+use Rattle.run_matches.specs.CoveredVariables.{belongs_to, covers_field, covers_field_type, covers_group_type, covers_user_within}
 use Rattle.run_matches.specs.Pledges.{type_of_shape}
 use Rattle.run_matches.specs.SoundShapes.{AreSoundShapes, IsField, IsSoundShape}
 use Rattle.run_matches.specs.Upgrades.{Upgrade, field_variable, is_flagged, is_unknown, type_of, type_of_some}
+use Rattle.run_statements.specs.Frames.{type_shape}
 use Rattle.run_statements.specs.Written.{IsWritten}
 use Rattle.name_laws.proofs.Arrows.{one_arrow, owned, variable_arrow, variable_is_arrow, variable_unflagged}
+use Rattle.name_laws.proofs.ClassTypes.{class_led, is_class}
 use Rattle.name_laws.proofs.CoveredTypes.{FieldType, TypeParts, field_type, type_of_user, type_parts}
 use Rattle.name_laws.proofs.Lists.{Among, among_left, among_right, both_true, map_among, none_of_both, some_same}
 
@@ -152,12 +154,12 @@ module _ (U : Upgrade) (I : IsWritten U) where
     -- the shape of a field, and its type
     part_sound : (x : Variable) (v : ℕ) → slice_get D.vars v ≡ Some x → IsSound (variable v) → (ty : Ty) → x.ty ≡ ty
         → covers_field_type (covers_user_within D n) ty ≡ true → (type_of_shape (shaped x ty) ≡ ty) × IsSoundShape U (shaped x ty)
-    part_sound x v e sound types.boolean is h = (refl, refl)
-    part_sound x v e sound types.byte is h = (refl, refl)
-    part_sound x v e sound types.integer is h = (refl, refl)
-    part_sound x v e sound types.long is h = (refl, refl)
-    part_sound x v e sound types.currency is h = (refl, refl)
-    part_sound x v e sound types.str is h = (refl, refl)
+    part_sound x v e sound types.boolean is h = (refl, inl refl)
+    part_sound x v e sound types.byte is h = (refl, inl refl)
+    part_sound x v e sound types.integer is h = (refl, inl refl)
+    part_sound x v e sound types.long is h = (refl, inl refl)
+    part_sound x v e sound types.currency is h = (refl, inl refl)
+    part_sound x v e sound types.str is h = (refl, inl refl)
     part_sound x v e sound (types.user u) is h =
         (type_of_user D n u h, users u h (type_sound U.program U.facts.marks v u x e (I.named v x u e is) sound))
     part_sound x v e sound _ is h = absurd (cc h)
@@ -194,8 +196,10 @@ module _ (U : Upgrade) (I : IsWritten U) where
       ∙ ap (λ o. at_option (type_fields o) (0 + j)) (sym P.is_declared))
       (λ f m. field_sound U.program U.facts.marks t P.declared f P.is_declared m sound) P.fields)
 
-  -- the fields of the type of a sound variable carry no issue
-  pub group_sound : (v t : ℕ) (x : Variable) → slice_get D.vars v ≡ Some x → x.ty ≡ types.user t → covers_user D t ≡ true → IsSound (variable v)
-      → IsSoundShape U (user_shapes D t)
-  group_sound v t x e is c sound =
+  -- the fields of the type of a sound variable carry no issue, and a class is written
+  pub group_sound : (v : ℕ) (x : Variable) → slice_get D.vars v ≡ Some x → (ty : Ty) → x.ty ≡ ty → covers_group_type D ty ≡ true → IsSound (variable v)
+      → IsSoundShape U (type_shape U ty)
+  group_sound v x e (types.user t) is c sound =
       user_sound (length D.types) t c (type_sound U.program U.facts.marks v t x e (I.named v x t e is) sound)
+  group_sound v x e (types.class k) is c sound = inr (is_class U k (class_led D k c))
+  group_sound v x e _ is c sound = absurd (cc c)

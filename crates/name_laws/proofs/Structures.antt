@@ -106,11 +106,11 @@ first_among {X} test k (y ∷ ys) x h e = by (test y) refl h (λ m. first_among 
         let f = more m in
         (f.0, f.1, ap (λ t. cond t (Some (k, y)) (first_from test (suc k) ys)) q ∙ f.2, inr f.3, f.4)
 
-structure_named : (name : List ℕ) (m : net.Member) → is_structure_named name m ≡ true → is_structure m ≡ true
+pub structure_named : (name : List ℕ) (m : net.Member) → is_structure_named name m ≡ true → is_structure m ≡ true
 structure_named name (net.structure s) h = refl
 structure_named name _ h = absurd (cc h)
 
-same_place : (i n k : ℕ) → n ≡ 0 + i → n ≡ k → i ≡ k
+pub same_place : (i n k : ℕ) → n ≡ 0 + i → n ≡ k → i ≡ k
 same_place i n k e f = omega (arith, e, f)
 
 -- ---- the structure
@@ -123,7 +123,7 @@ pub record TypeGroup (ps : List Placed) (p : Placed) (lines : List source.Line) 
   pub is_member : p.member ≡ group head lines close
   pub is_type : is_type_head head.form ≡ true
 
-group_of : (S : Scope) (ps : List Placed) (p : Placed) (m : Member) (x : net.Member) → Among ps p → p.member ≡ m → Among (own_structures S p m) x
+pub group_of : (S : Scope) (ps : List Placed) (p : Placed) (m : Member) (x : net.Member) → Among ps p → p.member ≡ m → Among (own_structures S p m) x
     → (lines : List source.Line) × TypeGroup ps p lines × (x ≡ structure_of S p lines)
 group_of S ps p (alone l) x a e h = absurd h
 group_of S ps p (group head lines close) x a e h = by (is_type_head head.form) refl h

@@ -11,27 +11,29 @@ use Rattle.bound_tree.specs.Tree.{Variable, Declarations, Line, Program}
 use Rattle.bound_tree.specs.declared.body.Mention.{Mention}
 use Rattle.bound_facts.specs.Clean.{variable, point_broken, IsClean}
 use Rattle.bound_facts.specs.Locks.{is_same_type}
+use Rattle.bound_facts.specs.Members.{class_files, field_of}
 use Rattle.run_base.specs.Machines.{nth_line, line_in, line_at}
 use Rattle.vb6_run.specs.Forms.{SourceLine, with_aims, body_of}
 use Rattle.vb6_run.specs.Lines.{source_lines}
 use Rattle.vb6_run.specs.Programs.{machine_of}
 use Rattle.run_matches.specs.CleanLines.{IsCleanLine, IsSoundPoint, lines_at, or_none, line_points}
-use Rattle.run_matches.specs.CoveredVariables.{covers_variable, is_reached, covers_some, is_loud, is_loud_owner, is_mention_of, covers_use, covers_array_use, covers_array_variable, covers_some_array, is_named_apart, covers_group_use, covers_group_variable, covers_some_group, field_type_in, field_type_of}
+use Rattle.run_matches.specs.CoveredVariables.{covers_variable, is_reached, covers_some, is_loud, is_loud_owner, is_mention_of, covers_use, covers_array_use, covers_array_variable, covers_some_array, is_named_apart, covers_group_type, covers_group_use, covers_group_variable, covers_some_group, field_type_in, field_type_of, is_member, member_type_in, member_type_of}
 use Rattle.run_matches.specs.CoveredExprs.{uses_in}
 use Rattle.run_matches.specs.SoundShapes.{IsField}
 use Rattle.run_matches.specs.Upgrades.{Upgrade, field_variable, is_unknown, runnable_of, type_of_some}
 use Rattle.written_trees.specs.Names.{Scope}
 use Rattle.name_laws.proofs.Inward.{seen_inward}
-use Rattle.run_statements.specs.Frames.{AreReadable, IsArray, IsGroup, IsReadable}
+use Rattle.run_statements.specs.Frames.{AreReadable, IsArray, IsGroup, IsMember, IsReadable}
 use Rattle.run_statements.specs.Written.{IsWritten}
 use Rattle.name_laws.proofs.Lists.{both_true, some_same, any_among}
 use Rattle.bound_tree.specs.RuleSets.{is_broken}
 use Rattle.written_trees.specs.Facts.{line_set}
 use Rattle.name_laws.proofs.Arrows.{lines_unbroken, mentioned_path, mention_is_point}
 use Rattle.name_laws.proofs.CoveredTypes.{holds_no_array}
+use Rattle.name_laws.proofs.Members.{object_member}
 use Rattle.name_laws.proofs.SoundPoints.{clean_sound, is_unflagged, sound_unbroken}
 use Rattle.name_laws.proofs.Sets.{unbroken_line, unbroken_that}
-use Rattle.name_laws.proofs.Owns.{GroupParts, group_parts, readable, usable_array, usable_group, uses_exact}
+use Rattle.name_laws.proofs.Owns.{group_parts, readable, usable_array, usable_group, uses_exact}
 
 -- a covered use is of a variable that is reached
 pub record CoveredUse (P : Program) (p v : ℕ) : Type 0 where
@@ -100,44 +102,51 @@ has_line P p k l h = by (slice_get P.bodies p) refl h
     by None e f = absurd (cc f)
     by (Some lines) e f = record { lines = lines; are_lines = e; is_line = f }
 
--- ---- of user types
+-- ---- of user types and classes
 
--- a covered use of a variable of a user type is of one that is reached
-pub record GroupUse (P : Program) (p v user_type : ℕ) : Type 0 where
+-- a covered use of a variable of a user type or a class is of one that is reached
+pub record GroupUse (P : Program) (p v : ℕ) (ty : Ty) : Type 0 where
   pub used : Variable
   pub is_used : slice_get P.declarations.vars v ≡ Some used
   pub reached : is_reached P.declarations p v used.name used.owner ≡ true
-  pub is_user : used.ty ≡ types.user user_type
+  pub is_type : used.ty ≡ ty
   pub covers : covers_group_variable P.declarations used ≡ true
   pub loud : is_loud_owner P v used.owner ≡ true
 
-same_user : (t : ℕ) (ty : Ty) → is_same_type (types.user t) ty ≡ true → ty ≡ types.user t
-same_user t (types.user u) h = ap types.user (sym (eqb-true t u h))
+same_user : (t : ℕ) (ty : Ty) → is_same_type ty (types.user t) ≡ true → types.user t ≡ ty
+same_user t (types.user u) h = ap types.user (sym (eqb-true u t h))
 same_user t _ h = absurd (cc h)
 
-group_use_of : (P : Program) (p v t : ℕ) → covers_some_group P.declarations p v t (slice_get P.declarations.vars v) ≡ true
-    → is_loud P v (slice_get P.declarations.vars v) ≡ true → GroupUse P p v t
-group_use_of P p v t h loud = by (slice_get P.declarations.vars v) refl h loud
+same_class : (c : ℕ) (ty : Ty) → is_same_type ty (types.class c) ≡ true → types.class c ≡ ty
+same_class c (types.class d) h = ap types.class (sym (eqb-true d c h))
+same_class c _ h = absurd (cc h)
+
+same_group : (D : Declarations) (of ty : Ty) → covers_group_type D of ≡ true → is_same_type ty of ≡ true → of ≡ ty
+same_group D (types.user t) ty h e = same_user t ty e
+same_group D (types.class c) ty h e = same_class c ty e
+same_group D _ ty h e = absurd (cc h)
+
+group_use_of : (P : Program) (p v : ℕ) (ty : Ty) → covers_some_group P.declarations p v ty (slice_get P.declarations.vars v) ≡ true
+    → is_loud P v (slice_get P.declarations.vars v) ≡ true → GroupUse P p v ty
+group_use_of P p v ty h loud = by (slice_get P.declarations.vars v) refl h loud
   where
-    by : (o : Option Variable) → slice_get P.declarations.vars v ≡ o → covers_some_group P.declarations p v t o ≡ true → is_loud P v o ≡ true
-        → GroupUse P p v t
+    by : (o : Option Variable) → slice_get P.declarations.vars v ≡ o → covers_some_group P.declarations p v ty o ≡ true → is_loud P v o ≡ true
+        → GroupUse P p v ty
     by None e k l = absurd (cc k)
     by (Some x) e k l =
-        let b = both_true (is_reached P.declarations p v x.name x.owner) (is_same_type (types.user t) x.ty && covers_group_variable P.declarations x) k in
-        let c = both_true (is_same_type (types.user t) x.ty) (covers_group_variable P.declarations x) b.1 in
-        record { used = x; is_used = e; reached = b.0; is_user = same_user t x.ty c.0; covers = c.1; loud = l }
+        let b = both_true (is_reached P.declarations p v x.name x.owner) (is_same_type ty x.ty && covers_group_variable P.declarations x) k in
+        let c = both_true (is_same_type ty x.ty) (covers_group_variable P.declarations x) b.1 in
+        let same : x.ty ≡ ty = same_group P.declarations x.ty ty (group_parts P.declarations x c.1).covers c.0 in
+        record { used = x; is_used = e; reached = b.0; is_type = same; covers = c.1; loud = l }
 
-pub group_use : (P : Program) (p : ℕ) (mentions : List Mention) (v : VarId) (t : ℕ) → covers_group_use P p mentions v t ≡ true
-    → (list_any (is_mention_of v) mentions ≡ true) × GroupUse P p v.0 t
-group_use P p mentions v t h =
-    let covers = covers_some_group P.declarations p v.0 t (slice_get P.declarations.vars v.0) in
+pub group_use : (P : Program) (p : ℕ) (mentions : List Mention) (v : VarId) (ty : Ty) → covers_group_use P p mentions v ty ≡ true
+    → (list_any (is_mention_of v) mentions ≡ true) × GroupUse P p v.0 ty
+group_use P p mentions v ty h =
+    let covers = covers_some_group P.declarations p v.0 ty (slice_get P.declarations.vars v.0) in
     let loud = is_loud P v.0 (slice_get P.declarations.vars v.0) in
     let b = both_true (list_any (is_mention_of v) mentions) (covers && loud) h in
     let c = both_true covers loud b.1 in
-    (b.0, group_use_of P p v.0 t c.0 c.1)
-
-same_number_of : (a b : ℕ) → types.user a ≡ types.user b → a ≡ b
-same_number_of a b e = cc e
+    (b.0, group_use_of P p v.0 ty c.0 c.1)
 
 -- ---- what can be read
 
@@ -162,13 +171,11 @@ module _ (U : Upgrade) (I : IsWritten U) (p : ℕ) (mentions : List Mention)
       let used : ArrayUse U.program p v.0 element = b.1 in
       usable_array U I v.0 used.used element used.is_used used.covers used.loud (unbroken v b.0)
 
-  group_readable : (v : VarId) (t : ℕ) → covers_group_use U.program p mentions v t ≡ true → IsGroup U v.0 t
-  group_readable v t h =
-      let b = group_use U.program p mentions v t h in
-      let used : GroupUse U.program p v.0 t = b.1 in
-      let parts : GroupParts D used.used = group_parts D used.used used.covers in
-      subst (λ u. IsGroup U v.0 u) (same_number_of parts.user_type t (sym parts.is_user ∙ used.is_user))
-      (usable_group U I v.0 used.used used.is_used used.covers used.loud (sound v b.0))
+  group_readable : (v : VarId) (ty : Ty) → covers_group_use U.program p mentions v ty ≡ true → IsGroup U v.0 ty
+  group_readable v ty h =
+      let b = group_use U.program p mentions v ty h in
+      let used : GroupUse U.program p v.0 ty = b.1 in
+      subst (λ z. IsGroup U v.0 z) used.is_type (usable_group U I v.0 used.used used.is_used used.covers used.loud (sound v b.0))
 
   -- a field that is mentioned
   field_readable : (t k : ℕ) (ty : Ty) → field_type_in D mentions t k ≡ Some ty → IsField U t k ty
@@ -195,12 +202,43 @@ module _ (U : Upgrade) (I : IsWritten U) (p : ℕ) (mentions : List Mention)
       by (Some v) e at =
           by_test v e (list_any (is_mention_of (record { 0 = v })) mentions) (is_unknown (type_of_some (slice_get D.vars v))) refl refl at
 
+  -- a variable of an object that is mentioned
+  member_readable : (c k : ℕ) (ty : Ty) → member_type_in D mentions c k ≡ Some ty → IsMember U c k ty
+  member_readable c k ty h = by_number (field_of D (types.class c) k) refl h
+    where
+      by_variable : (v file : ℕ) → slice_get (class_files D.project) c ≡ Some file → field_of D (types.class c) k ≡ Some v
+          → list_any (is_mention_of (record { 0 = v })) mentions ≡ true → (o : Option Variable) → slice_get D.vars v ≡ o → is_member D file v o ≡ true
+          → type_of_some o ≡ Some ty → IsMember U c k ty
+      by_variable v file f e m None is test at = absurd (cc at)
+      by_variable v file f e m (Some x) is test at =
+          subst (λ z. IsMember U c k z) (some_same x.ty ty at) (object_member U I c k file v x f e is test (unbroken (record { 0 = v }) m))
+
+      by_test : (v file : ℕ) → slice_get (class_files D.project) c ≡ Some file → field_of D (types.class c) k ≡ Some v → (a b : Bool)
+          → list_any (is_mention_of (record { 0 = v })) mentions ≡ a → is_member D file v (slice_get D.vars v) ≡ b
+          → cond (a && b) (type_of_some (slice_get D.vars v)) None ≡ Some ty → IsMember U c k ty
+      by_test v file f e true true m test at = by_variable v file f e m (slice_get D.vars v) refl test at
+      by_test v file f e true false m test at = absurd (cc at)
+      by_test v file f e false b m test at = absurd (cc at)
+
+      by_file : (v : ℕ) → field_of D (types.class c) k ≡ Some v → (o : Option ℕ) → slice_get (class_files D.project) c ≡ o
+          → member_type_of D mentions o (Some v) ≡ Some ty → IsMember U c k ty
+      by_file v e None f at = absurd (cc at)
+      by_file v e (Some file) f at =
+          by_test v file f e (list_any (is_mention_of (record { 0 = v })) mentions) (is_member D file v (slice_get D.vars v)) refl refl at
+
+      by_number : (o : Option ℕ) → field_of D (types.class c) k ≡ o → member_type_of D mentions (slice_get (class_files D.project) c) o ≡ Some ty
+          → IsMember U c k ty
+      by_number None e at = absurd (cc at)
+      by_number (Some v) e at = by_file v e (slice_get (class_files D.project) c) refl at
+
   mentioned_readable : (T : Scope) → T.facts ≡ U.facts → AreReadable U T (uses_in U.program p mentions)
   mentioned_readable T same = record {
     scalars = scalar_readable;
     arrays = array_readable;
     groups = group_readable;
     fields = field_readable;
+    members = member_readable;
+    given = λ ty h. h;
     flat = holds_no_array U I;
     exact = λ v h. uses_exact U I.known v.0 h;
     facts = same;

@@ -112,7 +112,7 @@ pub record VariableType (U : Upgrade) (v : ℕ) (x : Variable) (file home : ℕ)
   pub same : SameShape U (shape_by (user_shapes U.program.declarations) x.bounds x.ty) written
   pub ranked : HasRankOf U v written
 
-abbrev depth_of : Project → ℕ
+abbrev pub depth_of : Project → ℕ
 depth_of N = 2 * sum_by (λ (m : Module). length (filter is_structure m.members)) N.modules
 
 pub scalar_type : (U : Upgrade) (v : ℕ) (x : Variable) (file home : ℕ) → covers_type x.ty ≡ true → VariableType U v x file home

@@ -235,7 +235,7 @@ module _ (P : Program) (F : Facts) where
   makers_none true = refl
   makers_none false = refl
 
-  module_structures : (at : Numbers) (m : Module) → filter is_structure (written_module P F at m).members
+  pub module_structures : (at : Numbers) (m : Module) → filter is_structure (written_module P F at m).members
       ≡ flat_map (structures_of (module_scope P F m)) (placed_members at m.comments m.members)
   module_structures at m =
       let made = makers (has_initializer P.declarations m.file m) in

@@ -1,5 +1,5 @@
 -- What the laws on runs need, by the laws on procedures, names, memories, expressions and lines.
-use Rattle.std.proofs.Common.{suc, true, refl, sym, ap, subst, ◌∙◌}
+use Rattle.std.proofs.Common.{◌≡◌, ℕ, suc, Bool, true, true≢false, Some, refl, sym, ap, subst, ◌∙◌}
 use Rattle.run_base.specs.Machines.{nth_line}
 use Rattle.run_matches.specs.Addresses.{images}
 use Rattle.run_matches.specs.CleanLines.{or_none}
@@ -7,8 +7,8 @@ use Rattle.written_trees.specs.Bodies.{inside_procedure}
 use Rattle.target_laws.proofs.Aims.{same_aims}
 use Rattle.target_laws.proofs.Labels.{same_labels}
 use Rattle.target_laws.proofs.Tests.{same_tests}
-use Rattle.run_matches.specs.Upgrades.{Upgrade}
-use Rattle.run_statements.specs.Frames.{ScalarsAreRead}
+use Rattle.run_matches.specs.Upgrades.{Upgrade, home_of}
+use Rattle.run_statements.specs.Frames.{ScalarsAreRead, type_shape}
 use Rattle.run_statements.specs.Kept.{LinesAgree}
 use Rattle.run_statements.specs.Written.{IsWritten, SameLines, SameRuns, site_scope}
 use Rattle.placing_laws.proofs.Placing.{procedures_are_written}
@@ -16,9 +16,8 @@ use Rattle.placing_laws.proofs.Labels.{labels_are_found}
 use Rattle.placing_laws.proofs.Lines.{lines_are_written, no_further_lines}
 use Rattle.name_laws.proofs.Open.{names_are_open}
 use Rattle.name_laws.proofs.OwnsKept.{owns_are_kept}
-use Rattle.name_laws.proofs.Arrows.{variable_unbroken}
 use Rattle.name_laws.proofs.Found.{callees_are_found}
-use Rattle.name_laws.proofs.Owns.{readable, usable}
+use Rattle.name_laws.proofs.Owns.{usable}
 use Rattle.name_laws.proofs.Lines.{clean_lines_are_unreplaced, clean_line_is_unreplaced}
 use Rattle.name_laws.proofs.Outward.{stores_are_own}
 use Rattle.name_laws.proofs.Placed.{uses_are_placed}
@@ -28,19 +27,25 @@ use Rattle.memory_laws.proofs.Writing.{scalars_are_written}
 use Rattle.memory_laws.proofs.Making.{locals_are_made}
 use Rattle.memory_laws.proofs.ArraysMade.{arrays_are_made, static_arrays_are_laid}
 use Rattle.memory_laws.proofs.Parameters.{values_are_made}
+use Rattle.memory_laws.proofs.Groups.{groups_are_read}
 use Rattle.memory_laws.proofs.GroupWriting.{groups_are_written}
+use Rattle.memory_laws.proofs.Members.{members_are_found}
 use Rattle.memory_laws.proofs.GroupsMade.{group_shape_is, groups_are_given, groups_are_made}
 use Rattle.memory_laws.proofs.StaticGroups.{static_groups_are_laid}
+use Rattle.name_laws.proofs.ClassTypes.{ClassLed, class_home_is, class_leads, class_led}
 use Rattle.name_laws.proofs.CoveredTypes.{is_unmade}
 use Rattle.name_laws.proofs.SoundPoints.{owned_sound}
 use Rattle.name_laws.proofs.TypeShapes.{user_type_same}
-use Rattle.net_tree.specs.Types.{named}
+use Rattle.vb_tree.specs.BoundTree as types
+use Rattle.vb_tree.specs.BoundTree.{Ty}
+use Rattle.vb6_run.specs.Shapes.{simple}
 use Rattle.net_run.specs.Shapes.{shape_of}
-use Rattle.written_trees.specs.Names.{type_path}
-use Rattle.run_matches.specs.Likeness.{SameShape}
+use Rattle.written_trees.specs.Types.{type_with}
+use Rattle.run_matches.specs.CoveredVariables.{covers_group_type}
+use Rattle.run_matches.specs.Likeness.{SameShape, same_class}
 use Rattle.memory_laws.proofs.Elements.{elements_are_written}
 use Rattle.memory_laws.proofs.Resizing.{arrays_are_erased, arrays_are_resized}
-use Rattle.expression_laws.proofs.Agreements.{arrays_agree, calls_are_made, elements_agree, expressions_agree, groups_agree, indexes_agree_all}
+use Rattle.expression_laws.proofs.Agreements.{arrays_agree, calls_are_made, elements_agree, expressions_agree, groups_agree, indexes_agree_all, members_agree}
 use Rattle.expression_laws.specs.Statements.{ParametersAreSound}
 use Rattle.run_laws.proofs.SoundParameters.{parameters_are_sound}
 use Rattle.line_laws.proofs.Lines.{lines_agree}
@@ -60,14 +65,24 @@ lines_do : (U : Upgrade) → IsWritten U → LinesAgree U
 lines_do U w =
     let sound : ParametersAreSound U = parameters_are_sound U (owned_usable U w) in
     lines_agree U (expressions_agree U sound) (calls_are_made U sound) (scalars_are_read U) (scalars_are_written U) (elements_agree U sound)
-    (indexes_agree_all U sound) (elements_are_written U) (groups_agree U sound) (groups_are_written U) (arrays_agree U) (arrays_are_resized U)
-    (arrays_are_erased U)
+    (indexes_agree_all U sound) (elements_are_written U) (groups_agree U sound) (groups_are_written U) (members_agree U) (members_are_found U)
+    (arrays_agree U) (arrays_are_resized U) (arrays_are_erased U)
 
-user_types_are_written : (U : Upgrade) → IsWritten U → GroupsAreWritten U
-user_types_are_written U w = record {
-  shaped = λ v t r home file rank qualified e.
-      subst (λ s. SameShape U s (shape_of U.written home (named (type_path U.program.declarations file qualified t)))) (sym (group_shape_is U v t r))
-      (user_type_same U w home file t qualified r.covers e);
+-- the name of a user type leads to its structure, and that of a class to the class
+type_same : (U : Upgrade) → IsWritten U → (ty : Ty) (home file rank : ℕ) (qualified : Bool) → covers_group_type U.program.declarations ty ≡ true
+    → home_of U file ≡ Some home
+    → SameShape U (type_shape U ty) (shape_of U.written home (type_with U.program.declarations file qualified rank ty))
+type_same U w (types.user t) home file rank qualified covers e = user_type_same U w home file t qualified covers e
+type_same U w (types.class c) home file rank qualified covers e =
+    let L : ClassLed U.program.declarations c = class_led U.program.declarations c covers in
+    subst (λ d. SameShape U (simple (types.class c)) d) (sym (class_leads U c L w home)) (same_class c L.home (class_home_is U c L))
+type_same U w _ home file rank qualified covers e = absurd (true≢false (sym covers))
+
+types_are_written : (U : Upgrade) → IsWritten U → GroupsAreWritten U
+types_are_written U w = record {
+  shaped = λ v ty r home file rank qualified e.
+      subst (λ s. SameShape U s (shape_of U.written home (type_with U.program.declarations file qualified rank ty))) (sym (group_shape_is U v ty r))
+      (type_same U w ty home file rank qualified r.covers e);
   unmade = λ t covers. is_unmade U w t covers;
   homes = w.homes;
 }
@@ -88,15 +103,14 @@ run_premises U w = record {
   placed = uses_are_placed U w;
   stores = stores_are_own U w;
   owned = owned_usable U w;
-  owned_scalars = λ p v x clean e owned covers loud. readable U w.known v x e covers (variable_unbroken U.program U.facts.marks p v x clean e owned);
   known = w.known;
   found = callees_are_found U w;
   makes =
       makes_in_calls U (locals_are_made U) (arrays_are_made U) (groups_are_made U) (static_arrays_are_laid U) (static_groups_are_laid U)
       (values_are_made U) (groups_are_given U);
   ranked = w.dimensions;
-  groups = user_types_are_written U w;
-  read = λ p base me xs ys. scalars_are_read U (call_pledge U p base me xs ys);
+  groups = types_are_written U w;
+  read = λ p base me xs ys. groups_are_read U (call_pledge U p base me xs ys);
 }
 
 line_premises : (U : Upgrade) → IsWritten U → LinePremises U

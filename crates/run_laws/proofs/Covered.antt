@@ -6,6 +6,8 @@ use Rattle.std.specs.List.{list_all}
 use Rattle.up_base.proofs.Lists.{all_first, all_rest, all_leads}
 use Rattle.up_base.proofs.Tests.{both_true, not_true}
 use Rattle.up_base.specs.Names.{is_same_name, lower_case}
+use Rattle.vb_tree.specs.BoundTree as types
+use Rattle.vb_tree.specs.BoundTree.{Ty}
 use Rattle.vb_tree.specs.declared.declared.ProcKind.{ProcKind}
 use Rattle.vb_tree.specs.declared.declared.ProcKind.TheVariants as kind
 use Rattle.vb_tree.specs.declared.declared.VarId.{VarId}
@@ -15,7 +17,6 @@ use Rattle.vb_tree.specs.Tree as source
 use Rattle.bound_tree.specs.Labels.{label_of}
 use Rattle.bound_tree.specs.Targets.{Aims, aims_at, aims_from, step_of, steps, Step}
 use Rattle.bound_tree.specs.Tree.{Expr, Line, Procedure, Program, Variable, Declarations}
-use Rattle.run_base.specs.Machines.{nth_line}
 use Rattle.vb6_run.specs.Forms.{SourceLine, body_of, tests_in, with_aims}
 use Rattle.vb6_run.specs.Lines.{source_lines}
 use Rattle.vb6_run.specs.Programs.{answer_in, is_static_of, is_local_of, owned_from}
@@ -23,14 +24,12 @@ use Rattle.vb6_run.specs.Runnables.{is_class_file}
 use Rattle.written_trees.specs.Arguments.{is_property_kind}
 use Rattle.written_trees.specs.Types.{element_type}
 use Rattle.run_matches.specs.Formed.{is_formed}
-use Rattle.run_matches.specs.CoveredVariables.{belongs_to, covers_variable, covers_array_owner, covers_array_variable, covers_bounds, covers_declared, covers_group_owner, covers_group_variable, covers_user, has_extents, is_array_of, are_different, covers_owner, covers_type}
+use Rattle.run_matches.specs.CoveredVariables.{belongs_to, covers_array_owner, covers_bounds, covers_declared, covers_group_type, has_extents, is_array_of, are_different, covers_owner, covers_type}
 use Rattle.run_matches.specs.CoveredExprs.{Uses, uses_in}
-use Rattle.run_matches.specs.UserTypes.{is_user_of}
 use Rattle.run_matches.specs.CoveredLines.{covers_form, covers_in_block, covers_label, covers_line, has_sound_label, has_sound_label_in, jump_of}
-use Rattle.run_matches.specs.Covered.{covers_body, covers_head, covers_kind, covers_names, covers_owns, covers_procedure, covers_site, covers_variables, is_plain, is_plain_kind, keeps_blocks, keeps_blocks_in, covers_own, covers_all_calls, covers_calls, covers_parameter, covers_result, has_result, is_answer_of, is_value_of, is_parameter_of}
+use Rattle.run_matches.specs.Covered.{covers_body, covers_head, covers_kind, covers_names, covers_owns, covers_procedure, covers_site, covers_variables, is_plain, is_plain_kind, keeps_blocks, keeps_blocks_in, covers_own, covers_all_calls, covers_calls, covers_parameter, covers_result, has_result, is_answer_of, is_parameter_of}
 use Rattle.run_matches.specs.Callees.{frame_owns}
 use Rattle.run_matches.specs.Sites.{Site, own_name, owns_of, site_of, local_numbers, static_numbers}
-use Rattle.run_matches.specs.Upgrades.{Upgrade}
 
 pub some_is : {A : Type 0} {x y : A} → ◌≡◌ {A = Option A} (Some x) (Some y) → x ≡ y
 some_is e = cc e
@@ -242,23 +241,28 @@ own_covered_at P p v x h e owned =
 pub extents_given : (P : Program) (p : ℕ) → covers_variables P p ≡ true → has_extents P ≡ true
 extents_given P p h = (both_true (list_all (own_covered P.declarations p) P.declarations.vars) (has_extents P) h).1
 
--- neither an array nor a user type, where there can be none
-pub scalar_declared : (D : Declarations) (x : Variable) → covers_array_owner x.owner ≡ false → covers_group_owner x.owner ≡ false
-    → covers_declared D x ≡ true → covers_variable x ≡ true
-scalar_declared D x none neither h = by (covers_variable x) h
+-- no array, where there can be none
+pub no_array_declared : (D : Declarations) (x : Variable) (e : Ty) (rank : ℕ) → x.ty ≡ types.array e rank → covers_array_owner x.owner ≡ false
+    → covers_declared D x ≡ true → ⊥
+no_array_declared D x e rank is none h = true≢false (sym h ∙ neither)
   where
-    rest : Bool
-    rest = covers_type (element_type x.ty) && (is_array_of (element_type x.ty) x.ty && (covers_bounds x.ty x.bounds && not x.auto))
+    scalar : Ty → Bool
+    scalar ty = covers_owner x.owner && (covers_type ty && not x.auto)
 
-    users : Bool
-    users = is_user_of (covers_user D) x.ty && not x.auto
+    group : Ty → Bool
+    group ty = covers_owner x.owner && (covers_group_type D ty && not x.auto)
 
-    others : covers_array_variable (element_type x.ty) x || covers_group_variable D x ≡ false
-    others = ap (λ c. (c && rest) || covers_group_variable D x) none ∙ ap (λ c. c && users) neither
+    array : Ty → Bool
+    array ty = covers_type (element_type ty) && (is_array_of (element_type ty) ty && (covers_bounds ty x.bounds && not x.auto))
 
-    by : (b : Bool) → (b || (covers_array_variable (element_type x.ty) x || covers_group_variable D x)) ≡ true → b ≡ true
-    by true k = refl
-    by false k = absurd (true≢false (sym (sym others ∙ k)))
+    by : (b : Bool) → ((b && false) || (false || (b && false))) ≡ false
+    by true = refl
+    by false = refl
+
+    neither : covers_declared D x ≡ false
+    neither =
+        ap (λ ty. scalar ty || ((covers_array_owner x.owner && array ty) || group ty)) is
+        ∙ ap (λ b. scalar (types.array e rank) || ((b && array (types.array e rank)) || group (types.array e rank))) none ∙ by (covers_owner x.owner)
 
 -- ---- lines
 

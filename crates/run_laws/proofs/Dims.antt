@@ -3,11 +3,8 @@ use Rattle.std.proofs.Common.{◌≡◌, refl, sym, ap, ◌∙◌, ℕ, Bool, tr
 use Rattle.up_base.proofs.Tests.{both_true, neither}
 use Rattle.vb_tree.specs.BoundTree as types
 use Rattle.vb_tree.specs.BoundTree.{Ty}
-use Rattle.vb_tree.specs.declared.declared.Owner.{Owner}
-use Rattle.vb_tree.specs.declared.declared.Owner.TheVariants as owner
 use Rattle.vb_tree.specs.declared.value.Value6.{Value6}
 use Rattle.bound_tree.specs.Tree.{Constant, Declarations, Variable}
-use Rattle.bound_facts.specs.Facts.{Known, is_quiet_owner}
 use Rattle.net_tree.specs.Tree as net_tree
 use Rattle.net_tree.specs.Types as words
 use Rattle.net_tree.specs.Types.{TypeName}

@@ -26,53 +26,51 @@ use Rattle.net_run.specs.Store as net
 use Rattle.written_trees.specs.Bodies.{inside_procedure}
 use Rattle.written_trees.specs.Heads as heads
 use Rattle.written_trees.specs.Names.{Scope, variable_name_of}
-use Rattle.written_trees.specs.Types.{type_with}
 use Rattle.run_matches.specs.Addresses.{ArgsMatch, both_nothing, AllLocked, IsPlain, is_element}
 use Rattle.run_matches.specs.Agreeing.{Agrees}
 use Rattle.run_laws.proofs.Given.{stands_itself, locks_given, locks_joined}
-use Rattle.run_matches.specs.CoveredVariables.{are_different, covers_type, belongs_to}
+use Rattle.run_matches.specs.CoveredVariables.{are_different, belongs_to}
 use Rattle.run_matches.specs.CoveredLines.{covers_line}
 use Rattle.run_matches.specs.Covered.{covers_parameter, covers_own, is_scalar_or_loud}
 use Rattle.run_matches.specs.Frames.{FrameMatch, HasNames, HasOwnObject, SameVariable, declared_names, dim_name, result_names, static_of, SameStatic, name_of, GivenAddress, frame_pledge, is_own_of, lines_of, stands_in, is_own_place, is_kept_from}
 use Rattle.run_matches.specs.CleanLines.{or_none}
 use Rattle.run_matches.specs.Callees.{answer_owns, own_of_some, parameter_owns}
-use Rattle.run_matches.specs.Likeness.{scalar_word}
 use Rattle.run_matches.specs.Maps.{Below, Mark, World, mark, key_or_none, moved_at}
 use Rattle.run_matches.specs.Match.{MemoryMatch, StoreMatch}
 use Rattle.run_matches.specs.Pledges.{IsOld, Later, NetGiven, Pledge}
 use Rattle.run_matches.specs.Runs.{IsObject, call_pledge}
 use Rattle.run_matches.specs.Sites.{Own, own_name, own_variable, owns_of, own_constant, local_numbers, static_number, static_numbers}
 use Rattle.run_matches.specs.Upgrades.{Upgrade, home_of, runnable_of, is_auto}
-use Rattle.run_statements.specs.Frames.{HasRankOf, IsReadable, IsUsable}
+use Rattle.run_statements.specs.Frames.{HasRankOf, IsUsable}
 use Rattle.run_statements.specs.Kept.{OwnsAreKept, own_dim}
 use Rattle.run_statements.specs.Written.{WrittenProcedure, site_scope}
 use Rattle.row_laws.proofs.Composing.{then_assoc, then_gives}
 use Rattle.agreeing_laws.proofs.Agreeing.{agrees_gives, right_alone, then_agrees}
 use Rattle.agreeing_laws.proofs.Lasting.{later_then}
-use Rattle.agreeing_laws.proofs.Made.{below_self, below_then, more}
+use Rattle.agreeing_laws.proofs.Made.{below_self, below_then}
 use Rattle.agreeing_laws.proofs.Moves.{locks_later}
 use Rattle.agreeing_laws.proofs.OwnObjects.{own_object_later}
 use Rattle.agreeing_laws.proofs.Scalars.{object_later}
-use Rattle.expression_laws.proofs.Types.{same_of}
 use Rattle.name_laws.proofs.FrameNames.{own_names, parameter_names, params_are}
 use Rattle.name_laws.proofs.Lists.{Among, all_among, among_right, flat_among, map_append}
 use Rattle.name_laws.proofs.Owned.{owned_is}
 use Rattle.name_laws.proofs.Owns.{number_if, own_is}
-use Rattle.run_laws.specs.Entered.{AllKeyed, AllSound, GivenVariable, LocalsMatch, OwnPlace, RunMatch, StaticMatch, next_constant, next_static, next_variable, no_locals}
+use Rattle.run_laws.specs.Entered.{AllKeyed, AllSound, GivenVariable, IsResult, LocalsMatch, OwnPlace, RunMatch, StaticMatch, next_constant, next_static, next_variable, no_locals}
 use Rattle.run_laws.specs.Premises.{ArraysHaveRanks, GroupsAreWritten, MakesAlike}
-use Rattle.run_laws.proofs.Covered.{CoveredProcedure, some_is}
-use Rattle.run_laws.proofs.Dims.{WordOf, word_of}
+use Rattle.run_laws.proofs.Covered.{CoveredProcedure}
 use Rattle.run_laws.proofs.Heads.{HasAnswer, HasNone, Parameter, a_result, answer_names, answer_parts, no_result, parameter_belongs, parameter_is}
 use Rattle.run_laws.proofs.Names.{code_is}
 use Rattle.run_laws.proofs.Pledged.{call_is_weaker, frame_with}
 use Rattle.run_laws.proofs.Owns.{owns_sound}
 use Rattle.run_laws.proofs.Passing.{passing_listed}
+use Rattle.run_laws.proofs.Usable.{result_usable}
 use Rattle.run_laws.proofs.StaticOrder.{each_next, in_order, laid_as_statics, made_in_order}
 use Rattle.run_laws.proofs.StaticKeys.{IsDeclaredOwn, StaticFound, all_keyed, static_found, static_there}
 use Rattle.run_laws.proofs.Locals.{Found, listed_behind, local_found, local_later, local_listed, local_names, local_places, local_there, locals_later}
 use Rattle.run_laws.proofs.LocalsMade.{Locals, locals_agree}
 use Rattle.run_laws.proofs.Parameters.{AreParameters, Parameters, parameters_agree}
-use Rattle.run_laws.proofs.ParametersMade.{Local, local_is_made, readable_type}
+use Rattle.run_laws.proofs.ParametersMade.{Local}
+use Rattle.run_laws.proofs.ResultsMade.{ResultMade, result_made}
 use Rattle.run_laws.proofs.Standing.{different_behind, made_object, module_in_is, nothing_by, nothing_kept, plain_place, ending_owns, static_root_is, no_place_kept, none_kept_from}
 use Rattle.up_base.proofs.Tests.{either}
 
@@ -82,7 +80,7 @@ none_before j = omega arith
 module _ (U : Upgrade) (p : ℕ) (c : CoveredProcedure U.program p) (W : WrittenProcedure U p c.site c.procedure)
     (kept : OwnsAreKept U p c.site c.procedure W)
     (usable : (v : ℕ) (x : Variable) → slice_get U.program.declarations.vars v ≡ Some x → belongs_to p x.owner ≡ true
-    → is_scalar_or_loud U.program v x ≡ true → IsUsable U v) (answers : (h : HasAnswer U.program.declarations p c.procedure) → IsReadable U h.id.0) (ranked : ArraysHaveRanks U)
+    → is_scalar_or_loud U.program v x ≡ true → IsUsable U v) (answers : (h : HasAnswer U.program.declarations p c.procedure) → IsResult U h.id.0) (ranked : ArraysHaveRanks U)
     (groups : GroupsAreWritten U) where
   abbrev D : Declarations
   D = U.program.declarations
@@ -118,11 +116,6 @@ module _ (U : Upgrade) (p : ℕ) (c : CoveredProcedure U.program p) (W : Written
   pub parameter_sound : AreParameters U p
   parameter_sound v q = usable v.0 q.variable q.is_variable (parameter_belongs p q.variable.owner q.parameter) q.loud
 
-  answer_readable : (h : HasAnswer D p x) → (r : IsReadable U h.id.0) × (r.variable ≡ h.variable)
-  answer_readable h =
-      let r : IsReadable U h.id.0 = answers h in
-      (r, some_is (sym r.is_variable ∙ h.is_variable))
-
   parameters_sound : (vs : List VarId) → list_all (covers_parameter U.program p) vs ≡ true → AllSound U S (parameter_owns D vs)
   parameters_sound [] h = tt
   parameters_sound (v ∷ vs) h =
@@ -135,7 +128,7 @@ module _ (U : Upgrade) (p : ℕ) (c : CoveredProcedure U.program p) (W : Written
   answers_sound (inl h) = subst (λ a. AllSound U S (answer_owns D a)) (sym h.is_answer) tt
   answers_sound (inr h) =
       subst (λ a. AllSound U S (answer_owns D a)) (sym h.is_answer)
-      (subst (λ o. AllSound U S (own_of_some h.id.0 o)) (sym h.is_variable) ((inl (answers h), h.is_variable), tt))
+      (subst (λ o. AllSound U S (own_of_some h.id.0 o)) (sym h.is_variable) ((result_usable U h.id.0 (answers h), h.is_variable), tt))
 
   pub all_sound : AllSound U S all
   all_sound =
@@ -344,23 +337,11 @@ module _ (U : Upgrade) (p : ℕ) (c : CoveredProcedure U.program p) (W : Written
         (locals_agree U K makes ranked groups S refl refl W.code home to outer_home w 0 os sound keyed low start)))))
     others_agree w to (inr h) low start =
         let y : Variable = h.variable in
-        let r : IsReadable U h.id.0 = (answer_readable h).0 in
-        let is : r.variable ≡ y = (answer_readable h).1 in
-        let typed : covers_type y.ty ≡ true = subst (λ (z : Variable). covers_type z.ty ≡ true) is (readable_type U h.id.0 r) in
-        let m : WordOf y.ty = word_of y.ty typed in
-        let word : scalar_word r.variable.ty ≡ Some m.word = ap (λ (z : Variable). scalar_word z.ty) is ∙ m.is_word in
-        let same : x.result ≡ y.ty = same_of y.ty x.result typed h.type in
-        let shape_is : shape.shape_of U.written W.code.home (heads.result_type H x) ≡ shape.scalar m.word =
-        ap (λ z. shape.shape_of U.written W.code.home z)
-        (ap (λ a. heads.result_by H x.result (heads.variable_of D a)) h.is_answer
-        ∙ ap (λ o. heads.result_by H x.result (option_map (λ (z : Variable). (h.id.0, z)) o)) h.is_variable
-        ∙ ap (λ ty. type_with D H.file y.qualified (U.facts.rank h.id.0) ty) same
-        ∙ m.written D H.file y.qualified (U.facts.rank h.id.0))
-        ∙ m.shaped U.written W.code.home in
+        let M : ResultMade U groups c.site W.code.home home p x h K makes = result_made U groups c.site W.code.home home p x h K makes (answers h) in
         let s = variable_shape D h.id.0 in
         let ds = map (own_dim S) os in
         let R = Locals U K (own_variable h.id.0 y ∷ os) in
-        let made = net.made_with (shape.scalar m.word) (shape.default_of (shape.scalar m.word)) w.net in
+        let made = net.made_with M.written (shape.default_of M.written) w.net in
         let rest = λ (own : List (List ℕ × net.Address)) (t : net.Memory). then (dims_made U.written W.code to 0 ds t) (λ dims t. gives [] (own ++ dims) t) in
         let all_made = all_others (Some h.id) w.src in
         let in_order_made =
@@ -372,14 +353,14 @@ module _ (U : Upgrade) (p : ℕ) (c : CoveredProcedure U.program p) (W : Written
         (sym h.is_answer)
         (subst (λ o. Agrees U K w (Locals U K (own_of_some h.id.0 o ++ os)) all_made (net_others (result_of W.code) to w.net)) (sym h.is_variable)
         (subst (λ z. Agrees U K w R all_made (net_others z to w.net)) (sym (a_result U p c.site x W h))
-        (subst (λ z. Agrees U K w R all_made (then (then (net.made_with z (shape.default_of z) w.net) (λ a t. gives [] ((x.name, a) ∷ []) t)) rest)) (sym shape_is)
+        (subst (λ z. Agrees U K w R all_made (then (then (net.made_with z (shape.default_of z) w.net) (λ a t. gives [] ((x.name, a) ∷ []) t)) rest)) (sym M.shaped)
         (subst (λ z. Agrees U K w R all_made z) (sym (then_assoc made (λ a t. gives [] ((x.name, a) ∷ []) t) rest))
         (subst (λ z. Agrees U K w R z (then made (λ b t. after [] (then (dims_made U.written W.code to 0 ds t) (λ dims t. gives [] ((x.name, b) ∷ dims) t)))))
         (sym reordered)
         (then_agrees U K w (Local U K h.id.0) R (make s w.src) made
         (λ a s. then (made_in_order D os s) (λ more s. gives [] ((h.id.0, a) ∷ more) s))
         (λ b t. after [] (then (dims_made U.written W.code to 0 ds t) (λ dims t. gives [] ((x.name, b) ∷ dims) t))) start
-        (local_is_made U K makes w h.id.0 r m.word word low start)
+        (M.made w low start)
         (λ a b u n later.
         right_alone U K u R (then (made_in_order D os u.src) (λ more s. gives [] ((h.id.0, a) ∷ more) s))
         (then (dims_made U.written W.code to 0 ds u.net) (λ dims t. gives [] ((x.name, b) ∷ dims) t))

@@ -1,42 +1,41 @@
 -- What a parameter by reference is bound to.
-use Rattle.std.proofs.Common.{◌≡◌, refl, sym, ap, subst, ◌∙◌, ◌&&◌, inl, inr, ℕ, suc, ℤ, Bool, true, false, nat_eq, true≢false, eq-eqb, eqb-true, Option, Some, List, [], ◌∷◌, ◌++◌}
+use Rattle.std.proofs.Common.{◌≡◌, refl, sym, ap, subst, ◌∙◌, ◌&&◌, inl, inr, ℕ, suc, ℤ, Bool, true, false, nat_eq, true≢false, eq-eqb, eqb-true, Some, List, [], ◌∷◌, ◌++◌}
 use Rattle.vb_tree.specs.BoundTree as types
 use Rattle.vb_tree.specs.BoundTree.{Ty}
 use Rattle.vb_tree.specs.declared.declared.Owner.{Owner}
 use Rattle.vb_tree.specs.declared.declared.Owner.TheVariants as owner
 use Rattle.net_tree.specs.Types.{TypeName}
+use Rattle.bound_facts.specs.Locks.{is_same_type}
 use Rattle.run_base.specs.Frames.{by_address, by_value}
 use Rattle.run_base.specs.Outcomes.{Outcome, after, gives, outside, then}
 use Rattle.run_base.specs.Positions.{Position, field, made, shared, whole}
 use Rattle.vb6_run.specs.Programs.{bound_to}
-use Rattle.vb6_run.specs.Shapes.{Shape, group, array, endless, is_same_shape, simple, user_shapes, variable_shape, part_shape}
-use Rattle.vb6_run.specs.Store.{Address, Memory, SourceGiven, is_address_of, item, laid, locked_by, make_with, provided, root, write, constant, Locked}
+use Rattle.vb6_run.specs.Shapes.{Shape, group, array, endless, is_same_shape, simple, user_shapes, variable_shape}
+use Rattle.vb6_run.specs.Store.{Address, Memory, SourceGiven, is_address_of, item, laid, locked_by, make_with, provided, root, write, Locked}
 use Rattle.vb6_run.specs.Values.{Value, elements, fields, is_makeable, scalar}
 use Rattle.net_run.specs.Program.{parameter_by}
 use Rattle.net_run.specs.Shapes as shape
 use Rattle.net_run.specs.Store as net
 use Rattle.net_run.specs.Values as net_value
 use Rattle.written_trees.specs.Heads as heads
-use Rattle.run_matches.specs.Addresses.{HasParameterRank, IsDeclaredAt, IsDeclaredShape, IsTarget, Same, same_item, same_root, AllLocked, ArgsMatch, IsElement, IsScalarAt, IsVariable, address_args, no_args, source_bound, target_bound, value_args}
+use Rattle.run_matches.specs.Addresses.{HasParameterRank, IsDeclaredAt, IsDeclaredShape, IsTarget, Same, same_item, same_root, AllLocked, ArgsMatch, IsElement, IsVariable, address_args, no_args, source_bound, target_bound, value_args}
 use Rattle.run_matches.specs.Agreeing.{Agrees}
 use Rattle.run_matches.specs.CoveredVariables.{covers_type}
 use Rattle.run_matches.specs.Covered.{is_parameter_of}
 use Rattle.run_matches.specs.Frames.{GivenPlace, StandsAs}
 use Rattle.run_matches.specs.Likeness.{SameShape, same_array, same_class, same_scalar, scalar_word}
 use Rattle.run_matches.specs.Maps.{World}
-use Rattle.run_matches.specs.Pledges.{Pledge, NetGiven, type_of_shape}
+use Rattle.run_matches.specs.Pledges.{Pledge, NetGiven}
 use Rattle.run_matches.specs.SoundShapes.{IsSoundShape}
 use Rattle.run_matches.specs.Upgrades.{Upgrade, parameter_rank}
+use Rattle.run_matches.specs.UserTypes.{is_group_type}
 use Rattle.run_statements.specs.Arrays.{array_shape}
-use Rattle.run_statements.specs.Frames.{HasRankOf, IsArray, IsGroup, IsReadable, IsUsable}
+use Rattle.run_statements.specs.Frames.{HasRankOf, IsArray, IsReadable, IsUsable}
 use Rattle.expression_laws.proofs.Types.{same_of}
-use Rattle.agreeing_laws.proofs.UserShapes.{covered_type_of}
-use Rattle.memory_laws.proofs.GroupsMade.{group_shape_is}
 use Rattle.memory_laws.proofs.Making.{readable_shape, readable_type}
-use Rattle.memory_laws.proofs.Reading.{ScalarImage, scalar_image}
 use Rattle.agreeing_laws.proofs.Agreeing.{agrees_outside}
 use Rattle.run_laws.proofs.Covered.{some_is}
-use Rattle.run_laws.proofs.Usable.{array_shape_is}
+use Rattle.run_laws.proofs.Usable.{array_shape_is, group_type_is, result_declared, result_shape}
 
 -- ---- values
 
@@ -54,19 +53,24 @@ value_taken p _ h s y w = absurd (true≢false (sym h))
 
 -- ---- addresses
 
-simple_same : (ty : Ty) (s : Shape) → covers_type ty ≡ true → is_same_shape (simple ty) s ≡ true → s ≡ simple ty
-simple_same ty (simple t) c h = ap simple (same_of ty t c h)
-simple_same ty (group t fs) c h = absurd (true≢false (sym h))
-simple_same ty (array e bounds) c h = absurd (true≢false (sym h))
-simple_same ty endless c h = absurd (true≢false (sym h))
+-- the type of a scalar, or of an object of a class
+type_same : (U : Upgrade) (s t : Ty) → IsSoundShape U (simple s) → is_same_type s t ≡ true → t ≡ s
+type_same U s t (inl c) h = same_of s t c h
+type_same U s t (inr k) h = sym (group_type_is s t (ap is_group_type k.2) h)
+
+simple_same : (U : Upgrade) (ty : Ty) (s : Shape) → IsSoundShape U (simple ty) → is_same_shape (simple ty) s ≡ true → s ≡ simple ty
+simple_same U ty (simple t) c h = ap simple (type_same U ty t c h)
+simple_same U ty (group t fs) c h = absurd (true≢false (sym h))
+simple_same U ty (array e bounds) c h = absurd (true≢false (sym h))
+simple_same U ty endless c h = absurd (true≢false (sym h))
 
 -- an array of the same elements, perhaps with other bounds
-array_same : (element : Ty) (bounds : List (ℤ × ℤ)) (s : Shape) → covers_type element ≡ true → is_same_shape (array (simple element) bounds) s ≡ true
-    → (others : List (ℤ × ℤ)) × (s ≡ array (simple element) others)
-array_same element bounds (simple t) c h = absurd (true≢false (sym h))
-array_same element bounds (group t fs) c h = absurd (true≢false (sym h))
-array_same element bounds (array e others) c h = (others, ap (λ z. array z others) (simple_same element e c h))
-array_same element bounds endless c h = absurd (true≢false (sym h))
+array_same : (U : Upgrade) (element : Ty) (bounds : List (ℤ × ℤ)) (s : Shape) → covers_type element ≡ true
+    → is_same_shape (array (simple element) bounds) s ≡ true → (others : List (ℤ × ℤ)) × (s ≡ array (simple element) others)
+array_same U element bounds (simple t) c h = absurd (true≢false (sym h))
+array_same U element bounds (group t fs) c h = absurd (true≢false (sym h))
+array_same U element bounds (array e others) c h = (others, ap (λ z. array z others) (simple_same U element e (inl c) h))
+array_same U element bounds endless c h = absurd (true≢false (sym h))
 
 -- the same shape
 address_same : (s d : Shape) (a : Address) (q : Position) → a ≡ root d q → is_address_of s a ≡ true → is_same_shape s d ≡ true
@@ -79,66 +83,51 @@ stands_itself (group t fs) a q e = e
 stands_itself (array f bounds) a q e = (bounds, e)
 stands_itself endless a q e = e
 
--- a user type of the number, with the fields that it declares
-group_same : (U : Upgrade) (t : ℕ) (d s : Shape) → user_shapes U.program.declarations t ≡ d → type_of_shape d ≡ types.user t → IsSoundShape U d
-    → is_same_shape d s ≡ true → IsDeclaredShape U s → s ≡ user_shapes U.program.declarations t
-group_same U t (group u fs) (group k gs) is of c h declared =
-    sym declared ∙ ap (user_shapes U.program.declarations) (sym (eqb-true u k h) ∙ the_number u t of)
-  where
-    the_number : (a b : ℕ) → types.user a ≡ types.user b → a ≡ b
-    the_number a b e = cc
-group_same U t (group u fs) (simple ty) is of c h declared = absurd (true≢false (sym h))
-group_same U t (group u fs) (array e bounds) is of c h declared = absurd (true≢false (sym h))
-group_same U t (group u fs) endless is of c h declared = absurd (true≢false (sym h))
-group_same U t (simple ty) s is of c h declared = absurd (no_scalar ty t of c)
-  where
-    no_scalar : (ty : Ty) (t : ℕ) → ty ≡ types.user t → covers_type ty ≡ true → ⊥
-    no_scalar ty t e c = true≢false (sym (subst (λ z. covers_type z ≡ true) e c))
-group_same U t (array e bounds) s is of c h declared = absurd c
-group_same U t endless s is of c h declared = absurd c
+-- a scalar, an object, or a user type of the number, with the fields that it declares
+sound_same : (U : Upgrade) (d s : Shape) → IsSoundShape U d → IsDeclaredShape U d → IsDeclaredShape U s → is_same_shape d s ≡ true → s ≡ d
+sound_same U (simple ty) s c declared other h = simple_same U ty s c h
+sound_same U (group t fs) (group u gs) c declared other h = sym other ∙ ap (user_shapes U.program.declarations) (sym (eqb-true t u h)) ∙ declared
+sound_same U (group t fs) (simple ty) c declared other h = absurd (true≢false (sym h))
+sound_same U (group t fs) (array e bounds) c declared other h = absurd (true≢false (sym h))
+sound_same U (group t fs) endless c declared other h = absurd (true≢false (sym h))
+sound_same U (array e bounds) s c declared other h = absurd c
+sound_same U endless s c declared other h = absurd c
+
+sound_stands : (U : Upgrade) (d : Shape) → IsSoundShape U d → IsDeclaredShape U d → (a : Address) (s : Shape) (q : Position) → a ≡ root s q
+    → IsDeclaredAt U a → is_address_of d a ≡ true → StandsAs d a q
+sound_stands U d c whole a s q e declared h =
+    stands_itself d a q (e ∙ ap (λ z. root z q) (sound_same U d s c whole (subst (λ z. IsDeclaredAt U z) e declared) (address_same d s a q e h)))
 
 stands_as : (U : Upgrade) (v : ℕ) → IsUsable U v → (a : Address) (s : Shape) (q : Position) → a ≡ root s q → IsDeclaredAt U a
     → is_address_of (variable_shape U.program.declarations v) a ≡ true → StandsAs (variable_shape U.program.declarations v) a q
 stands_as U v (inl r) a s q e declared h =
-    let is : variable_shape U.program.declarations v ≡ simple r.variable.ty = readable_shape U v r in
-    subst (λ d. StandsAs d a q) (sym is)
-    (inl (e ∙ ap (λ d. root d q)
-    (simple_same r.variable.ty s (readable_type U v r) (address_same (simple r.variable.ty) s a q e (subst (λ d. is_address_of d a ≡ true) is h)))))
+    let d : Shape = variable_shape U.program.declarations v in
+    sound_stands U d (result_shape U v (inl r)) (result_declared U v (inl r)) a s q e declared h
+stands_as U v (inr (inr x)) a s q e declared h =
+    let d : Shape = variable_shape U.program.declarations v in
+    sound_stands U d (result_shape U v (inr x)) (result_declared U v (inr x)) a s q e declared h
 stands_as U v (inr (inl x)) a s q e declared h =
     let r : IsArray U v x.0 = x.1 in
     let bounds = r.known.variable.bounds in
     let is : variable_shape U.program.declarations v ≡ array (simple x.0) bounds = array_shape_is U v x.0 r in
-    let z = array_same x.0 bounds s r.covers (address_same (array (simple x.0) bounds) s a q e (subst (λ d. is_address_of d a ≡ true) is h)) in
+    let z = array_same U x.0 bounds s r.covers (address_same (array (simple x.0) bounds) s a q e (subst (λ d. is_address_of d a ≡ true) is h)) in
     subst (λ d. StandsAs d a q) (sym is) (z.0, e ∙ ap (λ d. root d q) z.1)
-stands_as U v (inr (inr x)) a s q e declared h =
-    let r : IsGroup U v x.0 = x.1 in
-    let d : Shape = user_shapes U.program.declarations x.0 in
-    let is : variable_shape U.program.declarations v ≡ d = group_shape_is U v x.0 r in
-    let same : s ≡ d =
-    group_same U x.0 d s refl (covered_type_of U.program.declarations x.0 r.covers) r.fields
-    (address_same d s a q e (subst (λ z. is_address_of z a ≡ true) is h)) (subst (λ z. IsDeclaredAt U z) e declared) in
-    subst (λ z. StandsAs z a q) (sym is) (stands_itself d a q (e ∙ ap (λ z. root z q) same))
 
--- an element of an array stands as a scalar of its type
+-- an element of an array stands as a scalar of its type, or as an object
+sound_element : (U : Upgrade) (d : Shape) → IsSoundShape U d → (a : Address) (x : IsElement a) → is_same_shape d (simple x.ty) ≡ true → StandsAs d a x.array
+sound_element U (simple ty) c a x h = inr (x.index, x.stands ∙ ap (λ d. item d x.array x.index []) (simple_same U ty (simple x.ty) c h))
+sound_element U (group t fs) c a x h = absurd (true≢false (sym h))
+sound_element U (array e bounds) c a x h = absurd c
+sound_element U endless c a x h = absurd c
+
 element_stands : (U : Upgrade) (v : ℕ) → IsUsable U v → (a : Address) (x : IsElement a) → is_address_of (variable_shape U.program.declarations v) a ≡ true
     → StandsAs (variable_shape U.program.declarations v) a x.array
 element_stands U v (inl r) a x h =
-    let is : variable_shape U.program.declarations v ≡ simple r.variable.ty = readable_shape U v r in
-    let same : is_same_shape (simple r.variable.ty) (simple x.ty) ≡ true =
-    sym (ap (is_address_of (simple r.variable.ty)) x.stands) ∙ subst (λ d. is_address_of d a ≡ true) is h in
-    subst (λ d. StandsAs d a x.array) (sym is)
-    (inr (x.index, x.stands ∙ ap (λ d. item d x.array x.index []) (simple_same r.variable.ty (simple x.ty) (readable_type U v r) same)))
-element_stands U v (inr (inr y)) a x h =
-    let r : IsGroup U v y.0 = y.1 in
-    absurd (no_element (user_shapes U.program.declarations y.0) (covered_type_of U.program.declarations y.0 r.covers) r.fields
-    (sym (ap (is_address_of (user_shapes U.program.declarations y.0)) x.stands)
-    ∙ subst (λ d. is_address_of d a ≡ true) (group_shape_is U v y.0 r) h))
-  where
-    no_element : (d : Shape) → type_of_shape d ≡ types.user y.0 → IsSoundShape U d → is_same_shape d (simple x.ty) ≡ true → ⊥
-    no_element (simple ty) of c e = true≢false (sym (subst (λ z. covers_type z ≡ true) of c))
-    no_element (group t fs) of c e = true≢false (sym e)
-    no_element (array f bounds) of c e = absurd c
-    no_element endless of c e = absurd c
+    let d : Shape = variable_shape U.program.declarations v in
+    sound_element U d (result_shape U v (inl r)) a x (sym (ap (is_address_of d) x.stands) ∙ h)
+element_stands U v (inr (inr g)) a x h =
+    let d : Shape = variable_shape U.program.declarations v in
+    sound_element U d (result_shape U v (inr g)) a x (sym (ap (is_address_of d) x.stands) ∙ h)
 element_stands U v (inr (inl y)) a x h =
     let r : IsArray U v y.0 = y.1 in
     let bounds = r.known.variable.bounds in
@@ -151,7 +140,7 @@ scalar_at : (U : Upgrade) (v : ℕ) (r : IsReadable U v) (a : Address) (s : Shap
 scalar_at U v r a s q e h =
     let ty : Ty = r.variable.ty in
     let same : s ≡ simple ty =
-    simple_same ty s (readable_type U v r) (address_same (simple ty) s a q e (subst (λ d. is_address_of d a ≡ true) (readable_shape U v r) h)) in
+    simple_same U ty s (inl (readable_type U v r)) (address_same (simple ty) s a q e (subst (λ d. is_address_of d a ≡ true) (readable_shape U v r) h)) in
     subst (λ z. IsDeclaredAt U z) (sym (e ∙ ap (λ d. root d q) same)) tt
 
 pub scalar_declared : (U : Upgrade) (v : ℕ) (r : IsReadable U v) (a : Address) → IsVariable U a
@@ -195,39 +184,11 @@ root_shape s t q p e = cc e
 pub no_item : (e s : Shape) (q p : Position) (j : ℕ) (path : List ℕ) → item e q j path ≡ root s p → ⊥
 no_item e s q p j path x = cc x
 
-abbrev element_in : Address → Shape
-element_in (root s q) = s
-element_in (item e q j path) = e
-element_in (constant x) = endless
-
-abbrev inside_of : Address → List ℕ
-inside_of (root s q) = []
-inside_of (item e q j path) = path
-inside_of (constant x) = []
-
 -- a written scalar
 element_written : (U : Upgrade) (ty : Ty) (t : TypeName) (d : shape.Shape) → covers_type ty ≡ true → scalar_word ty ≡ Some t → SameShape U (simple ty) d
     → d ≡ shape.scalar t
 element_written U _ t _ c w (same_scalar ty u e) = ap (λ z. shape.scalar z) (some_is (sym e ∙ w))
 element_written U _ t _ c w (same_class k home e) = absurd (true≢false (sym c))
-
-item_shape : (U : Upgrade) (K : Pledge) (w : World) (ty : Ty) (t : TypeName) (q : Position) (i : ℕ) (a : Address) (b : net.Address) → covers_type ty ≡ true
-    → scalar_word ty ≡ Some t → Same U K w a b → a ≡ item (simple ty) q i [] → net.shape_at b ≡ shape.scalar t
-item_shape U K w ty t q i _ _ c word (same_root s d p sh m r) at = absurd (no_item (simple ty) s q p i [] (sym at))
-item_shape U K w ty t q i _ _ c word (same_item e s d p k j path keeps m has part sh) at =
-    let shaped : s ≡ simple ty = some_is (sym part ∙ (ap (λ x. part_shape x e) (ap inside_of at) ∙ ap (λ x. Some x) (ap element_in at))) in
-    element_written U ty t d c word (subst (λ z. SameShape U z d) shaped sh)
-
--- its image has the parameter's type exactly
-pub shape_taken : (U : Upgrade) (K : Pledge) (w : World) (ty : Ty) (t : TypeName) (a : Address) (b : net.Address) → covers_type ty ≡ true
-    → scalar_word ty ≡ Some t → Same U K w a b → ((q : Position) × IsScalarAt ty a q) → shape.is_same_shape (net.shape_at b) (shape.scalar t) ≡ true
-shape_taken U K w ty t a b c e same (q, inl at) =
-    let i : ScalarImage U w ty a b = scalar_image U K w ty a b c same (q, at) in
-    let word : i.type_name ≡ t = some_is (sym i.is_name ∙ e) in
-    ap (λ z. shape.is_same_shape (net.shape_at z) (shape.scalar t)) i.at_target
-    ∙ ap (λ z. shape.is_same_word z t) word ∙ word_itself ty t c e
-shape_taken U K w ty t a b c e same (q, inr x) =
-    ap (λ z. shape.is_same_shape z (shape.scalar t)) (item_shape U K w ty t q x.0 a b c e same x.1) ∙ word_itself ty t c e
 
 -- ---- arrays
 

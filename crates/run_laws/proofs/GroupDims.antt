@@ -1,8 +1,8 @@
--- What the declarations make that are written for variables of user types.
-use Rattle.std.proofs.Common.{◌≡◌, refl, sym, ap, subst, ◌∙◌, ℕ, Bool, true, false, cond, Option, Some, None, List, []}
+-- What the declarations make that are written for variables of user types and of classes.
+use Rattle.std.proofs.Common.{◌≡◌, refl, sym, ap, subst, ◌∙◌, ℕ, Bool, true, false, true≢false, cond, Option, Some, None, List, []}
 use Rattle.up_base.proofs.Tests.{neither}
-use Rattle.vb_tree.specs.BoundTree.{Ty, user}
-use Rattle.bound_tree.specs.Tree.{Declarations, Variable}
+use Rattle.vb_tree.specs.BoundTree.{Ty, class, user}
+use Rattle.bound_tree.specs.Tree.{Variable}
 use Rattle.net_tree.specs.Tree as net_tree
 use Rattle.net_tree.specs.Types.{TypeName}
 use Rattle.run_base.specs.Outcomes.{gives, some_of, then}
@@ -18,6 +18,7 @@ use Rattle.written_trees.specs.Names.{Scope}
 use Rattle.written_trees.specs.Prologues.{initial, is_static, made_user, object_variable, typed_variable, variable_dim, written_variable}
 use Rattle.written_trees.specs.Types.{type_with}
 use Rattle.agreeing_laws.proofs.Outputs.{after_nothing}
+use Rattle.run_matches.specs.CoveredVariables.{covers_group_type}
 use Rattle.run_matches.specs.Likeness.{SameShape, same_array, same_class, same_group, same_scalar}
 use Rattle.run_matches.specs.Sites.{own_variable}
 use Rattle.run_matches.specs.SoundShapes.{IsSoundShape}
@@ -28,43 +29,47 @@ use Rattle.memory_laws.proofs.GroupsMade.{group_shape}
 use Rattle.run_laws.specs.Premises.{GroupsAreWritten}
 use Rattle.run_laws.proofs.Dims.{plain_variable}
 
--- what is written for the declaration of a variable of a user type
-pub record GroupWritten (U : Upgrade) (S : Scope) (home v t : ℕ) (r : IsGroup U v t) : Type 0 where
+-- what is written for the declaration of a variable of a user type or of a class
+pub record GroupWritten (U : Upgrade) (S : Scope) (home v : ℕ) (ty : Ty) (r : IsGroup U v ty) : Type 0 where
   pub word : TypeName
   pub same : SameShape U (variable_shape U.program.declarations v) (shape.shape_of U.written home word)
   pub is_written : written_variable S (v, r.known.variable) ≡ plain_variable r.known.variable.name word
 
 module _ (U : Upgrade) (written : GroupsAreWritten U) (S : Scope) (facts : S.facts ≡ U.facts) (declared : S.declarations ≡ U.program.declarations)
     (home : ℕ) (here : home_of U S.file ≡ Some home) where
-  -- the name of the type leads to the structure
-  pub type_shaped : (v t : ℕ) (r : IsGroup U v t) (rank : ℕ) (qualified : Bool)
-      → SameShape U (variable_shape U.program.declarations v) (shape.shape_of U.written home (type_with S.declarations S.file qualified rank (user t)))
-  type_shaped v t r rank qualified =
+  -- the name of the type leads to the structure or the class
+  pub type_shaped : (v : ℕ) (ty : Ty) (r : IsGroup U v ty) (rank : ℕ) (qualified : Bool)
+      → SameShape U (variable_shape U.program.declarations v) (shape.shape_of U.written home (type_with S.declarations S.file qualified rank ty))
+  type_shaped v ty r rank qualified =
       subst
-      (λ E. SameShape U (variable_shape U.program.declarations v) (shape.shape_of U.written home (type_with E S.file qualified rank (user t))))
-      (sym declared) (written.shaped v t r home S.file rank qualified here)
+      (λ E. SameShape U (variable_shape U.program.declarations v) (shape.shape_of U.written home (type_with E S.file qualified rank ty)))
+      (sym declared) (written.shaped v ty r home S.file rank qualified here)
 
-  pub group_written : (v t : ℕ) (r : IsGroup U v t) → GroupWritten U S home v t r
-  group_written v t r =
+  -- it begins with nothing that is written
+  none_initial : (v : ℕ) (x : Variable) (ty : Ty) → covers_group_type U.program.declarations ty ≡ true → initial S v x ty ≡ None
+  none_initial v x (user t) h = ap (λ (F : Facts). made_user (F.is_made t) t) facts ∙ ap (λ b. made_user b t) (written.unmade t h)
+  none_initial v x (class c) h = refl
+  none_initial v x _ h = absurd (true≢false (sym h))
+
+  pub group_written : (v : ℕ) (ty : Ty) (r : IsGroup U v ty) → GroupWritten U S home v ty r
+  group_written v ty r =
       let x : Variable = r.known.variable in
-      let word = λ (ty : Ty). type_with S.declarations S.file x.qualified (S.facts.rank v) ty in
+      let word = λ (z : Ty). type_with S.declarations S.file x.qualified (S.facts.rank v) z in
       let unflagged : is_flagged_variable S.facts v ≡ false =
       ap (λ F. is_flagged_variable F v) facts ∙ (neither (is_flagged_variable U.facts v) (is_unknown (type_of U v)) r.known.sound).0 in
-      let none : made_user (S.facts.is_made t) t ≡ None =
-      ap (λ (F : Facts). made_user (F.is_made t) t) facts ∙ ap (λ b. made_user b t) (written.unmade t r.covers) in
       record {
-        word = word (user t);
-        same = type_shaped v t r (S.facts.rank v) x.qualified;
+        word = word ty;
+        same = type_shaped v ty r (S.facts.rank v) x.qualified;
         is_written =
             ap (λ b. cond b (object_variable x.name) (typed_variable S v x)) unflagged
-            ∙ (ap (λ ty. written_as x.name (word ty) (initial S v x ty)) r.is_user ∙ ap (λ o. written_as x.name (word (user t)) o) none);
+            ∙ (ap (λ z. written_as x.name (word z) (initial S v x z)) r.is_type ∙ ap (λ o. written_as x.name (word ty) o) (none_initial v x ty r.covers));
       }
     where
       written_as : List ℕ → TypeName → Option net_tree.Exp → net_tree.Variable
       written_as name ty value = record { name = name; ty = ty; value = value }
 
--- The declaration of a local variable makes one of the structure, under its name.
-pub record GroupDim (U : Upgrade) (S : Scope) (c : Code) (v t : ℕ) (r : IsGroup U v t) : Type 0 where
+-- The declaration of a local variable makes one of the structure or the class, under its name.
+pub record GroupDim (U : Upgrade) (S : Scope) (c : Code) (v : ℕ) (ty : Ty) (r : IsGroup U v ty) : Type 0 where
   pub written : shape.Shape
   pub same : SameShape U (variable_shape U.program.declarations v) written
   pub is_made :
@@ -73,7 +78,7 @@ pub record GroupDim (U : Upgrade) (S : Scope) (c : Code) (v t : ℕ) (r : IsGrou
       ≡ then (net.made_with written (shape.default_of written) w) (λ b t. gives [] (r.known.variable.name, b) t)
 
 -- The declaration of a Static makes one at its key, where none is there.
-pub record GroupStatic (U : Upgrade) (S : Scope) (c : Code) (v t : ℕ) (r : IsGroup U v t) : Type 0 where
+pub record GroupStatic (U : Upgrade) (S : Scope) (c : Code) (v : ℕ) (ty : Ty) (r : IsGroup U v ty) : Type 0 where
   pub made : net_tree.Variable
   pub plain : made.value ≡ None
   pub same : SameShape U (variable_shape U.program.declarations v) (shape.shape_of U.written c.home made.ty)
@@ -84,14 +89,14 @@ pub record GroupStatic (U : Upgrade) (S : Scope) (c : Code) (v t : ℕ) (r : IsG
       (λ u t. gives [] (r.known.variable.name, net.root (shape.shape_of U.written c.home made.ty) (whole (shared (static_key c i)))) t)
 
 module _ (U : Upgrade) (written : GroupsAreWritten U) (S : Scope) (facts : S.facts ≡ U.facts) (declared : S.declarations ≡ U.program.declarations)
-    (c : Code) (here : home_of U S.file ≡ Some c.home) (v t : ℕ) (r : IsGroup U v t) where
+    (c : Code) (here : home_of U S.file ≡ Some c.home) (v : ℕ) (ty : Ty) (r : IsGroup U v ty) where
   abbrev x : Variable
   x = r.known.variable
 
-  abbrev m : GroupWritten U S c.home v t r
-  m = group_written U written S facts declared c.home here v t r
+  abbrev m : GroupWritten U S c.home v ty r
+  m = group_written U written S facts declared c.home here v ty r
 
-  pub group_made : is_static r.known.variable.owner ≡ false → GroupDim U S c v t r
+  pub group_made : is_static r.known.variable.owner ≡ false → GroupDim U S c v ty r
   group_made local =
       let d : shape.Shape = shape.shape_of U.written c.home m.word in
       let dim : variable_dim S (v, x) ≡ net_tree.local (plain_variable x.name m.word) =
@@ -105,7 +110,7 @@ module _ (U : Upgrade) (written : GroupsAreWritten U) (S : Scope) (facts : S.fac
             ∙ after_nothing (then (net.made_with d (shape.default_of d) w) (λ b t. gives [] (x.name, b) t));
       }
 
-  pub group_static_made : is_class U.written c.home ≡ false → is_static r.known.variable.owner ≡ true → GroupStatic U S c v t r
+  pub group_static_made : is_class U.written c.home ≡ false → is_static r.known.variable.owner ≡ true → GroupStatic U S c v ty r
   group_static_made outer static =
       let d : net_tree.Variable = plain_variable x.name m.word in
       let dim : variable_dim S (v, x) ≡ net_tree.static_local d =
@@ -120,12 +125,13 @@ module _ (U : Upgrade) (written : GroupsAreWritten U) (S : Scope) (facts : S.fac
             ∙ ap (λ b. some_of (cond b (object_static (static_key c i) me) (Some (shared (static_key c i)))) (static_at U.written c.home d) w) outer;
       }
 
--- what is written for a user type is no array
+-- what is written for a user type or a class is no array
 written_unranked : (U : Upgrade) (v : ℕ) (s : Shape) (d : shape.Shape) → IsSoundShape U s → SameShape U s d → HasRankOf U v d
 written_unranked U v _ _ c (same_scalar ty t word) = tt
 written_unranked U v _ _ c (same_class k home e) = tt
 written_unranked U v _ _ c (same_group t home member fs gs is fields) = tt
 written_unranked U v _ _ c (same_array e bounds d rank same) = absurd c
 
-pub group_unranked : (U : Upgrade) (v t : ℕ) (r : IsGroup U v t) (d : shape.Shape) → SameShape U (variable_shape U.program.declarations v) d → HasRankOf U v d
-group_unranked U v t r d same = written_unranked U v (variable_shape U.program.declarations v) d (group_shape U v t r) same
+pub group_unranked : (U : Upgrade) (v : ℕ) (ty : Ty) (r : IsGroup U v ty) (d : shape.Shape) → SameShape U (variable_shape U.program.declarations v) d
+    → HasRankOf U v d
+group_unranked U v ty r d same = written_unranked U v (variable_shape U.program.declarations v) d (group_shape U v ty r) same

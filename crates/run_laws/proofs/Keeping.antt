@@ -13,7 +13,7 @@ use Rattle.run_base.specs.Machines.{behind_error, caught, go, handled, if_active
 use Rattle.run_base.specs.Outcomes.{Output, Outcome, gives, raises, spent, outside, after, then, answered, some_of}
 use Rattle.vb6_run.specs.Expressions.{Context, address_of, scalar_of, scalar_value, value_of, parts_of, type_shape, declared}
 use Rattle.vb6_run.specs.Forms.{SourceLine, form_does, idle_machine}
-use Rattle.vb6_run.specs.Lines.{branch, case_of, chosen, condition, counted, exit_does, for_does, for_from, goes_if, goes_on, handles_by, has_passed, items_text, keeping_limit, keeps_at, let_to, line_of_label, next_of, print, redim_does, some_fits, step_of, sum_of, when_done, with_one, with_address, with_does}
+use Rattle.vb6_run.specs.Lines.{branch, case_of, chosen, condition, counted, exit_does, for_does, for_from, goes_if, goes_on, handles_by, has_passed, items_text, keeping_limit, keeps_at, let_to, line_of_label, next_of, print, redim_does, set_to, some_fits, step_of, sum_of, when_done, with_one, with_address, with_does}
 use Rattle.bound_facts.specs.Parts.{resizes}
 use Rattle.vb6_run.specs.Arrays.{erase}
 use Rattle.vb6_run.specs.Programs.{line_does, machine_of}
@@ -157,6 +157,11 @@ form_keeps C uses (source.assign target value) (to ∷ []) w h = absurd (true≢
 form_keeps C uses (source.assign target value) (to ∷ e ∷ []) w h =
     yields_then (HasVars C.frame) (then (value_of C e w) (let_to C to)) (λ x w. goes_on C w) (λ x w. refl)
 form_keeps C uses (source.assign target value) (to ∷ e ∷ d ∷ es) w h = absurd (true≢false (sym h))
+form_keeps C uses (source.set target value) [] w h = absurd (true≢false (sym h))
+form_keeps C uses (source.set target value) (to ∷ []) w h = absurd (true≢false (sym h))
+form_keeps C uses (source.set target value) (to ∷ e ∷ []) w h =
+    yields_then (HasVars C.frame) (then (value_of C e w) (set_to C to)) (λ x w. goes_on C w) (λ x w. refl)
+form_keeps C uses (source.set target value) (to ∷ e ∷ d ∷ es) w h = absurd (true≢false (sym h))
 form_keeps C uses (source.call callee) es w h = call_keeps C uses es w h
 form_keeps C uses (source.invoke callee args) es w h = call_keeps C uses es w h
 form_keeps C uses (source.debug_print items ended) es w h =

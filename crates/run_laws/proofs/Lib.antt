@@ -12,6 +12,7 @@ pub mod Names
 pub mod Heads
 pub mod Given
 pub mod ParametersMade
+pub mod ResultsMade
 pub mod ParameterTypes
 pub mod Parameters
 pub mod Passing

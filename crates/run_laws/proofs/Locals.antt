@@ -12,7 +12,6 @@ use Rattle.vb6_run.specs.Programs.{is_local_of, owned_from}
 use Rattle.vb6_run.specs.Shapes.{Shape, variable_shape}
 use Rattle.vb6_run.specs.Store.{Address, constant, item, root}
 use Rattle.net_run.specs.Names.{var_in}
-use Rattle.net_run.specs.Shapes as shape
 use Rattle.net_run.specs.Store as net
 use Rattle.written_trees.specs.Names.{Scope}
 use Rattle.run_matches.specs.Addresses.{Same, position_of, same_item, same_root}

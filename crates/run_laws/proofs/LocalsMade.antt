@@ -1,5 +1,5 @@
 -- The variables of a procedure are made on both sides, in the order of their declarations.
-use Rattle.std.proofs.Common.{◌≡◌, inl, inr, refl, sym, ap, subst, ◌∙◌, ℕ, suc, Bool, true, false, not, Option, Some, List, [], ◌∷◌, map, arith, append-nil}
+use Rattle.std.proofs.Common.{◌≡◌, inl, inr, refl, sym, ap, subst, ◌∙◌, ℕ, suc, Bool, true, false, not, Option, Some, List, [], ◌∷◌, map, append-nil}
 use Rattle.std.specs.Prelude.{slice_get}
 use Rattle.vb_tree.specs.BoundTree.{Ty}
 use Rattle.bound_tree.specs.Tree.{Declarations, Variable}
@@ -34,7 +34,6 @@ use Rattle.agreeing_laws.proofs.Agreeing.{agrees_gives, agrees_weaker, agrees_yi
 use Rattle.agreeing_laws.proofs.Made.{below_then, more}
 use Rattle.agreeing_laws.proofs.Outputs.{outputs_then}
 use Rattle.run_laws.specs.Entered.{LocalMatch, LocalsMatch, StaticMatch, KeyAt, AllKeyed, no_locals, next_constant, next_static, next_variable, AllSound}
-use Rattle.line_laws.proofs.Bounds as bounds
 use Rattle.run_laws.specs.Premises.{ArraysHaveRanks, GroupsAreWritten, MakesAlike}
 use Rattle.run_laws.proofs.Covered.{some_is}
 use Rattle.memory_laws.proofs.Statics.{static_is_laid}
@@ -136,11 +135,12 @@ module _ (U : Upgrade) (K : Pledge) (makes : MakesAlike U K) (ranked : ArraysHav
       (agrees_yields U K w (ArrayMade U K v m.word) (λ (a : Address) (u : Memory). a ≡ root s (whole (made w.src.next))) (make s w.src) target
       (makes_next s w.src) (makes.arrays w v element r m.word c.home (has_rank_of U v element r ranked) m.is_word m.shaped h)))
 
-  group_agrees : (w : World) (i v t : ℕ) (r : IsGroup U v t) → is_static r.known.variable.owner ≡ false → Below K.base (mark w.src) → MemoryMatch U w
+  group_agrees : (w : World) (i v : ℕ) (ty : Ty) (r : IsGroup U v ty) → is_static r.known.variable.owner ≡ false → Below K.base (mark w.src)
+      → MemoryMatch U w
       → Agrees U K w (Named v r.known.variable.name) (make (variable_shape U.program.declarations v) w.src)
       (dim_made U.written c me i (own_dim S (own_variable v r.known.variable)) w.net)
-  group_agrees w i v t r local low h =
-      let m : GroupDim U S c v t r = group_made U written S facts declared c here v t r local in
+  group_agrees w i v ty r local low h =
+      let m : GroupDim U S c v ty r = group_made U written S facts declared c here v ty r local in
       let s : Shape = variable_shape U.program.declarations v in
       let d : shape.Shape = m.written in
       let name = r.known.variable.name in
@@ -151,14 +151,14 @@ module _ (U : Upgrade) (K : Pledge) (makes : MakesAlike U K) (ranked : ArraysHav
         refl,
         record {
           bound = images (not (is_quiet U.program.declarations U.known v)) a b x.0.same;
-          ranked = subst (λ z. HasRankOf U v (net.shape_at z)) (sym x.0.target_shape.1) (group_unranked U v t r d m.same);
+          ranked = subst (λ z. HasRankOf U v (net.shape_at z)) (sym x.0.target_shape.1) (group_unranked U v ty r d m.same);
           standing = inl (record { place = x.0.place; own = new_place K w a s low x.1 });
         },
       ))
       (agrees_yields U K w (GroupMade U K v d) (λ (a : Address) (u : Memory). a ≡ root s (whole (made w.src.next))) (make s w.src) target
-      (makes_next s w.src) (makes.groups w v t r d m.same h)))
+      (makes_next s w.src) (makes.groups w v ty r d m.same h)))
 
-  -- a scalar, an array or a variable of a user type
+  -- a scalar, an array, or a variable of a user type or of a class
   local_agrees : (w : World) (i v : ℕ) (x : Variable) → slice_get U.program.declarations.vars v ≡ Some x → IsUsable U v → is_static x.owner ≡ false
       → Below K.base (mark w.src) → MemoryMatch U w
       → Agrees U K w (Named v x.name) (make (variable_shape U.program.declarations v) w.src)

@@ -5,7 +5,6 @@ use Rattle.std.proofs.Common.{◌≡◌, refl, sym, ap, subst, ◌∙◌, ℕ, s
 use Rattle.std.specs.Prelude.{slice_get}
 use Rattle.std.specs.List.{list_all}
 use Rattle.up_base.proofs.Lists.{all_first, all_rest}
-use Rattle.vb_tree.specs.BoundTree as types
 use Rattle.vb_tree.specs.BoundTree.{Ty}
 use Rattle.vb_tree.specs.declared.declared.Owner.TheVariants as owner
 use Rattle.vb_tree.specs.declared.declared.ProcId.{ProcId}
@@ -14,12 +13,10 @@ use Rattle.bound_tree.specs.Tree.{Declarations, Variable}
 use Rattle.bound_facts.specs.Effects.{params_at, is_own_owner, is_own_variable}
 use Rattle.bound_facts.specs.Facts.{Known, is_quiet, is_quiet_owner, is_quiet_variable}
 use Rattle.bound_facts.specs.Node.{is_array_type}
-use Rattle.net_tree.specs.Tree as net_tree
-use Rattle.net_tree.specs.Types as words
 use Rattle.net_tree.specs.Types.{TypeName}
 use Rattle.run_base.specs.Frames.{by_address, by_value}
 use Rattle.run_base.specs.Outcomes.{Outcome, after, gives, some_of, then, outside}
-use Rattle.run_base.specs.Positions.{made, whole}
+use Rattle.run_base.specs.Positions.{whole}
 use Rattle.vb6_run.specs.Programs.{bound_to, parameters, temporary}
 use Rattle.vb6_run.specs.Shapes.{Shape, array, simple, variable_shape}
 use Rattle.vb6_run.specs.Store.{Address, Memory, SourceGiven, constant, is_address_of, make_with, provided}
@@ -88,7 +85,7 @@ of_scalars_is U a (inr x) = inr x
 
 -- ---- quiet parameters
 
--- a parameter is a scalar, an array or of a user type
+-- a parameter is a scalar, an array, or of a user type or a class
 abbrev pub AreParameters : Upgrade → (p : ℕ) → Type 0
 AreParameters U p = (v : VarId) → Parameter U.program p v → IsUsable U v.0
 
@@ -341,8 +338,8 @@ module _ (U : Upgrade) (p : ℕ) (groups : GroupsAreWritten U) (S : Scope) (same
       array_exact : (e : Ty) → IsArray U v.0 e → (runnable_of U).quiet p i ≡ false
       array_exact e r = quiet_at ∙ r.exact
 
-      group_exact : (t : ℕ) → IsGroup U v.0 t → (runnable_of U).quiet p i ≡ false
-      group_exact t r = quiet_at ∙ r.exact
+      group_exact : (ty : Ty) → IsGroup U v.0 ty → (runnable_of U).quiet p i ≡ false
+      group_exact ty r = quiet_at ∙ r.exact
 
       -- ---- one argument
 
@@ -357,18 +354,18 @@ module _ (U : Upgrade) (p : ℕ) (groups : GroupsAreWritten U) (S : Scope) (same
           (subst (λ z. Agrees U K w R z z') (then_gives (make_with (array (simple element) r.known.variable.bounds) x w.src))
           (made_none U K w R (simple element) r.known.variable.bounds x n (λ a w. gives [] a w) z'))))
 
-      -- a value at a parameter of a user type: one of another type makes none
-      group_first : (t : ℕ) (r : IsGroup U v.0 t) (x : Value) (y : net_value.Value) → LikeV U w0 x y → IsGivable U p i x → (w : World) → Later U K w0 w
+      -- a value at a parameter of a user type or of a class: one of another type makes none
+      group_first : (ty : Ty) (r : IsGroup U v.0 ty) (x : Value) (y : net_value.Value) → LikeV U w0 x y → IsGivable U p i x → (w : World) → Later U K w0 w
           → Below K.base (mark w.src)
-          → BoundHere w (inr (inr (t, r))) ((runnable_of U).quiet p i) q.variable.owner (by_value x) (by_value y)
-      group_first t r x y like given w l low =
+          → BoundHere w (inr (inr (ty, r))) ((runnable_of U).quiet p i) q.variable.owner (by_value x) (by_value y)
+      group_first ty r x y like given w l low =
           let R = Local U K v.0 in
-          let d : shape.Shape = (param v q (inr (inr (t, r)))).written in
+          let d : shape.Shape = (param v q (inr (inr (ty, r)))).written in
           let z' = target.parameter_by (heads.passing_of q.variable.owner) d (by_value y) w.net in
-          subst (λ b. Agrees U K w R (bound_to b q.variable.owner s (by_value x) w.src) z') (sym (group_exact t r))
+          subst (λ b. Agrees U K w R (bound_to b q.variable.owner s (by_value x) w.src) z') (sym (group_exact ty r))
           (subst (λ z. Agrees U K w R z z') (sym (value_bound p q.variable.owner q.parameter s x w.src))
           (subst (λ z. Agrees U K w R (make_with s x w.src) z) (sym (value_taken p q.variable.owner q.parameter d y w.net))
-          (group_value_agrees U K makes w0 w v.0 t r p i x y like given low l d (param v q (inr (inr (t, r)))).alike)))
+          (group_value_agrees U K makes w0 w v.0 ty r p i x y like given low l d (param v q (inr (inr (ty, r)))).alike)))
 
       value_first : (u : IsUsable U v.0) (x : Value) (y : net_value.Value) → LikeV U w0 x y → IsGivable U p i x → (w : World) → Later U K w0 w
           → Below K.base (mark w.src) → BoundHere w u ((runnable_of U).quiet p i) q.variable.owner (by_value x) (by_value y)

@@ -1,67 +1,78 @@
 -- The places that parameters and a result variable have, with a first value or one that is given.
-use Rattle.std.proofs.Common.{refl, false, true≢false, ap, ◌∙◌, ◌≡◌, sym, subst, ℕ, true, not, ◌&&◌, Some, [], inl, arith, None, nat_eq, eqb-true}
-use Rattle.up_base.proofs.Tests.{both_true, by_test}
+use Rattle.std.proofs.Common.{refl, Bool, false, true≢false, ap, ◌∙◌, ◌≡◌, ◌⊎◌, ⊎_elim, sym, subst, ℕ, true, not, ◌&&◌, Some, [], inl, inr, None, nat_eq, eqb-true}
+use Rattle.up_base.proofs.Tests.{both_true}
 use Rattle.vb_tree.specs.BoundTree as types
 use Rattle.vb_tree.specs.BoundTree.{Ty}
-use Rattle.vb_tree.specs.declared.declared.Owner.TheVariants as owner
 use Rattle.bound_facts.specs.Facts.{is_quiet}
-use Rattle.net_tree.specs.Tree as net_tree
-use Rattle.net_tree.specs.Types as words
+use Rattle.bound_facts.specs.Locks.{is_same_type}
 use Rattle.net_tree.specs.Types.{TypeName}
 use Rattle.run_base.specs.Outcomes.{Outcome, gives, then}
 use Rattle.run_base.specs.Positions.{made, whole}
-use Rattle.vb6_run.specs.Programs.{parameters}
 use Rattle.vb6_run.specs.Shapes.{Shape, variable_shape, array, endless, group, simple, user_shapes}
 use Rattle.vb6_run.specs.Store.{Address, Memory, make, make_with, root, write}
-use Rattle.vb6_run.specs.Values.{Value, scalar, elements, fields, if_of_shape, kept_as}
-use Rattle.net_run.specs.Program as target
+use Rattle.vb6_run.specs.Values.{Value, scalar, elements, fields, if_of_shape, is_typed, kept_as}
 use Rattle.net_run.specs.Shapes as shape
 use Rattle.net_run.specs.Store as net
 use Rattle.net_run.specs.Values as net_value
-use Rattle.written_trees.specs.Heads as heads
-use Rattle.run_matches.specs.Addresses.{images, IsGivable}
+use Rattle.run_matches.specs.Addresses.{images, IsDeclaredShape, IsGivable}
 use Rattle.run_matches.specs.Agreeing.{Agrees}
-use Rattle.run_matches.specs.CoveredVariables.{covers_owner, covers_type}
+use Rattle.run_matches.specs.CoveredVariables.{covers_group_type, covers_owner, covers_type}
 use Rattle.run_matches.specs.Likeness.{LikeV, scalar_word, SameShape}
 use Rattle.run_matches.specs.Maps.{Below, World, mark}
 use Rattle.run_matches.specs.Match.{MemoryMatch}
 use Rattle.run_matches.specs.Pledges.{Later, Pledge, type_of_shape}
 use Rattle.run_matches.specs.Upgrades.{Upgrade}
-use Rattle.run_statements.specs.Frames.{HasRankOf, IsReadable, MadeMatch, IsGroup}
+use Rattle.run_statements.specs.Frames.{HasRankOf, IsReadable, MadeMatch, IsGroup, type_shape}
 use Rattle.agreeing_laws.specs.Promises.{Yields}
 use Rattle.agreeing_laws.proofs.Agreeing.{agrees_weaker, agrees_yields, agrees_outside}
-use Rattle.line_laws.proofs.Bounds as bounds
 use Rattle.run_laws.specs.Entered.{LocalMatch}
 use Rattle.run_laws.specs.Premises.{MakesAlike}
 use Rattle.run_laws.proofs.Keeping.{yields_after, yields_then}
 use Rattle.run_laws.proofs.Locals.{new_place}
 use Rattle.run_laws.proofs.LocalsMade.{makes_next}
 use Rattle.run_laws.proofs.GroupDims.{group_unranked}
+use Rattle.run_laws.proofs.Usable.{group_type_is}
 use Rattle.run_statements.specs.Groups.{GroupMade, ValueMatch}
 use Rattle.run_matches.specs.Kinds.{IsValueOf}
 use Rattle.run_matches.specs.SoundShapes.{IsSoundShape}
-use Rattle.agreeing_laws.proofs.UserShapes.{covered_type_of}
+use Rattle.agreeing_laws.proofs.UserShapes.{covered_type_of, declared_user}
 use Rattle.memory_laws.proofs.GroupsMade.{group_shape, group_shape_is, make_with_none}
 
 -- ---- values of other types
 
--- a value that is of no user type, or of another one
-abbrev IsOther : (user_type : ℕ) → Value → Type 0
-IsOther t (scalar ty z) = Unit {0}
-IsOther t (fields u xs) = nat_eq t u ≡ false
-IsOther t (elements e dims xs) = Unit {0}
-
-other_kept : (U : Upgrade) (t : ℕ) (s : Shape) → IsSoundShape U s → type_of_shape s ≡ types.user t → (x : Value) → IsOther t x → kept_as s x ≡ None
-other_kept U t (simple ty) c of x other = absurd (true≢false (sym (subst (λ z. covers_type z ≡ true) of c)))
-other_kept U t (group k fs) c of (scalar ty z) other = refl
-other_kept U t (group k fs) c of (elements e dims xs) other = refl
-other_kept U t (group k fs) c of (fields u xs) other =
-    ap (λ b. if_of_shape b (fields u xs)) (ap (λ n. nat_eq n u) (the_number k t of) ∙ other)
+-- what a variable of a user type keeps is a value of it, where that has all fields
+user_kept : (U : Upgrade) (p i t : ℕ) (s : Shape) → type_of_shape s ≡ types.user t → IsSoundShape U s → IsDeclaredShape U s → (x : Value) → IsGivable U p i x
+    → (kept_as s x ≡ None) ⊎ IsValueOf s x
+user_kept U p i t (simple ty) of c whole x given = absurd (no_single c)
   where
-    the_number : (a b : ℕ) → types.user a ≡ types.user b → a ≡ b
-    the_number a b e = cc
-other_kept U t (array e bounds) c of x other = absurd c
-other_kept U t endless c of x other = absurd c
+    no_single : IsSoundShape U (simple ty) → ⊥
+    no_single (inl h) = true≢false (sym (subst (λ z. covers_type z ≡ true) of h))
+    no_single (inr k) = cc (sym of ∙ k.2)
+user_kept U p i t (group k fs) of c whole (scalar ty z) given = inl refl
+user_kept U p i t (group k fs) of c whole (elements e dims xs) given = inl refl
+user_kept U p i t (group k fs) of c whole (fields u xs) given = by (nat_eq k u) refl
+  where
+    by : (b : Bool) → nat_eq k u ≡ b → (kept_as (group k fs) (fields u xs) ≡ None) ⊎ IsValueOf (group k fs) (fields u xs)
+    by true e =
+        inr (subst (λ s. IsValueOf s (fields u xs)) whole
+        (subst (λ (n : ℕ). IsValueOf (user_shapes U.program.declarations n) (fields u xs)) (sym (eqb-true k u e)) given))
+    by false e = inl (ap (λ b. if_of_shape b (fields u xs)) e)
+user_kept U p i t (array e bounds) of c whole x given = absurd c
+user_kept U p i t endless of c whole x given = absurd c
+
+-- and so is what a variable of a class keeps
+group_kept : (U : Upgrade) (p i : ℕ) (ty : Ty) → covers_group_type U.program.declarations ty ≡ true → IsSoundShape U (type_shape U ty) → (x : Value)
+    → IsGivable U p i x → (kept_as (type_shape U ty) x ≡ None) ⊎ IsValueOf (type_shape U ty) x
+group_kept U p i (types.user t) h c x given =
+    user_kept U p i t (user_shapes U.program.declarations t) (covered_type_of U.program.declarations t h) c (declared_user U t h) x given
+group_kept U p i (types.class k) h c (scalar ty z) given = by (is_same_type (types.class k) ty) refl
+  where
+    by : (b : Bool) → is_same_type (types.class k) ty ≡ b → (kept_as (simple (types.class k)) (scalar ty z) ≡ None) ⊎ (ty ≡ types.class k)
+    by true e = inr (sym (group_type_is (types.class k) ty refl e))
+    by false e = inl (ap (λ b. if_of_shape (b && is_typed ty z) (scalar ty z)) e)
+group_kept U p i (types.class k) h c (fields u xs) given = inl refl
+group_kept U p i (types.class k) h c (elements e dims xs) given = inl refl
+group_kept U p i _ h c x given = absurd (true≢false (sym h))
 
 -- ---- making
 
@@ -116,45 +127,49 @@ module _ (U : Upgrade) (K : Pledge) (makes : MakesAlike U K) where
       own_local w v r.variable.ty t (make_with s x w.src) (net.made_with (shape.scalar t) y w.net) low (makes_with_next s x w.src)
       (makes.scalars_given w0 w v r t x y e l like)
 
-  -- so is a variable of a user type
-  pub group_is_given : (w0 w : World) (v t : ℕ) (r : IsGroup U v t) (d : shape.Shape) (x : Value) (y : net_value.Value)
-      → SameShape U (variable_shape U.program.declarations v) d → Below K.base (mark w.src) → Later U K w0 w
-      → ValueMatch U (variable_shape U.program.declarations v) w0 x y
-      → Agrees U K w (Local U K v) (make_with (variable_shape U.program.declarations v) x w.src) (net.made_with d y w.net)
-  group_is_given w0 w v t r d x y same low l like =
+  -- so it is with a variable of a user type or of a class
+  own_group : (w : World) (v : ℕ) (ty : Ty) (r : IsGroup U v ty) (d : shape.Shape) (z : Outcome Memory Address) (z' : Outcome net.Memory net.Address)
+      → SameShape U (variable_shape U.program.declarations v) d → Below K.base (mark w.src)
+      → Yields (λ (a : Address) (u : Memory). a ≡ root (variable_shape U.program.declarations v) (whole (made w.src.next))) z
+      → Agrees U K w (GroupMade U K v d) z z' → Agrees U K w (Local U K v) z z'
+  own_group w v ty r d z z' same low y h =
       let s : Shape = variable_shape U.program.declarations v in
       let Q : Address → Memory → Type 0 = λ a u. a ≡ root s (whole (made w.src.next)) in
-      let z = make_with s x w.src in
-      let z' = net.made_with d y w.net in
       agrees_weaker U K w (λ u a b. GroupMade U K v d u a b × Q a u.src) (Local U K v) z z'
       (λ u a b later m. record {
         bound = images (not (is_quiet U.program.declarations U.known v)) a b m.0.same;
-        ranked = subst (λ e. HasRankOf U v (net.shape_at e)) (sym m.0.target_shape.1) (group_unranked U v t r d same);
+        ranked = subst (λ e. HasRankOf U v (net.shape_at e)) (sym m.0.target_shape.1) (group_unranked U v ty r d same);
         standing = inl (record { place = m.0.place; own = new_place K w a s low m.1 });
-      }) (agrees_yields U K w (GroupMade U K v d) Q z z' (makes_with_next s x w.src) (makes.groups_given w0 w v t r d x y same l like))
+      }) (agrees_yields U K w (GroupMade U K v d) Q z z' y h)
+
+  pub group_is_made : (w : World) (v : ℕ) (ty : Ty) (r : IsGroup U v ty) (d : shape.Shape) → SameShape U (variable_shape U.program.declarations v) d
+      → Below K.base (mark w.src) → MemoryMatch U w
+      → Agrees U K w (Local U K v) (make (variable_shape U.program.declarations v) w.src) (net.made_with d (shape.default_of d) w.net)
+  group_is_made w v ty r d same low h =
+      let s : Shape = variable_shape U.program.declarations v in
+      own_group w v ty r d (make s w.src) (net.made_with d (shape.default_of d) w.net) same low (makes_next s w.src) (makes.groups w v ty r d same h)
+
+  group_is_given : (w0 w : World) (v : ℕ) (ty : Ty) (r : IsGroup U v ty) (d : shape.Shape) (x : Value) (y : net_value.Value)
+      → SameShape U (variable_shape U.program.declarations v) d → Below K.base (mark w.src) → Later U K w0 w
+      → ValueMatch U (variable_shape U.program.declarations v) w0 x y
+      → Agrees U K w (Local U K v) (make_with (variable_shape U.program.declarations v) x w.src) (net.made_with d y w.net)
+  group_is_given w0 w v ty r d x y same low l like =
+      let s : Shape = variable_shape U.program.declarations v in
+      own_group w v ty r d (make_with s x w.src) (net.made_with d y w.net) same low (makes_with_next s x w.src)
+      (makes.groups_given w0 w v ty r d x y same l like)
 
   -- a value of another type makes none
-  group_none : (w : World) (v t : ℕ) (r : IsGroup U v t) (d : shape.Shape) (x : Value) (y : net_value.Value) → IsOther t x
+  group_none : (w : World) (v : ℕ) (ty : Ty) (r : IsGroup U v ty) (d : shape.Shape) (x : Value) (y : net_value.Value) → kept_as (type_shape U ty) x ≡ None
       → Agrees U K w (Local U K v) (make_with (variable_shape U.program.declarations v) x w.src) (net.made_with d y w.net)
-  group_none w v t r d x y other =
-      let c : IsSoundShape U (variable_shape U.program.declarations v) = group_shape U v t r in
-      let none : kept_as (variable_shape U.program.declarations v) x ≡ None =
-      other_kept U t (variable_shape U.program.declarations v) c
-      (ap type_of_shape (group_shape_is U v t r) ∙ covered_type_of U.program.declarations t r.covers) x other in
+  group_none w v ty r d x y none =
       subst (λ z. Agrees U K w (Local U K v) z (net.made_with d y w.net))
-      (sym (make_with_none U (variable_shape U.program.declarations v) c w.src x none)) (agrees_outside U K w (Local U K v) (net.made_with d y w.net))
+      (sym (make_with_none U (variable_shape U.program.declarations v) (group_shape U v ty r) w.src x
+      (ap (λ s. kept_as s x) (group_shape_is U v ty r) ∙ none))) (agrees_outside U K w (Local U K v) (net.made_with d y w.net))
 
-  pub group_value_agrees : (w0 w : World) (v t : ℕ) (r : IsGroup U v t) (p i : ℕ) (x : Value) (y : net_value.Value) → LikeV U w0 x y → IsGivable U p i x
+  pub group_value_agrees : (w0 w : World) (v : ℕ) (ty : Ty) (r : IsGroup U v ty) (p i : ℕ) (x : Value) (y : net_value.Value) → LikeV U w0 x y → IsGivable U p i x
       → Below K.base (mark w.src) → Later U K w0 w → (d : shape.Shape) → SameShape U (variable_shape U.program.declarations v) d
       → Agrees U K w (Local U K v) (make_with (variable_shape U.program.declarations v) x w.src) (net.made_with d y w.net)
-  group_value_agrees w0 w v t r p i (scalar ty z) y like given low l d same = group_none w v t r d (scalar ty z) y tt
-  group_value_agrees w0 w v t r p i (elements e dims xs) y like given low l d same = group_none w v t r d (elements e dims xs) y tt
-  group_value_agrees w0 w v t r p i (fields u xs) y like given low l d same =
-      by_test (nat_eq t u)
-      (λ b. Agrees U K w (Local U K v) (make_with (variable_shape U.program.declarations v) (fields u xs) w.src) (net.made_with d y w.net))
-      (λ e. group_is_given w0 w v t r d (fields u xs) y same low l (
-        subst (λ s. IsValueOf s (fields u xs)) (sym (group_shape_is U v t r))
-            (subst (λ (n : ℕ). IsValueOf (user_shapes U.program.declarations n) (fields u xs)) (sym (eqb-true t u e)) given),
-        like,
-      ))
-      (λ e. group_none w v t r d (fields u xs) y e)
+  group_value_agrees w0 w v ty r p i x y like given low l d same =
+      ⊎_elim (λ none. group_none w v ty r d x y none)
+      (λ of. group_is_given w0 w v ty r d x y same low l (subst (λ s. IsValueOf s x) (sym (group_shape_is U v ty r)) of, like))
+      (group_kept U p i ty r.covers r.sound x given)

@@ -11,9 +11,11 @@ use Rattle.bound_facts.specs.Effects.{is_own_owner, is_own_variable}
 use Rattle.bound_facts.specs.Facts.{is_quiet}
 use Rattle.net_tree.specs.Tree as net_tree
 use Rattle.run_base.specs.Outcomes.{gives, some_of, then}
-use Rattle.run_base.specs.Positions.{made, whole}
+use Rattle.run_base.specs.Positions.{Position, made, whole}
 use Rattle.vb6_run.specs.Programs.{answer_of, result_of}
 use Rattle.vb6_run.specs.Runnables.{declared_address, owned_address, variable_address}
+use Rattle.vb6_run.specs.Shapes.{Shape, array, endless, group, simple, user_shapes, variable_shape}
+use Rattle.vb6_run.specs.Values.{Value, elements, fields, scalar}
 use Rattle.vb6_run.specs.Store.{Address, Memory, SourceFrame, SourceGiven, read, root}
 use Rattle.net_run.specs.Expressions as expressions
 use Rattle.net_run.specs.Lines.{NetFrame}
@@ -23,28 +25,31 @@ use Rattle.net_run.specs.Names.{var_in}
 use Rattle.net_run.specs.Program as target
 use Rattle.net_run.specs.Program.{result_at, result_by, result_in}
 use Rattle.net_run.specs.Store as net
+use Rattle.net_run.specs.Values as net_value
 use Rattle.written_trees.specs.Names.{variable_name_of}
-use Rattle.run_matches.specs.Addresses.{Bound, Same, images, mirrored, same_item, same_root}
-use Rattle.run_matches.specs.Agreeing.{Agrees, ResultMatch, HasAllFields}
+use Rattle.run_matches.specs.Addresses.{Bound, IsDeclaredShape, Same, images, mirrored, same_item, same_root}
+use Rattle.run_matches.specs.Agreeing.{Agrees, ResultMatch, HasAllFields, SentMatch}
 use Rattle.run_matches.specs.CoveredVariables.{are_different, is_named_in}
 use Rattle.run_matches.specs.Frames.{FrameMatch, HasPlace, SameVariable, declared_names, dim_name, frame_pledge, is_own_of, result_names}
-use Rattle.run_matches.specs.Likeness.{LikeV}
+use Rattle.run_matches.specs.Kinds.{IsValueOf}
 use Rattle.run_matches.specs.Maps.{Mark, World}
 use Rattle.run_matches.specs.Match.{MemoryMatch}
 use Rattle.run_matches.specs.Pledges.{NetGiven, Pledge, arrays_in}
 use Rattle.run_matches.specs.Runs.{call_pledge}
+use Rattle.run_matches.specs.SoundShapes.{IsSoundShape}
 use Rattle.run_matches.specs.Upgrades.{Upgrade, runnable_of}
-use Rattle.run_statements.specs.Frames.{IsReadable, ScalarMatch}
-use Rattle.line_laws.proofs.Uses.{own_exact}
+use Rattle.run_statements.specs.Groups.{ValueMatch}
 use Rattle.run_statements.specs.Written.{WrittenProcedure}
 use Rattle.agreeing_laws.proofs.Agreeing.{agrees_gives, agrees_outside, then_agrees}
-use Rattle.run_laws.specs.Premises.{ScalarsAreReadBy}
-use Rattle.expression_laws.proofs.Arguments.{loose_in_none, no_arrays, once_in_none}
+use Rattle.run_laws.specs.Entered.{IsResult}
+use Rattle.run_laws.specs.Premises.{GroupsAreReadBy}
+use Rattle.expression_laws.proofs.Arguments.{loose_in_none, once_in_none}
+use Rattle.expression_laws.proofs.GroupArguments.{value_without}
+use Rattle.name_laws.proofs.Owns.{usable_sound}
 use Rattle.run_laws.proofs.Covered.{CoveredProcedure, not_none, same_name, some_is}
 use Rattle.run_laws.proofs.Heads.{HasAnswer, HasNone, a_result, answer_parts, no_result}
 use Rattle.run_laws.proofs.Names.{names_in_code}
-use Rattle.run_laws.proofs.ParametersMade.{readable_type}
-use Rattle.memory_laws.proofs.Making.{readable_shape}
+use Rattle.run_laws.proofs.Usable.{result_declared, result_exact, result_shape, result_usable}
 
 -- ---- the variable at a place, where all names differ
 
@@ -97,9 +102,31 @@ exact_is : (U : Upgrade) (K : Pledge) (w : World) (exact : Bool) (a : Address) (
 exact_is U K w _ _ _ e (images exact a b same) = same
 exact_is U K w _ _ _ e (mirrored a b m) = absurd (true≢false (sym e))
 
+-- a value of a shape without an array is sent as it is
+whole_value : (U : Upgrade) (s : Shape) → IsDeclaredShape U s → (x : Value) → IsValueOf s x → HasAllFields U x
+whole_value U s declared (scalar ty z) of = tt
+whole_value U s declared (elements e dims xs) of = tt
+whole_value U (group t fs) declared (fields u xs) of =
+    subst (λ (n : ℕ). IsValueOf (user_shapes U.program.declarations n) (fields u xs)) (sym of.0)
+    (subst (λ s. IsValueOf s (fields u xs)) (sym declared) of)
+whole_value U (simple ty) declared (fields u xs) of = absurd of
+whole_value U (array e bounds) declared (fields u xs) of = absurd of
+whole_value U endless declared (fields u xs) of = absurd of
+
+value_sent : (U : Upgrade) (w : World) (s : Shape) (x : Value) (y : net_value.Value) → IsSoundShape U s → IsDeclaredShape U s → ValueMatch U s w x y
+    → SentMatch U w x y
+value_sent U w s x y c declared m =
+    let none : arrays_in y ≡ [] = value_without U w s x y c m.0 m.1 in
+    record {
+      like = m.1;
+      whole = whole_value U s declared x m.0;
+      loose = λ k among. loose_in_none (arrays_in y) k none among;
+      once = once_in_none (arrays_in y) none;
+    }
+
 module _ (U : Upgrade) (p : ℕ) (c : CoveredProcedure U.program p) (W : WrittenProcedure U p c.site c.procedure)
     (names : are_different (declared_names W.code) ≡ true) (base : Mark) (me : Option ℕ) (xs : List SourceGiven) (ys : List NetGiven)
-    (reads : ScalarsAreReadBy U (call_pledge U p base me xs ys)) where
+    (reads : GroupsAreReadBy U (call_pledge U p base me xs ys)) where
   abbrev K : Pledge
   K = call_pledge U p base me xs ys
 
@@ -128,7 +155,7 @@ module _ (U : Upgrade) (p : ℕ) (c : CoveredProcedure U.program p) (W : Written
   of_call w f _ _ (same_root s d q sh m k) = same_root s d q sh m k
   of_call w f _ _ (same_item e s d q k j path keeps m has part sh) = same_item e s d q k j path keeps m has part sh
 
-  module _ (h : HasAnswer D p x) (r : IsReadable U h.id.0) (w : World) (f : SourceFrame) (g : NetFrame) (m : MemoryMatch U w) (F : FrameMatch U (frame_pledge U p w f) w p f g) where
+  module _ (h : HasAnswer D p x) (r : IsResult U h.id.0) (w : World) (f : SourceFrame) (g : NetFrame) (m : MemoryMatch U w) (F : FrameMatch U (frame_pledge U p w f) w p f g) where
     abbrev ns : List (List ℕ)
     ns = declared_names W.code
 
@@ -170,29 +197,25 @@ module _ (U : Upgrade) (p : ℕ) (c : CoveredProcedure U.program p) (W : Written
         → Agrees U K w (ResultMatch U) (some_of o (λ a w. then (read a w) (λ x w. gives [] (Some x) w)) w.src) (gives [] (Some (net.looked_up there.0.1 w.net)) w.net)
     found_agrees None e = agrees_outside U K w (ResultMatch U) (gives [] (Some (net.looked_up there.0.1 w.net)) w.net)
     found_agrees (Some a) e =
-        let s : SameVariable U (frame_pledge U p w f) w h.id.0 a g = F.vars h.id.0 a e r.sound in
+        let s : Shape = variable_shape D h.id.0 in
+        let sound : IsSoundShape U s = result_shape U h.id.0 r in
+        let b : SameVariable U (frame_pledge U p w f) w h.id.0 a g = F.vars h.id.0 a e (usable_sound U h.id.0 (result_usable U h.id.0 r)) in
         let place : HasPlace U w h.id.0 a = F.own h.id.0 a e is_own in
-        let name : var_in g.vars x.name ≡ Some s.address =
-        subst (λ n. var_in g.vars n ≡ Some s.address) (ap variable_name_of h.is_variable ∙ h.name) s.found in
-        let same_address : there.0.1 ≡ s.address = some_is (sym first_there ∙ name) in
-        let same : Same U K w a s.address =
-        of_call w f a s.address
-        (exact_is U (frame_pledge U p w f) w (not (is_quiet D U.known h.id.0)) a s.address (ap not (own_exact U h.id.0 r p is_own)) s.bound) in
-        subst (λ b. Agrees U K w (ResultMatch U) (then (read a w.src) (λ x w. gives [] (Some x) w)) (gives [] (Some (net.looked_up b w.net)) w.net)) (sym same_address)
-        (then_agrees U K w (ScalarMatch U r.variable.ty) (ResultMatch U) (read a w.src) (expressions.read s.address w.net) (λ x w. gives [] (Some x) w)
-        (λ y t. gives [] (Some y) t) m
-        (reads w a s.address r.variable.ty (readable_type U h.id.0 r) m same
-        (whole (made place.place), place.stands ∙ ap (λ d. root d (whole (made place.place))) (readable_shape U h.id.0 r)))
+        let q : Position = whole (made place.place) in
+        let name : var_in g.vars x.name ≡ Some b.address =
+        subst (λ n. var_in g.vars n ≡ Some b.address) (ap variable_name_of h.is_variable ∙ h.name) b.found in
+        let same_address : there.0.1 ≡ b.address = some_is (sym first_there ∙ name) in
+        let same : Same U K w (root s q) b.address =
+        subst (λ z. Same U K w z b.address) place.stands
+        (of_call w f a b.address
+        (exact_is U (frame_pledge U p w f) w (not (is_quiet D U.known h.id.0)) a b.address (ap not (result_exact U h.id.0 p is_own r)) b.bound)) in
+        subst (λ z. Agrees U K w (ResultMatch U) (then (read a w.src) (λ x w. gives [] (Some x) w)) (gives [] (Some (net.looked_up z w.net)) w.net)) (sym same_address)
+        (subst (λ z. Agrees U K w (ResultMatch U) (then (read z w.src) (λ x w. gives [] (Some x) w)) (gives [] (Some (net.looked_up b.address w.net)) w.net))
+        (sym place.stands)
+        (then_agrees U K w (ValueMatch U s) (ResultMatch U) (read (root s q) w.src) (expressions.read b.address w.net) (λ x w. gives [] (Some x) w)
+        (λ y t. gives [] (Some y) t) m (reads w s q b.address sound m same)
         (λ v y u n later.
-        let like = subst (λ z. LikeV U u z y) (sym n.1) n.2 in
-        let none = no_arrays U u r.variable.ty n.0 y n.2 in
-        agrees_gives U K u (ResultMatch U) (Some v) (Some y) later.match
-        (record {
-          like = like;
-          whole = subst (λ z. HasAllFields U z) (sym n.1) tt;
-          loose = λ k c. loose_in_none (arrays_in y) k none c;
-          once = once_in_none (arrays_in y) none;
-        })))
+        agrees_gives U K u (ResultMatch U) (Some v) (Some y) later.match (value_sent U u s v y sound (result_declared U h.id.0 r) n))))
 
     -- a Function gives what it holds
     some_agrees : Agrees U K w (ResultMatch U) (answer_of (runnable_of U) f x.answer w.src) (result_by W.code (members.result_of W.code) g w.net)
@@ -203,13 +226,13 @@ module _ (U : Upgrade) (p : ℕ) (c : CoveredProcedure U.program p) (W : Written
         (λ o. Agrees U K w (ResultMatch U) (some_of o (λ a w. then (read a w) (λ x w. gives [] (Some x) w)) w.src)
         (gives [] (Some (net.looked_up there.0.1 w.net)) w.net)) (sym address_is) (found_agrees (lookup (nat_eq h.id.0) f.vars) refl)))
 
-  by_answer : HasNone x ⊎ HasAnswer D p x → ((h : HasAnswer D p x) → IsReadable U h.id.0) → (w : World) (f : SourceFrame) (g : NetFrame) → MemoryMatch U w
+  by_answer : HasNone x ⊎ HasAnswer D p x → ((h : HasAnswer D p x) → IsResult U h.id.0) → (w : World) (f : SourceFrame) (g : NetFrame) → MemoryMatch U w
       → FrameMatch U (frame_pledge U p w f) w p f g
       → Agrees U K w (ResultMatch U) (answer_of (runnable_of U) f x.answer w.src) (result_by W.code (members.result_of W.code) g w.net)
   by_answer (inl h) readable w f g m F = none_agrees h w f g m
   by_answer (inr h) readable w f g m F = some_agrees h (readable h) w f g m F
 
-  pub results_agree : ((h : HasAnswer D p x) → IsReadable U h.id.0) → (w : World) (f : SourceFrame) (g : NetFrame) → MemoryMatch U w → FrameMatch U (frame_pledge U p w f) w p f g
+  pub results_agree : ((h : HasAnswer D p x) → IsResult U h.id.0) → (w : World) (f : SourceFrame) (g : NetFrame) → MemoryMatch U w → FrameMatch U (frame_pledge U p w f) w p f g
       → Agrees U K w (ResultMatch U) (result_of (runnable_of U) p f w.src) (target.result U.written W.number g w.net)
   results_agree readable w f g m F =
       subst (λ z. Agrees U K w (ResultMatch U) z (target.result U.written W.number g w.net)) (sym (source_is f w.src))

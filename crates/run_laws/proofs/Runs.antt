@@ -25,7 +25,7 @@ use Rattle.net_run.specs.Store as net
 use Rattle.run_matches.specs.Addresses.{AllLocked, ArgsMatch}
 use Rattle.run_matches.specs.Agreeing.{Agrees, ResultMatch}
 use Rattle.run_matches.specs.CleanLines.{lines_at, or_none}
-use Rattle.run_matches.specs.CoveredVariables.{are_different, belongs_to, covers_array_owner, covers_group_owner}
+use Rattle.run_matches.specs.CoveredVariables.{are_different, belongs_to, covers_array_owner}
 use Rattle.run_matches.specs.CoveredExprs.{uses_in}
 use Rattle.run_matches.specs.CoveredLines.{covers_in_block, covers_line, has_sound_label}
 use Rattle.run_matches.specs.Covered.{covers_procedure, keeps_blocks, covers_calls, is_scalar_or_loud}
@@ -36,7 +36,7 @@ use Rattle.run_matches.specs.Pledges.{Later, NetGiven, Pledge}
 use Rattle.run_matches.specs.Runs.{CallsAgree, IsObject, SameRun, call_pledge}
 use Rattle.run_matches.specs.Upgrades.{Upgrade, runnable_of}
 use Rattle.run_statements.specs.Arrays.{ArraysAreMade, StaticArraysAreLaid}
-use Rattle.run_statements.specs.Frames.{IsReadable, IsUsable, LocalsAreMade, ValuesAreMade}
+use Rattle.run_statements.specs.Frames.{IsUsable, LocalsAreMade, ValuesAreMade}
 use Rattle.run_statements.specs.Groups.{GroupsAreGiven, GroupsAreMade, StaticGroupsAreLaid}
 use Rattle.run_statements.specs.Kept.{CanCallFrom, OwnsAreKept, SameWays}
 use Rattle.run_statements.specs.Written.{Passes, SameRuns, WrittenLine, WrittenProcedure}
@@ -48,9 +48,9 @@ use Rattle.agreeing_laws.proofs.Machines.{stepped_agrees}
 use Rattle.agreeing_laws.proofs.Made.{below_self, below_then}
 use Rattle.agreeing_laws.proofs.Moves.{locks_later}
 use Rattle.agreeing_laws.proofs.OwnObjects.{own_object_later}
-use Rattle.run_laws.specs.Entered.{RunMatch}
+use Rattle.run_laws.specs.Entered.{IsResult, RunMatch}
 use Rattle.run_laws.specs.Premises.{ArraysHaveRanks, CallsMakeAlike, RunPremises}
-use Rattle.run_laws.proofs.Covered.{CoveredProcedure, all_at, blocks_are_kept, covered_parts, form_at, form_covered, jumps_soundly, labels_are_sound, no_property, not_none, some_is, extents_given, own_covered_at, scalar_declared}
+use Rattle.run_laws.proofs.Covered.{CoveredProcedure, all_at, blocks_are_kept, covered_parts, form_at, form_covered, jumps_soundly, labels_are_sound, no_property, not_none, some_is, extents_given, own_covered_at}
 use Rattle.run_laws.proofs.Entries.{all_names, entries_agree}
 use Rattle.line_laws.proofs.Called.{use_calls}
 use Rattle.run_laws.proofs.Callees.{call_fits, call_suits, callee_covered, callee_within, can_call, call_hands}
@@ -60,6 +60,7 @@ use Rattle.run_laws.proofs.Keeping.{line_keeps}
 use Rattle.run_laws.proofs.Lines.{LineSame, body_is, line_is, line_same}
 use Rattle.run_laws.proofs.Reaching.{IsLineOf, clean_called, covered_called}
 use Rattle.run_laws.proofs.Results.{results_agree}
+use Rattle.run_laws.proofs.Usable.{result_is}
 use Rattle.run_laws.proofs.Turns.{BodyRuns, LineRuns, Rest, body_agrees}
 
 -- ---- a procedure that passes
@@ -101,13 +102,13 @@ module _ (U : Upgrade) (h : RunPremises U) where
     ranked : ArraysHaveRanks U
     ranked = h.ranked (extents_given U.program p c.variables)
 
-    -- its result variable is a scalar
-    answer_readable : (a : HasAnswer U.program.declarations p (parts p pass).procedure) → IsReadable U a.id.0
-    answer_readable a =
+    -- its result variable is no array
+    answer_is : (a : HasAnswer U.program.declarations p (parts p pass).procedure) → IsResult U a.id.0
+    answer_is a =
         let owned : belongs_to p a.variable.owner ≡ true = ap (belongs_to p) a.owner ∙ a.own in
-        h.owned_scalars p a.id.0 a.variable pass.0 a.is_variable owned
-        (scalar_declared U.program.declarations a.variable (ap covers_array_owner a.owner) (ap covers_group_owner a.owner) (own_covered_at U.program p a.id.0 a.variable c.variables a.is_variable owned))
-        (answer_sound U p a)
+        result_is U a.id.0 a.variable a.is_variable (ap covers_array_owner a.owner)
+        (own_covered_at U.program p a.id.0 a.variable c.variables a.is_variable owned)
+        (usable a.id.0 a.variable a.is_variable owned (answer_sound U p a))
 
     -- ---- lines
 
@@ -173,7 +174,7 @@ module _ (U : Upgrade) (h : RunPremises U) where
         }
 
     names_differ : are_different (declared_names (written p pass).code) ≡ true
-    names_differ = subst (λ ns. are_different ns ≡ true) (all_names U p c W kept usable answer_readable ranked h.groups) c.different
+    names_differ = subst (λ ns. are_different ns ≡ true) (all_names U p c W kept usable answer_is ranked h.groups) c.different
 
     pub body : BodyRuns U p (written p pass).number
     body = record {
@@ -183,7 +184,7 @@ module _ (U : Upgrade) (h : RunPremises U) where
       are_net_lines = slice_get-map target.body_of (codes_of N) W.number ∙ ap (λ (o : Option net_members.Code). option_map target.body_of o) W.is_code;
       line = one_line;
       ends = h.no_further p c.site c.procedure c.is_site c.is_procedure W;
-      result = λ base me xs ys w f g m F. results_agree U p c W names_differ base me xs ys (h.read p base me xs ys) answer_readable w f g m F;
+      result = λ base me xs ys w f g m F. results_agree U p c W names_differ base me xs ys (h.read p base me xs ys) answer_is w f g m F;
       covers = subst (λ ls. list_all (covers_line U.program p) ls ≡ true) (sym lines_are) c.covers;
     }
 
@@ -210,7 +211,7 @@ module _ (U : Upgrade) (h : RunPremises U) where
       then_agrees U K w (RunMatch U K p me) (ResultMatch U) (entered_as R p me locked xs w.src)
       (target.enter N W.number (option_map w.map.objects me) tt ys w.net) (λ f s. go (source.machine_of R) n (runs p f) s)
       (λ g t. go (target.machine_of N) n (runs W.number g) t) m
-      (entries_agree U p c W (kept p pass) (usable p pass) (answer_readable p pass) (ranked p pass) h.groups base me xs ys (h.makes p base me xs ys) locked w0 w start args
+      (entries_agree U p c W (kept p pass) (usable p pass) (answer_is p pass) (ranked p pass) h.groups base me xs ys (h.makes p base me xs ys) locked w0 w start args
       l obj own held low m)
       (λ f g u r later. turns.rests p pass base me xs ys u f g r later.match)
 

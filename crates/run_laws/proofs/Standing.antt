@@ -1,5 +1,5 @@
 -- What holds of the variables of a frame that an entry makes: those in places, and Statics.
-use Rattle.std.proofs.Common.{◌≡◌, refl, sym, ap, subst, ◌∙◌, ℕ, ◌<◌, ◌≤◌, arith, true, false, cond, not, Option, Some, None, List, [], ◌∷◌, ◌++◌, map, zero, suc, Bool, ◌⊎◌, inl, inr, true≢false, ◌&&◌, ⊎_elim}
+use Rattle.std.proofs.Common.{◌≡◌, refl, sym, ap, subst, ◌∙◌, ℕ, ◌<◌, ◌≤◌, true, false, cond, not, Option, Some, None, List, [], ◌∷◌, ◌++◌, zero, suc, Bool, true≢false, ◌&&◌, ⊎_elim}
 use Rattle.std.specs.Prelude.{slice_get}
 use Rattle.up_base.proofs.Tests.{both_true, either}
 use Rattle.vb_tree.specs.Tree.{Form}
@@ -9,16 +9,12 @@ use Rattle.bound_facts.specs.SelfMade.{module_of}
 use Rattle.net_tree.specs.Tree as net_tree
 use Rattle.run_base.specs.Frames.{Kept, keeps_address, keeps_nothing}
 use Rattle.run_base.specs.Positions.{Position, Root, made, shared, whole}
-use Rattle.vb6_run.specs.Programs.{entry, is_static_of}
+use Rattle.vb6_run.specs.Programs.{is_static_of}
 use Rattle.vb6_run.specs.Runnables.{is_class_file, object_root, static_root}
 use Rattle.vb6_run.specs.Values.{Value}
 use Rattle.vb6_run.specs.Shapes.{variable_shape}
 use Rattle.vb6_run.specs.Store.{Address, SourceFrame}
-use Rattle.net_run.specs.Program as target
-use Rattle.net_run.specs.Shapes as shape
 use Rattle.net_run.specs.Shapes.{module_in}
-use Rattle.net_run.specs.Store as net
-use Rattle.written_trees.specs.Heads as heads
 use Rattle.written_trees.specs.Names.{Scope}
 use Rattle.run_matches.specs.Addresses.{IsPlain}
 use Rattle.run_matches.specs.CoveredVariables.{are_different, is_named_in}

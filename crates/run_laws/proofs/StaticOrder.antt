@@ -1,5 +1,5 @@
 -- In the source the Statics of an entry are laid behind its local variables; they could as well be laid where they stand among them.
-use Rattle.std.proofs.Common.{◌≡◌, refl, sym, ap, subst, ◌∙◌, ℕ, suc, Bool, true, false, cond, List, [], ◌∷◌, ◌++◌, map, Option, Some}
+use Rattle.std.proofs.Common.{◌≡◌, refl, sym, ap, ◌∙◌, ℕ, suc, Bool, true, false, cond, List, [], ◌∷◌, ◌++◌, Option, Some}
 use Rattle.bound_tree.specs.Tree.{Declarations}
 use Rattle.run_base.specs.Outcomes.{Outcome, gives, outside, after, then, some_of}
 use Rattle.run_base.specs.Positions.{Key, shared, made, Position, whole}

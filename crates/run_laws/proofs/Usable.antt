@@ -1,8 +1,11 @@
--- What is known of scalars, arrays and user types alike: their shapes, and what a Static holds.
-use Rattle.std.proofs.Common.{◌≡◌, refl, sym, ap, subst, ◌∙◌, inl, inr, ⊎_elim, ℕ, Bool, true, false, not, true≢false, Some, List, [], ◌∷◌}
+-- What is known of scalars, arrays, user types and objects alike: their shapes, and what a Static holds.
+use Rattle.std.proofs.Common.{◌≡◌, refl, sym, ap, subst, ◌∙◌, inl, inr, ⊎_elim, ℕ, Bool, true, false, not, true≢false, eqb-true, Some, List, [], ◌∷◌}
 use Rattle.std.specs.Prelude.{is_some, slice_get}
+use Rattle.vb_tree.specs.BoundTree as types
 use Rattle.vb_tree.specs.BoundTree.{Ty}
 use Rattle.bound_tree.specs.Tree.{Variable}
+use Rattle.bound_facts.specs.Facts.{is_quiet}
+use Rattle.bound_facts.specs.Locks.{is_same_type}
 use Rattle.bound_facts.specs.Node.{is_array_type}
 use Rattle.written_trees.specs.Facts.{is_array_variable}
 use Rattle.net_meaning.specs.declared.value.ValueN.TheVariants as n
@@ -15,24 +18,31 @@ use Rattle.vb6_run.specs.Values.{Dimension, Values, first_value, is_makeable}
 use Rattle.net_run.specs.Shapes as shape
 use Rattle.net_run.specs.Store as net
 use Rattle.net_tree.specs.Types.{TypeName}
-use Rattle.run_matches.specs.Addresses.{AllMatched, AllRanked}
+use Rattle.run_matches.specs.Addresses.{AllMatched, AllRanked, IsDeclaredShape}
+use Rattle.run_matches.specs.CoveredVariables.{covers_array_owner, covers_declared}
+use Rattle.run_matches.specs.Frames.{is_own_of}
 use Rattle.run_matches.specs.Kinds.{IsKind, AreKinds}
 use Rattle.run_matches.specs.Likeness.{Numbers, SameShape, numbers_of, same_array, same_scalar, scalar_word}
 use Rattle.run_matches.specs.Maps.{IsMatched, World, moved_at}
 use Rattle.run_matches.specs.Match.{HasRank, HeldLike, StoreMatch, holds_blank, holds_parts, holds_single, holds_table}
+use Rattle.run_matches.specs.SoundShapes.{IsSoundShape}
 use Rattle.run_matches.specs.Upgrades.{Upgrade, has_bounds, is_flagged, variable_key}
+use Rattle.run_matches.specs.UserTypes.{is_group_type}
 use Rattle.run_statements.specs.Arrays.{array_shape}
 use Rattle.run_statements.specs.Frames.{IsArray, IsGroup, IsReadable, IsUsable}
 use Rattle.agreeing_laws.specs.Promises.{Yields}
 use Rattle.name_laws.proofs.Words.{simple_type}
 use Rattle.agreeing_laws.proofs.SoundParts.{all_matched_made, all_ranked_sound}
+use Rattle.agreeing_laws.proofs.UserShapes.{declared_group}
 use Rattle.memory_laws.specs.Laying.{HasEnd}
-use Rattle.memory_laws.proofs.GroupsMade.{group_shape, group_sound, group_type}
+use Rattle.memory_laws.proofs.GroupsMade.{group_shape, group_shape_is, group_sound, group_type}
 use Rattle.memory_laws.proofs.LaidValues.{laid_is, sound_end, stands_laid}
-use Rattle.memory_laws.proofs.Making.{readable_shape}
+use Rattle.memory_laws.proofs.Making.{readable_shape, readable_type}
 use Rattle.run_base.specs.Positions.{Key}
-use Rattle.run_laws.specs.Entered.{StaticMatch}
+use Rattle.run_laws.specs.Entered.{IsResult, StaticMatch}
 use Rattle.run_laws.specs.Premises.{ArraysHaveRanks}
+use Rattle.run_laws.proofs.Covered.{no_array_declared, some_is}
+use Rattle.line_laws.proofs.Uses.{own_exact}
 
 -- ---- shapes
 
@@ -53,6 +63,42 @@ pub usable_end : (U : Upgrade) (v : ℕ) → IsUsable U v → HasEnd (variable_s
 usable_end U v (inl r) = subst (λ s. HasEnd s) (sym (readable_shape U v r)) tt
 usable_end U v (inr (inl a)) = subst (λ s. HasEnd s) (sym (array_shape_is U v a.0 a.1)) tt
 usable_end U v (inr (inr g)) = sound_end U (variable_shape U.program.declarations v) (group_shape U v g.0 g.1)
+
+-- a user type and a class are what they are compared with
+pub group_type_is : (s t : Ty) → is_group_type s ≡ true → is_same_type s t ≡ true → s ≡ t
+group_type_is (types.user m) (types.user n) h e = ap types.user (eqb-true m n e)
+group_type_is (types.user m) _ h e = absurd (true≢false (sym e))
+group_type_is (types.class m) (types.class n) h e = ap types.class (eqb-true m n e)
+group_type_is (types.class m) _ h e = absurd (true≢false (sym e))
+group_type_is _ t h e = absurd (true≢false (sym h))
+
+-- ---- result variables
+
+pub result_usable : (U : Upgrade) (v : ℕ) → IsResult U v → IsUsable U v
+result_usable U v (inl r) = inl r
+result_usable U v (inr g) = inr (inr g)
+
+-- what can be used is one where it is no array
+pub result_is : (U : Upgrade) (v : ℕ) (x : Variable) → slice_get U.program.declarations.vars v ≡ Some x → covers_array_owner x.owner ≡ false
+    → covers_declared U.program.declarations x ≡ true → IsUsable U v → IsResult U v
+result_is U v x is none covers (inl r) = inl r
+result_is U v x is none covers (inr (inr g)) = inr g
+result_is U v x is none covers (inr (inl a)) =
+    absurd (no_array_declared U.program.declarations x a.0 a.1.rank
+    (ap (λ (y : Variable). y.ty) (some_is (sym is ∙ a.1.known.is_variable)) ∙ a.1.is_array) none covers)
+
+pub result_shape : (U : Upgrade) (v : ℕ) → IsResult U v → IsSoundShape U (variable_shape U.program.declarations v)
+result_shape U v (inl r) = subst (λ s. IsSoundShape U s) (sym (readable_shape U v r)) (inl (readable_type U v r))
+result_shape U v (inr g) = group_shape U v g.0 g.1
+
+pub result_declared : (U : Upgrade) (v : ℕ) → IsResult U v → IsDeclaredShape U (variable_shape U.program.declarations v)
+result_declared U v (inl r) = subst (λ s. IsDeclaredShape U s) (sym (readable_shape U v r)) tt
+result_declared U v (inr g) = subst (λ s. IsDeclaredShape U s) (sym (group_shape_is U v g.0 g.1)) (declared_group U g.0 g.1.covers)
+
+-- it is no quiet parameter
+pub result_exact : (U : Upgrade) (v p : ℕ) → is_own_of U p v ≡ true → IsResult U v → is_quiet U.program.declarations U.known v ≡ false
+result_exact U v p own (inl r) = own_exact U v r p own
+result_exact U v p own (inr g) = g.1.exact
 
 -- ---- Statics
 
@@ -148,18 +194,18 @@ module _ (U : Upgrade) (w : World) (h : StoreMatch U w) (v : ℕ) (x : Variable)
         stands = stands;
       }
 
-  -- a user type
-  pub group_static : (t : ℕ) (r : IsGroup U v t) (d : shape.Shape) → SameShape U (variable_shape U.program.declarations v) d → (b : net.Address)
+  -- a user type or an object
+  pub group_static : (ty : Ty) (r : IsGroup U v ty) (d : shape.Shape) → SameShape U (variable_shape U.program.declarations v) d → (b : net.Address)
       → b ≡ net.root d (whole (shared key)) → StaticMatch U w v b
-  group_static t r d same b stands =
+  group_static ty r d same b stands =
       let s : Shape = variable_shape U.program.declarations v in
       record {
         written = d;
         same = same;
         matched =
-            all_matched_made U w (shared (v ∷ [])) v tt key_matched.counterpart refl s [] (group_shape U v t r) (group_type U v t r)
-            (group_sound U v t r) kind;
-        ranked = all_ranked_sound U w s d (at_key v) (group_shape U v t r);
+            all_matched_made U w (shared (v ∷ [])) v tt key_matched.counterpart refl s [] (group_shape U v ty r) (group_type U v ty r)
+            (group_sound U v ty r) kind;
+        ranked = all_ranked_sound U w s d (at_key v) (group_shape U v ty r);
         key = key;
         is_key = is_key;
         stands = stands;

@@ -1,7 +1,7 @@
 -- The variables that an entry makes, and frames that run.
-use Rattle.std.specs.Prelude.{◌≡◌, ℕ, suc, true, false, not, ◌&&◌, Option, Some, List, [], ◌∷◌, nat_eq, slice_get, ◌⊎◌}
-use Rattle.std.specs.List.{list_any}
+use Rattle.std.specs.Prelude.{◌≡◌, ℕ, suc, true, false, not, Option, Some, List, [], ◌∷◌, nat_eq, slice_get, ◌⊎◌}
 use Rattle.std.specs.Map.{lookup}
+use Rattle.vb_tree.specs.BoundTree.{Ty}
 use Rattle.bound_tree.specs.Tree.{Constant, Variable}
 use Rattle.bound_facts.specs.Facts.{is_quiet}
 use Rattle.run_base.specs.Positions.{Key, made, shared, whole}
@@ -15,13 +15,13 @@ use Rattle.net_run.specs.Store as net
 use Rattle.written_trees.specs.Names.{Scope}
 use Rattle.written_trees.specs.Prologues.{constant_dim, is_static}
 use Rattle.run_matches.specs.Addresses.{AllMatched, AllRanked, Bound, IsPlain}
-use Rattle.run_matches.specs.Frames.{FrameMatch, GivenAddress, HasPlace, IsOwnAddress, frame_pledge, is_own_of, is_reference_of, stands_in, is_own_place}
+use Rattle.run_matches.specs.Frames.{FrameMatch, GivenAddress, HasPlace, IsOwnAddress, frame_pledge, is_own_of, is_reference_of, is_own_place}
 use Rattle.run_matches.specs.Likeness.{SameShape}
 use Rattle.run_matches.specs.Maps.{Below, World, mark}
 use Rattle.run_matches.specs.Pledges.{Pledge, IsOld}
 use Rattle.run_matches.specs.Sites.{Own, own_variable, own_constant}
 use Rattle.run_matches.specs.Upgrades.{Upgrade, variable_key}
-use Rattle.run_statements.specs.Frames.{HasRankOf, IsUsable}
+use Rattle.run_statements.specs.Frames.{HasRankOf, IsGroup, IsReadable, IsUsable}
 use Rattle.run_statements.specs.Kept.{IsConstantDim}
 
 -- ---- variables
@@ -63,7 +63,11 @@ pub data LocalsMatch (U : Upgrade) (K : Pledge) (w : World) : List Own → List 
   next_constant : (c : ℕ) (x : Constant) (b : List ℕ × net.Address) (os : List Own) (xs : List (ℕ × Address)) (ys : List (List ℕ × net.Address))
       → b.0 ≡ x.name → LocalsMatch U K w os xs ys → LocalsMatch U K w (own_constant c x ∷ os) xs (b ∷ ys)
 
--- a variable that is a scalar or an array, or a constant that is written as one
+-- a result variable: a scalar, or of a user type or a class
+abbrev pub IsResult : Upgrade → (variable : ℕ) → Type 0
+IsResult U v = IsReadable U v ⊎ ((ty : Ty) × IsGroup U v ty)
+
+-- a variable that is a scalar, an array or of a user type or a class, or a constant that is written as one
 abbrev pub IsSound : Upgrade → Scope → Own → Type 0
 IsSound U S (own_variable v x) = (r : IsUsable U v) × (slice_get U.program.declarations.vars v ≡ Some x)
 IsSound U S (own_constant c x) = IsConstantDim (constant_dim S (c, x))

@@ -1,7 +1,7 @@
 -- What the laws on runs need of declarations, names, memories and lines.
 use Rattle.std.specs.Prelude.{◌≡◌, ℕ, suc, Bool, true, false, Option, Some, None, slice_get, List, [], ◌∷◌}
 use Rattle.std.specs.List.{Contains}
-use Rattle.vb_tree.specs.BoundTree.{Ty, user}
+use Rattle.vb_tree.specs.BoundTree.{Ty}
 use Rattle.bound_tree.specs.Tree.{Expr, Line, Procedure, Variable}
 use Rattle.bound_facts.specs.Clean.{IsClean}
 use Rattle.run_base.specs.Machines.{nth_line, go}
@@ -10,8 +10,8 @@ use Rattle.bound_facts.specs.Parts.{line_uses}
 use Rattle.net_tree.specs.Tree as net_tree
 use Rattle.net_tree.specs.Types.{TypeName}
 use Rattle.run_base.specs.Positions.{Key, Position, shared, whole}
-use Rattle.vb6_run.specs.Shapes.{simple, variable_shape}
-use Rattle.vb6_run.specs.Store.{Address, make, SourceGiven, make_with, read, root}
+use Rattle.vb6_run.specs.Shapes.{Shape, variable_shape}
+use Rattle.vb6_run.specs.Store.{make, SourceGiven, make_with, read, root}
 use Rattle.vb6_run.specs.Values.{Value}
 use Rattle.vb6_run.specs.Programs as source
 use Rattle.vb6_run.specs.Programs.{lay_if_blank}
@@ -27,7 +27,7 @@ use Rattle.run_matches.specs.CleanLines.{IsCleanLine, lines_at}
 use Rattle.written_trees.specs.Bodies.{inside_procedure}
 use Rattle.written_trees.specs.Facts.{is_array_variable}
 use Rattle.written_trees.specs.Types.{type_with}
-use Rattle.run_matches.specs.CoveredVariables.{belongs_to, covers_declared, covers_type, covers_user, covers_variable, has_extents}
+use Rattle.run_matches.specs.CoveredVariables.{belongs_to, covers_declared, covers_user, has_extents}
 use Rattle.run_matches.specs.CoveredExprs.{uses_in}
 use Rattle.run_matches.specs.CoveredLines.{covers_line}
 use Rattle.run_matches.specs.Covered.{IsCoveredLine, covers_procedure, is_scalar_or_loud}
@@ -37,10 +37,11 @@ use Rattle.run_matches.specs.Match.{MemoryMatch}
 use Rattle.run_matches.specs.Pledges.{Later, NetGiven, Pledge}
 use Rattle.run_matches.specs.Runs.{CallsAgree, call_pledge}
 use Rattle.run_matches.specs.Sites.{Site, site_of}
+use Rattle.run_matches.specs.SoundShapes.{IsSoundShape}
 use Rattle.run_matches.specs.Upgrades.{Upgrade, home_of, runnable_of, variable_key}
 use Rattle.run_statements.specs.Fitting.{FitsLine, FitsNode}
 use Rattle.run_statements.specs.Arrays.{ArraysAreMadeBy, StaticArraysAreLaidBy}
-use Rattle.run_statements.specs.Frames.{AnyUnits, AreReadable, IsGroup, IsReadable, IsUsable, MadeMatch, ScalarMatch}
+use Rattle.run_statements.specs.Frames.{AnyUnits, AreReadable, IsGroup, IsReadable, IsUsable, MadeMatch}
 use Rattle.run_statements.specs.Groups.{GroupMade, ValueMatch}
 use Rattle.run_statements.specs.Kept.{IsUnreplaced, LabelsAreFound, LinesAgree, LinesAreWritten, NamesAreOpen, OwnsAreKept, NoFurtherLines, StoresAreOwn, UsesArePlaced, CalleesAreFound}
 use Rattle.run_statements.specs.Written.{ProceduresAreWritten, WrittenProcedure, Passes, site_scope}
@@ -84,12 +85,6 @@ OwnedAreUsable U =
     (p v : ℕ) (x : Variable) → IsClean U.program U.facts.marks p → slice_get U.program.declarations.vars v ≡ Some x → belongs_to p x.owner ≡ true
     → covers_declared U.program.declarations x ≡ true → is_scalar_or_loud U.program v x ≡ true → IsUsable U v
 
--- a scalar can be read
-abbrev pub OwnedAreReadable : Upgrade → Type 0
-OwnedAreReadable U =
-    (p v : ℕ) (x : Variable) → IsClean U.program U.facts.marks p → slice_get U.program.declarations.vars v ≡ Some x → belongs_to p x.owner ≡ true
-    → covers_variable x ≡ true → is_scalar_or_loud U.program v x ≡ true → IsReadable U v
-
 -- a local variable is made on both sides, under a pledge
 abbrev pub LocalsAreMadeBy : Upgrade → Pledge → Type 0
 LocalsAreMadeBy U K =
@@ -111,17 +106,17 @@ ValuesAreMadeBy U K =
     (make_with (variable_shape U.program.declarations v) x w.src)
     (net.made_with (shape.scalar t) y w.net)
 
--- so are variables of user types, and a Static one where none is there yet
+-- so are variables of user types and of classes, and a Static one where none is there yet
 abbrev pub GroupsAreMadeBy : Upgrade → Pledge → Type 0
 GroupsAreMadeBy U K =
-    (w : World) (v user_type : ℕ) (r : IsGroup U v user_type) (d : shape.Shape) → SameShape U (variable_shape U.program.declarations v) d → MemoryMatch U w
+    (w : World) (v : ℕ) (ty : Ty) (r : IsGroup U v ty) (d : shape.Shape) → SameShape U (variable_shape U.program.declarations v) d → MemoryMatch U w
     → Agrees U K w (GroupMade U K v d)
     (make (variable_shape U.program.declarations v) w.src)
     (net.made_with d (shape.default_of d) w.net)
 
 abbrev pub GroupsAreGivenBy : Upgrade → Pledge → Type 0
 GroupsAreGivenBy U K =
-    (w0 w : World) (v user_type : ℕ) (r : IsGroup U v user_type) (d : shape.Shape) (x : Value) (y : net_value.Value)
+    (w0 w : World) (v : ℕ) (ty : Ty) (r : IsGroup U v ty) (d : shape.Shape) (x : Value) (y : net_value.Value)
     → SameShape U (variable_shape U.program.declarations v) d → Later U K w0 w → ValueMatch U (variable_shape U.program.declarations v) w0 x y
     → Agrees U K w (GroupMade U K v d)
     (make_with (variable_shape U.program.declarations v) x w.src)
@@ -129,7 +124,7 @@ GroupsAreGivenBy U K =
 
 abbrev pub StaticGroupsAreLaidBy : Upgrade → Pledge → Type 0
 StaticGroupsAreLaidBy U K =
-    (w : World) (v user_type : ℕ) (r : IsGroup U v user_type) (home : ℕ) (key : Key) (d : net_tree.Variable) → MemoryMatch U w
+    (w : World) (v : ℕ) (ty : Ty) (r : IsGroup U v ty) (home : ℕ) (key : Key) (d : net_tree.Variable) → MemoryMatch U w
     → variable_key U v ≡ Some key → ((u : ℕ) → variable_key U u ≡ Some key → v ≡ u) → d.value ≡ None
     → SameShape U (variable_shape U.program.declarations v) (shape.shape_of U.written home d.ty)
     → Agrees U K w AnyUnits
@@ -150,25 +145,25 @@ abbrev pub CallsMakeAlike : Upgrade → Type 0
 CallsMakeAlike U =
     (p : ℕ) (base : Mark) (me : Option ℕ) (xs : List SourceGiven) (ys : List NetGiven) → MakesAlike U (call_pledge U p base me xs ys)
 
--- what is written for a variable of a user type has its shape, and nothing for it to begin with
+-- what is written for a variable of a user type or of a class has its shape, and nothing for it to begin with
 pub record GroupsAreWritten (U : Upgrade) : Type 0 where
   pub shaped :
-      (v user_type : ℕ) → IsGroup U v user_type → (home file rank : ℕ) (qualified : Bool) → home_of U file ≡ Some home
+      (v : ℕ) (ty : Ty) → IsGroup U v ty → (home file rank : ℕ) (qualified : Bool) → home_of U file ≡ Some home
       → SameShape U (variable_shape U.program.declarations v)
-      (shape.shape_of U.written home (type_with U.program.declarations file qualified rank (user user_type)))
+      (shape.shape_of U.written home (type_with U.program.declarations file qualified rank ty))
   pub unmade : (user_type : ℕ) → covers_user U.program.declarations user_type ≡ true → U.facts.is_made user_type ≡ false
   -- the module of a procedure is the one of its file
   pub homes : (p : ℕ) (s : Site) → site_of U.program.declarations p ≡ Some s → home_of U s.source_module.file ≡ Some s.home
 
--- a result variable is read on both sides
-abbrev pub ScalarsAreReadBy : Upgrade → Pledge → Type 0
-ScalarsAreReadBy U K =
-    (w : World) (a : Address) (b : net.Address) (ty : Ty) → covers_type ty ≡ true → MemoryMatch U w → Same U K w a b
-    → ((q : Position) × (a ≡ root (simple ty) q)) → Agrees U K w (ScalarMatch U ty) (read a w.src) (expressions.read b w.net)
+-- a result variable is read on both sides, as a whole
+abbrev pub GroupsAreReadBy : Upgrade → Pledge → Type 0
+GroupsAreReadBy U K =
+    (w : World) (s : Shape) (q : Position) (b : net.Address) → IsSoundShape U s → MemoryMatch U w → Same U K w (root s q) b
+    → Agrees U K w (ValueMatch U s) (read (root s q) w.src) (expressions.read b w.net)
 
 abbrev pub ResultsAreRead : Upgrade → Type 0
 ResultsAreRead U =
-    (p : ℕ) (base : Mark) (me : Option ℕ) (xs : List SourceGiven) (ys : List NetGiven) → ScalarsAreReadBy U (call_pledge U p base me xs ys)
+    (p : ℕ) (base : Mark) (me : Option ℕ) (xs : List SourceGiven) (ys : List NetGiven) → GroupsAreReadBy U (call_pledge U p base me xs ys)
 
 -- what the lines of a clean procedure use suits the ranks of arrays
 abbrev pub CleanUsesFit : Upgrade → Type 0
@@ -236,7 +231,6 @@ pub record RunPremises (U : Upgrade) : Type 0 where
   pub placed : CoveredUsesArePlaced U
   pub stores : CoveredStoresAreOwn U
   pub owned : OwnedAreUsable U
-  pub owned_scalars : OwnedAreReadable U
   pub known : AreFacts U.program U.known
   pub found : CalleesAreFound U
   pub makes : CallsMakeAlike U

@@ -8,6 +8,7 @@ mod QuietSamples
 mod ArraySamples
 mod ElementSamples
 mod TypeSamples
+mod ObjectSamples
 pub mod StoreExamples
 mod CoveredExamples
 mod LibraryExamples

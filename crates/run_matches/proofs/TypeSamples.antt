@@ -222,6 +222,9 @@ main_covered = refl
 shift_covered : covers_procedure types 1 ≡ true
 shift_covered = refl
 
+make_covered : covers_procedure types 2 ≡ true
+make_covered = refl
+
 raise_covered : covers_procedure types 3 ≡ true
 raise_covered = refl
 

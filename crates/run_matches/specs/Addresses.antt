@@ -15,6 +15,7 @@ use Rattle.net_run.specs.Shapes as shape
 use Rattle.net_run.specs.Store as net
 use Rattle.net_run.specs.Values as net_value
 use Rattle.run_matches.specs.Covered.{is_relied_at}
+use Rattle.run_matches.specs.CoveredVariables.{covers_type}
 use Rattle.run_matches.specs.Upgrades.{Upgrade, class_home, variable_key, is_flagged_field, parameter_rank, runnable_of, takes_array}
 use Rattle.run_matches.specs.Maps.{World, mark, IsMade, IsMatched, moved_at, is_auto_root, is_fixed_position}
 use Rattle.run_matches.specs.Likeness.{SameShape, LikeV, ShapedAs}
@@ -127,6 +128,7 @@ IsWhole a = is_element a ≡ false
 -- an element of an array of scalars
 pub record IsElement (a : Address) : Type 0 where
   pub ty : Ty
+  pub covers : covers_type ty ≡ true
   pub array : Position
   pub index : ℕ
   pub stands : a ≡ item (simple ty) array index []

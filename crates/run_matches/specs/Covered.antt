@@ -30,7 +30,7 @@ use Rattle.vb6_run.specs.Runnables.{is_class_file}
 use Rattle.run_matches.specs.Callees.{frame_owns, is_found}
 use Rattle.run_matches.specs.Shared.{others_differ}
 use Rattle.run_matches.specs.Upgrades.{takes_array}
-use Rattle.run_matches.specs.UserTypes.{is_user_of}
+use Rattle.run_matches.specs.UserTypes.{is_group_type, is_user}
 use Rattle.run_matches.specs.Sites.{Site, site_of, Own, own_variable, own_constant, own_name, owns_of, local_numbers, static_numbers, statement_of}
 use Rattle.run_matches.specs.CoveredVariables.{covers_type, is_loud_owner, belongs_to, covers_declared, has_extents, are_different, is_mention_of}
 use Rattle.run_matches.specs.CoveredExprs.{is_element_term, is_variable, is_relied_on}
@@ -82,7 +82,7 @@ abbrev pub is_parameter_in : (procedure : ℕ) → Option Variable → Bool
 is_parameter_in p None = false
 is_parameter_in p (Some x) = is_parameter_of p x.owner
 
--- a scalar, or no quiet parameter: an array or a user type
+-- a scalar, or no quiet parameter: an array, a user type or an object
 abbrev pub is_scalar_or_loud : Program → (variable : ℕ) → Variable → Bool
 is_scalar_or_loud P v x = covers_type x.ty || is_loud_owner P v x.owner
 
@@ -90,7 +90,7 @@ abbrev pub is_taken_in : Program → (procedure variable : ℕ) → Option Varia
 is_taken_in P p v None = false
 is_taken_in P p v (Some x) = is_parameter_of p x.owner && is_scalar_or_loud P v x
 
--- parameters by value and by reference; an array and a user type are no quiet ones
+-- parameters by value and by reference; an array, a user type and an object are no quiet ones
 abbrev pub covers_parameter : Program → (procedure : ℕ) → VarId → Bool
 covers_parameter P p v = is_taken_in P p v.0 (slice_get P.declarations.vars v.0)
 
@@ -170,9 +170,6 @@ covers_callee P p (Some s) q =
     nat_lt q (count_procedures P)
     && is_found P.declarations (slice_get P.declarations.procs p) s (slice_get P.declarations.procs q) (site_of P.declarations q)
 
-abbrev pub is_user : Ty → Bool
-is_user ty = is_user_of (λ t. true) ty
-
 abbrev pub is_item : Expr → Bool
 is_item (typed ty t) = is_element_term t
 
@@ -200,9 +197,9 @@ abbrev pub is_type_at : Declarations → Ty → Option VarId → Bool
 is_type_at D ty None = false
 is_type_at D ty (Some v) = is_parameter_type ty (slice_get D.vars v.0)
 
--- a user type goes to a parameter of that type
+-- a user type and an object go to a parameter of their type
 abbrev pub suits_group : Declarations → (procedure place : ℕ) → Expr → Bool
-suits_group D q i e = not (is_user (type_at e)) || is_type_at D (type_at e) (slice_get (params_at (slice_get D.procs q)) i)
+suits_group D q i e = not (is_group_type (type_at e)) || is_type_at D (type_at e) (slice_get (params_at (slice_get D.procs q)) i)
 
 -- a reference goes to a parameter that takes one
 abbrev pub suits_argument : Declarations → (procedure place : ℕ) → Argument → Bool

@@ -9,6 +9,7 @@ use Rattle.vb_tree.specs.declared.declared.VarId.{VarId}
 use Rattle.vb_tree.specs.declared.expression.BinOp.{BinOp}
 use Rattle.vb_tree.specs.declared.expression.BinOp.TheVariants as b
 use Rattle.vb_tree.specs.declared.value.Value6.{Value6}
+use Rattle.vb_tree.specs.declared.value.Value6.TheVariants as value
 use Rattle.bound_tree.specs.declared.body.Mention.{Mention}
 use Rattle.bound_tree.specs.declared.body.Mention.TheVariants as mention
 use Rattle.bound_tree.specs.Tree.{Variable, Program, Expr, typed, Term, constant, variable, field, element, call, library, unary, binary, convert, new_object, me, with_object, err_number, err_raise, err_clear, is_same, loose, Exprs, no_exprs, next_expr, Object, no_object, of_object, Argument, by_value, by_reference, Passed, no_passed, next_passed}
@@ -25,9 +26,9 @@ use Rattle.vb6_meaning.specs.Answers.{Answer}
 use Rattle.vb6_meaning.specs.Answers as answer
 use Rattle.vb6_meaning.specs.Values.{coerce}
 use Rattle.vb6_run.specs.Values.{is_typed}
-use Rattle.run_matches.specs.UserTypes.{is_user_of}
+use Rattle.run_matches.specs.UserTypes.{is_class_type, is_user, is_user_of}
 use Rattle.run_matches.specs.Inward.{grown, is_apart, is_inward_in}
-use Rattle.run_matches.specs.CoveredVariables.{covers_use, covers_array_use, covers_group_use, covers_user, field_type_in, is_loud, covers_type}
+use Rattle.run_matches.specs.CoveredVariables.{covers_use, covers_array_use, covers_group_use, covers_group_type, field_type_in, member_type_in, is_loud, covers_type}
 
 -- ---- operators and the library
 
@@ -85,15 +86,17 @@ covers_library lib.InputBox = true
 
 -- ---- expressions
 
--- which variables are covered: as scalars, as arrays of elements of a type, and as of user types, with the types of the fields that these
--- may be asked for; and which are no quiet parameters
+-- which variables are covered: as scalars, as arrays of elements of a type, and as of a user type or a class, with the types of the fields
+-- that user types may be asked for; and which are no quiet parameters
 pub record Uses : Type 0 where
   pub scalar : VarId → Bool
   pub array : VarId → (element : Ty) → Bool
-  pub group : VarId → (user_type : ℕ) → Bool
+  pub group : VarId → Ty → Bool
   pub field_type : (user_type field : ℕ) → Option Ty
-  -- user types that a With may keep and a call may give
-  pub user : (user_type : ℕ) → Bool
+  -- the types of the variables that objects of a class may be asked for
+  pub member_type : (class field : ℕ) → Option Ty
+  -- user types that a With may keep, user types and classes that a call may give, and classes of which Nothing is
+  pub given : Ty → Bool
   -- variables that are declared with a type
   pub is_of : VarId → Ty → Bool
   -- procedures that are seen to be inward
@@ -104,7 +107,7 @@ pub record Uses : Type 0 where
 
 abbrev pub IsUsed : Uses → VarId → Type 0
 IsUsed uses v =
-    (uses.scalar v ≡ true) ⊎ (((element : Ty) × (uses.array v element ≡ true)) ⊎ ((user_type : ℕ) × (uses.group v user_type ≡ true)))
+    (uses.scalar v ≡ true) ⊎ (((element : Ty) × (uses.array v element ≡ true)) ⊎ ((ty : Ty) × (uses.group v ty ≡ true)))
 
 abbrev pub is_declared_as : Ty → Option Variable → Bool
 is_declared_as ty None = false
@@ -142,7 +145,8 @@ uses_in P p mentions = record {
   array = covers_array_use P p mentions;
   group = covers_group_use P p mentions;
   field_type = field_type_in P.declarations mentions;
-  user = covers_user P.declarations;
+  member_type = member_type_in P.declarations mentions;
+  given = covers_group_type P.declarations;
   is_of = λ v ty. is_declared_as ty (slice_get P.declarations.vars v.0);
   inward = is_inward_in P;
   exact = λ v. is_loud P v.0 (slice_get P.declarations.vars v.0);
@@ -163,19 +167,20 @@ is_variable (typed ty t) = is_variable_in t
 abbrev mutual
   pub is_changeable_in : Uses → Term → Bool
   is_changeable_in uses (variable v qualified) = uses.exact v
-  is_changeable_in uses (field e k) = is_changeable uses e
+  is_changeable_in uses (field e k) = is_user (type_at e) && is_changeable uses e
   is_changeable_in uses (with_object root) = true
   is_changeable_in uses _ = false
 
-  -- a variable that is changed, and so is no quiet parameter, or a field of one
+  -- a variable that is changed, and so is no quiet parameter, or a field of one that is of a user type
   pub is_changeable : Uses → Expr → Bool
   is_changeable uses (typed ty t) = is_changeable_in uses t
 
 abbrev pub is_passable_in : Uses → Term → Bool
 is_passable_in uses (variable v qualified) = uses.exact v
+is_passable_in uses (field e k) = is_user (type_at e)
 is_passable_in uses t = true
 
--- nor is a variable that is given by reference
+-- nor is a variable that is given by reference; what goes for a variable of an object is a temporary
 abbrev pub is_passable : Uses → Expr → Bool
 is_passable uses (typed ty t) = is_passable_in uses t
 
@@ -208,22 +213,34 @@ abbrev pub has_inner : Uses → (of : Ty) → (field : ℕ) → Ty → Bool
 has_inner uses of k (types.user t) = has_field uses of k (types.user t)
 has_inner uses of k ty = false
 
-abbrev pub is_group : Uses → VarId → Ty → Bool
-is_group uses v (types.user t) = uses.group v t
-is_group uses v ty = false
-
 -- what a With keeps, of a user type
 abbrev pub is_kept : Uses → Ty → Term → Bool
-is_kept uses ty (with_object root) = is_user_of uses.user ty
+is_kept uses ty (with_object root) = is_user_of (λ t. uses.given (types.user t)) ty
 is_kept uses ty t = false
 
+-- ---- objects
+
+abbrev pub is_nothing_term : Term → Bool
+is_nothing_term (constant value.Nothing origin) = true
+is_nothing_term t = false
+
+abbrev pub is_nothing_in : Ty → Term → Bool
+is_nothing_in types.nothing t = is_nothing_term t
+is_nothing_in ty t = false
+
+-- Nothing itself
+abbrev pub is_nothing : Expr → Bool
+is_nothing (typed ty t) = is_nothing_in ty t
+
+-- ---- places
+
 abbrev mutual
-  -- a variable of a user type, or a field that is of a user type itself
+  -- a variable of a user type or of a class, or a field that is of a user type itself
   pub covers_place : Uses → Expr → Bool
   covers_place uses (typed ty t) = covers_place_term uses ty t
 
   pub covers_place_term : Uses → Ty → Term → Bool
-  covers_place_term uses ty (variable v qualified) = is_group uses v ty
+  covers_place_term uses ty (variable v qualified) = uses.group v ty
   covers_place_term uses ty (field e k) = has_inner uses (type_at e) k ty && covers_base uses e
   covers_place_term uses ty _ = false
 
@@ -239,6 +256,27 @@ is_scalar_type (Some ty) = covers_type ty
 abbrev pub has_scalar : Uses → (of : Ty) → (field : ℕ) → Bool
 has_scalar uses (types.user t) k = is_scalar_type (uses.field_type t k)
 has_scalar uses _ k = false
+
+-- ---- variables of objects
+
+abbrev pub is_passing : (Ty → Bool) → Option Ty → Bool
+is_passing test None = false
+is_passing test (Some ty) = test ty
+
+-- objects of a class have a variable of a type that passes
+abbrev pub has_member : Uses → (of : Ty) → (field : ℕ) → (Ty → Bool) → Bool
+has_member uses (types.class c) k test = is_passing test (uses.member_type c k)
+has_member uses of k test = false
+
+abbrev mutual
+  -- an object that is kept: by a variable, or by a variable of such an object
+  pub covers_object : Uses → Expr → Bool
+  covers_object uses (typed ty t) = covers_object_term uses ty t
+
+  pub covers_object_term : Uses → Ty → Term → Bool
+  covers_object_term uses ty (variable v qualified) = is_class_type ty && uses.group v ty
+  covers_object_term uses ty (field e k) = is_class_type ty && (has_member uses (type_at e) k (is_same_type ty) && covers_object uses e)
+  covers_object_term uses ty _ = false
 
 -- ---- bounds of arrays
 
@@ -265,8 +303,8 @@ abbrev pub covers_bounded : Uses → Exprs → Bool
 covers_bounded uses no_exprs = false
 covers_bounded uses (next_expr a rest) = covers_array uses a && covers_dimension rest
 
--- literals and uses of constants, variables, elements, fields, operators, conversions, calls of the library, bounds of arrays, Err.Number, and calls
--- without an object
+-- literals and uses of constants, variables, elements, fields, operators, conversions, calls of the library, bounds of arrays, Err.Number, calls
+-- without an object, and comparisons of objects
 abbrev mutual
   pub covers_expr : Uses → Expr → Bool
   covers_expr uses (typed ty t) = covers_type ty && covers_term uses t
@@ -274,7 +312,8 @@ abbrev mutual
   pub covers_term : Uses → Term → Bool
   covers_term uses (constant x origin) = true
   covers_term uses (variable v qualified) = uses.scalar v
-  covers_term uses (field e k) = has_scalar uses (type_at e) k && covers_base uses e
+  covers_term uses (field e k) =
+      (has_scalar uses (type_at e) k && covers_base uses e) || (has_member uses (type_at e) k covers_type && covers_object uses e)
   covers_term uses (element e indexes) = covers_array uses e && covers_exprs uses indexes
   covers_term uses (call p qualified of args) = is_without_object of && covers_passed uses args
   covers_term uses (library f args) = (covers_library f && covers_exprs uses args) || (is_bound f && covers_bounded uses args)
@@ -287,16 +326,22 @@ abbrev mutual
   covers_term uses err_number = true
   covers_term uses (err_raise e) = false
   covers_term uses err_clear = false
-  covers_term uses (is_same d e) = false
+  covers_term uses (is_same d e) = covers_operand uses d && covers_operand uses e
   covers_term uses (loose e rules) = false
 
-  -- a user type as a value: a place, or what a Function gives
+  -- a user type or an object as a value: a place, an object that an object has, what a Function gives, or Nothing
   pub covers_group : Uses → Expr → Bool
   covers_group uses (typed ty t) = covers_place_term uses ty t || covers_group_term uses ty t
 
   pub covers_group_term : Uses → Ty → Term → Bool
-  covers_group_term uses (types.user t) (call p qualified of args) = uses.user t && (is_without_object of && covers_passed uses args)
+  covers_group_term uses ty (call p qualified of args) = uses.given ty && (is_without_object of && covers_passed uses args)
+  covers_group_term uses ty (field e k) = covers_object_term uses ty (field e k)
+  covers_group_term uses ty (convert to e) = uses.given ty && (is_class_type ty && (is_same_type ty to && is_nothing e))
   covers_group_term uses ty t = false
+
+  -- what Is compares: objects, or Nothing itself
+  pub covers_operand : Uses → Expr → Bool
+  covers_operand uses (typed ty t) = is_nothing_in ty t || (is_class_type ty && (covers_place_term uses ty t || covers_group_term uses ty t))
 
   pub covers_exprs : Uses → Exprs → Bool
   covers_exprs uses no_exprs = true
@@ -388,3 +433,18 @@ abbrev pub keeps_order : Uses → (indexes : Exprs) → (value : Expr) → Bool
 keeps_order uses indexes e =
     both_raise indexes e
     || (is_literal_value e || ((are_calm uses indexes && are_still uses (nodes e)) || (is_calm uses e && are_still uses (nodes_of_all indexes))))
+
+-- ---- the order of an object and the value that one of its variables takes
+
+-- an object that is the same, and is there, whatever still expression is evaluated: a variable that isn't quiet
+abbrev pub is_calm_object_term : Uses → Term → Bool
+is_calm_object_term uses (variable v qualified) = uses.exact v
+is_calm_object_term uses t = false
+
+abbrev pub is_calm_object : Uses → Expr → Bool
+is_calm_object uses (typed ty t) = is_calm_object_term uses t
+
+-- The object is known before the value in what is written, and behind it in VB6.
+abbrev pub keeps_object : Uses → (object value : Expr) → Bool
+keeps_object uses d e =
+    is_literal_value e || ((is_calm_object uses d && are_still uses (nodes e)) || (is_calm uses e && are_still uses (nodes d)))

@@ -27,9 +27,9 @@ use Rattle.run_base.specs.Machines.{nth_line}
 use Rattle.vb6_run.specs.Forms.{SourceLine}
 use Rattle.vb6_run.specs.Programs.{is_local_of}
 use Rattle.run_matches.specs.Formed.{is_formed}
-use Rattle.run_matches.specs.CoveredExprs.{Uses, keeps_order, is_changeable, covers_place, covers_expr, is_variable, covers_value, covers_term, is_without_object, covers_passed, covers_array, uses_in, covers_group}
+use Rattle.run_matches.specs.CoveredExprs.{Uses, keeps_object, keeps_order, is_changeable, covers_place, covers_expr, is_variable, covers_value, covers_term, is_without_object, covers_passed, covers_array, uses_in, covers_group, covers_object}
 use Rattle.run_matches.specs.CoveredVariables.{covers_user}
-use Rattle.run_matches.specs.UserTypes.{is_user_of}
+use Rattle.run_matches.specs.UserTypes.{is_class_type, is_user, is_user_of}
 use Rattle.bound_tree.specs.Targets.{with_round}
 
 -- ---- lines
@@ -42,15 +42,37 @@ is_ordered_in uses ty t e = false
 abbrev pub is_ordered : Uses → (target value : Expr) → Bool
 is_ordered uses (typed ty t) e = is_ordered_in uses ty t e
 
+abbrev pub is_member_ordered_in : Uses → (target : Term) → (value : Expr) → Bool
+is_member_ordered_in uses (field d k) e = is_class_type (type_at d) && keeps_object uses d e
+is_member_ordered_in uses t e = false
+
+-- a variable of an object that may be known before the value
+abbrev pub is_member_ordered : Uses → (target value : Expr) → Bool
+is_member_ordered uses (typed ty t) e = is_member_ordered_in uses t e
+
 -- a user type is assigned as a whole
 abbrev pub covers_copy : Uses → (target value : Expr) → Bool
-covers_copy uses to e = is_changeable uses to && (is_same_type (type_at to) (type_at e) && (covers_place uses to && covers_group uses e))
+covers_copy uses to e =
+    is_user (type_at to) && (is_changeable uses to && (is_same_type (type_at to) (type_at e) && (covers_place uses to && covers_group uses e)))
 
 -- an assignment to a variable, a field or an element
 abbrev pub covers_store : Uses → List Expr → Bool
 covers_store uses (to ∷ e ∷ []) =
-    ((is_changeable uses to || is_ordered uses to e) && (covers_expr uses to && covers_expr uses e)) || covers_copy uses to e
+    ((is_changeable uses to || (is_ordered uses to e || is_member_ordered uses to e)) && (covers_expr uses to && covers_expr uses e)) || covers_copy uses to e
 covers_store uses es = false
+
+-- a Set of a variable
+abbrev pub covers_set_variable : Uses → (target value : Expr) → Bool
+covers_set_variable uses to e = is_changeable uses to && (is_same_type (type_at to) (type_at e) && (covers_place uses to && covers_group uses e))
+
+-- a Set of a variable of an object
+abbrev pub covers_set_member : Uses → (target value : Expr) → Bool
+covers_set_member uses to e =
+    is_member_ordered uses to e && (is_same_type (type_at to) (type_at e) && (covers_object uses to && covers_group uses e))
+
+abbrev pub covers_set : Uses → List Expr → Bool
+covers_set uses (to ∷ e ∷ []) = is_class_type (type_at to) && (covers_set_variable uses to e || covers_set_member uses to e)
+covers_set uses es = false
 
 -- a condition, or what a Select Case compares: one expression
 abbrev pub covers_condition : Uses → List Expr → Bool
@@ -150,13 +172,13 @@ covers_erased uses es = false
 
 -- a With on a place of a user type
 abbrev pub covers_with : Uses → List Expr → Bool
-covers_with uses (e ∷ []) = covers_place uses e
+covers_with uses (e ∷ []) = is_user (type_at e) && covers_place uses e
 covers_with uses es = false
 
--- assignments to variables, calls, Debug.Print, If, Select Case, For, Do, While, With, labels, GoTo, On Error, Resume, Exit, ReDim and Erase
+-- assignments to variables, Set, calls, Debug.Print, If, Select Case, For, Do, While, With, labels, GoTo, On Error, Resume, Exit, ReDim and Erase
 abbrev pub covers_form : Uses → Form → List Expr → Bool
 covers_form uses (source.assign target value) es = covers_store uses es
-covers_form uses (source.set target value) es = false
+covers_form uses (source.set target value) es = covers_set uses es
 covers_form uses (source.call callee) es = covers_call uses es
 covers_form uses (source.invoke callee args) es = covers_call uses es
 covers_form uses (source.debug_print items ended) es = list_all (covers_expr uses) es

@@ -1,5 +1,5 @@
 -- Which types and variables are covered.
-use Rattle.std.specs.Prelude.{ℕ, ℤ, suc, Bool, true, false, cond, not, ◌&&◌, ◌||◌, int_le, nat_eq, Option, Some, None, List, [], ◌∷◌, length, slice_get, nat_lt, zero}
+use Rattle.std.specs.Prelude.{ℕ, ℤ, suc, Bool, true, false, cond, not, ◌&&◌, ◌||◌, int_le, nat_eq, Option, Some, None, List, [], ◌∷◌, length, slice_get, nat_lt, zero, position, is_some}
 use Rattle.std.specs.List.{list_all, list_any}
 use Rattle.up_base.specs.Names.{is_same_name}
 use Rattle.vb_tree.specs.BoundTree as types
@@ -19,10 +19,12 @@ use Rattle.bound_facts.specs.Effects.{touched}
 use Rattle.bound_facts.specs.Facts.{acts}
 use Rattle.bound_facts.specs.Leading.{is_in}
 use Rattle.bound_facts.specs.Locks.{is_same_type}
-use Rattle.bound_facts.specs.Members.{field_of}
+use Rattle.bound_facts.specs.Members.{field_of, class_files, terminator}
 use Rattle.vb6_meaning.specs.Answers.{Answer}
 use Rattle.written_trees.specs.Types.{element_type}
-use Rattle.run_matches.specs.Shared.{names_lead, is_alone_static}
+use Rattle.written_trees.specs.Names.{is_standard_module, module_at, module_name}
+use Rattle.run_matches.specs.Callees.{is_first_module, is_source_name}
+use Rattle.run_matches.specs.Shared.{names_lead, is_alone_field, is_alone_static}
 use Rattle.run_matches.specs.Upgrades.{is_unknown, type_of_some}
 use Rattle.run_matches.specs.UserTypes.{type_leads, field_names, is_user_of}
 
@@ -189,29 +191,47 @@ covers_user_within D (suc depth) t = covers_user_by D (covers_user_within D dept
 abbrev pub covers_user : Declarations → (user_type : ℕ) → Bool
 covers_user D t = covers_user_within D (length D.types) t
 
--- user types of modules, local ones and Statics, and parameters
-abbrev pub covers_group_owner : Owner → Bool
-covers_group_owner (owner.Module file) = true
-covers_group_owner (owner.Local p) = true
-covers_group_owner (owner.Static p) = true
-covers_group_owner (owner.Value p) = true
-covers_group_owner (owner.Reference p) = true
-covers_group_owner (owner.Answer p) = false
-covers_group_owner (owner.Field t) = false
+-- ---- classes
+
+abbrev pub is_named_first : Declarations → (name : List ℕ) → Option ℕ → Bool
+is_named_first D name None = false
+is_named_first D name (Some home) = is_first_module D name home
+
+abbrev pub covers_class_file : Declarations → Option ℕ → Bool
+covers_class_file D None = false
+covers_class_file D (Some file) =
+    (is_source_name (module_name D file) && not (is_standard_module (module_at D.project file)))
+    && (is_named_first D (module_name D file) (position (λ (m : Module). nat_eq m.file file) D.project.modules)
+    && list_all (λ (t : TypeDecl). not (is_same_name t.name (module_name D file))) D.types)
+
+-- a class without Class_Terminate, to which its name leads: no module before it and no user type has that name
+abbrev pub covers_class : Declarations → (class : ℕ) → Bool
+covers_class D c = covers_class_file D (slice_get (class_files D.project) c) && not (is_some (terminator D c))
+
+-- ---- groups
+
+-- what is assigned by a copy of it or by Set: a user type, or an object of a class
+abbrev pub covers_group_type : Declarations → Ty → Bool
+covers_group_type D (types.user t) = covers_user D t
+covers_group_type D (types.class c) = covers_class D c
+covers_group_type D ty = false
+
+-- what a place may hold that is no array
+abbrev pub covers_place_type : Declarations → Ty → Bool
+covers_place_type D ty = covers_type ty || covers_group_type D ty
 
 abbrev pub covers_group_variable : Declarations → Variable → Bool
-covers_group_variable D x = covers_group_owner x.owner && (is_user_of (covers_user D) x.ty && not x.auto)
+covers_group_variable D x = covers_owner x.owner && (covers_group_type D x.ty && not x.auto)
 
-abbrev pub covers_some_group : Declarations → (procedure variable user_type : ℕ) → Option Variable → Bool
-covers_some_group D p v t None = false
-covers_some_group D p v t (Some x) =
-    is_reached D p v x.name x.owner && (is_same_type (types.user t) x.ty && covers_group_variable D x)
+abbrev pub covers_some_group : Declarations → (procedure variable : ℕ) → Ty → Option Variable → Bool
+covers_some_group D p v ty None = false
+covers_some_group D p v ty (Some x) = is_reached D p v x.name x.owner && (is_same_type ty x.ty && covers_group_variable D x)
 
--- variables of user types, as arrays are
-abbrev pub covers_group_use : Program → (procedure : ℕ) → List Mention → VarId → (user_type : ℕ) → Bool
-covers_group_use P p mentions v t =
+-- variables of user types and of classes, as arrays are
+abbrev pub covers_group_use : Program → (procedure : ℕ) → List Mention → VarId → Ty → Bool
+covers_group_use P p mentions v ty =
     list_any (is_mention_of v) mentions
-    && (covers_some_group P.declarations p v.0 t (slice_get P.declarations.vars v.0) && is_loud P v.0 (slice_get P.declarations.vars v.0))
+    && (covers_some_group P.declarations p v.0 ty (slice_get P.declarations.vars v.0) && is_loud P v.0 (slice_get P.declarations.vars v.0))
 
 abbrev pub field_type_of : Declarations → List Mention → Option ℕ → Option Ty
 field_type_of D mentions None = None
@@ -223,6 +243,23 @@ field_type_of D mentions (Some v) =
 abbrev pub field_type_in : Declarations → List Mention → (user_type field : ℕ) → Option Ty
 field_type_in D mentions t k = field_type_of D mentions (field_of D (types.user t) k)
 
--- a scalar, an array of scalars, or a user type of scalars and such user types
+-- ---- variables of objects
+
+-- a variable of a class that is found by its name behind an object, of a type that a place may hold, and no As New one
+abbrev pub is_member : Declarations → (file variable : ℕ) → Option Variable → Bool
+is_member D file v None = false
+is_member D file v (Some x) = is_alone_field D v x.name file && (covers_place_type D x.ty && not x.auto)
+
+abbrev pub member_type_of : Declarations → List Mention → (file : Option ℕ) → Option ℕ → Option Ty
+member_type_of D mentions file None = None
+member_type_of D mentions None (Some v) = None
+member_type_of D mentions (Some file) (Some v) =
+    cond (list_any (is_mention_of (record { 0 = v })) mentions && is_member D file v (slice_get D.vars v)) (type_of_some (slice_get D.vars v)) None
+
+-- the type of a variable that objects of a class have, and that is mentioned
+abbrev pub member_type_in : Declarations → List Mention → (class field : ℕ) → Option Ty
+member_type_in D mentions c k = member_type_of D mentions (slice_get (class_files D.project) c) (field_of D (types.class c) k)
+
+-- a scalar, an array of scalars, a user type of scalars and such user types, or an object
 abbrev pub covers_declared : Declarations → Variable → Bool
 covers_declared D x = covers_variable x || (covers_array_variable (element_type x.ty) x || covers_group_variable D x)

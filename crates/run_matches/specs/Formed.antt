@@ -111,7 +111,7 @@ abbrev mutual
   is_formed_term ty err_number = is_same_type types.long ty
   is_formed_term ty (err_raise e) = is_same_type (type_at e) types.long && is_formed e
   is_formed_term ty err_clear = true
-  is_formed_term ty (is_same d e) = false
+  is_formed_term ty (is_same d e) = is_same_type types.boolean ty && (is_formed d && is_formed e)
   is_formed_term ty (loose e rules) = false
 
   pub are_formed : Exprs → Bool

@@ -1,5 +1,5 @@
 -- Where names lead to a variable of a standard module: tests on the program alone, which pass wherever no rule on names is broken.
-use Rattle.std.specs.Prelude.{ℕ, zero, suc, Bool, true, false, cond, not, ◌&&◌, ◌||◌, nat_eq, position, Option, Some, None, List, [], ◌∷◌, ◌++◌, codes, map, slice_get}
+use Rattle.std.specs.Prelude.{ℕ, zero, suc, Bool, true, false, cond, not, ◌&&◌, ◌||◌, nat_eq, position, Option, Some, None, option_and_then, List, [], ◌∷◌, ◌++◌, codes, map, slice_get}
 use Rattle.std.specs.List.{list_all, list_any}
 use Rattle.up_base.specs.Names.{is_same_name}
 use Rattle.vb_tree.specs.declared.declared.Owner.{Owner}
@@ -155,6 +155,21 @@ abbrev pub names_lead : Declarations → (procedure variable : ℕ) → (name : 
 names_lead D p v name file =
     (is_standard_module (module_at D.project file) && not (is_reserved (module_name D file)))
     && leads_to_home D p v name file (position (λ (m : Module). nat_eq m.file file) D.project.modules)
+
+-- ---- variables of classes
+
+-- a class that declares the variable, and nothing else of its name
+abbrev pub keeps_alone : Declarations → (variable : ℕ) → (name : List ℕ) → Option (Module × List Placed) → Bool
+keeps_alone D v name None = false
+keeps_alone D v name (Some m) =
+    m.0.class && (list_any (declares_in D v m.0.file) m.1 && list_all (is_other_member D name (Some v) m.0.file) m.1)
+
+-- the class of a file declares the variable alone, and no other variable of it has the name
+abbrev pub is_alone_field : Declarations → (variable : ℕ) → (name : List ℕ) → (file : ℕ) → Bool
+is_alone_field D v name file =
+    is_class_file D file
+    && (keeps_alone D v name (option_and_then (placed_module D) (position (λ (m : Module). nat_eq m.file file) D.project.modules))
+    && others_differ (is_of_module file) v name 0 D.vars)
 
 -- ---- Statics
 

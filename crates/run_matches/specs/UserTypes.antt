@@ -3,7 +3,7 @@ use Rattle.std.specs.Prelude.{ℕ, suc, Bool, true, false, not, ◌&&◌, ◌||�
 use Rattle.std.specs.Cmp.Lexicographic.{pointwise}
 use Rattle.std.specs.List.{list_all, list_any}
 use Rattle.up_base.specs.Names.{is_same_name}
-use Rattle.vb_tree.specs.BoundTree.{Ty, user}
+use Rattle.vb_tree.specs.BoundTree.{Ty, class, user}
 use Rattle.vb_tree.specs.declared.declared.VarId.{VarId}
 use Rattle.vb_tree.specs.Tree.{Module, Member, alone, group, proc}
 use Rattle.vb_tree.specs.Tree as source
@@ -73,3 +73,14 @@ field_names D d = map (λ (v : VarId). variable_name_of (slice_get D.vars v.0)) 
 abbrev pub is_user_of : (ℕ → Bool) → Ty → Bool
 is_user_of test (user t) = test t
 is_user_of test ty = false
+
+abbrev pub is_user : Ty → Bool
+is_user ty = is_user_of (λ t. true) ty
+
+abbrev pub is_class_type : Ty → Bool
+is_class_type (class c) = true
+is_class_type ty = false
+
+-- what is assigned by a copy of it or by Set
+abbrev pub is_group_type : Ty → Bool
+is_group_type ty = is_user ty || is_class_type ty

@@ -3,6 +3,7 @@ use Rattle.bound_facts.specs.Nodes.{nodes_of_passed}
 use Rattle.run_matches.specs.Keeping.{given_types}
 use Rattle.std.specs.List.{list_all}
 use Rattle.std.specs.Prelude.{◌≡◌, ◌⊎◌, ℕ, ℤ, Bool, true, false, Some, [], ◌∷◌, slice_get, None, zero, suc, nat_eq, List, length}
+use Rattle.vb_tree.specs.BoundTree as types
 use Rattle.vb_tree.specs.BoundTree.{Ty, array, user}
 use Rattle.vb_tree.specs.declared.declared.Owner.TheVariants as owner
 use Rattle.std.specs.Map.{lookup}
@@ -13,6 +14,7 @@ use Rattle.vb_tree.specs.declared.value.Value6.{Value6}
 use Rattle.bound_tree.specs.Tree.{Variable, Expr, typed, Term, constant, variable, field, element, call, library, unary, binary, convert, new_object, me, with_object, err_number, err_raise, err_clear, is_same, loose, no_object, Exprs, no_exprs, next_expr, Argument, by_value, by_reference, Passed, no_passed, next_passed, Line}
 use Rattle.bound_facts.specs.Facts.{is_quiet}
 use Rattle.bound_facts.specs.Locks.{Keeps}
+use Rattle.bound_facts.specs.Members.{field_of}
 use Rattle.bound_facts.specs.Node.{type_at, called}
 use Rattle.net_tree.specs.declared.declaration.NetPassing.{NetPassing}
 use Rattle.net_tree.specs.declared.declaration.NetPassing.TheVariants as passing
@@ -26,7 +28,7 @@ use Rattle.bound_facts.specs.SelfMade.{module_of}
 use Rattle.vb6_run.specs.Programs.{is_static_of}
 use Rattle.vb6_run.specs.Runnables.{is_class_file}
 use Rattle.vb6_run.specs.Shapes as source_shape
-use Rattle.vb6_run.specs.Shapes.{simple, user_shapes, variable_shape}
+use Rattle.vb6_run.specs.Shapes.{Shape, shape_by, simple, user_shapes, variable_shape}
 use Rattle.vb6_run.specs.Store.{Address, root, Locked, SourceCalls, SourceFrame, make, read, write, make_with}
 use Rattle.vb6_run.specs.Values.{Value, scalar}
 use Rattle.net_run.specs.Calls.{passings_at}
@@ -45,16 +47,16 @@ use Rattle.run_matches.specs.Addresses.{Same, IsPlain, IsScalarAt, IsTarget, Sam
 use Rattle.written_trees.specs.Arguments.{is_property, takes_reference}
 use Rattle.run_matches.specs.Agreeing.{Agrees}
 use Rattle.run_matches.specs.Formed.{passed_are_formed, is_formed}
-use Rattle.run_matches.specs.CoveredVariables.{covers_type, covers_variable, is_in_order, covers_user}
+use Rattle.run_matches.specs.CoveredVariables.{covers_type, covers_group_type, covers_variable, is_in_order, covers_user}
 use Rattle.run_matches.specs.CoveredExprs.{Uses, IsUsed, covers_array, covers_expr, covers_exprs, covers_passed, is_declared_as, is_relied_on}
 use Rattle.run_matches.specs.Covered.{hands_passed, suits_passed}
 use Rattle.run_matches.specs.SoundShapes.{IsField, IsSoundShape}
 use Rattle.run_matches.specs.Frames.{FrameMatch, GivenAddress, HasPlace, IsOwnAddress, is_own_of, is_reference_of, lines_of}
 use Rattle.run_matches.specs.Likeness.{LikeV, SameShape, scalar_word}
 use Rattle.run_matches.specs.Maps.{IsMatched, World, is_auto_root}
-use Rattle.run_matches.specs.Match.{HasArray, MemoryMatch}
+use Rattle.run_matches.specs.Match.{HasArray, MemoryMatch, is_class_variable}
 use Rattle.run_matches.specs.Pledges.{Pledge, Later, is_inward, stands_in_class}
-use Rattle.run_matches.specs.Upgrades.{Upgrade, runnable_of, is_flagged, variable_key, written_number}
+use Rattle.run_matches.specs.Upgrades.{Upgrade, class_home, runnable_of, is_flagged, variable_key, written_number}
 use Rattle.row_laws.specs.Uncaptured.{IsUncaptured, IsTextUncaptured, IsMathUncaptured}
 use Rattle.run_matches.specs.Runs.{CallsAgree}
 use Rattle.run_statements.specs.Fitting.{FitsBounds, FitsRank, rank_of, FitsPassed}
@@ -88,13 +90,36 @@ pub record IsArray (U : Upgrade) (v : ℕ) (element : Ty) : Type 0 where
   pub covers : covers_type element ≡ true
   pub bounds : AreBounds (U.facts.rank v) known.variable.bounds
 
--- a variable of a covered user type, which is no quiet parameter
-pub record IsGroup (U : Upgrade) (v user_type : ℕ) : Type 0 where
+-- the shape of a type of which no array is
+abbrev pub type_shape : Upgrade → Ty → Shape
+type_shape U ty = shape_by (user_shapes U.program.declarations) [] ty
+
+-- a variable of a covered user type or class, which is no quiet parameter
+pub record IsGroup (U : Upgrade) (v : ℕ) (ty : Ty) : Type 0 where
   pub known : IsKnown U v
   pub exact : is_quiet U.program.declarations U.known v ≡ false
-  pub is_user : known.variable.ty ≡ user user_type
-  pub covers : covers_user U.program.declarations user_type ≡ true
-  pub fields : IsSoundShape U (user_shapes U.program.declarations user_type)
+  pub is_type : known.variable.ty ≡ ty
+  pub covers : covers_group_type U.program.declarations ty ≡ true
+  pub sound : IsSoundShape U (type_shape U ty)
+
+-- A variable that objects of a class have: it is written as a member of the class, which is found by its name behind an object, and no other
+-- variable is written as that member.
+pub record IsMember (U : Upgrade) (class field : ℕ) (ty : Ty) : Type 0 where
+  pub number : ℕ
+  pub declares : field_of U.program.declarations (types.class class) field ≡ Some number
+  pub known : IsKnown U number
+  pub is_type : known.variable.ty ≡ ty
+  pub in_class : is_class_variable U.program.declarations class known.variable.owner ≡ true
+  pub home : ℕ
+  pub is_home : class_home U class ≡ Some home
+  pub key : Key
+  pub is_key : variable_key U number ≡ Some key
+  pub differs : (u : ℕ) → variable_key U u ≡ Some key → number ≡ u
+  pub written : shape.Shape
+  pub same : SameShape U (variable_shape U.program.declarations number) written
+  pub leads :
+      (S : net_names.Scope) (object : net_value.Value) → S.project ≡ U.written
+      → net_names.named_member S (Some object) home known.variable.name ≡ net_names.found_at (net_names.at_field written object key)
 
 -- a variable of a covered type, whose declaration carries no issue
 pub record IsReadable (U : Upgrade) (v : ℕ) : Type 0 where
@@ -103,16 +128,19 @@ pub record IsReadable (U : Upgrade) (v : ℕ) : Type 0 where
   pub covers : covers_variable variable ≡ true
   pub sound : is_flagged U v ≡ false
 
--- a scalar, an array of scalars, or of a user type
+-- a scalar, an array of scalars, or of a user type or a class
 abbrev pub IsUsable : Upgrade → (variable : ℕ) → Type 0
-IsUsable U v = IsReadable U v ⊎ (((element : Ty) × IsArray U v element) ⊎ ((user_type : ℕ) × IsGroup U v user_type))
+IsUsable U v = IsReadable U v ⊎ (((element : Ty) × IsArray U v element) ⊎ ((ty : Ty) × IsGroup U v ty))
 
 -- What is known of the variables that are used where a scope is written, which has the facts of the program.
 pub record AreReadable (U : Upgrade) (T : Scope) (uses : Uses) : Type 0 where
   pub scalars : (v : VarId) → uses.scalar v ≡ true → IsReadable U v.0
   pub arrays : (v : VarId) (element : Ty) → uses.array v element ≡ true → IsArray U v.0 element
-  pub groups : (v : VarId) (user_type : ℕ) → uses.group v user_type ≡ true → IsGroup U v.0 user_type
+  pub groups : (v : VarId) (ty : Ty) → uses.group v ty ≡ true → IsGroup U v.0 ty
   pub fields : (user_type field : ℕ) (ty : Ty) → uses.field_type user_type field ≡ Some ty → IsField U user_type field ty
+  pub members : (class field : ℕ) (ty : Ty) → uses.member_type class field ≡ Some ty → IsMember U class field ty
+  -- what a call may give is of a covered user type or class
+  pub given : (ty : Ty) → uses.given ty ≡ true → covers_group_type U.program.declarations ty ≡ true
   -- a covered user type holds no array, so that what is written copies it with all that it holds
   pub flat : (user_type : ℕ) → covers_user U.program.declarations user_type ≡ true → U.facts.holds_array user_type ≡ false
   pub exact : (v : VarId) → uses.exact v ≡ true → is_quiet U.program.declarations U.known v.0 ≡ false
@@ -287,7 +315,7 @@ abbrev mutual
   AllCalledIn Q ty err_number = Unit {0}
   AllCalledIn Q ty (err_raise e) = AllCalled Q e
   AllCalledIn Q ty err_clear = Unit {0}
-  AllCalledIn Q ty (is_same d e) = Unit {0}
+  AllCalledIn Q ty (is_same d e) = AllCalled Q d × AllCalled Q e
   AllCalledIn Q ty (loose e rules) = Unit {0}
 
   pub AllCalledAll : Demands → Exprs → Type 0

@@ -2,6 +2,7 @@ pub mod Fitting
 pub mod Written
 pub mod Frames
 pub mod Groups
+pub mod Members
 pub mod Kept
 pub mod Memory
 pub mod Arrays

@@ -20,7 +20,7 @@ use Rattle.vb6_meaning.specs.Kinds.{fits}
 use Rattle.vb6_meaning.specs.Library as values
 use Rattle.vb6_meaning.specs.Values.{coerce, operate}
 use Rattle.bound_tree.specs.declared.body.Mention.{Mention}
-use Rattle.bound_tree.specs.Tree.{Declarations, Expr, typed, Term, variable, library, unary, binary, convert, err_number, Exprs, no_exprs, next_expr}
+use Rattle.bound_tree.specs.Tree.{Declarations, Expr, typed, Term, variable, library, unary, binary, constant, convert, err_number, is_same, Exprs, no_exprs, next_expr}
 use Rattle.bound_facts.specs.Locks.{is_same_type}
 use Rattle.bound_facts.specs.Node.{type_at, auto_class, declared_in, variable_number, is_array_type}
 use Rattle.net_meaning.specs.WrittenRows.{write_operator, write_unary, write_conversion}
@@ -32,7 +32,7 @@ use Rattle.vb6_run.specs.Store as store
 use Rattle.vb6_run.specs.Store.{Address, Memory, SourceGiven, Does, provided, read}
 use Rattle.vb6_run.specs.Values.{Value, scalar, is_of_shape}
 use Rattle.run_matches.specs.CoveredVariables.{covers_type}
-use Rattle.run_matches.specs.CoveredExprs.{Uses, covers_operator}
+use Rattle.run_matches.specs.CoveredExprs.{Uses, covers_operator, is_nothing}
 use Rattle.run_matches.specs.Formed.{is_call, is_row_of_call, is_row_of_one, is_row_of_two, types_of}
 use Rattle.typing_laws.specs.Flat.{flat_uses}
 use Rattle.typing_laws.specs.Calls.{CallsKeep, SourceJob}
@@ -176,6 +176,24 @@ pub number_ends : (C : Context) (F : Footprint) (X : SourceJob → Memory → Ty
 number_ends C F X w ty same =
     subst (λ t. Ends (ground (declared C) F) (IsTyped t) (Leaves C X (typed t err_number) w) w (value_of C (typed t err_number) w)) same
     (term_ends C F types.long err_number (Leaves C X (typed types.long err_number) w) w refl (number_by C F X w (nat_lt w.err 65536) refl))
+
+-- ---- Is
+
+-- Nothing is the same as Nothing
+pub same_ends : (C : Context) (F : Footprint) (X : SourceJob → Memory → Type 0) (w : Memory) (ty : Ty) (d e : Expr) → types.boolean ≡ ty → is_nothing d ≡ true
+    → is_nothing e ≡ true → Ends (ground (declared C) F) (IsTyped ty) (Leaves C X (typed ty (is_same d e)) w) w (value_of C (typed ty (is_same d e)) w)
+same_ends C F X w ty (typed types.nothing (constant v.Nothing o)) (typed types.nothing (constant v.Nothing r)) same h i =
+    let d : Expr = typed types.nothing (constant v.Nothing o) in
+    let e : Expr = typed types.nothing (constant v.Nothing r) in
+    subst (λ t. Ends (ground (declared C) F) (IsTyped t) (Leaves C X (typed t (is_same d e)) w) w (value_of C (typed t (is_same d e)) w)) same
+    (term_ends C F types.boolean (is_same d e) (Leaves C X (typed types.boolean (is_same d e)) w) w refl
+    (keeps_self (ground (declared C) F) w, (v.Boolean true, refl, a_boolean true)))
+same_ends C F X w ty (typed types.nothing (constant v.Nothing o)) (typed types.nothing (constant _ r)) same h i = absurd (true≢false (sym i))
+same_ends C F X w ty (typed types.nothing (constant v.Nothing o)) (typed types.nothing _) same h i = absurd (true≢false (sym i))
+same_ends C F X w ty (typed types.nothing (constant v.Nothing o)) (typed _ t) same h i = absurd (true≢false (sym i))
+same_ends C F X w ty (typed types.nothing (constant _ o)) e same h i = absurd (true≢false (sym h))
+same_ends C F X w ty (typed types.nothing _) e same h i = absurd (true≢false (sym h))
+same_ends C F X w ty (typed _ t) e same h i = absurd (true≢false (sym h))
 
 module _ (C : Context) (F : Footprint) (X : SourceJob → Memory → Type 0) (calls : CallsKeep C F X) (mentions : List Mention) where
   abbrev D : Declarations

@@ -1,16 +1,17 @@
 -- Without user types no field is covered, and what is named is a scalar or an array.
-use Rattle.std.proofs.Common.{◌≡◌, ◌⊎◌, inl, inr, ⊎_elim, refl, sym, ℕ, Bool, true, ◌&&◌, ◌||◌, true≢false, [], ◌∷◌}
+use Rattle.std.proofs.Common.{◌≡◌, ◌⊎◌, inl, inr, ⊎_elim, refl, sym, ℕ, Bool, true, false, ◌&&◌, ◌||◌, true≢false, List, [], ◌∷◌}
 use Rattle.up_base.proofs.Tests.{both_true, either}
 use Rattle.vb_tree.specs.BoundTree as types
 use Rattle.vb_tree.specs.BoundTree.{Ty}
 use Rattle.vb_tree.specs.declared.declared.VarId.{VarId}
-use Rattle.bound_tree.specs.Tree.{Expr, typed, Term, variable, field, call}
+use Rattle.bound_tree.specs.Tree.{Expr, typed, Term, variable, field, call, convert}
 use Rattle.bound_tree.specs.Tree as tree
 use Rattle.bound_facts.specs.Locks.{is_same_type}
 use Rattle.bound_facts.specs.Node.{type_at}
 use Rattle.run_matches.specs.CoveredVariables.{covers_type}
-use Rattle.run_matches.specs.CoveredExprs.{Uses, covers_argument, covers_array, covers_base, covers_expr, covers_group, covers_group_term, covers_place, has_inner, has_scalar, is_changeable, is_passable}
-use Rattle.run_matches.specs.CoveredLines.{covers_copy, covers_store, is_ordered}
+use Rattle.run_matches.specs.CoveredExprs.{Uses, covers_argument, covers_array, covers_base, covers_expr, covers_group, covers_group_term, covers_object, covers_operand, covers_place, has_inner, has_member, has_scalar, is_changeable, is_nothing, is_passable}
+use Rattle.run_matches.specs.CoveredLines.{covers_copy, covers_set, covers_set_member, covers_set_variable, covers_store, is_member_ordered, is_ordered}
+use Rattle.run_matches.specs.UserTypes.{is_class_type, is_user}
 use Rattle.typing_laws.specs.Flat.{without_groups}
 
 -- an array variable
@@ -44,20 +45,41 @@ no_scalar_field u (types.user s) k h = true≢false (sym h)
 no_scalar_field u _ k h = true≢false (sym h)
 
 pub no_place_covered : (u : Uses) (e : Expr) → covers_place (without_groups u) e ≡ true → ⊥
-no_place_covered u (typed (types.user t) (variable v qualified)) h = true≢false (sym h)
+no_place_covered u (typed ty (variable v qualified)) h = true≢false (sym h)
 no_place_covered u (typed ty (field e k)) h =
     no_inner u (type_at e) ty k (both_true (has_inner (without_groups u) (type_at e) k ty) (covers_base (without_groups u) e) h).0
 no_place_covered u (typed _ _) h = true≢false (sym h)
 
+no_member : (u : Uses) (of : Ty) (k : ℕ) (test : Ty → Bool) → has_member (without_groups u) of k test ≡ true → ⊥
+no_member u (types.class c) k test h = true≢false (sym h)
+no_member u _ k test h = true≢false (sym h)
+
+no_object : (u : Uses) (e : Expr) → covers_object (without_groups u) e ≡ true → ⊥
+no_object u (typed ty (variable v qualified)) h = true≢false (sym (both_true (is_class_type ty) false h).1)
+no_object u (typed ty (field e k)) h =
+    let a = both_true (is_class_type ty) (has_member (without_groups u) (type_at e) k (is_same_type ty) && covers_object (without_groups u) e) h in
+    no_member u (type_at e) k (is_same_type ty)
+    (both_true (has_member (without_groups u) (type_at e) k (is_same_type ty)) (covers_object (without_groups u) e) a.1).0
+no_object u (typed ty _) h = true≢false (sym h)
+
 no_group_call : (u : Uses) (ty : Ty) (t : Term) → covers_group_term (without_groups u) ty t ≡ true → ⊥
-no_group_call u (types.user s) (call p qualified of args) h = true≢false (sym h)
-no_group_call u (types.user s) _ h = true≢false (sym h)
-no_group_call u _ t h = true≢false (sym h)
+no_group_call u ty (field e k) h = no_object u (typed ty (field e k)) h
+no_group_call u ty (call p qualified of args) h = true≢false (sym h)
+no_group_call u ty (convert to e) h = true≢false (sym h)
+no_group_call u ty _ h = true≢false (sym h)
 
 no_group : (u : Uses) (e : Expr) → covers_group (without_groups u) e ≡ true → ⊥
 no_group u (typed ty t) h =
     ⊎_elim (λ p. no_place_covered u (typed ty t) p) (λ c. no_group_call u ty t c)
     (either (covers_place (without_groups u) (typed ty t)) (covers_group_term (without_groups u) ty t) h)
+
+-- what Is compares is Nothing itself
+pub operand_nothing : (u : Uses) (e : Expr) → covers_operand (without_groups u) e ≡ true → is_nothing e ≡ true
+operand_nothing u (typed ty t) h = by (either (is_nothing (typed ty t)) (is_class_type ty && covers_group (without_groups u) (typed ty t)) h)
+  where
+    by : (is_nothing (typed ty t) ≡ true) ⊎ (is_class_type ty && covers_group (without_groups u) (typed ty t) ≡ true) → is_nothing (typed ty t) ≡ true
+    by (inl c) = c
+    by (inr c) = absurd (no_group u (typed ty t) (both_true (is_class_type ty) (covers_group (without_groups u) (typed ty t)) c).1)
 
 -- what goes by value is a scalar
 pub value_covered : (u : Uses) (e : Expr) → covers_argument (without_groups u) (tree.by_value e) ≡ true → covers_expr (without_groups u) e ≡ true
@@ -91,8 +113,19 @@ reference_covered u e h =
 -- no field is covered
 pub no_field : (u : Uses) (ty : Ty) (e : Expr) (k : ℕ) → covers_expr (without_groups u) (typed ty (field e k)) ≡ true → ⊥
 no_field u ty e k c =
-    let b = both_true (covers_type ty) (has_scalar (without_groups u) (type_at e) k && covers_base (without_groups u) e) c in
-    no_scalar_field u (type_at e) k (both_true (has_scalar (without_groups u) (type_at e) k) (covers_base (without_groups u) e) b.1).0
+    let vs : Uses = without_groups u in
+    let b = both_true (covers_type ty)
+    ((has_scalar vs (type_at e) k && covers_base vs e) || (has_member vs (type_at e) k covers_type && covers_object vs e)) c in
+    by (either (has_scalar vs (type_at e) k && covers_base vs e) (has_member vs (type_at e) k covers_type && covers_object vs e) b.1)
+  where
+    by : ((has_scalar (without_groups u) (type_at e) k && covers_base (without_groups u) e) ≡ true)
+        ⊎ ((has_member (without_groups u) (type_at e) k covers_type && covers_object (without_groups u) e) ≡ true) → ⊥
+    by (inl h) = no_scalar_field u (type_at e) k (both_true (has_scalar (without_groups u) (type_at e) k) (covers_base (without_groups u) e) h).0
+    by (inr h) = no_member u (type_at e) k covers_type (both_true (has_member (without_groups u) (type_at e) k covers_type) (covers_object (without_groups u) e) h).0
+
+no_member_ordered : (u : Uses) (to e : Expr) → covers_expr (without_groups u) to ≡ true → is_member_ordered (without_groups u) to e ≡ true → ⊥
+no_member_ordered u (typed ty (field d k)) e c h = no_field u ty d k c
+no_member_ordered u (typed ty _) e c h = true≢false (sym h)
 
 -- an assignment of a scalar to a variable that is changed, or to an element
 pub record Stored (u : Uses) (to e : Expr) : Type 0 where
@@ -107,17 +140,50 @@ stored_of u to e h = by (either (stores && parts) (covers_copy vs to e) h)
     vs = without_groups u
 
     stores : Bool
-    stores = is_changeable vs to || is_ordered vs to e
+    stores = is_changeable vs to || (is_ordered vs to e || is_member_ordered vs to e)
 
     parts : Bool
     parts = covers_expr vs to && covers_expr vs e
+
+    kinds : (is_changeable vs to ≡ true) ⊎ ((is_ordered vs to e || is_member_ordered vs to e) ≡ true) → covers_expr vs to ≡ true
+        → (is_changeable vs to ≡ true) ⊎ (is_ordered vs to e ≡ true)
+    kinds (inl c) t = inl c
+    kinds (inr c) t = ordered (either (is_ordered vs to e) (is_member_ordered vs to e) c)
+      where
+        ordered : (is_ordered vs to e ≡ true) ⊎ (is_member_ordered vs to e ≡ true) → (is_changeable vs to ≡ true) ⊎ (is_ordered vs to e ≡ true)
+        ordered (inl o) = inr o
+        ordered (inr o) = absurd (no_member_ordered u to e t o)
 
     by : (stores && parts ≡ true) ⊎ (covers_copy vs to e ≡ true) → Stored u to e
     by (inl a) =
         let x = both_true stores parts a in
         let y = both_true (covers_expr vs to) (covers_expr vs e) x.1 in
-        record { kind = either (is_changeable vs to) (is_ordered vs to e) x.0; target = y.0; value = y.1 }
+        record { kind = kinds (either (is_changeable vs to) (is_ordered vs to e || is_member_ordered vs to e) x.0) y.0; target = y.0; value = y.1 }
     by (inr b) =
-        let x = both_true (is_changeable vs to) (is_same_type (type_at to) (type_at e) && (covers_place vs to && covers_group vs e)) b in
+        let is = both_true (is_user (type_at to))
+        (is_changeable vs to && (is_same_type (type_at to) (type_at e) && (covers_place vs to && covers_group vs e))) b in
+        let x = both_true (is_changeable vs to) (is_same_type (type_at to) (type_at e) && (covers_place vs to && covers_group vs e)) is.1 in
         let y = both_true (is_same_type (type_at to) (type_at e)) (covers_place vs to && covers_group vs e) x.1 in
         absurd (no_place_covered u to (both_true (covers_place vs to) (covers_group vs e) y.1).0)
+
+-- no Set is covered
+pub no_set : (u : Uses) (es : List Expr) → covers_set (without_groups u) es ≡ true → ⊥
+no_set u [] h = true≢false (sym h)
+no_set u (to ∷ []) h = true≢false (sym h)
+no_set u (to ∷ e ∷ d ∷ es) h = true≢false (sym h)
+no_set u (to ∷ e ∷ []) h =
+    let vs : Uses = without_groups u in
+    by (either (covers_set_variable vs to e) (covers_set_member vs to e)
+    (both_true (is_class_type (type_at to)) (covers_set_variable vs to e || covers_set_member vs to e) h).1)
+  where
+    by : (covers_set_variable (without_groups u) to e ≡ true) ⊎ (covers_set_member (without_groups u) to e ≡ true) → ⊥
+    by (inl c) =
+        let vs : Uses = without_groups u in
+        let x = both_true (is_changeable vs to) (is_same_type (type_at to) (type_at e) && (covers_place vs to && covers_group vs e)) c in
+        let y = both_true (is_same_type (type_at to) (type_at e)) (covers_place vs to && covers_group vs e) x.1 in
+        no_place_covered u to (both_true (covers_place vs to) (covers_group vs e) y.1).0
+    by (inr c) =
+        let vs : Uses = without_groups u in
+        let x = both_true (is_member_ordered vs to e) (is_same_type (type_at to) (type_at e) && (covers_object vs to && covers_group vs e)) c in
+        let y = both_true (is_same_type (type_at to) (type_at e)) (covers_object vs to && covers_group vs e) x.1 in
+        no_object u to (both_true (covers_object vs to) (covers_group vs e) y.1).0

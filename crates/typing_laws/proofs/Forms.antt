@@ -27,7 +27,8 @@ use Rattle.vb6_run.specs.Forms.{SourceLine, form_does, idle_machine}
 use Rattle.vb6_run.specs.Lines.{condition, goes_on, goes_to, handles_by, line_of_label, redim_does, to_label, when_done}
 use Rattle.vb6_run.specs.Store.{Does, Memory, SourceFrame, set_err}
 use Rattle.run_matches.specs.CoveredVariables.{has_extents, has_rank}
-use Rattle.run_matches.specs.CoveredExprs.{Uses, covers_expr, covers_value, is_variable, uses_in}
+use Rattle.run_matches.specs.CoveredExprs.{Uses, covers_expr, covers_place, covers_value, is_variable, uses_in}
+use Rattle.run_matches.specs.UserTypes.{is_user}
 use Rattle.run_matches.specs.CoveredLines.{covers_called, covers_counter, covers_counting, covers_form, covers_items, covers_part, covers_step, head_line, is_comparison, is_counter}
 use Rattle.bound_facts.specs.Locks.{is_same_type}
 use Rattle.run_matches.specs.Formed.{is_formed}
@@ -45,7 +46,7 @@ use Rattle.typing_laws.proofs.Frames.{frame_handling, frame_keeping, frame_later
 use Rattle.typing_laws.proofs.Lines.{Good, IsFine, IsIn, KeepsAt, call_statement, condition_ends, goes_by, in_later, leads, never_nowhere, print_ends, taken_same, fine_type}
 use Rattle.typing_laws.proofs.Places.{keeps_same}
 use Rattle.typing_laws.proofs.Extents.{line_resizes}
-use Rattle.typing_laws.proofs.Flat.{Stored, array_named, stored_of, no_place_covered}
+use Rattle.typing_laws.proofs.Flat.{Stored, array_named, stored_of, no_place_covered, no_set}
 use Rattle.typing_laws.proofs.Resizing.{erase_ends, redim_ends}
 use Rattle.typing_laws.specs.Frames.{Footprint, Ground, ground}
 
@@ -232,6 +233,7 @@ module _ (C : Context) (F : Footprint) (X : SourceJob → Memory → Type 0) (ca
       assign_ends C F X calls mentions w h (L (source.assign target value) (to ∷ e ∷ [])) to e x.kind fine.0 fine.1.0
       (taken_same (type_at to) (type_at e) (fine_type C F X calls mentions to fine.0) (fine_type C F X calls mentions e fine.1.0) a)
       (λ l. in_assigned target value to e w l) (λ o y v one l. in_target target value to e w v o y one l)
+  form_ends (source.set target value) es c a t bt rk f ty s p g k = absurd (no_set all_uses es c)
   form_ends (source.call callee) (e ∷ []) c a t bt rk f ty s p g k =
       call_ends (source.call callee) e c f ty (exprs_suited C.runnable (e ∷ []) s) (λ l. in_call callee e w l)
   form_ends (source.invoke callee args) (e ∷ []) c a t bt rk f ty s p g k =
@@ -278,7 +280,8 @@ module _ (C : Context) (F : Footprint) (X : SourceJob → Memory → Type 0) (ca
       (λ o. never_nowhere C (source.while_head x) _ g refl o)
   form_ends source.wend es c a t bt rk f ty s p g k = goes_by C F (L source.wend es) w h C.aims.back (λ o. unopened source.wend es w refl o)
   form_ends (source.with_head x) [] c a t bt rk f ty s p g k = absurd (true≢false (sym c))
-  form_ends (source.with_head x) (e ∷ []) c a t bt rk f ty s p g k = absurd (no_place_covered all_uses e c)
+  form_ends (source.with_head x) (e ∷ []) c a t bt rk f ty s p g k =
+      absurd (no_place_covered all_uses e (both_true (is_user (type_at e)) (covers_place uses e) c).1)
   form_ends (source.with_head x) (d ∷ e ∷ es) c a t bt rk f ty s p g k = absurd (true≢false (sym c))
   form_ends source.end_with es c a t bt rk f ty s p g k = on_ends source.end_with es
   form_ends (source.goto l) es c a t bt rk f ty s p g k =

@@ -21,7 +21,7 @@ use Rattle.run_base.specs.Outcomes.{gives, then}
 use Rattle.vb6_run.specs.Expressions.{Context, declared, value_of, scalar_value, whole_number, indexes_of, argument_of, args_of, values_of}
 use Rattle.vb6_run.specs.Store.{Memory}
 use Rattle.run_matches.specs.CoveredVariables.{covers_type}
-use Rattle.run_matches.specs.CoveredExprs.{Uses, covers_argument, covers_array, covers_expr, covers_exprs, covers_operator, covers_passed, covers_term, uses_in}
+use Rattle.run_matches.specs.CoveredExprs.{Uses, covers_argument, covers_array, covers_expr, covers_exprs, covers_operand, covers_operator, covers_passed, covers_term, uses_in}
 use Rattle.run_matches.specs.Covered.{covers_parameter, suits_argument, suits_passed}
 use Rattle.run_matches.specs.Formed.{are_formed, are_longs, has_elements, is_formed, is_formed_argument, is_row_of_call, is_row_of_one, is_row_of_two, passed_are_formed, types_of}
 use Rattle.typing_laws.specs.Flat.{flat_uses}
@@ -31,11 +31,11 @@ use Rattle.typing_laws.specs.Leaving.{Leaves, ExprsLeave, PassedLeave, in_first,
 use Rattle.typing_laws.specs.Typed.{are_typed, are_typed_passed, fits_call, fits_parameter, fits_parameters, is_typed, is_typed_argument, gives_what_it_has}
 use Rattle.typing_laws.proofs.Callees.{both_each}
 use Rattle.typing_laws.proofs.Ends.{Ends, ends_after, ends_weaker, keeps_self, then_ends}
-use Rattle.typing_laws.proofs.Expressions.{Fits, IsScalarOf, IsTyped, binary_ends, convert_ends, fits_later, scalar_ends, term_ends, unary_ends, variable_ends, number_ends}
+use Rattle.typing_laws.proofs.Expressions.{Fits, IsScalarOf, IsTyped, binary_ends, convert_ends, fits_later, scalar_ends, term_ends, unary_ends, variable_ends, number_ends, same_ends}
 use Rattle.typing_laws.proofs.Library.{ArePlain}
 use Rattle.typing_laws.proofs.Plain.{Plain, constant_plain, long_value, same_as}
 use Rattle.typing_laws.proofs.Procedures.{Parameter, parameter_of}
-use Rattle.typing_laws.proofs.Flat.{array_named, no_field}
+use Rattle.typing_laws.proofs.Flat.{array_named, no_field, operand_nothing}
 use Rattle.typing_laws.proofs.Elements.{AreIndexes}
 use Rattle.typing_laws.proofs.Found.{HasAddress, IsRight, element_value}
 use Rattle.typing_laws.proofs.Values.{Callee, call_ends, call_value, callee_of, covered_type, given_later}
@@ -147,7 +147,13 @@ module _ (C : Context) (F : Footprint) (X : SourceJob → Memory → Type 0) (ca
         (number_ends C F X w ty (same_as types.long ty (both_true (covers_type ty) true covers).0 formed), tt)
     right_ends (typed ty (err_raise e)) covers formed typing suited w fits = absurd (true≢false (sym (both_true (covers_type ty) false covers).1))
     right_ends (typed ty err_clear) covers formed typing suited w fits = absurd (true≢false (sym (both_true (covers_type ty) false covers).1))
-    right_ends (typed ty (is_same d e)) covers formed typing suited w fits = absurd (true≢false (sym formed))
+    right_ends (typed ty (is_same d e)) covers formed typing suited w fits =
+        let both = both_true (covers_type ty) (covers_operand uses d && covers_operand uses e) covers in
+        let operands = both_true (covers_operand uses d) (covers_operand uses e) both.1 in
+        let forms = both_true (is_same_type types.boolean ty) (is_formed d && is_formed e) formed in (
+          same_ends C F X w ty d e (same_as types.boolean ty both.0 forms.0) (operand_nothing all_uses d operands.0) (operand_nothing all_uses e operands.1),
+          tt,
+        )
     right_ends (typed ty (loose e rules)) covers formed typing suited w fits = absurd (true≢false (sym formed))
 
     indexes_end : (es : Exprs) → covers_exprs uses es ≡ true → are_formed es ≡ true → are_typed D es ≡ true → Each (IsSuited C.runnable) (nodes_of_all es)

@@ -1,5 +1,5 @@
--- Flat procedures: over scalars and arrays of scalars. Of what is covered they have no user types. These are the procedures of which the
--- typing laws speak.
+-- Flat procedures: over scalars and arrays of scalars. Of what is covered they have no user types and no objects. These are the procedures of
+-- which the typing laws speak.
 use Rattle.std.specs.Prelude.{ℕ, Bool, true, false, cond, ◌&&◌, ◌||◌, List, Option, Some, None, slice_get}
 use Rattle.std.specs.List.{list_all}
 use Rattle.bound_tree.specs.declared.body.Mention.{Mention}
@@ -14,14 +14,15 @@ use Rattle.run_matches.specs.Formed.{is_formed}
 abbrev pub is_flat : Variable → Bool
 is_flat x = covers_type x.ty || covers_array_variable (element_type x.ty) x
 
--- the same scalars and arrays, and no user type: so no field is covered
+-- the same scalars and arrays, and no user type or class: so no field is covered
 abbrev pub without_groups : Uses → Uses
 without_groups uses = record {
   scalar = uses.scalar;
   array = uses.array;
-  group = λ v t. false;
+  group = λ v ty. false;
   field_type = λ t k. None;
-  user = λ t. false;
+  member_type = λ c k. None;
+  given = λ ty. false;
   is_of = uses.is_of;
   inward = uses.inward;
   relied = uses.relied;
@@ -43,6 +44,6 @@ are_flat_lines P p (Some lines) = list_all (is_flat_line P p) lines
 abbrev pub has_flat_variables : Program → (procedure : ℕ) → Bool
 has_flat_variables P p = list_all (λ (x : Variable). cond (belongs_to p x.owner) (is_flat x) true) P.declarations.vars
 
--- no user types: the lines of the procedure, if there is one of this number, and its variables
+-- no user types or objects: the lines of the procedure, if there is one of this number, and its variables
 abbrev pub is_flat_procedure : Program → (procedure : ℕ) → Bool
 is_flat_procedure P p = are_flat_lines P p (slice_get P.bodies p) && has_flat_variables P p

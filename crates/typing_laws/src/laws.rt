@@ -58,7 +58,6 @@ pub fn expressions_have_types()
 
 /// A law: a covered expression of constants, scalar variables, operators, conversions and calls of the library but for MsgBox and InputBox puts
 /// nothing out and changes nothing, in any frame.
-#[tactic(auto, using(crate::proofs::Inert::inert_changes_nothing))]
 pub fn inert_expressions_change_nothing()
     ensures { (C : Context) (mentions : List Mention) (e : Expr) (w : Memory)
         → covers_expr (uses_in C.runnable.program C.procedure mentions) e ≡ true → is_inert e ≡ true → ChangesNothing w (scalar_value C e w) }

@@ -1,0 +1,118 @@
+-- The values of fields of user types and of variables of objects.
+use Rattle.std.proofs.Common.{◌≡◌, refl, sym, ap, subst, inl, ℕ, Bool, true, ◌&&◌, ◌||◌, true≢false, []}
+use Rattle.vb_tree.specs.BoundTree as types
+use Rattle.vb_tree.specs.BoundTree.{Ty}
+use Rattle.bound_tree.specs.Tree.{Expr, typed, field}
+use Rattle.bound_facts.specs.Node.{type_at}
+use Rattle.run_base.specs.Outcomes.{gives, then}
+use Rattle.vb6_run.specs.Expressions as source
+use Rattle.vb6_run.specs.Expressions.{Context}
+use Rattle.vb6_run.specs.Forms.{SourceLine}
+use Rattle.vb6_run.specs.Shapes.{simple}
+use Rattle.vb6_run.specs.Store as store
+use Rattle.vb6_run.specs.Store.{SourceCalls, SourceFrame}
+use Rattle.vb6_run.specs.Values.{Value}
+use Rattle.net_run.specs.Expressions as target
+use Rattle.net_run.specs.Lines.{NetFrame, NetLine, scope_of}
+use Rattle.net_run.specs.Making.{Jobs}
+use Rattle.net_run.specs.Members.{Code}
+use Rattle.net_run.specs.Names as net_names
+use Rattle.net_run.specs.Store as net
+use Rattle.net_run.specs.Values as net_value
+use Rattle.written_trees.specs.Exprs.{exp_of}
+use Rattle.written_trees.specs.Names.{Scope}
+use Rattle.run_matches.specs.Addresses.{is_element}
+use Rattle.run_matches.specs.Agreeing.{Agrees}
+use Rattle.run_matches.specs.CoveredExprs.{Uses, covers_base, covers_expr, covers_group, covers_object, covers_place, has_member, has_scalar}
+use Rattle.run_matches.specs.CoveredVariables.{covers_type}
+use Rattle.run_matches.specs.Maps.{World}
+use Rattle.run_matches.specs.Match.{MemoryMatch}
+use Rattle.run_matches.specs.Pledges.{Pledge}
+use Rattle.run_matches.specs.Upgrades.{Upgrade}
+use Rattle.run_statements.specs.Frames.{AllCalled, AreReadable, ScalarMatch, context_of, demands, type_shape}
+use Rattle.run_statements.specs.Groups.{ValueMatch}
+use Rattle.row_laws.proofs.Composing.{after_nil, then_gives}
+use Rattle.agreeing_laws.proofs.Agreeing.{agrees_gives, agrees_outside, then_agrees}
+use Rattle.expression_laws.proofs.FieldValues.{place_value_agrees, scalar_field_agrees}
+use Rattle.expression_laws.proofs.Objects.{ObjectIs, ObjectMatch, member_declared, member_read, no_value, object_is, reached}
+use Rattle.expression_laws.proofs.Library.{by_either}
+use Rattle.expression_laws.proofs.Types.{both_true}
+use Rattle.expression_laws.proofs.Variables.{Checked, same_agrees}
+use Rattle.expression_laws.proofs.Withs.{HavePlaces}
+
+module _ (U : Upgrade) (K : Pledge) (p : ℕ) (f : SourceFrame) (g : NetFrame) (oracle : SourceCalls) (net_oracle : Jobs) (l : SourceLine) (k : NetLine)
+    (c : Code) (T : Scope) (uses : Uses) (same_declarations : T.declarations ≡ U.program.declarations) (readable : AreReadable U T uses) (w : World)
+    (have : HavePlaces U p f g oracle net_oracle l k c T uses K w) (start : MemoryMatch U w) where
+  abbrev C : Context
+  C = context_of U oracle p f l
+
+  abbrev S : net_names.Scope
+  S = scope_of U.written c g k
+
+  -- a scalar that an object has
+  member_scalar_agrees : (ty : Ty) (e : Expr) (j : ℕ) → covers_type ty ≡ true → has_member uses (type_at e) j covers_type ≡ true → covers_object uses e ≡ true
+      → Agrees U K w (ScalarMatch U ty) (source.value_of C (typed ty (field e j)) w.src) (target.value_of S net_oracle (exp_of T (typed ty (field e j))) w.net)
+  member_scalar_agrees ty (typed (types.class d) t) j covers has object =
+      let x = member_declared U T uses readable covers_type d j (uses.member_type d j) refl has in
+      member_read U K p f g oracle net_oracle l k c T same_declarations w start d j t x.0 x.2 ty (inl x.1)
+      (object_is U K p f g oracle net_oracle l k c T same_declarations w start uses readable have d t object) (ScalarMatch U ty) target.read
+      (λ a b v found match.
+      subst (λ z. Agrees U K v (ScalarMatch U ty) (then z (Checked C ty)) (target.read b v.net)) (after_nil (store.read a v.src))
+      (same_agrees U K C ty a b v (inl (ap is_element found.stands)) covers match found.same))
+  member_scalar_agrees ty (typed _ t) j covers has object = absurd (true≢false (sym has))
+
+  -- an object that an object has
+  member_object_agrees : (ty : Ty) (e : Expr) (j : ℕ) → covers_object uses (typed ty (field e j)) ≡ true
+      → Agrees U K w (ValueMatch U (type_shape U ty)) (source.value_of C (typed ty (field e j)) w.src)
+      (target.value_of S net_oracle (exp_of T (typed ty (field e j))) w.net)
+  member_object_agrees (types.class d) e j covers =
+      by (object_is U K p f g oracle net_oracle l k c T same_declarations w start uses readable have d (field e j) covers)
+    where
+      whole : Expr
+      whole = typed (types.class d) (field e j)
+
+      R : World → Value → net_value.Value → Type 0
+      R = ValueMatch U (simple (types.class d))
+
+      by : ObjectIs U K C S net_oracle T w d (field e j) → Agrees U K w R (source.value_of C whole w.src) (target.value_of S net_oracle (exp_of T whole) w.net)
+      by (no_value none) =
+          subst (λ z. Agrees U K w R z (target.value_of S net_oracle (exp_of T whole) w.net)) (sym none)
+          (agrees_outside U K w R (target.value_of S net_oracle (exp_of T whole) w.net))
+      by (reached r leads agrees) =
+          subst (λ z. Agrees U K w R (source.value_of C whole w.src) (target.value_from S net_oracle z)) (sym (leads.reached refl w.net))
+          (subst (λ z. Agrees U K w R z (target.value_from S net_oracle (r w.net))) (then_gives (source.value_of C whole w.src))
+          (then_agrees U K w (ObjectMatch U d) R (source.value_of C whole w.src) (target.address_from S net_oracle (r w.net)) (λ x v. gives [] x v) target.read start
+          agrees
+          (λ x a v m later.
+          agrees_gives U K v R x (net.looked_up a v.net) later.match (subst (λ z. R v z (net.looked_up a v.net)) (sym m.like.1) (refl, m.like.2)))))
+  member_object_agrees _ e j covers = absurd (true≢false (sym covers))
+
+  -- ---- of either
+
+  -- a scalar
+  pub field_agrees : (ty : Ty) (e : Expr) (j : ℕ) → AllCalled (demands U K p l k (scope_of U.written c g k) T) e
+      → covers_expr uses (typed ty (field e j)) ≡ true
+      → Agrees U K w (ScalarMatch U ty)
+      (source.value_of (context_of U oracle p f l) (typed ty (field e j)) w.src)
+      (target.value_of (scope_of U.written c g k) net_oracle (exp_of T (typed ty (field e j))) w.net)
+  field_agrees ty e j can covers =
+      let in_place : Bool = has_scalar uses (type_at e) j && covers_base uses e in
+      let in_object : Bool = has_member uses (type_at e) j covers_type && covers_object uses e in
+      let both = both_true (covers_type ty) (in_place || in_object) covers in
+      by_either in_place in_object both.1
+      (λ h.
+      let x = both_true (has_scalar uses (type_at e) j) (covers_base uses e) h in
+      scalar_field_agrees U K p f g oracle net_oracle l k c T uses same_declarations readable w have start ty e j both.0 x.0 can x.1)
+      (λ h.
+      let x = both_true (has_member uses (type_at e) j covers_type) (covers_object uses e) h in
+      member_scalar_agrees ty e j both.0 x.0 x.1)
+
+  -- what is of a user type, or an object
+  pub group_field_agrees : (ty : Ty) (e : Expr) (j : ℕ) → AllCalled (demands U K p l k (scope_of U.written c g k) T) e
+      → covers_group uses (typed ty (field e j)) ≡ true
+      → Agrees U K w (ValueMatch U (type_shape U ty))
+      (source.value_of (context_of U oracle p f l) (typed ty (field e j)) w.src)
+      (target.value_of (scope_of U.written c g k) net_oracle (exp_of T (typed ty (field e j))) w.net)
+  group_field_agrees ty e j can covers =
+      by_either (covers_place uses (typed ty (field e j))) (covers_object uses (typed ty (field e j))) covers
+      (place_value_agrees U K p f g oracle net_oracle l k c T uses same_declarations readable w have start ty (field e j) can) (member_object_agrees ty e j)

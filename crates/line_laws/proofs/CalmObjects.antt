@@ -1,0 +1,77 @@
+-- The object that a variable keeps is the same whatever is evaluated before it, where nothing that was there has changed.
+use Rattle.std.proofs.Common.{◌≡◌, ◌∙◌, refl, sym, ap, subst, ℕ, Bool, true, false, ◌&&◌, eq-eqb, [], true≢false}
+use Rattle.vb_tree.specs.BoundTree as types
+use Rattle.vb_tree.specs.BoundTree.{Ty}
+use Rattle.vb_tree.specs.declared.value.Value6.{Value6}
+use Rattle.bound_tree.specs.Tree.{Expr, typed, Term, variable}
+use Rattle.bound_facts.specs.Locks.{is_same_type}
+use Rattle.net_meaning.specs.declared.value.ValueN.{ValueN}
+use Rattle.net_meaning.specs.ValueMatch.{Matches, no_object_of, objects_of}
+use Rattle.run_base.specs.Outcomes.{after, then}
+use Rattle.run_base.specs.Positions.{Position}
+use Rattle.written_trees.specs.Names.{Scope}
+use Rattle.vb6_run.specs.Expressions as source
+use Rattle.vb6_run.specs.Expressions.{at_address, value_in}
+use Rattle.vb6_run.specs.Forms.{SourceLine}
+use Rattle.vb6_run.specs.Shapes.{simple}
+use Rattle.vb6_run.specs.Store.{Address, root, single, Memory, SourceCalls, SourceFrame}
+use Rattle.vb6_run.specs.Values.{is_of_shape, is_typed, scalar}
+use Rattle.net_run.specs.Lines.{NetFrame, NetLine, scope_of}
+use Rattle.net_run.specs.Making.{Jobs}
+use Rattle.net_run.specs.Members.{Code}
+use Rattle.net_run.specs.Names as net_names
+use Rattle.run_matches.specs.Addresses.{AllMatched}
+use Rattle.run_matches.specs.CoveredExprs.{Uses, covers_object_term, is_calm_object_term}
+use Rattle.run_matches.specs.Frames.{FrameMatch, OwnsAll}
+use Rattle.run_matches.specs.Maps.{World, is_auto_root, moved_at}
+use Rattle.run_matches.specs.Match.{MemoryMatch}
+use Rattle.run_matches.specs.Pledges.{Pledge}
+use Rattle.run_matches.specs.Upgrades.{Upgrade}
+use Rattle.run_statements.specs.Frames.{AreReadable, ArePlaced, context_of}
+use Rattle.line_laws.proofs.Calm.{Gives, IsFit, typed_read}
+use Rattle.line_laws.proofs.Places.{Place, variable_place}
+use Rattle.line_laws.proofs.Standing.{Stable, held_fit, not_blank, read_single, same_matched}
+
+pub same_class : (k : ℕ) → is_same_type (types.class k) (types.class k) ≡ true
+same_class k = eq-eqb k k refl
+
+-- Nothing or an object
+object_typed : (k : ℕ) (x : Value6) → IsFit (types.class k) x → is_typed (types.class k) x ≡ true
+object_typed k x fit = by_match fit.0 x fit.1 fit.2
+  where
+    by_match : (same : ℕ → ℕ → Bool) (x : Value6) (y : ValueN) → Matches same (types.class k) x y → is_typed (types.class k) x ≡ true
+    by_match same _ _ (no_object_of k) = refl
+    by_match same _ _ (objects_of k i j e) = refl
+
+module _ (U : Upgrade) (K : Pledge) (p : ℕ) (f : SourceFrame) (g : NetFrame) (l : SourceLine) (k : NetLine) (c : Code) (T : Scope)
+    (declared : T.declarations ≡ U.program.declarations) (oracle : SourceCalls) (net_oracle : Jobs) (uses : Uses) (readable : AreReadable U T uses)
+    (placed : ArePlaced U p f (scope_of U.written c g k) T uses) (w : World) (h : MemoryMatch U w) (F : FrameMatch U K w p f g)
+    (owns : OwnsAll U K p f) where
+  abbrev C : source.Context
+  C = context_of U oracle p f l
+
+  abbrev S : net_names.Scope
+  S = scope_of U.written c g k
+
+  pub calm_object : (of_class : ℕ) (t : Term) → is_calm_object_term uses t ≡ true → covers_object_term uses (types.class of_class) t ≡ true
+      → (x : Value6) × ((s : Memory) → Stable U w s → Gives C (typed (types.class of_class) t) x s)
+  calm_object of_class (variable v qualified) calm covers =
+      let ty : Ty = types.class of_class in
+      let e : Expr = typed ty (variable v qualified) in
+      let x : Place U K p w C S T net_oracle ty e =
+      variable_place U K p f g l k c T declared oracle net_oracle uses readable placed w h F owns ty v qualified covers in
+      let q : Position = x.place.position in
+      let a : Address = root (simple ty) q in
+      let matched : AllMatched U w (simple ty) q = same_matched U K w ty q a x.place.address refl x.place.same in
+      let kind : (z : Value6) × (w.src.held q ≡ single ty z) = matched.1 in
+      let fit : IsFit ty kind.0 = held_fit U w ty kind.0 (w.src.held q) (w.net.cell (moved_at U w.map q)) kind.1 (h.stores.values q matched.0) in
+      let shaped : is_of_shape (simple ty) (scalar ty kind.0) ≡ true =
+      ap (λ b. b && is_typed ty kind.0) (same_class of_class) ∙ object_typed of_class kind.0 fit in
+      let plain : is_auto_root U w.map q.root ≡ false = subst (λ r. is_auto_root U w.map r ≡ false) (sym x.place.in_root) x.plain in (
+        kind.0,
+        λ s before.
+            let is : s.held q ≡ single ty kind.0 = before q matched.0.is_made plain (λ z. not_blank ty kind.0 (sym kind.1 ∙ z)) ∙ kind.1 in
+            ap (λ r. then r (value_in C e)) (x.place.found s)
+            ∙ ap (after []) (typed_read C e a s kind.0 refl shaped (read_single ty kind.0 q s (same_class of_class) is)),
+      )
+  calm_object of_class _ calm covers = absurd (true≢false (sym calm))

@@ -1,0 +1,114 @@
+-- A Set of a variable, or of a variable of an object, does the same as what is written for it.
+use Rattle.std.proofs.Common.{◌≡◌, ◌∙◌, refl, sym, ap, subst, ℕ, Bool, true, false, ◌&&◌, Option, Some, None, [], ◌∷◌, ⊎_elim, true≢false}
+use Rattle.std.proofs.lemmas.Bool.{or_cases}
+use Rattle.vb_tree.specs.BoundTree as types
+use Rattle.vb_tree.specs.BoundTree.{Ty}
+use Rattle.vb_tree.specs.declared.declared.VarId.{VarId}
+use Rattle.bound_tree.specs.Tree.{Expr, typed, Term, variable, field}
+use Rattle.bound_facts.proofs.Chains.{both_true}
+use Rattle.bound_facts.specs.Effects.{is_outside}
+use Rattle.bound_facts.specs.Locks.{is_same_type}
+use Rattle.bound_facts.specs.Node.{root}
+use Rattle.run_base.specs.Outcomes.{gives, then, some_of}
+use Rattle.written_trees.specs.Exprs.{exp_of, target_exp}
+use Rattle.written_trees.specs.Names.{Scope}
+use Rattle.vb6_run.specs.Expressions as source
+use Rattle.vb6_run.specs.Expressions.{at_address, finished}
+use Rattle.vb6_run.specs.Forms.{SourceLine}
+use Rattle.vb6_run.specs.Lines.{let_to, set_to, store_at}
+use Rattle.vb6_run.specs.Runnables.{variable_address}
+use Rattle.vb6_run.specs.Store.{Address, Memory, SourceCalls, SourceFrame}
+use Rattle.vb6_run.specs.Values.{Value}
+use Rattle.net_run.specs.Lines.{NetFrame, NetLine, assignment, scope_of}
+use Rattle.net_run.specs.Making.{Jobs}
+use Rattle.net_run.specs.Members.{Code}
+use Rattle.net_run.specs.Names as net_names
+use Rattle.run_matches.specs.Agreeing.{Agrees}
+use Rattle.run_matches.specs.CoveredExprs.{Uses, covers_group, covers_place, is_changeable}
+use Rattle.run_matches.specs.CoveredLines.{covers_set, covers_set_member, covers_set_variable}
+use Rattle.run_matches.specs.Formed.{is_formed}
+use Rattle.run_matches.specs.Frames.{OwnsAll}
+use Rattle.run_matches.specs.Maps.{World}
+use Rattle.run_matches.specs.Match.{MemoryMatch}
+use Rattle.run_matches.specs.Pledges.{Pledge}
+use Rattle.run_matches.specs.Runs.{CallsAgree}
+use Rattle.run_matches.specs.Upgrades.{Upgrade}
+use Rattle.run_statements.specs.Frames.{AllCalled, AnyUnits, AreReadable, ArePlaced, IsGroup, IsKnown, IsOpen, context_of, demands}
+use Rattle.run_statements.specs.Groups.{GroupsAgree, GroupsAreWritten}
+use Rattle.run_statements.specs.Members.{MembersAgree, MembersAreFound}
+use Rattle.run_statements.specs.Written.{Passes}
+use Rattle.agreeing_laws.proofs.Lasting.{later_now}
+use Rattle.line_laws.specs.Lasting.{GoOnMatching}
+use Rattle.line_laws.proofs.Copies.{whole_stored}
+use Rattle.line_laws.proofs.Elements.{known_found}
+use Rattle.line_laws.proofs.MemberSets.{class_is, member_set_agrees}
+use Rattle.line_laws.proofs.Settled.{known_path}
+
+-- where no object is made, the target of a Set is found as that of an assignment
+found_alone : (o : Option Address) (s : Memory) → then (some_of o (λ a w. gives [] (at_address a) w) s) finished ≡ some_of o (λ a w. gives [] a w) s
+found_alone None s = refl
+found_alone (Some a) s = refl
+
+module _ (U : Upgrade) (groups : GroupsAgree U) (writes : GroupsAreWritten U) (members : MembersAgree U) (finds : MembersAreFound U) (K : Pledge) (p : ℕ)
+    (f : SourceFrame) (g : NetFrame) (l : SourceLine) (k : NetLine) (c : Code) (T : Scope) (declared : T.declarations ≡ U.program.declarations) (oracle : SourceCalls)
+    (net_oracle : Jobs) (is_open : IsOpen (scope_of U.written c g k)) (uses : Uses) (readable : AreReadable U T uses)
+    (placed : ArePlaced U p f (scope_of U.written c g k) T uses) (agree : CallsAgree U (Passes U) oracle net_oracle) (w : World)
+    (h : MemoryMatch U w) (G : GoOnMatching U K p f g w) (owns : OwnsAll U K p f) where
+  abbrev C : source.Context
+  C = context_of U oracle p f l
+
+  abbrev S : net_names.Scope
+  S = scope_of U.written c g k
+
+  abbrev Can : Expr → Type 0
+  Can e = AllCalled (demands U K p l k S T) e
+
+  abbrev IsOwnTarget : Expr → Type 0
+  IsOwnTarget e = K.steady → is_outside U.program.declarations.vars p (root e) ≡ false
+
+  abbrev SameSet : (to value : Expr) → Type 0
+  SameSet to e =
+      Agrees U K w AnyUnits (then (source.value_of C e w.src) (set_to C to)) (assignment S net_oracle (target_exp T to) (exp_of T e) w.net)
+
+  let_is_set : (ty : Ty) (v : VarId) (qualified : Bool) → IsKnown U v.0 → (x : Value) (s : Memory)
+      → let_to C (typed ty (variable v qualified)) x s ≡ set_to C (typed ty (variable v qualified)) x s
+  let_is_set ty v qualified known x s =
+      ap (λ r. then r (store_at C (typed ty (variable v qualified)) x))
+      (known_found U C refl ty v qualified known s ∙ sym (found_alone (variable_address U.program.declarations f v.0) s))
+
+  -- an object to a variable
+  object_set : (t : ℕ) (to from : Term) → Can (typed (types.class t) from) → covers_place uses (typed (types.class t) to) ≡ true
+      → covers_group uses (typed (types.class t) from) ≡ true → is_formed (typed (types.class t) from) ≡ true → IsOwnTarget (typed (types.class t) to)
+      → SameSet (typed (types.class t) to) (typed (types.class t) from)
+  object_set t (variable v qualified) from can covers_to covers formed own =
+      let to : Expr = typed (types.class t) (variable v qualified) in
+      let e : Expr = typed (types.class t) from in
+      let r : IsGroup U v.0 (types.class t) = readable.groups v (types.class t) covers_to in
+      subst (λ a. Agrees U K w AnyUnits (then (source.value_of C e w.src) (set_to C to)) (assignment S net_oracle a (exp_of T e) w.net))
+      (known_path U T declared (types.class t) v qualified r.known)
+      (subst (λ go. Agrees U K w AnyUnits (then (source.value_of C e w.src) go) (assignment S net_oracle (exp_of T to) (exp_of T e) w.net))
+      (λ i x s. let_is_set (types.class t) v qualified r.known x s i)
+      (whole_stored U groups writes K p f g l k c T declared oracle net_oracle is_open uses readable placed agree w h (G w (later_now U K w h)) owns (types.class t)
+      (variable v qualified) covers_to tt from can covers formed own))
+  object_set t (field d j) from can covers_to covers formed own = absurd (true≢false (sym covers_to))
+  object_set t _ from can covers_to covers formed own = absurd (true≢false (sym covers_to))
+
+  variable_set : (t : ℕ) (to : Term) (e : Expr) → Can e → covers_set_variable uses (typed (types.class t) to) e ≡ true → is_formed e ≡ true
+      → IsOwnTarget (typed (types.class t) to) → SameSet (typed (types.class t) to) e
+  variable_set t to (typed of from) can covers formed own =
+      let d : Expr = typed (types.class t) to in
+      let stands : Bool = covers_place uses d && covers_group uses (typed of from) in
+      let first = both_true (is_changeable uses d) (is_same_type (types.class t) of && stands) covers in
+      let second = both_true (is_same_type (types.class t) of) stands first.1 in
+      let third = both_true (covers_place uses d) (covers_group uses (typed of from)) second.1 in
+      subst (λ z. Can (typed z from) → covers_group uses (typed z from) ≡ true → is_formed (typed z from) ≡ true → SameSet d (typed z from))
+      (sym (class_is t of second.0)) (λ can_from covers_from is. object_set t to from can_from third.0 covers_from is own) can third.1 formed
+
+  pub set_agrees : (to e : Expr) → Can e → covers_set uses (to ∷ e ∷ []) ≡ true → is_formed e ≡ true → IsOwnTarget to → SameSet to e
+  set_agrees (typed (types.class t) to) e can covers formed own =
+      let d : Expr = typed (types.class t) to in
+      ⊎_elim (λ x. variable_set t to e can x formed own)
+      (λ x.
+      member_set_agrees U groups writes members finds K p f g l k c T declared oracle net_oracle is_open uses readable placed agree w h G owns t to e can x formed own)
+      (or_cases (covers_set_variable uses d e) (covers_set_member uses d e) covers)
+  set_agrees (typed _ to) e can covers formed own = absurd (true≢false (sym covers))
