@@ -2,10 +2,11 @@
 use Rattle.std.proofs.Common.{◌≡◌, refl, sym, ap, subst, ◌∙◌, ℕ, Bool, true, false, List, [], ◌∷◌, ◌++◌, append_assoc, append-nil}
 use Rattle.vb_tree.specs.BoundTree.{Ty}
 use Rattle.bound_tree.specs.Tree.{Expr, typed, field, with_object}
+use Rattle.bound_tree.specs.Tree as bound
 use Rattle.bound_tree.specs.declared.expression.Root as expression
-use Rattle.net_tree.specs.Tree.{Exp, path, dot, with_dot}
+use Rattle.net_tree.specs.Tree.{Exp, path, dot, with_dot, me}
 use Rattle.run_base.specs.Outcomes.{Outcome, gives, then}
-use Rattle.net_run.specs.Expressions.{address_from, finished, members_from, parts_by, reach, started}
+use Rattle.net_run.specs.Expressions.{address_from, finished, members_from, own_object, parts_by, reach, started}
 use Rattle.net_run.specs.Making.{Jobs}
 use Rattle.net_run.specs.Names.{Scope, Reached, at_place, member_at, path_start}
 use Rattle.net_run.specs.Store.{Address, Memory}
@@ -88,12 +89,15 @@ module _ (S : Scope) (oracle : Jobs) where
           ∙ sym (after_nil (members_from S oracle (at_place b) (name ∷ more) t));
     }
 
+    pub member_reached : (e : Expr) (r : Memory → Outcome Memory Reached) → Reaches e r → (name : List ℕ) (t : Memory)
+        → reach S oracle false (member_of e (exp_of T e) name) t ≡ member_behind r name t
+    member_reached e r x name t = x.members name [] t ∙ sym (member_then (r t) name []) ∙ then_gives (member_behind r name t)
+
     -- what a member reaches is the member of what is reached
     pub member_reaches : (e : Expr) (r : Memory → Outcome Memory Reached) → Reaches e r → (ty : Ty) (k : ℕ) (name : List ℕ)
         → exp_of T (typed ty (field e k)) ≡ member_of e (exp_of T e) name → Reaches (typed ty (field e k)) (member_behind r name)
     member_reaches e r x ty k name is = record {
-      reached = λ alone t.
-          ap (λ z. reach S oracle false z t) is ∙ x.members name [] t ∙ sym (member_then (r t) name []) ∙ then_gives (member_behind r name t);
+      reached = λ alone t. ap (λ z. reach S oracle false z t) is ∙ member_reached e r x name t;
       members = λ next more t.
           ap (λ z. reach S oracle false (members (member z next) more) t) is ∙ x.members name (next ∷ more) t ∙ sym (member_then (r t) name (next ∷ more));
     }
@@ -112,4 +116,11 @@ module _ (S : Scope) (oracle : Jobs) where
       members = λ name more t.
           with_members name more t ∙ sym (after_nil (members_from S oracle (member_at S S.around name t) more t))
           ∙ sym (after_nil (members_from S oracle (at_place S.around) (name ∷ more) t));
+    }
+
+    -- Me
+    pub me_leads : (ty : Ty) → LeadsTo (typed ty bound.me) (own_object S)
+    me_leads ty = record {
+      reached = λ alone t. refl;
+      members = λ name more t. dot_members me name more t ∙ member_then (reach S oracle false me t) name more;
     }

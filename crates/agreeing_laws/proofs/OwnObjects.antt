@@ -1,12 +1,38 @@
 -- The objects of procedures of classes go on to be of their class.
-use Rattle.std.proofs.Common.{◌≡◌, sym, subst, ◌∙◌, ℕ, false, Option, true≢false}
-use Rattle.std.specs.Prelude.{slice_get}
+use Rattle.std.proofs.Common.{◌≡◌, ap, sym, subst, ◌∙◌, ℕ, zero, suc, Bool, true, false, cond, ◌&&◌, ◌||◌, nat_eq, List, [], ◌∷◌, map, Option, Some, slice_get, eq-eqb, true≢false}
+use Rattle.std.proofs.lemmas.Bool.{or_right}
+use Rattle.std.specs.List.{filter, list_any}
+use Rattle.vb_tree.specs.Tree.{Module}
 use Rattle.bound_facts.specs.SelfMade.{module_of}
 use Rattle.run_matches.specs.Frames.{HasOwnObject, OwnObject}
 use Rattle.run_matches.specs.Maps.{World}
 use Rattle.run_matches.specs.Pledges.{Pledge, Later, stands_in_class}
 use Rattle.run_matches.specs.Upgrades.{Upgrade}
 use Rattle.agreeing_laws.proofs.Made.{more}
+
+same_first : (m n : ℕ) (ms : List ℕ) → slice_get (m ∷ ms) 0 ≡ Some n → m ≡ n
+same_first m n ms e = cc e
+
+abbrev files : List Module → List ℕ
+files ms = map (λ (m : Module). m.file) ms
+
+abbrev classes : List Module → List Module
+classes ms = filter (λ (m : Module). m.class) ms
+
+abbrev has_class : List Module → (file : ℕ) → Bool
+has_class ms file = list_any (λ (m : Module). nat_eq m.file file && m.class) ms
+
+-- the file of a class is one of a class
+pub class_file : (ms : List Module) (class file : ℕ) → slice_get (files (classes ms)) class ≡ Some file → has_class ms file ≡ true
+class_file [] class file h = absurd (cc h)
+class_file (m ∷ ms) class file h = by m.class class (λ k e. class_file ms k file e) h
+  where
+    by : (b : Bool) (k : ℕ) → ((j : ℕ) → slice_get (files (classes ms)) j ≡ Some file → has_class ms file ≡ true)
+        → slice_get (files (cond b (m ∷ classes ms) (classes ms))) k ≡ Some file → ((nat_eq m.file file && b) || has_class ms file) ≡ true
+    by true zero more e =
+        ap (λ z. (z && true) || has_class ms file) (eq-eqb m.file file (same_first m.file file (files (classes ms)) e))
+    by true (suc k) more e = or_right (nat_eq m.file file && true) (has_class ms file) (more k e)
+    by false k more e = or_right (nat_eq m.file file && false) (has_class ms file) (more k e)
 
 -- a procedure of a standard module needs none
 pub no_own_object : (U : Upgrade) (w : World) (p : ℕ) (me : Option ℕ) → stands_in_class U (module_of (slice_get U.program.declarations.procs p)) ≡ false

@@ -2,7 +2,7 @@
 use Rattle.std.proofs.Common.{◌≡◌, ◌⊎◌, ℕ, zero, suc, ◌+◌, Bool, true, false, not, ◌&&◌, cond, nat_eq, List, [], ◌∷◌, ◌++◌, map, Option, Some, None, refl, sym, ap, ◌∙◌, subst, inl, inr, arith}
 use Rattle.std.specs.Cmp.Lexicographic.{bytes_decides, pointwise}
 use Rattle.std.specs.List.{list_all}
-use Rattle.std.specs.Prelude.{slice_get}
+use Rattle.std.specs.Prelude.{◌||◌, slice_get}
 use Rattle.up_base.specs.Names.{is_same_name, lower_case}
 use Rattle.up_base.proofs.Lists.{both_true}
 use Rattle.vb_tree.specs.Blocks.{is_code}
@@ -14,10 +14,9 @@ use Rattle.vb_tree.specs.declared.declared.VarId.{VarId}
 use Rattle.bound_tree.specs.Tree.{Variable, Constant, Procedure, Declarations, Program}
 use Rattle.written_trees.specs.Prologues.{declares, is_statement, variables_from, variables_of, constants_of, is_static}
 use Rattle.vb6_run.specs.Programs.{answer_in, is_local_of, owned_from, is_static_of}
-use Rattle.vb6_run.specs.Runnables.{is_class_file}
 use Rattle.run_matches.specs.Callees.{answer_owns, frame_owns, own_of_some, parameter_owns}
 use Rattle.run_matches.specs.CoveredVariables.{are_different, belongs_to, covers_declared, covers_owner, has_extents, is_named_in}
-use Rattle.run_matches.specs.Covered.{covers_body, covers_all_calls, covers_head, covers_kind, covers_names, covers_own, covers_owns, covers_parameter, covers_procedure, covers_result, covers_site, covers_variables, has_result, is_answer_of, is_parameter_of}
+use Rattle.run_matches.specs.Covered.{has_no_static, covers_body, covers_all_calls, covers_head, covers_kind, covers_names, covers_own, covers_owns, covers_parameter, covers_procedure, covers_result, covers_site, covers_variables, has_result, is_answer_of, is_parameter_of}
 use Rattle.run_matches.specs.Sites.{Own, own_variable, own_constant, own_name, own_variables, own_constants, statement_owns, owns_from, owns_of, Site, site_of, site_lines, first_statement, local_numbers, static_numbers}
 use Rattle.correspondence.specs.Lists.{In}
 use Rattle.correspondence.specs.Uses.{IsAlone}
@@ -183,7 +182,8 @@ covered_parts P p s e h =
     let d = both_true (covers_variables P p) (covers_body P p (slice_get P.bodies p)) c.1 in
     let site : covers_site D p (Some s) ≡ true = sym (ap (covers_site D p) e) ∙ c.0 in
     let names = are_different (map own_name (frame_owns D (slice_get D.procs p) s)) in
-    let f = both_true (covers_owns D p os) names (both_true (not s.source_module.class) (covers_owns D p os && names) site).1 in
+    let outer = not s.source_module.class || list_all has_no_static os in
+    let f = both_true (covers_owns D p os) names (both_true outer (covers_owns D p os && names) site).1 in
     let locals = pointwise nat_eq (local_numbers os) (owned_from (is_local_of p) 0 D.vars) in
     let statics = pointwise nat_eq (static_numbers os) (owned_from (is_static_of p) 0 D.vars) in
     let g = both_true (locals && statics) (list_all (covers_own D p) os) f.0 in
@@ -197,13 +197,11 @@ covered_parts P p s e h =
     by None h names locals statics vars = absurd (cc h)
     by (Some x) h names locals statics vars =
         let D = P.declarations in
-        let outer = not (is_class_file D x.module_number) in
         let params = pointwise nat_eq (map (λ (v : VarId). v.0) x.params) (owned_from (is_parameter_of p) 0 D.vars) in
         let answer = pointwise nat_eq (answer_in x.answer) (owned_from (is_answer_of p) 0 D.vars) in
-        let a = both_true (covers_kind x.kind) (list_all (covers_parameter P p) x.params && (covers_result D p x && outer)) h in
-        let b = both_true (list_all (covers_parameter P p) x.params) (covers_result D p x && outer) a.1 in
-        let c = both_true (covers_result D p x) outer b.1 in
-        let d = both_true (has_result D p x x.kind) (params && answer) c.0 in
+        let a = both_true (covers_kind x.kind) (list_all (covers_parameter P p) x.params && covers_result D p x) h in
+        let b = both_true (list_all (covers_parameter P p) x.params) (covers_result D p x) a.1 in
+        let d = both_true (has_result D p x x.kind) (params && answer) b.1 in
         let e = both_true params answer d.1 in
         record { locals = locals; statics = statics; procedure = x; params = e.0; answer = e.1; apart = names; vars = vars }
 

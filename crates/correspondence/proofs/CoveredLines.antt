@@ -9,7 +9,7 @@ use Rattle.vb_tree.specs.Tree.{CaseItem, Form, ReDimItem}
 use Rattle.vb_tree.specs.Tree as source
 use Rattle.bound_tree.specs.declared.body.Mention.{Mention}
 use Rattle.bound_tree.specs.Labels.{Label}
-use Rattle.bound_tree.specs.Tree.{Program, Expr, typed, field, variable, Line, Term, library, Exprs, no_exprs, next_expr, Declarations, Variable, call, no_object, of_object, Passed, err_raise, err_clear}
+use Rattle.bound_tree.specs.Tree.{Program, Expr, typed, field, variable, Line, Term, library, Exprs, no_exprs, next_expr, Declarations, Variable, call, no_object, of_object, Passed, err_raise, err_clear, Object, me, with_object}
 use Rattle.vb_tree.specs.declared.bound.LibCall.{LibCall}
 use Rattle.vb_tree.specs.declared.bound.LibCall.TheVariants as lib
 use Rattle.bound_facts.specs.Locks.{is_same_type}
@@ -19,17 +19,17 @@ use Rattle.bound_facts.specs.Nodes.{nodes, nodes_in}
 use Rattle.bound_facts.specs.Parts.{resizes}
 use Rattle.net_tree.specs.Tree.{Exp}
 use Rattle.net_tree.specs.Tree as net
-use Rattle.written_trees.specs.Exprs.{called, exp_of, is_bare, passed_of, target_exp}
+use Rattle.written_trees.specs.Exprs.{called, exp_of, is_bare, passed_of, target_exp, callee_of, member_in, term_exp}
 use Rattle.written_trees.specs.Lines.{as_call, case_items, empty_extents, first_exp, items_exp, line_of, resized_array, step_exp, call_line}
-use Rattle.written_trees.specs.Names.{Scope, Path, copy_name, module_name, procedure_path, support, variable_path_of}
+use Rattle.written_trees.specs.Names.{Scope, Path, copy_name, module_name, support, variable_path_of, member, procedure_name}
 use Rattle.written_trees.specs.Puts.{formed, order_shows, put_type, rank_of, store_by, store_line, stored_value, target_rank, user_copy}
 use Rattle.written_trees.specs.Types.{element_type, written_type}
-use Rattle.run_matches.specs.CoveredVariables.{covers_group_use, covers_type, is_reached}
+use Rattle.run_matches.specs.CoveredVariables.{covers_group_use, covers_type, is_named_so, is_reached}
 use Rattle.run_matches.specs.UserTypes.{is_class_type, is_group_type, is_user}
 use Rattle.run_matches.specs.CoveredExprs.{Uses, covers_base, covers_group, covers_object, covers_place, has_inner, is_changeable, covers_expr, covers_term, covers_value, is_variable, covers_library, covers_exprs, uses_in, is_bound, covers_bounded}
 use Rattle.run_matches.specs.CoveredLines.{covers_copy, covers_set_member, covers_set_variable, is_member_ordered, is_ordered, covers_condition, covers_counter, covers_counting, covers_items, covers_step, covers_store, covers_form, covers_line, is_comparison, is_counter, covers_box, covers_call, covers_called_in, is_box, covers_erased, covers_resizes, covers_set, covers_with}
 use Rattle.run_matches.specs.Formed.{is_formed, is_row_of_call, are_formed}
-use Rattle.correspondence.specs.Uses.{redim_exps, resize_exprs, FormCorresponds, SameUses, case_exps, names, total, uses, CallCorresponds, IsAlone, IsFirst, IsSharedAlone, is_call_in, is_call_of, is_group_named, path_names, shared_names}
+use Rattle.correspondence.specs.Uses.{stands_outside, redim_exps, resize_exprs, FormCorresponds, SameUses, case_exps, names, total, uses, CallCorresponds, IsAlone, IsFirst, IsSharedAlone, is_call_in, is_call_of, is_group_named, path_names, shared_names}
 use Rattle.correspondence.proofs.NamedCalls.{neither, none_of_both}
 use Rattle.correspondence.proofs.Among.{or_cases}
 use Rattle.correspondence.proofs.NamedArrays.{IsRight}
@@ -70,6 +70,22 @@ copied_value S count no_support rank (types.user t) a h = by (S.facts.holds_arra
     by true = let none = no_support (copy_name t) in omega (arith, none)
     by false = refl
 copied_value S count no_support rank _ a h = absurd (cc h)
+
+-- ---- callees as lines
+
+member_called : (a : Exp) (name : List ℕ) → as_call (member a name) ≡ net.call (member a name) net.no_exps
+member_called (net.path q) name = refl
+member_called _ name = refl
+
+object_called : (t : Term) (a : Exp) (name : List ℕ) → as_call (member_in t a name) ≡ net.call (member_in t a name) net.no_exps
+object_called (with_object r) a name = refl
+object_called _ a name = member_called a name
+
+callee_called : (S : Scope) (q : ℕ) (qualified : Bool) (of : Object) → as_call (callee_of S q qualified of) ≡ net.call (callee_of S q qualified of) net.no_exps
+callee_called S q qualified no_object = refl
+callee_called S q qualified (of_object (typed ty t)) = object_called t (term_exp S ty t) (procedure_name S.declarations q)
+
+-- ---- copies and Set
 
 -- a place and the value that it takes
 pub group_parts : (cover : Uses) (to e : Expr)
@@ -114,10 +130,13 @@ set_target P S same p mentions (typed ty (variable k q)) is h =
     (ap (λ (d : Declarations). slice_get d.vars k.0) same ∙ found.covered.0)
     ∙ sym (variable_exp P S same p k q ty found.variable found.covered)
   where
-    use_of : (covers_group_use P p mentions k ty ≡ true) ⊎ ((is_class_type ty && covers_group_use P p mentions k ty) ≡ true)
+    use_of : ((covers_group_use P p mentions k ty && is_named_so P.declarations k q) ≡ true)
+        ⊎ ((is_class_type ty && (covers_group_use P p mentions k ty && is_named_so P.declarations k q)) ≡ true)
         → covers_group_use P p mentions k ty ≡ true
-    use_of (inl c) = c
-    use_of (inr c) = (both_true (is_class_type ty) (covers_group_use P p mentions k ty) c).1
+    use_of (inl c) = (both_true (covers_group_use P p mentions k ty) (is_named_so P.declarations k q) c).0
+    use_of (inr c) =
+        (both_true (covers_group_use P p mentions k ty) (is_named_so P.declarations k q)
+        (both_true (is_class_type ty) (covers_group_use P p mentions k ty && is_named_so P.declarations k q) c).1).0
 set_target P S same p mentions (typed ty (field e k)) is (inl h) =
     absurd (no_object ty (both_true (has_inner (uses_in P p mentions) (type_at e) k ty) (covers_base (uses_in P p mentions) e) h).0 is)
   where
@@ -126,6 +145,7 @@ set_target P S same p mentions (typed ty (field e k)) is (inl h) =
     no_object _ h is = cc h
 set_target P S same p mentions (typed ty (field e k)) is (inr h) = sym (member_written P S same p mentions ty e k h)
 set_target P S same p mentions (typed ty _) is (inl h) = absurd (cc h)
+set_target P S same p mentions (typed ty me) is (inr h) = refl
 set_target P S same p mentions (typed ty _) is (inr h) = absurd (cc h)
 
 module _ (P : Program) (S : Scope) (same : S.declarations ≡ P.declarations) (p : ℕ) (labels : List (Option Label)) (mentions : List Mention) where
@@ -142,14 +162,16 @@ module _ (P : Program) (S : Scope) (same : S.declarations ≡ P.declarations) (p
         let apart : IsAlone P.declarations p v x = subst (λ (d : Declarations). IsAlone d p v x) same alone in
         let leads : IsFirst P.declarations x = subst (λ (d : Declarations). IsFirst d x) same first in
         each v (path_names (is_group_type x.ty) x.name) (is_call_of S.declarations x.name) (own_right P S same p v x here own apart leads mentions) free;
-    shared = λ v x file at of reached alone first free others.
+    shared = λ v x file at of outside reached alone first free others.
+        let out : stands_outside P.declarations (slice_get P.declarations.procs p) ≡ true =
+        subst (λ (d : Declarations). stands_outside d (slice_get d.procs p) ≡ true) same outside in
         let here : slice_get P.declarations.vars v ≡ Some x = ap (λ (d : Declarations). slice_get d.vars v) (sym same) ∙ at in
         let there : is_reached P.declarations p v x.name x.owner ≡ true = subst (λ (d : Declarations). is_reached d p v x.name x.owner ≡ true) same reached in
         let apart : IsSharedAlone P.declarations v file x = subst (λ (d : Declarations). IsSharedAlone d v file x) same alone in
         let leads : IsFirst P.declarations x = subst (λ (d : Declarations). IsFirst d x) same first in
         subst (λ (d : Declarations). total (uses v) es ≡ total (names (shared_names (is_group_type x.ty) (nat_eq S.file file) (module_name d file) x.name)) ws) (sym same)
         (each v (shared_names (is_group_type x.ty) (nat_eq S.file file) (module_name P.declarations file) x.name)
-        (is_shared_test P file x) (shared_right P S same p v x file here of there apart leads mentions)
+        (is_shared_test P file x) (shared_right P S same p v x file here of out there apart leads mentions)
         (any_either (is_call_in P.declarations (module_name P.declarations file) x.name) (is_group_named P.declarations (module_name P.declarations file)) (flat_map nodes es)
         (subst (λ (d : Declarations). list_any (is_call_in d (module_name d file) x.name) (flat_map nodes es) ≡ false) same free)
         (subst (λ (d : Declarations). list_any (is_group_named d (module_name d file)) (flat_map nodes es) ≡ false) same others)));
@@ -207,7 +229,7 @@ module _ (P : Program) (S : Scope) (same : S.declarations ≡ P.declarations) (p
   set_names v count test right (typed ty t) e (inr h) k f free =
       let parted = none_of_both test (nodes (typed ty t)) (flat_map nodes (e ∷ [])) free in
       let last = none_of_both test (nodes e) [] parted.1 in
-      let left = path_counted P S same p mentions v count test right ty t (inl (object_of P S same p mentions ty t h)) parted.0 in
+      let left = path_counted P S same p mentions v count test right ty t (object_of P S same p mentions ty t h) parted.0 in
       let value = group_names P S same p v count test mentions right e k f last.0 in
       omega (arith, left, value)
 
@@ -374,26 +396,26 @@ module _ (P : Program) (S : Scope) (same : S.declarations ≡ P.declarations) (p
   shown ty _ h f = absurd (cc h)
 
   -- a call of a procedure
-  called_one : (ty : Ty) (q : ProcId) (qualified : Bool) (args : Passed) → covers_term (uses_in P p mentions) (call q qualified no_object args) ≡ true
-      → is_formed (typed ty (call q qualified no_object args)) ≡ true → IsCall (typed ty (call q qualified no_object args) ∷ [])
-  called_one ty q qualified args h f = by (is_bare S q.0 qualified no_object args) counted
+  called_one : (ty : Ty) (q : ProcId) (qualified : Bool) (of : Object) (args : Passed) → covers_term (uses_in P p mentions) (call q qualified of args) ≡ true
+      → is_formed (typed ty (call q qualified of args)) ≡ true → IsCall (typed ty (call q qualified of args) ∷ [])
+  called_one ty q qualified of args h f = by (is_bare S q.0 qualified of args) counted
     where
-      counted : Counts (typed ty (call q qualified no_object args) ∷ []) (called (is_bare S q.0 qualified no_object args) (net.path (procedure_path S qualified q.0)) (passed_of S q.0 0 args) ∷ [])
+      counted : Counts (typed ty (call q qualified of args) ∷ []) (called (is_bare S q.0 qualified of args) (callee_of S q.0 qualified of) (passed_of S q.0 0 args) ∷ [])
       counted v count test right free =
-          let whole = none_of_both test (nodes (typed ty (call q qualified no_object args))) [] free in
-          let own = neither (test (typed ty (call q qualified no_object args))) (list_any test (nodes_in (call q qualified no_object args))) whole.0 in
-          ap {B = ℕ} (λ n. n + 0) (term_names P S same p v count test mentions right ty (call q qualified no_object args) h f own.0 own.1)
+          let whole = none_of_both test (nodes (typed ty (call q qualified of args))) [] free in
+          let own = neither (test (typed ty (call q qualified of args))) (list_any test (nodes_in (call q qualified of args))) whole.0 in
+          ap {B = ℕ} (λ n. n + 0) (term_names P S same p v count test mentions right ty (call q qualified of args) h f own.0 own.1)
 
-      by : (b : Bool) → Counts (typed ty (call q qualified no_object args) ∷ []) (called b (net.path (procedure_path S qualified q.0)) (passed_of S q.0 0 args) ∷ [])
-          → CallCorresponds S p (typed ty (call q qualified no_object args) ∷ []) (as_call (called b (net.path (procedure_path S qualified q.0)) (passed_of S q.0 0 args)))
+      by : (b : Bool) → Counts (typed ty (call q qualified of args) ∷ []) (called b (callee_of S q.0 qualified of) (passed_of S q.0 0 args) ∷ [])
+          → CallCorresponds S p (typed ty (call q qualified of args) ∷ []) (as_call (called b (callee_of S q.0 qualified of) (passed_of S q.0 0 args)))
       by true n =
-          same_uses (typed ty (call q qualified no_object args) ∷ []) (net.call_of (net.path (procedure_path S qualified q.0)) net.no_exps ∷ [])
-          (λ v count test right free. let m = n v count test right free in omega (arith, m))
-      by false n = same_uses (typed ty (call q qualified no_object args) ∷ []) (net.call_of (net.path (procedure_path S qualified q.0)) (passed_of S q.0 0 args) ∷ []) n
+          subst (λ (w : net.Line). CallCorresponds S p (typed ty (call q qualified of args) ∷ []) w) (sym (callee_called S q.0 qualified of))
+          (same_uses (typed ty (call q qualified of args) ∷ []) (net.call_of (callee_of S q.0 qualified of) net.no_exps ∷ [])
+          (λ v count test right free. let m = n v count test right free in omega (arith, m)))
+      by false n = same_uses (typed ty (call q qualified of args) ∷ []) (net.call_of (callee_of S q.0 qualified of) (passed_of S q.0 0 args) ∷ []) n
 
   called_in : (ty : Ty) (t : Term) → covers_called_in (uses_in P p mentions) t ≡ true → is_formed (typed ty t) ≡ true → IsCall (typed ty t ∷ [])
-  called_in ty (call q qualified (of_object d) args) h f = absurd (cc h)
-  called_in ty (call q qualified no_object args) h f = called_one ty q qualified args h f
+  called_in ty (call q qualified of args) h f = called_one ty q qualified of args h f
   called_in ty (library g args) h f = shown ty (library g args) h f
   called_in ty (err_raise e) h f =
       let form = both_true (is_same_type (type_at e) types.long) (is_formed e) f in (

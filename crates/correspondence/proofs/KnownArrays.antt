@@ -27,6 +27,8 @@ use Rattle.run_matches.specs.CoveredVariables.{covers_type}
 use Rattle.run_matches.specs.CoveredExprs.{IsUsed, covers_array, covers_bounded, covers_dimension, is_bound, uses_in}
 use Rattle.correspondence.specs.Paths.{paths_of_exp, paths_of_exps, paths_of_line}
 use Rattle.correspondence.proofs.KnownPaths.{AreKnown, HasKnown, IsFunction, IsKnown, in_place, known_append}
+use Rattle.run_matches.specs.Covered.{covers_names}
+use Rattle.run_matches.specs.CoveredVariables.{covers_array_use, is_named_so}
 use Rattle.correspondence.proofs.Variables.{IsVariablePath, path_is, used_at, variable_exp}
 
 -- ---- functions
@@ -82,15 +84,17 @@ known_path (outer ∷ name ∷ more) h = λ e. absurd (true≢false (sym (reserv
         let same : outer ≡ codes "UpgradeSupport" = (bytes_decides outer (codes "UpgradeSupport")).0 e in
         ap is_reserved same
 
-module _ (P : Program) (S : Scope) (same : S.declarations ≡ P.declarations) (p : ℕ) (mentions : List Mention) where
+module _ (P : Program) (S : Scope) (same : S.declarations ≡ P.declarations) (free : covers_names P.declarations ≡ true) (p : ℕ) (mentions : List Mention) where
   pub use_known : (k : VarId) (q : Bool) (ty : Ty) → IsUsed (uses_in P p mentions) k → HasKnown (exp_of S (typed ty (variable k q)))
   use_known k q ty h =
       let found = used_at P p mentions k h in
       subst (λ (e : Exp). HasKnown e) (sym (variable_exp P S same p k q ty found.0 found.1))
-      (known_path (owner_path S q found.0.name found.0.owner) (path_is P S same p k.0 q found.0 found.1), tt)
+      (known_path (owner_path S q found.0.name found.0.owner) (path_is P S same free p k.0 q found.0 found.1), tt)
 
   pub array_known : (e : Expr) → covers_array (uses_in P p mentions) e ≡ true → HasKnown (exp_of S e)
-  array_known (typed (types.array element rank) (variable k q)) h = use_known k q (types.array element rank) (inr (inl (element, h)))
+  array_known (typed (types.array element rank) (variable k q)) h =
+      use_known k q (types.array element rank)
+      (inr (inl (element, (both_true (covers_array_use P p mentions k element) (is_named_so P.declarations k q) h).0)))
   array_known (typed (types.array element rank) _) h = absurd (cc h)
   array_known (typed _ t) h = absurd (cc h)
 

@@ -11,7 +11,7 @@ use Rattle.vb_tree.specs.Tree.{CaseItem, Form}
 use Rattle.vb_tree.specs.Tree as source
 use Rattle.bound_tree.specs.declared.body.Mention.{Mention}
 use Rattle.bound_tree.specs.Labels.{Label}
-use Rattle.bound_tree.specs.Tree.{Program, Expr, typed, Term, constant, variable, field, element, library, unary, binary, convert, Line, Exprs, no_exprs, next_expr, call, no_object, of_object, by_value, by_reference, Passed, no_passed, next_passed, err_number, err_raise, err_clear, is_same}
+use Rattle.bound_tree.specs.Tree.{Program, Expr, typed, Term, constant, variable, field, element, library, unary, binary, convert, Line, Exprs, no_exprs, next_expr, call, no_object, of_object, by_value, by_reference, Passed, no_passed, next_passed, err_number, err_raise, err_clear, is_same, me}
 use Rattle.bound_facts.specs.Locks.{is_same_type}
 use Rattle.bound_facts.specs.Node.{declared_at, type_at, is_variant}
 use Rattle.bound_facts.specs.Parts.{Extent, Resize, resizes}
@@ -19,15 +19,15 @@ use Rattle.net_tree.specs.declared.expression.NetBin.TheVariants as op
 use Rattle.net_tree.specs.Tree.{Exp}
 use Rattle.net_tree.specs.Tree as net
 use Rattle.written_trees.specs.Arguments.{argument_exp, copy_by, has_address, in_parentheses, is_copied, kept, needs_copy, takes_reference, has_reference, temporary_exp}
-use Rattle.written_trees.specs.Exprs.{called, exp_of, indexes_of, is_bare, library_of, passed_of, target_exp, term_exp, exps_of}
+use Rattle.written_trees.specs.Exprs.{called, exp_of, indexes_of, is_bare, library_of, member_of, passed_of, target_exp, term_exp, exps_of}
 use Rattle.written_trees.specs.Lines.{case_items, empty_extents, erase_line, extent_exp, extents_exps, resized_array, first_exp, for_line, printed_item, joined_items, items_exp, line_of, flagged_line, print_name, step_exp, as_call, call_line, set_line}
 use Rattle.written_trees.specs.Literals.{is_hexadecimal}
-use Rattle.written_trees.specs.Names.{Scope, procedure_path}
+use Rattle.written_trees.specs.Names.{Scope, procedure_name, procedure_path}
 use Rattle.written_trees.specs.Facts.{Facts, holds_array}
 use Rattle.written_trees.specs.Puts.{formed, order_shows, put_type, rank_of, store_by, target_rank, user_copy}
 use Rattle.written_trees.specs.Operators.{typed_operator, typed_unary, operand, is_product_in_currency, variant_operator, variant_unary}
-use Rattle.run_matches.specs.CoveredVariables.{covers_type, covers_user}
-use Rattle.run_matches.specs.CoveredExprs.{Uses, covers_base, covers_object, has_member, covers_group, covers_group_term, covers_place, covers_place_term, has_scalar, is_changeable, covers_operator, covers_expr, covers_term, covers_exprs, covers_value, is_variable, covers_library, covers_passed, uses_in, covers_array, covers_bounded, is_bound, is_nothing, is_passable, is_without_object, covers_operand}
+use Rattle.run_matches.specs.CoveredVariables.{covers_type, covers_use, covers_user, is_named_so}
+use Rattle.run_matches.specs.CoveredExprs.{Uses, covers_base, covers_object, has_member, covers_group, covers_group_term, covers_place, covers_place_term, has_scalar, is_changeable, covers_operator, covers_expr, covers_term, covers_exprs, covers_value, is_variable, covers_library, covers_passed, uses_in, covers_array, covers_bounded, is_bound, is_nothing, is_passable, covers_operand, covers_receiver}
 use Rattle.run_matches.specs.CoveredLines.{covers_copy, is_member_ordered, is_ordered, covers_condition, covers_counter, covers_counting, covers_items, covers_step, covers_store, covers_form, covers_line, is_comparison, is_counter, covers_box, covers_call, is_box, covers_called_in, covers_erased, covers_extent, covers_low, covers_resize, covers_resizes, covers_set, covers_with}
 use Rattle.run_matches.specs.Covered.{covers_names}
 use Rattle.run_matches.specs.UserTypes.{is_class_type, is_user}
@@ -36,7 +36,7 @@ use Rattle.correspondence.specs.Paths.{paths_of_case, paths_of_exp, paths_of_lin
 use Rattle.correspondence.proofs.CoveredLines.{copy_parts, set_parts, set_target, stored_plain, type_covered}
 use Rattle.correspondence.proofs.Among.{or_cases}
 use Rattle.correspondence.proofs.Variables.{passed_cases}
-use Rattle.correspondence.proofs.KnownPlaces.{field_known, member_known, object_known, place_flat, place_known}
+use Rattle.correspondence.proofs.KnownPlaces.{behind_known, field_known, member_known, object_known, place_flat, place_known}
 use Rattle.correspondence.proofs.KnownArrays.{array_known, bound_known, empty_known, indexes_known, is_err_number, is_top, stored_known, use_known}
 use Rattle.correspondence.proofs.Naming.{is_nothing_converted, no_variant, neither_variant}
 use Rattle.correspondence.proofs.Resizes.{resize_parts}
@@ -49,6 +49,10 @@ use Rattle.correspondence.proofs.NamedCalls.{covered_type, no_copy}
 call_known : (b : Bool) (names : List (List ℕ)) (es : net.Exps) → IsKnown names → AreKnown (paths_of_exps es) → HasKnown (called b (net.path names) es)
 call_known true names es h k = (h, tt)
 call_known false names es h k = (h, k)
+
+called_known_by : (b : Bool) (callee : Exp) (es : net.Exps) → HasKnown callee → AreKnown (paths_of_exps es) → HasKnown (called b callee es)
+called_known_by true callee es h k = h
+called_known_by false callee es h k = known_append (paths_of_exp callee) (paths_of_exps es) h k
 
 -- an argument by value that isn't copied
 argument_known : (S : Scope) (by_address : Bool) (e : Expr) → needs_copy S.facts e ≡ false → HasKnown (exp_of S e)
@@ -95,7 +99,7 @@ module _ (P : Program) (S : Scope) (same : S.declarations ≡ P.declarations) (f
       library_known S ty g args both.0 (values both.1)
   library_by ty g args (inr h) values =
       let both = both_true (is_bound g) (covers_bounded (uses_in P p mentions) args) h in
-      bound_known P S same p mentions ty g args both.0 both.1
+      bound_known P S same free p mentions ty g args both.0 both.1
 
   abbrev IsPlace : Expr → Type 0
   IsPlace e = covers_place (uses_in P p mentions) e ≡ true
@@ -109,7 +113,7 @@ module _ (P : Program) (S : Scope) (same : S.declarations ≡ P.declarations) (f
   given_known by_address e (inl c) scalar =
       reference_known S by_address e (no_copy S.facts (type_at e) (is_copied e) (covered_type (uses_in P p mentions) e c)) (scalar c)
   given_known by_address e (inr (inl c)) scalar =
-      reference_known S by_address e (array_kept S.facts (uses_in P p mentions) e c) (array_known P S same p mentions e c)
+      reference_known S by_address e (array_kept S.facts (uses_in P p mentions) e c) (array_known P S same free p mentions e c)
   given_known by_address e (inr (inr c)) scalar = reference_known S by_address e (kept_place e c) (place_known P S same p mentions free e c)
 
   -- a scalar field of a place, or a scalar that an object has
@@ -143,9 +147,10 @@ module _ (P : Program) (S : Scope) (same : S.declarations ≡ P.declarations) (f
   given_group : (ty : Ty) (t : Term) → covers_group_term (uses_in P p mentions) ty t ≡ true
       → (covers_term (uses_in P p mentions) t ≡ true → HasKnown (term_exp S ty t)) → HasKnown (term_exp S ty t) × (needs_copy S.facts (typed ty t) ≡ false)
   given_group ty (call q qualified of args) h other = (
-    other (both_true ((uses_in P p mentions).given ty) (is_without_object of && covers_passed (uses_in P p mentions) args) h).1,
+    other (both_true ((uses_in P p mentions).given ty) (covers_receiver (uses_in P p mentions) of && covers_passed (uses_in P p mentions) args) h).1,
     not_both (holds_array S.facts ty),
   )
+  given_group ty me h other = (object_known P S same p mentions free ty me h, not_both (holds_array S.facts ty))
   given_group ty (field e k) h other = (
     object_known P S same p mentions free ty (field e k) h,
     object_kept S.facts ty true
@@ -192,10 +197,10 @@ module _ (P : Program) (S : Scope) (same : S.declarations ≡ P.declarations) (f
 
     term_known : (ty : Ty) (t : Term) → covers_term (uses_in P p mentions) t ≡ true → HasKnown (term_exp S ty t)
     term_known ty (constant y origin) h = constant_known (is_hexadecimal origin) y
-    term_known ty (variable k q) h = use_known P S same p mentions k q ty (inl h)
+    term_known ty (variable k q) h = use_known P S same free p mentions k q ty (inl (both_true (covers_use P p mentions k) (is_named_so P.declarations k q) h).0)
     term_known ty (element a indexes) h =
         let both = both_true (covers_array (uses_in P p mentions) a) (covers_exprs (uses_in P p mentions) indexes) h in
-        known_append (paths_of_exp (exp_of S a)) (paths_of_exps (indexes_of S a 0 indexes)) (array_known P S same p mentions a both.0)
+        known_append (paths_of_exp (exp_of S a)) (paths_of_exps (indexes_of S a 0 indexes)) (array_known P S same free p mentions a both.0)
         (indexes_known S a 0 indexes (args_known indexes both.1))
     term_known ty (field e k) h =
         let cover = uses_in P p mentions in
@@ -229,7 +234,10 @@ module _ (P : Program) (S : Scope) (same : S.declarations ≡ P.declarations) (f
         known_append (paths_of_exp (term_exp S s t)) (paths_of_exp (term_exp S r u))
         (compared_known s t (or_cases (is_nothing (typed s t)) (is_class_type s && covers_group cover (typed s t)) both.0) (λ c. term_known s t c))
         (compared_known r u (or_cases (is_nothing (typed r u)) (is_class_type r && covers_group cover (typed r u)) both.1) (λ c. term_known r u c))
-    term_known ty (call q qualified (of_object d) args) h = absurd (cc h)
+    term_known ty (call q qualified (of_object d) args) h =
+        let both = both_true (covers_object (uses_in P p mentions) d) (covers_passed (uses_in P p mentions) args) h in
+        called_known_by (is_bare S q.0 qualified (of_object d) args) (member_of d (exp_of S d) (procedure_name S.declarations q.0)) (passed_of S q.0 0 args)
+        (behind_known P S same p mentions free d (procedure_name S.declarations q.0) both.0) (passed_known q.0 0 args both.1)
     term_known ty (call q qualified no_object args) h =
         call_known (is_bare S q.0 qualified no_object args) (procedure_path S qualified q.0) (passed_of S q.0 0 args)
         (path_known P.declarations S same free qualified q.0) (passed_known q.0 0 args h)
@@ -347,14 +355,14 @@ module _ (P : Program) (S : Scope) (same : S.declarations ≡ P.declarations) (f
       let place = declared_at S.declarations r.array in
       known_append (paths_of_redim (resized_array S r)) (flat_map paths_of_redim (map (resized_array S) rs))
       (known_append (paths_of_exp (exp_of S r.array)) (paths_of_exps (extents_exps S place 0 r.extents))
-      (array_known P S same p mentions r.array own.0) (extents_known place 0 r.extents own.1))
+      (array_known P S same free p mentions r.array own.0) (extents_known place 0 r.extents own.1))
       (resizes_known preserve rs both.1)
 
   erase_known : (es : List Expr) → covers_erased (uses_in P p mentions) es ≡ true → AreKnown (paths_of_line (erase_line S es))
   erase_known [] h = absurd (cc h)
   erase_known (e ∷ []) h =
       let rank = rank_of S.facts (declared_at S.declarations e) in
-      known_append (paths_of_exp (exp_of S e)) (paths_of_exps (empty_extents rank)) (array_known P S same p mentions e h) (empty_known rank)
+      known_append (paths_of_exp (exp_of S e)) (paths_of_exps (empty_extents rank)) (array_known P S same free p mentions e h) (empty_known rank)
   erase_known (d ∷ e ∷ es) h = absurd (cc h)
 
   condition_known : (es : List Expr) → covers_condition (uses_in P p mentions) es ≡ true → HasKnown (first_exp S es)

@@ -1,5 +1,5 @@
 -- The paths in what is written for places of user types are known, and nothing copies these.
-use Rattle.std.proofs.Common.{◌⊎◌, inl, inr, ◌≡◌, ℕ, zero, suc, Bool, true, false, not, ◌&&◌, cond, List, [], ◌∷◌, ◌++◌, Option, Some, None, refl, sym, ap, subst, ◌∙◌, eqb-true}
+use Rattle.std.proofs.Common.{◌⊎◌, inl, inr, ◌≡◌, ℕ, zero, suc, Bool, true, false, not, ◌&&◌, cond, List, [], ◌∷◌, ◌++◌, Option, Some, None, refl, sym, ap, subst, ◌∙◌, eqb-true, append_assoc}
 use Rattle.std.specs.List.{list_all}
 use Rattle.std.specs.Prelude.{◌||◌, slice_get}
 use Rattle.up_base.proofs.Lists.{both_true}
@@ -15,19 +15,18 @@ use Rattle.bound_facts.specs.Members.{field_of}
 use Rattle.bound_facts.specs.Node.{type_at}
 use Rattle.net_tree.specs.Tree as net
 use Rattle.net_tree.specs.Tree.{Exp}
-use Rattle.written_trees.specs.Exprs.{exp_of, term_exp}
+use Rattle.written_trees.specs.Exprs.{exp_of, term_exp, member_in, member_of}
 use Rattle.written_trees.specs.Facts.{holds_array}
 use Rattle.written_trees.specs.Names.{Scope, is_foreign, module_name, owner_path}
 use Rattle.run_matches.specs.Covered.{covers_names, is_free_name}
-use Rattle.run_matches.specs.CoveredVariables.{covers_field_type, covers_group_type, covers_owner, covers_user, field_type_in, field_type_of, is_foreign_name, is_reached}
+use Rattle.run_matches.specs.CoveredVariables.{covers_field_type, covers_group_type, covers_group_use, covers_owner, is_named_so, covers_user, field_type_in, field_type_of, is_reached}
 use Rattle.run_matches.specs.CoveredExprs.{covers_base, covers_object, covers_object_term, covers_place, covers_place_term, has_inner, has_member, has_scalar, is_kept, is_type, uses_in}
-use Rattle.run_matches.specs.Shared.{names_lead}
 use Rattle.run_matches.specs.UserTypes.{is_class_type, is_user_of}
 use Rattle.agreeing_laws.proofs.UserShapes.{FieldShape, field_shape_is}
 use Rattle.correspondence.proofs.Among.{or_cases}
 use Rattle.correspondence.proofs.KnownPaths.{HasKnown, IsKnown, free_other}
-use Rattle.correspondence.proofs.Places.{Based, IsDotted, a_group, declared_type, inner_of, member_place, object_of, place_of, scalar_place}
-use Rattle.correspondence.proofs.Variables.{group_use_at, module_free}
+use Rattle.correspondence.proofs.Places.{Based, IsDotted, a_group, declared_type, inner_of, member_place, object_of, place_of, scalar_place, dotted_object_member, plain_object_member}
+use Rattle.correspondence.proofs.Variables.{group_use_at, modules_free}
 
 -- ---- paths that begin with a free name
 
@@ -64,29 +63,46 @@ module _ (P : Program) (S : Scope) (same : S.declarations ≡ P.declarations) (p
   abbrev D : Declarations
   D = P.declarations
 
-  fields_known : (k : ℕ) (q : Bool) (y : Variable) (rest : List (List ℕ)) → is_free_name y.name ≡ true → (o : Owner) → is_reached D p k y.name o ≡ true
+  fields_known : covers_names D ≡ true → (k : ℕ) (q : Bool) (y : Variable) (rest : List (List ℕ)) → is_free_name y.name ≡ true → (o : Owner) → is_reached D p k y.name o ≡ true
       → covers_owner o ≡ true → IsKnown (owner_path S q y.name o ++ rest)
-  fields_known k q y rest free (owner.Module file) h c =
-      let leads = both_true (names_lead D p k y.name file) (is_foreign_name D p y.name) h in
+  fields_known names k q y rest free (owner.Module file) h c =
       free_path (q || is_foreign S.declarations S.file file) (module_name S.declarations file) y.name rest
-      (ap (λ (d : Declarations). is_free_name (module_name d file)) same ∙ ap not (module_free D p k file y.name leads.0)) free
-  fields_known k q y rest free (owner.Local r) h c = alone_path y.name rest free
-  fields_known k q y rest free (owner.Static r) h c = alone_path y.name rest free
-  fields_known k q y rest free (owner.Value r) h c = alone_path y.name rest free
-  fields_known k q y rest free (owner.Reference r) h c = alone_path y.name rest free
-  fields_known k q y rest free (owner.Answer r) h c = alone_path y.name rest free
-  fields_known k q y rest free (owner.Field t) h c = absurd (cc c)
+      (ap (λ (d : Declarations). is_free_name (module_name d file)) same ∙ ap not (modules_free D names file)) free
+  fields_known names k q y rest free (owner.Local r) h c = alone_path y.name rest free
+  fields_known names k q y rest free (owner.Static r) h c = alone_path y.name rest free
+  fields_known names k q y rest free (owner.Value r) h c = alone_path y.name rest free
+  fields_known names k q y rest free (owner.Reference r) h c = alone_path y.name rest free
+  fields_known names k q y rest free (owner.Answer r) h c = alone_path y.name rest free
+  fields_known names k q y rest free (owner.Field t) h c = absurd (cc c)
 
   none_known : (a : Exp) → IsDotted a → HasKnown a
   none_known (net.with_dot name) d = tt
+  none_known net.me d = tt
   none_known (net.dot e name) d = none_known e d
   none_known _ d = absurd d
+
+  -- what stands behind an object that is kept
+  pub behind_known : covers_names D ≡ true → (e : Expr) (name : List ℕ) → covers_object (uses_in P p mentions) e ≡ true
+      → HasKnown (member_of e (exp_of S e) name)
+  behind_known free (typed ty t) name h = by (object_of P S same p mentions ty t h)
+    where
+      by : Based P S same p mentions ty t → HasKnown (member_in t (term_exp S ty t) name)
+      by (inl L) =
+          subst (λ (a : Exp). HasKnown (member_in t a name)) (sym L.written)
+          (subst (λ (a : Exp). HasKnown a)
+          (sym (plain_object_member P S same p mentions ty t h (owner_path S L.qualified L.root_variable.name L.root_variable.owner ++ L.fields) name
+          ∙ ap net.path (append_assoc (owner_path S L.qualified L.root_variable.name L.root_variable.owner) L.fields (name ∷ [])))) (
+            fields_known free L.root.0 L.qualified L.root_variable (L.fields ++ name ∷ [])
+                (variable_free D free L.root.0 L.root_variable L.covered.0) L.root_variable.owner L.covered.1 L.covered.2,
+            tt,
+          ))
+      by (inr K) = none_known (member_in t (term_exp S ty t) name) (dotted_object_member P S same p mentions ty t (term_exp S ty t) name h K.dotted)
 
   path_known : covers_names D ≡ true → (ty : Ty) (t : Term) → Based P S same p mentions ty t → HasKnown (term_exp S ty t)
   path_known free ty t (inr K) = none_known (term_exp S ty t) K.dotted
   path_known free ty t (inl L) =
       subst (λ (e : Exp). HasKnown e) (sym L.written) (
-        fields_known L.root.0 L.qualified L.root_variable L.fields (variable_free D free L.root.0 L.root_variable L.covered.0) L.root_variable.owner
+        fields_known free L.root.0 L.qualified L.root_variable L.fields (variable_free D free L.root.0 L.root_variable L.covered.0) L.root_variable.owner
             L.covered.1 L.covered.2,
         tt,
       )
@@ -99,11 +115,11 @@ module _ (P : Program) (S : Scope) (same : S.declarations ≡ P.declarations) (p
   field_known free ty e k h c = path_known free ty (field e k) (scalar_place P S same p mentions ty e k h c)
 
   pub object_known : covers_names D ≡ true → (ty : Ty) (t : Term) → covers_object_term (uses_in P p mentions) ty t ≡ true → HasKnown (term_exp S ty t)
-  object_known free ty t h = path_known free ty t (inl (object_of P S same p mentions ty t h))
+  object_known free ty t h = path_known free ty t (object_of P S same p mentions ty t h)
 
   pub member_known : covers_names D ≡ true → (ty : Ty) (e : Expr) (k : ℕ) (test : Ty → Bool) → has_member (uses_in P p mentions) (type_at e) k test ≡ true
       → covers_object (uses_in P p mentions) e ≡ true → HasKnown (term_exp S ty (field e k))
-  member_known free ty e k test h c = path_known free ty (field e k) (inl (member_place P S same p mentions ty e k test h c))
+  member_known free ty e k test h c = path_known free ty (field e k) (member_place P S same p mentions ty e k test h c)
 
   -- ---- the types of places
 
@@ -166,7 +182,9 @@ module _ (P : Program) (S : Scope) (same : S.declarations ≡ P.declarations) (p
   outer_user of ty k h (inr c) = absurd (cc (sym (ap is_class_type (inner_of P S same p mentions of k ty h).3) ∙ c))
 
   place_type : (ty : Ty) (t : Term) → covers_place_term (uses_in P p mentions) ty t ≡ true → IsFlatType ty
-  place_type ty (variable k q) h = let found = group_use_at P p mentions k ty h in group_flat ty found.variable.ty found.same found.covers
+  place_type ty (variable k q) h =
+      let found = group_use_at P p mentions k ty (both_true (covers_group_use P p mentions k ty) (is_named_so D k q) h).0 in
+      group_flat ty found.variable.ty found.same found.covers
   place_type ty (field (typed of u) k) h =
       let both = both_true (has_inner (uses_in P p mentions) of k ty) (covers_base (uses_in P p mentions) (typed of u)) h in
       let base = base_flat of u (or_cases (is_kept (uses_in P p mentions) of u) (covers_place_term (uses_in P p mentions) of u) both.1) (λ c. place_type of u c) in

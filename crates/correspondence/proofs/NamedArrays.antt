@@ -17,6 +17,7 @@ use Rattle.written_trees.specs.Names.{Path, Scope, owner_path, support, strings,
 use Rattle.written_trees.specs.Prologues.{one_if}
 use Rattle.run_matches.specs.UserTypes.{is_group_type}
 use Rattle.run_matches.specs.CoveredExprs.{IsUsed, covers_array, covers_bounded, covers_dimension, is_bound, uses_in}
+use Rattle.run_matches.specs.CoveredVariables.{covers_array_use, is_named_so}
 use Rattle.correspondence.specs.Uses.{uses, exprs_uses, names, exps_name}
 use Rattle.correspondence.proofs.Variables.{IsCoveredAt}
 
@@ -45,7 +46,9 @@ dimension_unused v (next_expr e (next_expr d rest)) h = absurd (cc h)
 module _ (P : Program) (S : Scope) (p v : ℕ) (count : Path → ℕ) (test : Expr → Bool) (mentions : List Mention)
     (right : IsRight P S p mentions v count test) where
   pub array_names : (e : Expr) → covers_array (uses_in P p mentions) e ≡ true → uses v e ≡ names count (exp_of S e)
-  array_names (typed (types.array element rank) (variable k q)) h = right.used k q (types.array element rank) (inr (inl (element, h)))
+  array_names (typed (types.array element rank) (variable k q)) h =
+      right.used k q (types.array element rank)
+      (inr (inl (element, (both_true (covers_array_use P p mentions k element) (is_named_so P.declarations k q) h).0)))
   array_names (typed (types.array element rank) _) h = absurd (cc h)
   array_names (typed _ t) h = absurd (cc h)
 

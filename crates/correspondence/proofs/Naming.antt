@@ -15,7 +15,7 @@ use Rattle.vb_tree.specs.declared.value.Value6.{Value6}
 use Rattle.vb_tree.specs.declared.value.Value6.TheVariants as v6
 use Rattle.bound_tree.specs.declared.body.Mention.{Mention}
 use Rattle.bound_tree.specs.declared.expression.Origin.{Origin}
-use Rattle.bound_tree.specs.Tree.{Program, Expr, typed, Term, constant, variable, field, element, library, unary, binary, convert, Exprs, no_exprs, next_expr, call, no_object, of_object, by_value, by_reference, Passed, no_passed, next_passed, err_number, err_raise, is_same}
+use Rattle.bound_tree.specs.Tree.{Program, Expr, typed, Term, constant, variable, field, element, library, unary, binary, convert, Exprs, no_exprs, next_expr, call, no_object, of_object, by_value, by_reference, Passed, no_passed, next_passed, err_number, err_raise, is_same, me}
 use Rattle.bound_facts.specs.Nodes.{nodes, nodes_in, nodes_of_all, nodes_of_passed}
 use Rattle.bound_facts.specs.Node.{type_at, is_variant}
 use Rattle.net_meaning.specs.WrittenRows.{write_operator, write_unary, write_conversion}
@@ -25,15 +25,15 @@ use Rattle.net_tree.specs.Tree.{Exp}
 use Rattle.net_tree.specs.Tree as net
 use Rattle.written_trees.specs.Conversions.{Conversion, stands, by_word, by_support, text_object, cut, applied, conversion, converted, literal_or, call_path, support_call}
 use Rattle.written_trees.specs.Arguments.{is_property, takes_reference}
-use Rattle.written_trees.specs.Exprs.{exp_of, term_exp, library_of, exps_of, is_bare, passed_of, reads_itself}
+use Rattle.written_trees.specs.Exprs.{called, exp_of, has_none, member_of, term_exp, library_of, exps_of, is_bare, passed_of, reads_itself}
 use Rattle.written_trees.specs.Library.{text_call, absolute_path}
 use Rattle.written_trees.specs.Lines.{printed, printed_item, joined_items, items_exp}
 use Rattle.bound_facts.specs.Folded.{converted_value}
 use Rattle.written_trees.specs.Literals.{Piece, quoted, unit, piece_exp, text, joined, pieces_of, constant_exp, written_constant, literal_as, literal_of, spelt, takes_literals, is_whole, is_hexadecimal}
-use Rattle.written_trees.specs.Names.{Path, Scope, support, strings, procedure_path}
+use Rattle.written_trees.specs.Names.{Path, Scope, support, strings, procedure_name, procedure_path}
 use Rattle.written_trees.specs.Operators.{signed, checked, is_text, typed_operator, typed_unary, operand, is_product_in_currency, variant_operator, variant_unary}
-use Rattle.run_matches.specs.CoveredVariables.{covers_type}
-use Rattle.run_matches.specs.CoveredExprs.{covers_library, covers_operator, covers_expr, covers_term, covers_exprs, covers_passed, covers_array, covers_base, covers_object, has_member, covers_group, covers_group_term, covers_place, covers_place_term, covers_bounded, has_scalar, is_bound, is_nothing, uses_in, is_passable, is_without_object, covers_operand}
+use Rattle.run_matches.specs.CoveredVariables.{covers_type, covers_use, is_named_so}
+use Rattle.run_matches.specs.CoveredExprs.{covers_library, covers_operator, covers_expr, covers_term, covers_exprs, covers_passed, covers_array, covers_base, covers_object, has_member, covers_group, covers_group_term, covers_place, covers_place_term, covers_bounded, has_scalar, is_bound, is_nothing, uses_in, is_passable, covers_operand, covers_receiver}
 use Rattle.run_matches.specs.Formed.{are_longs, has_elements, is_formed, is_formed_term, is_row_of_one, is_row_of_two, is_row_of_call, is_conversion_to, types_of, are_formed, passed_are_formed}
 use Rattle.bound_facts.specs.Locks.{is_same_type}
 use Rattle.run_matches.specs.UserTypes.{is_class_type}
@@ -41,7 +41,7 @@ use Rattle.correspondence.specs.Uses.{uses, term_uses, exprs_uses, passed_uses, 
 use Rattle.correspondence.proofs.Among.{or_cases}
 use Rattle.correspondence.proofs.Variables.{passed_cases}
 use Rattle.correspondence.proofs.NamedArrays.{IsRight, array_names, bound_names, indexes_names}
-use Rattle.correspondence.proofs.Places.{Based, member_place, object_of, path_counted, place_names, place_of, scalar_place}
+use Rattle.correspondence.proofs.Places.{Based, behind_names, member_place, object_of, path_counted, place_names, place_of, scalar_place}
 use Rattle.correspondence.proofs.NamedCalls.{argument_names, bare_names, covered_type, full_names, neither, none_before, none_of_both, reference_names}
 
 module _ (count : Path → ℕ) (no_support : (name : List ℕ) → count (support name) ≡ 0) (no_strings : (name : List ℕ) → count (strings name) ≡ 0) where
@@ -254,7 +254,7 @@ module _ (P : Program) (S : Scope) (same : S.declarations ≡ P.declarations) (p
       scalar_place P S same p mentions ty e k both.0 both.1
   field_place ty e k (inr h) =
       let both = both_true (has_member (uses_in P p mentions) (type_at e) k covers_type) (covers_object (uses_in P p mentions) e) h in
-      inl (member_place P S same p mentions ty e k covers_type both.0 both.1)
+      member_place P S same p mentions ty e k covers_type both.0 both.1
 
   abbrev IsNamed : Ty → Term → Type 0
   IsNamed ty t = term_uses v t ≡ names count (term_exp S ty t)
@@ -271,9 +271,10 @@ module _ (P : Program) (S : Scope) (same : S.declarations ≡ P.declarations) (p
   given_group : (ty : Ty) (t : Term) → covers_group_term (uses_in P p mentions) ty t ≡ true → Free (nodes (typed ty t))
       → (covers_term (uses_in P p mentions) t ≡ true → IsNamed ty t) → IsNamed ty t
   given_group ty (field e k) h free other =
-      path_counted P S same p mentions v count test right ty (field e k) (inl (object_of P S same p mentions ty (field e k) h)) free
+      path_counted P S same p mentions v count test right ty (field e k) (object_of P S same p mentions ty (field e k) h) free
+  given_group ty me h free other = path_counted P S same p mentions v count test right ty me (object_of P S same p mentions ty me h) free
   given_group ty (call q qualified of args) h free other =
-      other (both_true ((uses_in P p mentions).given ty) (is_without_object of && covers_passed (uses_in P p mentions) args) h).1
+      other (both_true ((uses_in P p mentions).given ty) (covers_receiver (uses_in P p mentions) of && covers_passed (uses_in P p mentions) args) h).1
   given_group ty (convert to e) h free other =
       nothing_names e (is_nothing_converted ((uses_in P p mentions).given ty) ty to e h)
       ∙ sym (converted_names count right.no_support right.no_strings S to e)
@@ -303,6 +304,15 @@ module _ (P : Program) (S : Scope) (same : S.declarations ≡ P.declarations) (p
   value_names ty t (inr c) free other =
       group_value ty t (or_cases (covers_place_term (uses_in P p mentions) ty t) (covers_group_term (uses_in P p mentions) ty t) c) free other
 
+  -- a call for an object
+  called_for : (b c : Bool) (callee : Exp) (q : ℕ) (args : Passed)
+      → names count (called (b && (has_none args && c)) callee (passed_of S q 0 args)) ≡ names count callee + exps_name count (passed_of S q 0 args)
+  called_for true true callee q no_passed = omega arith
+  called_for true false callee q no_passed = refl
+  called_for false c callee q no_passed = refl
+  called_for true c callee q (next_passed a rest) = refl
+  called_for false c callee q (next_passed a rest) = refl
+
   mutual
     pub expr_names : (e : Expr) → covers_expr (uses_in P p mentions) e ≡ true → is_formed e ≡ true → Free (nodes e) → uses v e ≡ names count (exp_of S e)
     expr_names (typed ty t) h f free =
@@ -312,7 +322,8 @@ module _ (P : Program) (S : Scope) (same : S.declarations ≡ P.declarations) (p
     pub term_names : (ty : Ty) (t : Term) → covers_term (uses_in P p mentions) t ≡ true → is_formed_term ty t ≡ true
         → test (typed ty t) ≡ false → Free (nodes_in t) → term_uses v t ≡ names count (term_exp S ty t)
     term_names ty (constant y origin) h f own free = sym (constant_names count right.no_support right.no_strings (is_hexadecimal origin) y)
-    term_names ty (variable k q) h f own free = right.used k q ty (inl h)
+    term_names ty (variable k q) h f own free =
+        right.used k q ty (inl (both_true (covers_use P p mentions k) (is_named_so P.declarations k q) h).0)
     term_names ty (element a indexes) h f own free =
         let both = both_true (covers_array (uses_in P p mentions) a) (covers_exprs (uses_in P p mentions) indexes) h in
         let form = both_true (has_elements (type_at a) ty) (are_longs (types_of indexes) && are_formed indexes) f in
@@ -378,7 +389,16 @@ module _ (P : Program) (S : Scope) (same : S.declarations ≡ P.declarations) (p
         compared_value r u (or_cases (is_nothing (typed r u)) (is_class_type r && covers_group cover (typed r u)) both.1) parted.1
         (λ c. term_names r u c form.1 second.0 second.1) in
         omega (arith, left, other)
-    term_names ty (call q qualified (of_object e) args) h f own free = absurd (cc h)
+    term_names ty (call q qualified (of_object e) args) h f own free =
+        let cover = uses_in P p mentions in
+        let both = both_true (covers_object cover e) (covers_passed cover args) h in
+        let parted = none_of_both test (nodes e) (nodes_of_passed args) free in
+        let name : List ℕ = procedure_name S.declarations q.0 in
+        let object = behind_names P S same p mentions v count test right e name both.0 parted.0 in
+        let given = passed_names q.0 0 args both.1 f parted.1 in
+        let whole =
+        called_for (is_property S.declarations q.0) (not (reads_itself S q.0 qualified (of_object e))) (member_of e (exp_of S e) name) q.0 args in
+        omega (arith, object, given, whole)
     term_names ty (call q qualified no_object no_passed) h f own free =
         sym (bare_names count (is_bare S q.0 qualified no_object no_passed) (net.path (procedure_path S qualified q.0))
         (right.uncalled ty q qualified no_passed own))

@@ -9,18 +9,18 @@ use Rattle.vb_tree.specs.BoundTree.{Ty}
 use Rattle.vb_tree.specs.declared.declared.VarId.{VarId}
 use Rattle.bound_tree.specs.declared.body.Mention.{Mention}
 use Rattle.bound_tree.specs.Tree as tree
-use Rattle.bound_tree.specs.Tree.{Program, Variable, Expr, typed, Term, field, variable, with_object}
+use Rattle.bound_tree.specs.Tree.{Program, Variable, Expr, typed, Term, field, me, variable, with_object}
 use Rattle.bound_facts.specs.Locks.{is_same_type}
 use Rattle.bound_facts.specs.Members.{class_files, field_of}
 use Rattle.bound_facts.specs.Node.{auto_class, class_in, type_at, variable_number}
 use Rattle.bound_facts.specs.Nodes.{nodes}
 use Rattle.net_tree.specs.Tree as net
-use Rattle.written_trees.specs.Exprs.{exp_of, made_if, member_in, target_exp, term_exp}
+use Rattle.written_trees.specs.Exprs.{exp_of, made_if, member_in, member_of, target_exp, term_exp}
 use Rattle.written_trees.specs.Names.{Path, Scope, member, owner_path, variable_name}
 use Rattle.written_trees.specs.Prologues.{one_if}
 use Rattle.run_matches.specs.UserTypes.{is_class_type, is_group_type}
 use Rattle.run_matches.specs.Shared.{is_alone_field}
-use Rattle.run_matches.specs.CoveredVariables.{covers_group_type, covers_group_use, covers_place_type, covers_type, field_type_in, field_type_of, is_member, is_mention_of, member_type_in, member_type_of}
+use Rattle.run_matches.specs.CoveredVariables.{covers_group_type, covers_group_use, covers_place_type, covers_type, field_type_in, field_type_of, is_member, is_mention_of, is_named_so, member_type_in, member_type_of}
 use Rattle.run_matches.specs.CoveredExprs.{covers_base, covers_object, covers_object_term, covers_place, covers_place_term, is_kept, is_passing, has_field, has_inner, has_member, has_scalar, is_scalar_type, is_type, uses_in}
 use Rattle.run_matches.specs.Upgrades.{is_unknown, type_of_some}
 use Rattle.correspondence.specs.Uses.{names, term_uses, uses}
@@ -113,15 +113,17 @@ a_group D _ (types.user t) h c = absurd (cc h)
 a_group D _ (types.class k) h c = absurd (cc h)
 a_group D _ _ h c = absurd (cc c)
 
--- what stands behind the dot of a With, which names no variable
+-- what stands behind the dot of a With or behind Me, which names no variable
 abbrev pub IsDotted : net.Exp → Type 0
 IsDotted (net.with_dot name) = Unit {0}
 IsDotted (net.dot e name) = IsDotted e
+IsDotted net.me = Unit {0}
 IsDotted _ = ⊥
 
 member_dotted : (a : net.Exp) (name : List ℕ) → IsDotted a → IsDotted (member a name)
 member_dotted (net.with_dot m) name d = tt
 member_dotted (net.dot e m) name d = d
+member_dotted net.me name d = tt
 member_dotted (net.path q) name d = absurd d
 member_dotted _ name d = absurd d
 
@@ -185,9 +187,10 @@ module _ (P : Program) (S : Scope) (same : S.declarations ≡ P.declarations) (p
   plain_member ty (field e k) h names name = refl
   plain_member ty _ h names name = absurd (cc h)
 
-  plain_object_member : (ty : Ty) (u : Term) → covers_object_term (uses_in P p mentions) ty u ≡ true → HasPlainMembers u
+  pub plain_object_member : (ty : Ty) (u : Term) → covers_object_term (uses_in P p mentions) ty u ≡ true → HasPlainMembers u
   plain_object_member ty (variable k q) h names name = refl
   plain_object_member ty (field e k) h names name = refl
+  plain_object_member ty me h names name = refl
   plain_object_member ty _ h names name = absurd (cc h)
 
   -- a field stands behind the path of its place
@@ -260,6 +263,13 @@ module _ (P : Program) (S : Scope) (same : S.declarations ≡ P.declarations) (p
   field_of_base ty of u k t is f (inl h) place = kept_field ty of u k t is h f
   field_of_base ty of u k t is f (inr h) place = behind_base ty of u k t is h f (place h)
 
+  pub dotted_object_member : (ty : Ty) (u : Term) (a : net.Exp) (name : List ℕ) → covers_object_term (uses_in P p mentions) ty u ≡ true → IsDotted a
+      → IsDotted (member_in u a name)
+  dotted_object_member ty (variable k q) a name h d = member_dotted a name d
+  dotted_object_member ty (field e k) a name h d = member_dotted a name d
+  dotted_object_member ty me a name h d = member_dotted a name d
+  dotted_object_member ty _ a name h d = absurd (cc h)
+
   variable_place : (k : VarId) (q : Bool) (ty : Ty) → covers_group_use P p mentions k ty ≡ true → Place ty (variable k q)
   variable_place k q ty h =
       let found : IsGroupAt P p k.0 ty = group_use_at P p mentions k ty h in
@@ -303,20 +313,35 @@ module _ (P : Program) (S : Scope) (same : S.declarations ≡ P.declarations) (p
       ∙ subst (λ (d : tree.Declarations). made_if d (auto_class (variable_number d.vars (field_of d (types.class M.class) k))) a ≡ a) (sym same)
       (member_made P.declarations mentions M.class k a M.member_type M.is_type)
 
-  pub object_of : (ty : Ty) (t : Term) → covers_object_term (uses_in P p mentions) ty t ≡ true → Place ty t
-  object_of ty (variable k q) h = variable_place k q ty (both_true (is_class_type ty) (covers_group_use P p mentions k ty) h).1
+  -- a variable of it
+  behind_object : (ty of : Ty) (u : Term) (k : ℕ) → covers_object_term (uses_in P p mentions) of u ≡ true → IsPlainField of k → Based of u
+      → Based ty (field (typed of u) k)
+  behind_object ty of u k h none (inl L) = inl (longer ty of u k (plain_object_member of u h) none L)
+  behind_object ty of u k h none (inr K) =
+      let name : List ℕ = variable_name S.declarations (field_of S.declarations of k) in
+      inr (record {
+        dotted = subst IsDotted (sym (none (member_in u (term_exp S of u) name))) (dotted_object_member of u (term_exp S of u) name h K.dotted);
+        unused = K.unused;
+      })
+
+  pub object_of : (ty : Ty) (t : Term) → covers_object_term (uses_in P p mentions) ty t ≡ true → Based ty t
+  object_of ty (variable k q) h =
+      inl (variable_place k q ty
+      (both_true (covers_group_use P p mentions k ty) (is_named_so P.declarations k q)
+      (both_true (is_class_type ty) (covers_group_use P p mentions k ty && is_named_so P.declarations k q) h).1).0)
+  object_of ty me h = inr (record { dotted = tt; unused = λ v. refl })
   object_of ty (field (typed of u) k) h =
       let a = both_true (is_class_type ty)
       (has_member (uses_in P p mentions) of k (is_same_type ty) && covers_object_term (uses_in P p mentions) of u) h in
       let b = both_true (has_member (uses_in P p mentions) of k (is_same_type ty)) (covers_object_term (uses_in P p mentions) of u) a.1 in
-      longer ty of u k (plain_object_member of u b.1) (plain_object_field of k (is_same_type ty) (member_of_class of k (is_same_type ty) b.0)) (object_of of u b.1)
+      behind_object ty of u k b.1 (plain_object_field of k (is_same_type ty) (member_of_class of k (is_same_type ty) b.0)) (object_of of u b.1)
   object_of ty _ h = absurd (cc h)
 
   -- a variable of one
   pub member_place : (ty : Ty) (e : Expr) (k : ℕ) (test : Ty → Bool) → has_member (uses_in P p mentions) (type_at e) k test ≡ true
-      → covers_object (uses_in P p mentions) e ≡ true → Place ty (field e k)
+      → covers_object (uses_in P p mentions) e ≡ true → Based ty (field e k)
   member_place ty (typed of u) k test h c =
-      longer ty of u k (plain_object_member of u c) (plain_object_field of k test (member_of_class of k test h)) (object_of of u c)
+      behind_object ty of u k c (plain_object_field of k test (member_of_class of k test h)) (object_of of u c)
 
   pub member_written : (ty : Ty) (e : Expr) (k : ℕ) → covers_object_term (uses_in P p mentions) ty (field e k) ≡ true
       → exp_of S (typed ty (field e k)) ≡ target_exp S (typed ty (field e k))
@@ -330,7 +355,8 @@ module _ (P : Program) (S : Scope) (same : S.declarations ≡ P.declarations) (p
   -- ---- places of user types
 
   pub place_of : (ty : Ty) (t : Term) → covers_place_term (uses_in P p mentions) ty t ≡ true → Based ty t
-  place_of ty (variable k q) h = inl (variable_place k q ty h)
+  place_of ty (variable k q) h =
+      inl (variable_place k q ty (both_true (covers_group_use P p mentions k ty) (is_named_so P.declarations k q) h).0)
   place_of ty (field (typed of u) k) h =
       let both = both_true (has_inner (uses_in P p mentions) of k ty) (covers_base (uses_in P p mentions) (typed of u)) h in
       let i = inner_of of k ty both.0 in
@@ -352,6 +378,7 @@ module _ (P : Program) (S : Scope) (same : S.declarations ≡ P.declarations) (p
     none_named : (a : net.Exp) → IsDotted a → names count a ≡ 0
     none_named (net.with_dot name) d = refl
     none_named (net.dot e name) d = none_named e d
+    none_named net.me d = refl
     none_named _ d = absurd d
 
     pub path_counted : (ty : Ty) (t : Term) → Based ty t → list_any test (nodes (typed ty t)) ≡ false → term_uses v t ≡ names count (term_exp S ty t)
@@ -360,6 +387,22 @@ module _ (P : Program) (S : Scope) (same : S.declarations ≡ P.declarations) (p
         ∙ right.fields L.root L.qualified L.root_type L.root_variable L.fields L.covered L.is_group L.of_group (L.node test free)
         ∙ sym (ap (names count) L.written)
     path_counted ty t (inr K) free = K.unused v ∙ sym (none_named (term_exp S ty t) K.dotted)
+
+    -- what stands behind an object that is kept
+    pub behind_names : (e : Expr) (name : List ℕ) → covers_object (uses_in P p mentions) e ≡ true → list_any test (nodes e) ≡ false
+        → uses v e ≡ names count (member_of e (exp_of S e) name)
+    behind_names (typed ty t) name h free = by (object_of ty t h)
+      where
+        by : Based ty t → term_uses v t ≡ names count (member_in t (term_exp S ty t) name)
+        by (inl L) =
+            let path : Path = owner_path S L.qualified L.root_variable.name L.root_variable.owner in
+            L.used v
+            ∙ right.fields L.root L.qualified L.root_type L.root_variable (L.fields ++ name ∷ []) L.covered L.is_group L.of_group (L.node test free)
+            ∙ sym (ap (λ a. names count (member_in t a name)) L.written
+            ∙ ap (names count) (plain_object_member ty t h (path ++ L.fields) name ∙ ap net.path (append_assoc path L.fields (name ∷ []))))
+        by (inr K) =
+            K.unused v
+            ∙ sym (none_named (member_in t (term_exp S ty t) name) (dotted_object_member ty t (term_exp S ty t) name h K.dotted))
 
     pub place_names : (e : Expr) → covers_place (uses_in P p mentions) e ≡ true → list_any test (nodes e) ≡ false → uses v e ≡ names count (exp_of S e)
     place_names (typed ty t) h free = path_counted ty t (place_of ty t h) free

@@ -9,7 +9,7 @@ use Rattle.bound_tree.specs.Tree.{Declarations, Expr, typed, call, no_object, Pr
 use Rattle.written_trees.specs.Names.{Scope, module_name, variable_name_of}
 use Rattle.run_matches.specs.UserTypes.{is_group_type}
 use Rattle.run_matches.specs.CoveredVariables.{belongs_to, is_reached}
-use Rattle.correspondence.specs.Uses.{IsAlone, IsFirst, IsSharedAlone, is_call_in, is_call_of, is_group_named, is_named_there, path_names, shared_names}
+use Rattle.correspondence.specs.Uses.{stands_outside, IsAlone, IsFirst, IsSharedAlone, is_call_in, is_call_of, is_group_named, is_named_there, path_names, shared_names}
 use Rattle.correspondence.proofs.NamedArrays.{IsRight}
 use Rattle.correspondence.proofs.NamedCalls.{neither, path_other, shared_path_other}
 use Rattle.correspondence.proofs.SharedVariables.{shared_named, shared_reserved, shared_use}
@@ -50,19 +50,20 @@ module _ (P : Program) (S : Scope) (same : S.declarations ≡ P.declarations) (p
       named file b = sym (ap (λ (d : Declarations). is_same_name (module_name d file) x.name) same) ∙ b
 
   pub shared_right : (file : ℕ) → slice_get P.declarations.vars v ≡ Some x → x.owner ≡ owner.Module file
+      → stands_outside P.declarations (slice_get P.declarations.procs p) ≡ true
       → is_reached P.declarations p v x.name x.owner ≡ true → IsSharedAlone P.declarations v file x → IsFirst P.declarations x → (mentions : List Mention)
       → IsRight P S p mentions v (shared_names (is_group_type x.ty) (nat_eq S.file file) (module_name P.declarations file) x.name) (is_shared_test P file x)
-  shared_right file at of reached alone first mentions = record {
-    no_support = λ n. shared_reserved P S same p v x file at of reached alone first (codes "UpgradeSupport") n [] refl;
-    no_strings = λ n. shared_reserved P S same p v x file at of reached alone first (codes "Microsoft") (codes "VisualBasic") (codes "Strings" ∷ n ∷ []) refl;
-    no_math = shared_reserved P S same p v x file at of reached alone first (codes "System") (codes "Math") (codes "Abs" ∷ []) refl;
-    used = shared_use P S same p v x file at of reached alone first mentions;
+  shared_right file at of outside reached alone first mentions = record {
+    no_support = λ n. shared_reserved P S same p v x file at of outside reached alone first (codes "UpgradeSupport") n [] refl;
+    no_strings = λ n. shared_reserved P S same p v x file at of outside reached alone first (codes "Microsoft") (codes "VisualBasic") (codes "Strings" ∷ n ∷ []) refl;
+    no_math = shared_reserved P S same p v x file at of outside reached alone first (codes "System") (codes "Math") (codes "Abs" ∷ []) refl;
+    used = shared_use P S same p v x file at of outside reached alone first mentions;
     fields = λ k q ty y rest is group of_group free.
         let named : Bool = is_same_name (variable_name_of (slice_get P.declarations.vars k.0)) (module_name P.declarations file) in
         let other : is_same_name y.name (module_name P.declarations file) ≡ false =
         ap (λ o. is_same_name (variable_name_of o) (module_name P.declarations file)) (sym is.0)
         ∙ sym (ap {B = Bool} (λ b. b && named) of_group) ∙ (neither false (is_group_type ty && named) free).1 in
-        shared_named P S same p v x file at of reached alone first k.0 y q rest is (inr (group, other));
+        shared_named P S same p v x file at of outside reached alone first k.0 y q rest is (inr (group, other));
     uncalled = λ ty q qualified args e.
         shared_path_other P.declarations S same (is_group_type x.ty) file x.name qualified q.0 (λ f a b. module_outer P.declarations f x.name (first a) b)
         (neither (is_named_there P.declarations (module_name P.declarations file) x.name (Some q.0))

@@ -1,6 +1,6 @@
 -- The written path of a covered variable names a variable of a standard module where it is that one, and else none.
-use Rattle.std.proofs.Common.{◌≡◌, ℕ, Bool, true, false, not, ◌&&◌, cond, List, [], ◌∷◌, ◌++◌, Some, refl, sym, ap, subst, ◌∙◌, nat_eq, append-nil, eq-eqb, eqb-true, inl, inr}
-use Rattle.std.specs.Prelude.{slice_get, ◌||◌, ◌⊎◌, position}
+use Rattle.std.proofs.Common.{◌≡◌, ℕ, Bool, true, false, not, ◌&&◌, cond, List, [], ◌∷◌, ◌++◌, Some, refl, sym, ap, subst, ◌∙◌, nat_eq, append-nil, eq-eqb, eqb-true, inl, inr, Option, None}
+use Rattle.std.specs.Prelude.{slice_get, ◌||◌, ◌⊎◌, position, option_and_then}
 use Rattle.up_base.specs.Names.{is_same_name, lower_case}
 use Rattle.up_base.proofs.Lists.{both_true, by_test}
 use Rattle.vb_tree.specs.BoundTree.{Ty}
@@ -11,16 +11,19 @@ use Rattle.vb_tree.specs.ProjectLines.{is_reserved}
 use Rattle.vb_tree.specs.Tree.{Module}
 use Rattle.bound_tree.specs.declared.body.Mention.{Mention}
 use Rattle.bound_tree.specs.Tree as tree
-use Rattle.bound_tree.specs.Tree.{Variable, Program, typed, variable}
+use Rattle.bound_tree.specs.Tree.{Variable, Program, typed, variable, Procedure}
 use Rattle.written_trees.specs.Exprs.{exp_of}
 use Rattle.written_trees.specs.Names.{Path, Scope, module_at, is_standard_module, module_name, is_foreign, owner_path}
 use Rattle.written_trees.specs.Prologues.{one_if}
 use Rattle.run_matches.specs.UserTypes.{is_group_type}
 use Rattle.run_matches.specs.CoveredVariables.{covers_owner, belongs_to, is_foreign_name, is_reached}
 use Rattle.run_matches.specs.CoveredExprs.{IsUsed, uses_in}
-use Rattle.run_matches.specs.Shared.{names_lead, leads_to_home, is_alone_static}
-use Rattle.correspondence.specs.Uses.{shared_names, names, IsFirst, IsSharedAlone}
+use Rattle.run_matches.specs.Shared.{names_lead, leads_to_home, is_alone_static, field_leads, is_alone_field, is_free_from, is_free_in, is_of_module, keeps_alone, others_differ, placed_module}
+use Rattle.correspondence.specs.Uses.{shared_names, names, IsFirst, IsSharedAlone, stands_outside}
 use Rattle.correspondence.proofs.Variables.{IsCoveredAt, foreign_name, module_free, module_outer, name_reserved, one_of, reserved_outer, same_itself, some_same, used_at, variable_exp}
+use Rattle.vb6_run.specs.Runnables.{is_class_file}
+use Rattle.run_matches.specs.Sites.{Site, site_of}
+use Rattle.correspondence.proofs.Among.{or_cases}
 
 one_of_both : (a b : Bool) → a ≡ false → b ≡ false → ◌≡◌ {A = ℕ} (cond (a || b) 1 0) 0
 one_of_both true b h e = absurd (cc h)
@@ -118,7 +121,8 @@ abbrev pub SuitsBy : (of : List ℕ) → Variable → List (List ℕ) → Type 0
 SuitsBy of y rest = (rest ≡ []) ⊎ ((is_group_type y.ty ≡ true) × (is_same_name y.name of ≡ false))
 
 module _ (P : Program) (S : Scope) (same : S.declarations ≡ P.declarations) (p v : ℕ) (x : Variable) (file : ℕ)
-    (at : slice_get P.declarations.vars v ≡ Some x) (of : x.owner ≡ owner.Module file) (reached : is_reached P.declarations p v x.name x.owner ≡ true)
+    (at : slice_get P.declarations.vars v ≡ Some x) (of : x.owner ≡ owner.Module file)
+    (outside : stands_outside P.declarations (slice_get P.declarations.procs p) ≡ true) (reached : is_reached P.declarations p v x.name x.owner ≡ true)
     (alone : IsSharedAlone P.declarations v file x) (first : IsFirst P.declarations x) where
   abbrev D : tree.Declarations
   D = P.declarations
@@ -129,8 +133,34 @@ module _ (P : Program) (S : Scope) (same : S.declarations ≡ P.declarations) (p
   abbrev home : List ℕ
   home = module_name D file
 
+  -- no name leads to a variable of a class
+  outside_leads : (k f : ℕ) (name : List ℕ) → (names_lead D p k name f || field_leads D p k name f) ≡ true → names_lead D p k name f ≡ true
+  outside_leads k f name h = by (or_cases (names_lead D p k name f) (field_leads D p k name f) h)
+    where
+      no_field : (o : Option Site) (q : Option Procedure) → stands_outside D q ≡ true → is_class_file D f ≡ true → is_free_from D name f o q ≡ true → ⊥
+      no_field None q out class e = cc e
+      no_field (Some s) None out class e = cc e
+      no_field (Some s) (Some q) out class e =
+          let a = both_true (nat_eq s.source_module.file f && nat_eq q.module_number f) (is_free_in D s q name) e in
+          let b = both_true (nat_eq s.source_module.file f) (nat_eq q.module_number f) a.0 in
+          let there : is_class_file D q.module_number ≡ true = ap (is_class_file D) (eqb-true q.module_number f b.1) ∙ class in
+          cc (sym (ap not there) ∙ out)
+
+      by : (names_lead D p k name f ≡ true) ⊎ (field_leads D p k name f ≡ true) → names_lead D p k name f ≡ true
+      by (inl e) = e
+      by (inr e) =
+          let a = both_true (is_alone_field D k name f) (is_free_from D name f (site_of D p) (slice_get D.procs p)) e in
+          let class =
+          (both_true (is_class_file D f)
+          (keeps_alone D k name (option_and_then (placed_module D) (position (λ (m : Module). nat_eq m.file f) D.project.modules))
+          && others_differ (is_of_module f) k name 0 D.vars) a.0).0 in
+          absurd (no_field (site_of D p) (slice_get D.procs p) outside class a.1)
+
   leading : (names_lead D p v x.name file ≡ true) × (is_foreign_name D p x.name ≡ true)
-  leading = both_true (names_lead D p v x.name file) (is_foreign_name D p x.name) (sym (ap (is_reached D p v x.name) of) ∙ reached)
+  leading =
+      let both = both_true (names_lead D p v x.name file || field_leads D p v x.name file) (is_foreign_name D p x.name)
+      (sym (ap (is_reached D p v x.name) of) ∙ reached) in
+      (outside_leads v file x.name both.0, both.1)
 
   standard_at : (k f : ℕ) (name : List ℕ) → names_lead D p k name f ≡ true → is_standard_module (module_at D.project f) ≡ true
   standard_at k f name h =
@@ -166,10 +196,10 @@ module _ (P : Program) (S : Scope) (same : S.declarations ≡ P.declarations) (p
   other_shared : (k : ℕ) (y : Variable) (q : Bool) (rest : List (List ℕ)) → SuitsBy home y rest → slice_get D.vars k ≡ Some y → (o : Owner) → y.owner ≡ o
       → is_reached D p k y.name o ≡ true → covers_owner o ≡ true → nat_eq v k ≡ false → count (owner_path S q y.name o ++ rest) ≡ 0
   other_shared k y q rest s is (owner.Module f) e h c n =
-      let leads = both_true (names_lead D p k y.name f) (is_foreign_name D p y.name) h in
+      let leads = both_true (names_lead D p k y.name f || field_leads D p k y.name f) (is_foreign_name D p y.name) h in
       let differs : is_same_name (module_name D f) home ≡ true → is_same_name y.name x.name ≡ true → ⊥ =
       λ s t. cc (sym n ∙ eq-eqb v k (sym (alone k y f is e t s))) in
-      ap (λ (path : Path). count (path ++ rest)) (module_path_is q y.name f (standard_at k f y.name leads.0))
+      ap (λ (path : Path). count (path ++ rest)) (module_path_is q y.name f (standard_at k f y.name (outside_leads k f y.name leads.0)))
       ∙ shared_other (is_group_type x.ty) (nat_eq S.file file) home x.name q (nat_eq S.file f) (module_name D f) y.name rest differs
       (λ a b. differs
       (subst (λ i. is_same_name (module_name D i) home ≡ true) (sym (eqb-true S.file file b) ∙ eqb-true S.file f a)

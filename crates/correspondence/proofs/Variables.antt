@@ -14,7 +14,7 @@ use Rattle.vb_tree.specs.ProjectLines.{is_reserved}
 use Rattle.vb_tree.specs.Tree.{Module}
 use Rattle.bound_tree.specs.declared.body.Mention.{Mention}
 use Rattle.bound_tree.specs.Tree as tree
-use Rattle.bound_tree.specs.Tree.{Expr, Variable, Program, typed, variable}
+use Rattle.bound_tree.specs.Tree.{Expr, Variable, Program, typed, variable, Constant, Procedure}
 use Rattle.bound_facts.specs.Locks.{is_same_type}
 use Rattle.bound_facts.specs.Node.{auto_class, class_in}
 use Rattle.net_tree.specs.Tree as net
@@ -25,9 +25,10 @@ use Rattle.written_trees.specs.Types.{element_type}
 use Rattle.run_matches.specs.CoveredVariables.{covers_type, covers_owner, covers_variable, belongs_to, is_foreign_name, is_reached, covers_some, is_mention_of, is_loud, covers_array_owner, covers_array_variable, covers_bounds, covers_declared, covers_group_type, covers_group_use, covers_group_variable, covers_some_array, covers_some_group, is_array_of, is_named_apart}
 use Rattle.run_matches.specs.UserTypes.{is_group_type}
 use Rattle.run_matches.specs.CoveredExprs.{Uses, covers_expr, covers_array, covers_place, is_passable, IsUsed, uses_in}
-use Rattle.run_matches.specs.Shared.{names_lead, leads_to_home, is_alone_static}
+use Rattle.run_matches.specs.Shared.{names_lead, leads_to_home, is_alone_static, field_leads}
 use Rattle.correspondence.proofs.Among.{or_cases}
 use Rattle.correspondence.specs.Uses.{path_names, names, is_outer, IsAlone, IsFirst}
+use Rattle.run_matches.specs.Covered.{covers_names, is_free_name}
 
 pub some_same : {A : Type 0} (x y : A) → Some x ≡ Some y → x ≡ y
 some_same x y e = ap (λ o. unwrap_or o x) e
@@ -167,20 +168,39 @@ module_free D p k file name h =
     (leads_to_home D p k name file (position (λ (m : Module). nat_eq m.file file) D.project.modules)) h in
     not_true (is_reserved (module_name D file)) (both_true (is_standard_module (module_at D.project file)) (not (is_reserved (module_name D file))) free.0).1
 
+-- so are all, where no name is
+pub modules_free : (D : tree.Declarations) → covers_names D ≡ true → (file : ℕ) → is_reserved (module_name D file) ≡ false
+modules_free D h file = by D.project.modules (both_true (list_all (λ (m : Module). is_free_name m.name) D.project.modules) rest h).0
+  where
+    rest : Bool
+    rest =
+        list_all (λ (x : Variable). is_free_name x.name) D.vars
+        && (list_all (λ (c : Constant). is_free_name c.name) D.consts && list_all (λ (q : Procedure). is_free_name q.name) D.procs)
+
+    by : (ms : List Module) → list_all (λ (m : Module). is_free_name m.name) ms ≡ true
+        → is_reserved (name_in (find (λ (m : Module). nat_eq m.file file) ms)) ≡ false
+    by [] e = refl
+    by (m ∷ ms) e =
+        let both = both_true (is_free_name m.name) (list_all (λ (m : Module). is_free_name m.name) ms) e in
+        found (nat_eq m.file file) (not_true (is_reserved m.name) both.0) (by ms both.1)
+      where
+        found : (b : Bool) → is_reserved m.name ≡ false → is_reserved (name_in (find (λ (m : Module). nat_eq m.file file) ms)) ≡ false
+            → is_reserved (name_in (cond b (Some m) (find (λ (m : Module). nat_eq m.file file) ms))) ≡ false
+        found true h more = h
+        found false h more = more
+
 module_path : (b : Bool) (outer name : List ℕ) → is_reserved outer ≡ false → IsVariablePath (cond b (outer ∷ name ∷ []) (name ∷ []))
 module_path true outer name h = h
 module_path false outer name h = tt
 
-pub path_is : (P : Program) (S : Scope) → S.declarations ≡ P.declarations → (p k : ℕ) (q : Bool) (y : Variable) → IsCoveredAt P p k y
+pub path_is : (P : Program) (S : Scope) → S.declarations ≡ P.declarations → covers_names P.declarations ≡ true → (p k : ℕ) (q : Bool) (y : Variable) → IsCoveredAt P p k y
     → IsVariablePath (owner_path S q y.name y.owner)
-path_is P S same p k q y is = by y.owner is.1 is.2
+path_is P S same free p k q y is = by y.owner is.1 is.2
   where
     by : (o : Owner) → is_reached P.declarations p k y.name o ≡ true → covers_owner o ≡ true → IsVariablePath (owner_path S q y.name o)
     by (owner.Module file) h c =
-        let D : tree.Declarations = P.declarations in
-        let leads = both_true (names_lead D p k y.name file) (is_foreign_name D p y.name) h in
         module_path (q || is_foreign S.declarations S.file file) (module_name S.declarations file) y.name
-        (ap (λ (d : tree.Declarations). is_reserved (module_name d file)) same ∙ module_free D p k file y.name leads.0)
+        (ap (λ (d : tree.Declarations). is_reserved (module_name d file)) same ∙ modules_free P.declarations free file)
     by (owner.Local q) h c = tt
     by (owner.Static q) h c = tt
     by (owner.Value q) h c = tt
@@ -301,7 +321,7 @@ module _ (P : Program) (S : Scope) (same : S.declarations ≡ P.declarations) (p
   other : (k : ℕ) (y : Variable) (q : Bool) (rest : List (List ℕ)) → slice_get P.declarations.vars k ≡ Some y → (o : Owner) → y.owner ≡ o
       → is_reached P.declarations p k y.name o ≡ true → covers_owner o ≡ true → nat_eq v k ≡ false → own_count (owner_path S q y.name o ++ rest) ≡ 0
   other k y q rest is (owner.Module file) e h c n =
-      let leads = both_true (names_lead P.declarations p k y.name file) (is_foreign_name P.declarations p y.name) h in
+      let leads = both_true (names_lead P.declarations p k y.name file || field_leads P.declarations p k y.name file) (is_foreign_name P.declarations p y.name) h in
       path_named (q || is_foreign S.declarations S.file file) file y.name rest
       (turned_false x.name y.name (foreign_name p y.name P.declarations.vars v x leads.1 at own))
   other k y q rest is (owner.Local r) e h c n = other_own k y rest is (ap (belongs_to p) e ∙ h) n

@@ -17,6 +17,7 @@ use Rattle.written_trees.specs.Conversions.{one, two}
 use Rattle.written_trees.specs.Lines.{print_name}
 use Rattle.written_trees.specs.Names.{Path, Scope, is_standard_module, module_at, module_name, support, procedure_name, variable_name_of}
 use Rattle.run_matches.specs.UserTypes.{is_group_type}
+use Rattle.vb6_run.specs.Runnables.{is_class_file}
 use Rattle.run_matches.specs.CoveredVariables.{belongs_to, is_reached}
 
 -- ---- bound expressions
@@ -158,8 +159,12 @@ is_group_named D name (typed ty t) = is_group_named_in D name ty t
 abbrev pub IsFirst : Declarations → Variable → Type 0
 IsFirst D x = is_group_type x.ty ≡ true → is_outer D x.name ≡ false
 
--- Expressions use each variable of the procedure, and each of a standard module to which names lead, as often as written ones name it, where
--- they call no procedure of its name: a result variable has that of its procedure. What has the name of a module breaks U20 itself; a variable
+abbrev pub stands_outside : Declarations → Option Procedure → Bool
+stands_outside D None = false
+stands_outside D (Some q) = not (is_class_file D q.module_number)
+
+-- Expressions use each variable of the procedure, and, in a procedure of a standard module, each of a standard module to which names lead, as
+-- often as written ones name it, where they call no procedure of its name: a result variable has that of its procedure. What has the name of a module breaks U20 itself; a variable
 -- of a user type or a class with such a name might be taken for the module, since fields stand behind it.
 pub record SameUses (S : Scope) (p : ℕ) (es : List Expr) (ws : List Exp) : Type 0 where
   pub own :
@@ -168,6 +173,7 @@ pub record SameUses (S : Scope) (p : ℕ) (es : List Expr) (ws : List Exp) : Typ
       → total (uses v) es ≡ total (names (path_names (is_group_type x.ty) x.name)) ws
   pub shared :
       (v : ℕ) (x : Variable) (file : ℕ) → slice_get S.declarations.vars v ≡ Some x → x.owner ≡ owner.Module file
+      → stands_outside S.declarations (slice_get S.declarations.procs p) ≡ true
       → is_reached S.declarations p v x.name x.owner ≡ true → IsSharedAlone S.declarations v file x
       → IsFirst S.declarations x → list_any (is_call_in S.declarations (module_name S.declarations file) x.name) (flat_map nodes es) ≡ false
       → list_any (is_group_named S.declarations (module_name S.declarations file)) (flat_map nodes es) ≡ false

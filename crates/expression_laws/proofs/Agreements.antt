@@ -1,10 +1,10 @@
 -- The laws, under any pledge and under that of a frame.
 use Rattle.run_matches.specs.Keeping.{given_types}
-use Rattle.expression_laws.proofs.Giving.{called_giving_for, giving, stands_giving}
+use Rattle.expression_laws.proofs.Giving.{giving}
 use Rattle.std.proofs.Common.{inr, refl, ℕ, false, ◌&&◌, Some, inl}
-use Rattle.bound_tree.specs.Tree.{typed, variable, element, call, no_object}
+use Rattle.bound_tree.specs.Tree.{typed, variable, element, call}
 use Rattle.bound_facts.specs.Node.{type_at}
-use Rattle.net_tree.specs.Tree.{call_of, path}
+use Rattle.net_tree.specs.Tree.{call_of}
 use Rattle.vb6_run.specs.Expressions as source
 use Rattle.vb6_run.specs.Expressions.{Context}
 use Rattle.vb6_run.specs.Store.{SourceFrame}
@@ -12,8 +12,7 @@ use Rattle.net_run.specs.Calls.{passings_at}
 use Rattle.net_run.specs.Expressions as target
 use Rattle.net_run.specs.Lines.{scope_of}
 use Rattle.net_run.specs.Names as net_names
-use Rattle.written_trees.specs.Exprs.{exp_of, passed_of}
-use Rattle.written_trees.specs.Names.{procedure_path}
+use Rattle.written_trees.specs.Exprs.{callee_of, exp_of, passed_of}
 use Rattle.run_matches.specs.Frames.{frame_pledge}
 use Rattle.run_matches.specs.Maps.{World}
 use Rattle.run_matches.specs.Pledges.{Pledge}
@@ -24,7 +23,7 @@ use Rattle.run_statements.specs.Members.{MembersAgree}
 use Rattle.run_statements.specs.Frames.{ArraysAgree, ElementsAgree, AnyParts, CallsAreMade, context_of, ExpressionsAgree}
 use Rattle.run_matches.specs.Formed.{are_formed, are_longs, has_elements, types_of}
 use Rattle.agreeing_laws.proofs.Agreeing.{agrees_weaker}
-use Rattle.expression_laws.specs.Calls.{GivenMatch, Stands}
+use Rattle.expression_laws.specs.Calls.{GivenMatch}
 use Rattle.expression_laws.specs.Statements.{ArraysAgreeBy, ElementsAgreeBy, IndexesAgreeBy, FormedExpressionsAgreeBy, FormedScalarsAgreeBy, FormedScalarsAgree, GroupsAgreeBy, MembersAgreeBy, ParametersAreSound, PlacesAgreeBy}
 use Rattle.expression_laws.proofs.Types.{both_true}
 use Rattle.expression_laws.proofs.Checks.{plain_agrees}
@@ -33,11 +32,11 @@ use Rattle.expression_laws.proofs.Images.{images_now}
 use Rattle.expression_laws.proofs.Elements.{array_agrees}
 use Rattle.expression_laws.proofs.ElementValues.{element_agrees}
 use Rattle.expression_laws.proofs.ArrayUses.{all_long, from_none, indexed_by}
-use Rattle.expression_laws.proofs.CallsGiven.{call_made, from_first}
+use Rattle.expression_laws.proofs.CallsGiven.{call_placed, from_first}
 use Rattle.expression_laws.proofs.Expressions.{expression_agrees, group_agrees, indexes_agree, passed_agree}
 use Rattle.expression_laws.proofs.Objects.{members_agree_by}
 use Rattle.expression_laws.proofs.Places.{places_agree_by}
-use Rattle.expression_laws.proofs.Withs.{HavePlaces, places_giving, places_now}
+use Rattle.expression_laws.proofs.Withs.{HavePlaces, places_now}
 
 pub expressions_agree_by : (U : Upgrade) (sound : ParametersAreSound U) (K : Pledge) → FormedExpressionsAgreeBy U K
 expressions_agree_by U sound K w p f g oracle net_oracle l k c T uses e start frames declarations opened readable placed agree can covers formed =
@@ -71,8 +70,9 @@ elements_agree_by U sound K w p f g oracle net_oracle l k c T uses ty a indexes 
 
 pub arrays_agree_by : (U : Upgrade) (K : Pledge) → ArraysAgreeBy U K
 arrays_agree_by U K w p f g oracle net_oracle l k c T uses d rank (variable v qualified) start frames declarations readable placed covers =
-    array_agrees U K p f g oracle net_oracle l k c T declarations d rank v qualified (readable.arrays v d covers) w start
-    (λ a at. images_now U K w p f g (scope_of U.written c g k) refl refl T declarations frames uses start readable placed v a (inr (inl (d, covers))) at)
+    let both = both_true (uses.array v d) (uses.named v qualified) covers in
+    array_agrees U K p f g oracle net_oracle l k c T declarations d rank v qualified (readable.arrays v d both.0) w start (uses.named v) both.1
+    (λ a at. images_now U K w p f g (scope_of U.written c g k) refl refl T declarations frames uses start readable placed v a (inr (inl (d, both.0))) at)
 arrays_agree_by U K w p f g oracle net_oracle l k c T uses d rank _ start frames declarations readable placed covers = absurd (cc covers)
 
 pub groups_agree_by : (U : Upgrade) (sound : ParametersAreSound U) (K : Pledge) → GroupsAgreeBy U K
@@ -106,19 +106,18 @@ members_agree U K = members_agree_by U K
 
 -- a covered call is made on both sides
 pub calls_are_made : (U : Upgrade) → ParametersAreSound U → CallsAreMade U
-calls_are_made U sound K w p f g oracle net_oracle l k c T uses ty q qualified args start frames declarations opened readable placed agree can covers formed =
+calls_are_made U sound K w p f g oracle net_oracle l k c T uses ty q qualified of args start frames declarations opened readable placed agree can
+    receiver covers formed =
     let C : Context = context_of U oracle p f l in
     let S : net_names.Scope = scope_of U.written c g k in
-    let stands : Stands U K w f g = stands_now U K w p f g frames in
-    let r' = target.address_of S net_oracle (call_of (path (procedure_path T qualified q.0)) (passed_of T q.0 0 args)) w.net in
-    agrees_weaker U K w (GivenMatch U) AnyParts (source.term_parts C ty (call q qualified no_object args) w.src) r' (λ v x a l m. tt)
-    (call_made U p f g oracle net_oracle l k c T agree K ty q qualified args w start stands can.0
-    (passed_agree U p f g oracle net_oracle l k c T uses declarations opened readable placed.leads agree sound (giving K (given_types args)) q.0 0 can.0.passes args
-    (passings_at U.written (Some can.0.number)) w
-    (from_first U p f g oracle net_oracle l k c T agree K can.0) can.0.suits can.0.hands start
-    (places_giving U p f g oracle net_oracle l k c T uses K (given_types args) w start (places_now U p f g oracle net_oracle l k c T uses K w frames start declarations readable placed))
-    (stands_giving U K (given_types args) w start f g stands) (called_giving_for U K S T (given_types args) p l k args can.0.inside can.1) covers formed can.0.ranks
-    (λ t o. inr o)))
+    agrees_weaker U K w (GivenMatch U) AnyParts (source.term_parts C ty (call q qualified of args) w.src)
+    (target.address_of S net_oracle (call_of (callee_of T q.0 qualified of) (passed_of T q.0 0 args)) w.net) (λ v x a l m. tt)
+    (call_placed U p f g oracle net_oracle l k c T agree uses declarations readable K ty q qualified of args w start
+    (places_now U p f g oracle net_oracle l k c T uses K w frames start declarations readable placed) (stands_now U K w p f g frames) can receiver
+    (λ v match there now asked.
+    passed_agree U p f g oracle net_oracle l k c T uses declarations opened readable placed.leads agree sound (giving K (given_types args)) q.0 0 can.0.passes
+    args (passings_at U.written (Some can.0.number)) v (from_first U p f g oracle net_oracle l k c T agree K can.0) can.0.suits can.0.hands match there now asked
+    covers formed can.0.ranks (λ t o. inr o)))
 
 -- under the pledge of a frame
 

@@ -3,7 +3,7 @@ use Rattle.std.proofs.Common.{◌≡◌, refl, sym, ap, ◌∙◌, ℕ, suc, ◌
 use Rattle.std.specs.List.{AllPairs, Contains}
 use Rattle.vb_tree.specs.BoundTree.{Ty}
 use Rattle.vb_tree.specs.declared.value.Value6.{Value6}
-use Rattle.bound_tree.specs.Tree.{Passed}
+use Rattle.bound_tree.specs.Tree.{Object, Passed}
 use Rattle.net_meaning.specs.declared.value.ValueN.{ValueN}
 use Rattle.net_meaning.specs.ValueMatch.{Matches, booleans}
 use Rattle.run_base.specs.Positions.{Root, shared, made, field}
@@ -24,6 +24,7 @@ use Rattle.run_statements.specs.Frames.{CanCall}
 use Rattle.agreeing_laws.specs.Promises.{Weaker}
 use Rattle.agreeing_laws.proofs.Made.{more}
 use Rattle.agreeing_laws.proofs.Moves.{address_promised, locks_later}
+use Rattle.agreeing_laws.proofs.OwnObjects.{own_object_later}
 use Rattle.agreeing_laws.proofs.Scalars.{object_later}
 use Rattle.expression_laws.specs.Calls.{ArgumentsMatch, Stands, next_address, next_value, no_arguments}
 
@@ -40,13 +41,15 @@ object_stays : (U : Upgrade) (K : Pledge) (w0 w1 : World) (me : Option ℕ) → 
 object_stays U K w0 w1 None l h = tt
 object_stays U K w0 w1 (Some k) l h = more k w0.src.next_object w1.src.next_object l.grows.objects h
 
-pub stands_now : (U : Upgrade) (K : Pledge) (w : World) (p : ℕ) (f : SourceFrame) (g : NetFrame) → FrameMatch U K w p f g → Stands U K w f g
-stands_now U K w p f g h = record { me = h.me; object = object_at w f.me h.me_made; locks = h.locks }
+pub stands_now : (U : Upgrade) (K : Pledge) (w : World) (p : ℕ) (f : SourceFrame) (g : NetFrame) → FrameMatch U K w p f g → Stands U K w p f g
+stands_now U K w p f g h = record { me = h.me; object = object_at w f.me h.me_made; own_object = h.own_object; locks = h.locks }
 
-pub stands_later : (U : Upgrade) (K : Pledge) (w0 w1 : World) (f : SourceFrame) (g : NetFrame) → Later U K w0 w1 → Stands U K w0 f g → Stands U K w1 f g
-stands_later U K w0 w1 f g l h = record {
+pub stands_later : (U : Upgrade) (K : Pledge) (w0 w1 : World) (p : ℕ) (f : SourceFrame) (g : NetFrame) → Later U K w0 w1 → Stands U K w0 p f g
+    → Stands U K w1 p f g
+stands_later U K w0 w1 p f g l h = record {
   me = h.me ∙ sym (object_later w0 w1 f.me l.extends h.object);
   object = object_stays U K w0 w1 f.me l h.object;
+  own_object = own_object_later U K w0 w1 p f.me l h.own_object;
   locks = locks_later U K w0 w1 f.env l h.locks;
 }
 
@@ -109,9 +112,9 @@ inward_foreign U q me (shared k) h = refl
 inward_foreign U q me (made n) h = refl
 inward_foreign U q me (field o k) h = ap (λ b. is_that_object (cond b None (cond (is_self_made U q) me None)) o) h
 
-pub callee_is_weaker : (U : Upgrade) (K : Pledge) (S : net_names.Scope) (T : Scope) (q : ℕ) (args : Passed) (w : World) (me : Option ℕ)
-    (xs : List SourceGiven) (ys : List NetGiven) → CanCall U K S T q args → ArgumentsMatch U K q 0 w xs ys → Weaker w K (call_pledge U q (mark w.src) me xs ys)
-callee_is_weaker U K S T q args w me xs ys c h = record {
+pub callee_is_weaker : (U : Upgrade) (K : Pledge) (S : net_names.Scope) (T : Scope) (p q : ℕ) (qualified : Bool) (of : Object) (args : Passed) (w : World)
+    (me : Option ℕ) (xs : List SourceGiven) (ys : List NetGiven) → CanCall U K S T p q qualified of args → ArgumentsMatch U K q 0 w xs ys → Weaker w K (call_pledge U q (mark w.src) me xs ys)
+callee_is_weaker U K S T p q qualified of args w me xs ys c h = record {
   keeps = c.keeps;
   steady = λ s. either_first (is_inward U q) (is_self_made U q) (c.inward s);
   old = λ r m s o. record { is_made = m; foreign = inward_foreign U q me r (c.inward s) };

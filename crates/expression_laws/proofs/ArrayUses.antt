@@ -45,9 +45,12 @@ pub record IsArrayUse (uses : Uses) (e : Expr) : Type 0 where
   pub qualified : Bool
   pub is : e ≡ typed (types.array element rank) (variable id qualified)
   pub used : uses.array id element ≡ true
+  pub named : uses.named id qualified ≡ true
 
 pub array_use : (uses : Uses) (e : Expr) → covers_array uses e ≡ true → IsArrayUse uses e
-array_use uses (typed (types.array d rank) (variable v qualified)) h = record { element = d; rank = rank; id = v; qualified = qualified; is = refl; used = h }
+array_use uses (typed (types.array d rank) (variable v qualified)) h =
+    let both = both_true (uses.array v d) (uses.named v qualified) h in
+    record { element = d; rank = rank; id = v; qualified = qualified; is = refl; used = both.0; named = both.1 }
 array_use uses (typed (types.array d rank) _) h = absurd (cc h)
 array_use uses (typed _ t) h = absurd (cc h)
 
@@ -123,7 +126,7 @@ module _ (U : Upgrade) (p : ℕ) (f : SourceFrame) (g : NetFrame) (oracle : Sour
           subst (λ t. Agrees U K w (IndexedMatch U (lows_at C a) t)
           (then (source.address_of C a w.src) (λ b s. then (source.indexes_of C indexes s) (λ zs s. gives [] (b, zs) s)))
           (target.reach S net_oracle false (exp_of T (typed t (element a indexes))) w.net)) (sym (same_of x.element ty r.covers typed_as))
-          (indexed_agrees U K p f g oracle net_oracle l k c T same_declarations x.element x.rank x.id x.qualified r w start
+          (indexed_agrees U K p f g oracle net_oracle l k c T same_declarations x.element x.rank x.id x.qualified r w start (uses.named x.id) x.named
           (λ a at. have x.id a (inr (inl (x.element, x.used))) at) indexes (length (types_of indexes)) readable.facts (leads x.id x.element x.used)
           (fits (sound_array U x.id x.element (types.array x.element x.rank) x.qualified r refl)) given))
 
@@ -140,5 +143,5 @@ module _ (U : Upgrade) (p : ℕ) (f : SourceFrame) (g : NetFrame) (oracle : Sour
       subst (λ d. Agrees U K w (ScalarMatch U ty) (source.value_of C (typed ty (library function (next_expr d rest))) w.src)
       (written (typed ty (library function (next_expr d rest))) w)) (sym x.is)
       (bounds_agree U K p f g oracle net_oracle l k c T same_declarations readable.facts opened.support x.element x.rank x.id x.qualified
-      (readable.arrays x.id x.element x.used) w start (λ a at. have x.id a (inr (inl (x.element, x.used))) at) function ty rest both.0
+      (readable.arrays x.id x.element x.used) w start (uses.named x.id) x.named (λ a at. have x.id a (inr (inl (x.element, x.used))) at) function ty rest both.0
       (long_bound function (types_of (next_expr e rest)) ty both.0 forms.0))

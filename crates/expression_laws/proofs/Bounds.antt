@@ -251,7 +251,8 @@ long_bound _ ts ty is h = absurd (true≢false (sym is))
 module _ (U : Upgrade) (K : Pledge) (p : ℕ) (f : SourceFrame) (g : NetFrame) (oracle : SourceCalls) (net_oracle : Jobs) (l : SourceLine) (k : NetLine)
     (c : Code) (T : Scope) (same_declarations : T.declarations ≡ U.program.declarations) (facts : T.facts ≡ U.facts) (free : IsUncaptured (scope_of U.written c g k))
     (element : Ty) (rank : ℕ) (v : VarId) (qualified : Bool) (r : IsArray U v.0 element) (w : World) (start : MemoryMatch U w)
-    (have : (a : Address) → variable_address U.program.declarations f v.0 ≡ Some a → HasImage U K w (scope_of U.written c g k) T v.0 a) where
+    (named : (qualified : Bool) → Bool) (is_named : named qualified ≡ true)
+    (have : (a : Address) → variable_address U.program.declarations f v.0 ≡ Some a → HasImage U K w (scope_of U.written c g k) T named v.0 a) where
   abbrev C : Context
   C = context_of U oracle p f l
 
@@ -285,11 +286,11 @@ module _ (U : Upgrade) (K : Pledge) (p : ℕ) (f : SourceFrame) (g : NetFrame) (
       (array d : ℕ) → value_of S net_oracle (exp_of T the_array) w.net ≡ gives [] (single (n.Array array)) w.net
       → value_of S net_oracle (whole d) w.net ≡ answers (bound_row side (w.net.arrays array) d (low_value (low_at T the_array d))) w.net
 
-  array_value : (a : Address) (x : HasImage U K w S T v.0 a) (q : Position) (there : ArrayThere U w (simple element) q x.address)
+  array_value : (a : Address) (x : HasImage U K w S T named v.0 a) (q : Position) (there : ArrayThere U w (simple element) q x.address)
       → value_of S net_oracle (exp_of T the_array) w.net ≡ gives [] (single (n.Array there.array)) w.net
   array_value a x q there =
       ap (λ e. value_of S net_oracle e w.net) array_exp
-      ∙ path_read S net_oracle (variable_path T qualified v.0) x.address w.net (x.found qualified)
+      ∙ path_read S net_oracle (variable_path T qualified v.0) x.address w.net (x.found qualified is_named)
       ∙ ap (λ z. gives [] z w.net) (ap (λ z. net.looked_up z w.net) there.stands ∙ ap net.held there.cell)
 
   sizes_there : (q : Position) (b : net.Address) (there : ArrayThere U w (simple element) q b) → SameCounts there.dims (w.net.arrays there.array).counts
@@ -304,7 +305,7 @@ module _ (U : Upgrade) (K : Pledge) (p : ℕ) (f : SourceFrame) (g : NetFrame) (
       subst (λ z. Agrees U K w (TermMatch U long) (then z (asks side rest)) (value_of S net_oracle (whole (dimension rest)) w.net)) (sym array_source)
       (by (variable_address D f v.0) refl)
     where
-      at : (a : Address) → HasImage U K w S T v.0 a → (o : Option ℕ) → dimension_in rest ≡ o
+      at : (a : Address) → HasImage U K w S T named v.0 a → (o : Option ℕ) → dimension_in rest ≡ o
           → Agrees U K w (TermMatch U long) (some_of o (λ d w. then (array_bound (lows_at C the_array) side d a w) source.value_parts) w.src)
           (value_of S net_oracle (whole (dimension rest)) w.net)
       at a x None e = agrees_outside U K w (TermMatch U long) (value_of S net_oracle (whole (dimension rest)) w.net)

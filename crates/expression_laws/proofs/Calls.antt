@@ -1,58 +1,71 @@
 -- Calls: how both sides come to their arguments, to the callee, and to what it gives.
-use Rattle.std.proofs.Common.{◌≡◌, refl, sym, ap, subst, ◌∙◌, ℕ, suc, Bool, true, false, cond, not, ◌&&◌, Option, Some, None, List, [], ◌∷◌}
+use Rattle.std.proofs.Common.{◌≡◌, refl, sym, ap, subst, ◌∙◌, ℕ, suc, Bool, true, false, cond, ◌&&◌, ◌<◌, Option, Some, None, option_map, List, [], ◌∷◌, eqb-true, ltb-true}
+use Rattle.std.specs.Prelude.{nat_eq, nat_lt}
 use Rattle.vb_tree.specs.BoundTree as types
 use Rattle.vb_tree.specs.BoundTree.{Ty}
 use Rattle.vb_tree.specs.declared.declared.ProcId.{ProcId}
-use Rattle.bound_tree.specs.Tree.{Expr, typed, call, no_object, Passed}
+use Rattle.vb_tree.specs.declared.value.Value6.{Value6}
+use Rattle.bound_tree.specs.Tree.{Expr, typed, Term, call, Object, no_object, of_object, Passed}
 use Rattle.bound_tree.specs.Tree as tree
 use Rattle.bound_facts.specs.Node.{type_at}
 use Rattle.net_tree.specs.declared.declaration.NetPassing.{NetPassing}
 use Rattle.net_tree.specs.declared.declaration.NetPassing.TheVariants as passing
-use Rattle.net_tree.specs.Tree.{Exp, Exps, call_of, path}
+use Rattle.net_tree.specs.Tree.{Exp, call_of}
+use Rattle.net_meaning.specs.declared.value.ValueN.{ValueN}
+use Rattle.net_meaning.specs.ValueMatch.{Matches, no_object_of, objects_of}
 use Rattle.run_base.specs.Frames.{by_address, by_value}
-use Rattle.run_matches.specs.Addresses.{IsPlain, IsTarget, Same, GivesWhole, SuitsParameter}
+use Rattle.run_matches.specs.Addresses.{AllLocked, IsPlain, IsTarget, Same, GivesWhole, SuitsParameter}
 use Rattle.run_base.specs.Machines.{enters}
 use Rattle.run_base.specs.Outcomes.{Outcome, gives, after, then}
 use Rattle.vb6_run.specs.Expressions as source
-use Rattle.vb6_run.specs.Expressions.{Context, Parts, declared, result_parts, type_shape}
+use Rattle.vb6_run.specs.Expressions.{Context, Parts, declared, receiver, result_parts, type_shape}
 use Rattle.vb6_run.specs.Forms.{SourceLine}
+use Rattle.vb6_run.specs.Objects.{is_class}
 use Rattle.vb6_run.specs.Store.{Memory, SourceCalls, SourceFrame, SourceGiven, provided, Address}
-use Rattle.vb6_run.specs.Values.{Value, is_of_shape}
-use Rattle.net_run.specs.Calls.{Arguments, passings_at, result_address, result_shape_of}
+use Rattle.vb6_run.specs.Values.{Value, is_of_shape, scalar}
+use Rattle.net_run.specs.Calls as net_calls
+use Rattle.net_run.specs.Calls.{Arguments, passings_at, procedure_does, result_address, result_shape_of}
 use Rattle.net_run.specs.Expressions as target
 use Rattle.net_run.specs.Lines.{NetFrame, NetLine, scope_of}
 use Rattle.net_run.specs.Making.{Jobs}
 use Rattle.net_run.specs.Members.{Code, code_at}
 use Rattle.net_run.specs.Names as net_names
-use Rattle.net_run.specs.Names.{Scope, called, named, path_start, starts, to_procedure}
+use Rattle.net_run.specs.Names.{Scope}
 use Rattle.net_run.specs.Shapes as shape
 use Rattle.net_run.specs.Store as net
 use Rattle.net_run.specs.Values as net_value
-use Rattle.written_trees.specs.Arguments.{argument_exp, copy_by, is_property, needs_copy, temporary_exp, value_exp}
-use Rattle.written_trees.specs.Exprs.{exp_of, has_none, passed_of, reads_itself}
-use Rattle.written_trees.specs.Exprs as written
+use Rattle.written_trees.specs.Arguments.{argument_exp, copy_by, needs_copy, temporary_exp, value_exp}
+use Rattle.written_trees.specs.Exprs.{callee_of, exp_of, passed_of}
 use Rattle.written_trees.specs.Facts.{Facts, holds_array}
 use Rattle.written_trees.specs.Names as written_names
-use Rattle.written_trees.specs.Names.{procedure_path}
+use Rattle.written_trees.specs.Names.{procedure_name, procedure_path}
 use Rattle.run_matches.specs.Agreeing.{Agrees, ResultMatch}
 use Rattle.run_matches.specs.CoveredVariables.{covers_type}
+use Rattle.run_matches.specs.Frames.{HasOwnObject}
+use Rattle.run_matches.specs.Likeness.{LikeV, are_same, like_scalar}
 use Rattle.run_matches.specs.Maps.{World, mark}
 use Rattle.run_matches.specs.Match.{MemoryMatch}
-use Rattle.run_matches.specs.Pledges.{NetGiven, Pledge}
-use Rattle.run_matches.specs.Runs.{CallsAgree, call_pledge}
+use Rattle.run_matches.specs.Pledges.{Later, NetGiven, Pledge}
+use Rattle.run_matches.specs.Runs.{CallsAgree, IsObject, call_pledge}
 use Rattle.run_matches.specs.Upgrades.{Upgrade}
 use Rattle.run_statements.specs.Frames.{CanCall, ScalarMatch, context_of}
 use Rattle.run_statements.specs.Written.{Passes}
-use Rattle.row_laws.proofs.Composing.{after_nil, then_assoc, then_gives}
+use Rattle.row_laws.proofs.Composing.{then_assoc}
 use Rattle.agreeing_laws.specs.Promises.{Weaker}
-use Rattle.agreeing_laws.proofs.Agreeing.{agrees_gives, agrees_outside, agrees_promised, left_alone, right_alone, then_agrees}
+use Rattle.agreeing_laws.proofs.Agreeing.{agrees_gives, agrees_outside, agrees_promised, agrees_raises, left_alone, right_alone, then_agrees}
 use Rattle.agreeing_laws.proofs.Made.{below_self}
-use Rattle.agreeing_laws.proofs.OwnObjects.{no_own_object}
+use Rattle.agreeing_laws.proofs.Lasting.{later_now}
+use Rattle.agreeing_laws.proofs.Members.{member_reached}
 use Rattle.agreeing_laws.proofs.Moves.{address_later, locks_promised}
+use Rattle.agreeing_laws.proofs.Scalars.{scalar_later}
 use Rattle.expression_laws.specs.Calls.{ArgumentsMatch, GivenMatch, Stands, next_address}
 use Rattle.expression_laws.proofs.Arguments.{arguments_ok, callee_is_weaker, stands_later}
+use Rattle.expression_laws.proofs.Callees.{back, call_address, enters_with, member_address, named_does, object_parts, takes}
 use Rattle.expression_laws.proofs.LastingImages.{plain_later}
 use Rattle.expression_laws.proofs.Checks.{value_checked}
+use Rattle.expression_laws.proofs.Objects.{ObjectMatch, no_value, reached}
+use Rattle.expression_laws.proofs.Receivers.{ReceiverIs, caller_received, class_is, for_none, for_object, object_received}
+use Rattle.expression_laws.proofs.Types.{both_true}
 
 -- ---- what is written for an argument
 
@@ -67,42 +80,7 @@ argument_is T referred e h uncopied =
     ap (λ b. cond b (temporary_exp T e (exp_of T e)) (value_exp T.facts e (exp_of T e))) h
     ∙ ap (λ b. cond b (copy_by (type_at e) (exp_of T e)) (exp_of T e)) uncopied
 
--- a procedure that is no part of a property is called
-pub callee_is : (T : written_names.Scope) (ty : Ty) (q : ProcId) (qualified : Bool) (args : Passed) → is_property T.declarations q.0 ≡ false
-    → exp_of T (typed ty (call q qualified no_object args)) ≡ call_of (path (procedure_path T qualified q.0)) (passed_of T q.0 0 args)
-callee_is T ty q qualified args h =
-    ap (λ b. written.called (b && (has_none args && not (reads_itself T q.0 qualified no_object))) (path (procedure_path T qualified q.0)) (passed_of T q.0 0 args)) h
-
 -- ---- what the target does
-
--- what is called by its name is called with its arguments
-abbrev call_does : Scope → Jobs → (number : ℕ) → Arguments → net.Memory → Outcome net.Memory net.Address
-call_does S oracle n gs w =
-    then (oracle (enters n S.me tt gs) w) (λ r w. gives [] (result_address (result_shape_of S.project (code_at S.project n)) r) w)
-
-abbrev at_parts : net.Address → net.Memory → Outcome net.Memory net_names.Parts
-at_parts a w = gives [] (net_names.at_address a) w
-
--- an address that goes through the parts of an expression
-through_parts : (r : Outcome net.Memory net.Address) → then (then r at_parts) target.finished ≡ r
-through_parts r = then_assoc r at_parts target.finished ∙ then_gives r
-
-call_address : (S : Scope) (oracle : Jobs) (names : List (List ℕ)) (n : ℕ) (args : Exps) → path_start S true names ≡ starts (named (to_procedure None n)) []
-    → (w : net.Memory)
-    → target.address_of S oracle (call_of (path names) args) w
-    ≡ then (target.args_of S oracle (passings_at S.project (Some n)) args w) (λ gs w. call_does S oracle n gs w)
-call_address S oracle names n args h w =
-    let values = λ (w : net.Memory). target.values_of S oracle args w in
-    let modes = λ (m : List NetPassing) (w : net.Memory). target.args_of S oracle m args w in
-    let A = target.args_of S oracle (passings_at S.project (Some n)) args w in
-    let take = λ (gs : Arguments) (w : net.Memory). gives [] (called (to_procedure None n) gs) w in
-    let reached = then A take in
-    ap (λ s. target.address_from S oracle (then (target.started S oracle s w) (target.applied S oracle modes values))) h
-    ∙ ap (λ r. target.address_from S oracle r) (after_nil reached)
-    ∙ then_assoc reached (target.parts_by S oracle) target.finished
-    ∙ then_assoc A take (λ r w. then (target.parts_by S oracle r w) target.finished)
-    ∙ ap (λ k. then A k) (λ i gs w. after_nil (then (then (call_does S oracle n gs w) at_parts) target.finished) i)
-    ∙ ap (λ k. then A k) (λ i gs w. through_parts (call_does S oracle n gs w) i)
 
 -- the target takes a value where the callee does
 pub given_is : (S : Scope) (oracle : Jobs) (mode : NetPassing) (e : Exp) (w : net.Memory) → mode ≡ passing.Value
@@ -139,52 +117,115 @@ module _ (U : Upgrade) (K : Pledge) (p : ℕ) (f : SourceFrame) (g : NetFrame) (
   abbrev S : Scope
   S = scope_of U.written c g k
 
-  abbrev back : Option Value → Memory → Outcome Memory Parts
-  back x w = gives [] (result_parts x) w
-
-  -- a call with values that match
-  entered_agrees : (q : ℕ) (args : Passed) (can : CanCall U K S T q args) (w : World) (xs : List SourceGiven) (ys : List NetGiven) → Stands U K w f g → MemoryMatch U w
-      → ArgumentsMatch U K q 0 w xs ys
-      → Agrees U K w (GivenMatch U) (then (oracle (enters q f.me f.env xs) w.src) back) (call_does S net_oracle can.number ys w.net)
-  entered_agrees q args can w xs ys stands start h =
-      let L : Pledge = call_pledge U q (mark w.src) f.me xs ys in
-      let weaker : Weaker w K L = callee_is_weaker U K S T q args w f.me xs ys can h in
+  -- a call with values that match, for the object of the frame that is entered
+  entered_agrees : (q : ℕ) (qualified : Bool) (of : Object) (args : Passed) (can : CanCall U K S T p q qualified of args) (w : World) (me me' : Option ℕ)
+      (xs : List SourceGiven) (ys : List NetGiven) → me' ≡ option_map w.map.objects me → IsObject w me → HasOwnObject U w q me
+      → AllLocked U K w f.env → MemoryMatch U w → ArgumentsMatch U K q 0 w xs ys
+      → Agrees U K w (GivenMatch U) (then (oracle (enters q me f.env xs) w.src) back) (net_calls.entered S net_oracle can.number me' ys w.net)
+  entered_agrees q qualified of args can w me me' xs ys same object own locks start h =
+      let L : Pledge = call_pledge U q (mark w.src) me xs ys in
+      let weaker : Weaker w K L = callee_is_weaker U K S T p q qualified of args w me xs ys can h in
       let shaped = result_shape_of U.written (code_at U.written can.number) in
-      then_agrees U K w (ResultMatch U) (GivenMatch U) (oracle (enters q f.me f.env xs) w.src) (net_oracle (enters can.number g.me tt ys) w.net) back
+      then_agrees U K w (ResultMatch U) (GivenMatch U) (oracle (enters q me f.env xs) w.src) (net_oracle (enters can.number me' tt ys) w.net) back
       (λ r w. gives [] (result_address shaped r) w) start
-      (agrees_promised U K L w (ResultMatch U) (oracle (enters q f.me f.env xs) w.src) (net_oracle (enters can.number g.me tt ys) w.net) start weaker
-      (subst (λ m. Agrees U L w (ResultMatch U) (oracle (enters q f.me f.env xs) w.src) (net_oracle (enters can.number m tt ys) w.net)) (sym stands.me)
-      (agree q can.number f.me (mark w.src) f.env xs ys w can.passes can.is_number (below_self (mark w.src)) stands.object
-      (no_own_object U w q f.me can.standard)
-      (locks_promised U K L w w f.env weaker stands.locks) (arguments_ok U K L w q xs ys weaker h) start)))
+      (agrees_promised U K L w (ResultMatch U) (oracle (enters q me f.env xs) w.src) (net_oracle (enters can.number me' tt ys) w.net) start weaker
+      (subst (λ m. Agrees U L w (ResultMatch U) (oracle (enters q me f.env xs) w.src) (net_oracle (enters can.number m tt ys) w.net)) (sym same)
+      (agree q can.number me (mark w.src) f.env xs ys w can.passes can.is_number (below_self (mark w.src)) object own
+      (locks_promised U K L w w f.env weaker locks) (arguments_ok U K L w q xs ys weaker h) start)))
       (λ x r v m later. agrees_gives U K v (GivenMatch U) (result_parts x) (result_address shaped r) later.match
       (record { given = x; net_given = r; shape = shaped; is_given = refl; is_net_given = refl; match = m }))
 
-  -- a call whose arguments agree
-  pub call_agrees : (ty : Ty) (q : ProcId) (qualified : Bool) (args : Passed) (can : CanCall U K S T q.0 args) (w : World) → Stands U K w f g → MemoryMatch U w
-      → Agrees U K w (ArgumentsMatch U K q.0 0) (source.args_of C q.0 0 args w.src)
-      (target.args_of S net_oracle (passings_at U.written (Some can.number)) (passed_of T q.0 0 args) w.net)
-      → Agrees U K w (GivenMatch U) (source.term_parts C ty (call q qualified no_object args) w.src)
-      (target.address_of S net_oracle (call_of (path (procedure_path T qualified q.0)) (passed_of T q.0 0 args)) w.net)
-  call_agrees ty q qualified args can w stands start given =
-      let r = source.args_of C q.0 0 args w.src in
-      let r' = target.args_of S net_oracle (passings_at U.written (Some can.number)) (passed_of T q.0 0 args) w.net in
-      let go = λ (gs : List SourceGiven) (w : Memory). then (oracle (enters q.0 f.me f.env gs) w) back in
-      let go' = λ (gs : Arguments) (w : net.Memory). call_does S net_oracle can.number gs w in
-      subst (λ z. Agrees U K w (GivenMatch U) (after [] (then r go)) z)
-      (sym (call_address S net_oracle (procedure_path T qualified q.0) can.number (passed_of T q.0 0 args) (can.found qualified) w.net))
-      (left_alone U K w (GivenMatch U) (then r go) (then r' go')
-      (then_agrees U K w (ArgumentsMatch U K q.0 0) (GivenMatch U) r r' go go' start given
-      (λ xs ys v m later. entered_agrees q.0 args can v xs ys (stands_later U K w v f g later stands) later.match m)))
+  -- the object of a call is looked at behind the arguments: it is one of the class, or both raise 91
+  module _ (q : ℕ) (qualified : Bool) (d : ℕ) (t : Term) (args : Passed)
+      (can : CanCall U K (scope_of U.written c g k) T p q qualified (of_object (typed (types.class d) t)) args) (w : World) (xs : List SourceGiven)
+      (ys : List NetGiven) (locks : AllLocked U K w f.env) (start : MemoryMatch U w) (h : ArgumentsMatch U K q 0 w xs ys) where
+    class_entered : (o j : ℕ) → o < w.src.next_object → w.map.objects o ≡ j → (b : Bool) → is_class d (w.src.class_of o) ≡ b
+        → Agrees U K w (GivenMatch U) (then (provided b (λ s. oracle (enters q (Some o) f.env xs) s) w.src) back)
+        (net_calls.entered S net_oracle can.number (Some j) ys w.net)
+    class_entered o j is_made goes true e =
+        entered_agrees q qualified (of_object (typed (types.class d) t)) args can w (Some o) (Some j) xs ys (ap (λ n. Some n) (sym goes)) is_made
+        (object_received U w p q d t o can.receives is_made (class_is d (w.src.class_of o) e)) locks start h
+    class_entered o j is_made goes false e = agrees_outside U K w (GivenMatch U) (net_calls.entered S net_oracle can.number (Some j) ys w.net)
+
+    scalar_entered : (x : Value6) (y : ValueN) → Matches (are_same w) (types.class d) x y
+        → Agrees U K w (GivenMatch U) (then (source.entered C q (receiver (Some d) (scalar (types.class d) x)) xs w.src) back)
+        (procedure_does S net_oracle (Some (net_value.single y)) can.number ys w.net)
+    scalar_entered _ _ (no_object_of _) = agrees_raises U K w (GivenMatch U) 91 start
+    scalar_entered _ _ (objects_of _ o j e) =
+        let both = both_true (nat_lt o w.src.next_object) (nat_eq (w.map.objects o) j) e in
+        class_entered o j (ltb-true o w.src.next_object both.0) (eqb-true (w.map.objects o) j both.1) (is_class d (w.src.class_of o)) refl
+
+    object_entered : (x : Value6) (y : net_value.Value) → LikeV U w (scalar (types.class d) x) y
+        → Agrees U K w (GivenMatch U) (then (source.entered C q (receiver (Some d) (scalar (types.class d) x)) xs w.src) back)
+        (procedure_does S net_oracle (Some y) can.number ys w.net)
+    object_entered _ _ (like_scalar _ x y m) = scalar_entered x y m
+
+  module _ (ty : Ty) (q : ProcId) (qualified : Bool) (args : Passed) where
+    abbrev Takes : (number : ℕ) → World → Type 0
+    Takes n v =
+        Agrees U K v (ArgumentsMatch U K q.0 0) (source.args_of (context_of U oracle p f l) q.0 0 args v.src)
+        (target.args_of (scope_of U.written c g k) net_oracle (passings_at U.written (Some n)) (passed_of T q.0 0 args) v.net)
+
+    -- a call whose arguments agree where they are evaluated
+    pub call_agrees : (of : Object) (can : CanCall U K S T p q.0 qualified of args) (w : World) → ReceiverIs U K C S net_oracle T w of
+        → Stands U K w p f g → MemoryMatch U w → ((v : World) → Later U K w v → Takes can.number v)
+        → Agrees U K w (GivenMatch U) (source.term_parts C ty (call q qualified of args) w.src)
+        (target.address_of S net_oracle (call_of (callee_of T q.0 qualified of) (passed_of T q.0 0 args)) w.net)
+    call_agrees _ can w for_none stands start given =
+        let r = source.args_of C q.0 0 args w.src in
+        let r' = target.args_of S net_oracle (passings_at U.written (Some can.number)) (passed_of T q.0 0 args) w.net in
+        let go = λ (gs : List SourceGiven) (w : Memory). then (oracle (enters q.0 f.me f.env gs) w) back in
+        let go' = λ (gs : Arguments) (w : net.Memory). procedure_does S net_oracle None can.number gs w in
+        subst (λ z. Agrees U K w (GivenMatch U) (after [] (then r go)) z)
+        (sym (call_address S net_oracle (passed_of T q.0 0 args) (procedure_path T qualified q.0) can.number can.found w.net))
+        (left_alone U K w (GivenMatch U) (then r go) (then r' go')
+        (then_agrees U K w (ArgumentsMatch U K q.0 0) (GivenMatch U) r r' go go' start (given w (later_now U K w start))
+        (λ xs ys v m later.
+        let now : Stands U K v p f g = stands_later U K w v p f g later stands in
+        entered_agrees q.0 qualified no_object args can v f.me g.me xs ys now.me now.object (caller_received U v p q.0 f.me can.receives now.own_object)
+        now.locks later.match m)))
+    call_agrees _ can w (for_object d t (no_value none)) stands start given =
+        let r' = target.address_of S net_oracle (call_of (callee_of T q.0 qualified (of_object (typed (types.class d) t))) (passed_of T q.0 0 args)) w.net in
+        subst (λ z. Agrees U K w (GivenMatch U) z r')
+        (sym (object_parts C ty q qualified (typed (types.class d) t) args w.src
+        ∙ ap (λ z. then z (λ x s. enters_with C q.0 args (receiver (Some d) x) s)) none))
+        (agrees_outside U K w (GivenMatch U) r')
+    call_agrees _ can w (for_object d t (reached r leads before agrees)) stands start given =
+        let e : Expr = typed (types.class d) t in
+        let name = procedure_name T.declarations q.0 in
+        let G = GivenMatch U in
+        let take = takes S net_oracle (passed_of T q.0 0 args) in
+        let r' = λ (v : World). target.args_of S net_oracle (passings_at U.written (Some can.number)) (passed_of T q.0 0 args) v.net in
+        subst (λ z. Agrees U K w G z (target.address_of S net_oracle (call_of (callee_of T q.0 qualified (of_object e)) (passed_of T q.0 0 args)) w.net))
+        (sym (object_parts C ty q qualified e args w.src))
+        (subst (λ z. Agrees U K w G (then (source.value_of C e w.src) (λ x s. enters_with C q.0 args (receiver (Some d) x) s)) z)
+        (sym (member_address S net_oracle (passed_of T q.0 0 args) (callee_of T q.0 qualified (of_object e)) r name w.net
+        (before name w.net ∙ member_reached S net_oracle T e r leads name w.net)))
+        (then_agrees U K w (ObjectMatch U d) G (source.value_of C e w.src) (target.address_from S net_oracle (r w.net))
+        (λ x s. enters_with C q.0 args (receiver (Some d) x) s) (λ a s. take (net_names.member_at S a name s) s) start agrees
+        (λ x a v o later.
+        let y : net_value.Value = net.looked_up a v.net in
+        let does = λ (gs : Arguments) (s : net.Memory). procedure_does S net_oracle (Some y) can.number gs s in
+        subst (λ z. Agrees U K v G (enters_with C q.0 args (receiver (Some d) x) v.src) z)
+        (sym (ap (λ b. take (net_names.member_by S a b name v.net) v.net) o.shaped ∙ ap (λ z. take z v.net) (can.found d o.home y refl o.is_home)
+        ∙ named_does S net_oracle (passed_of T q.0 0 args) (Some y) can.number v.net))
+        (subst (λ z. Agrees U K v G (enters_with C q.0 args (receiver (Some d) z) v.src) (then (r' v) does)) (sym o.like.1)
+        (then_agrees U K v (ArgumentsMatch U K q.0 0) G (source.args_of C q.0 0 args v.src) (r' v)
+        (λ gs s. then (source.entered C q.0 (receiver (Some d) (scalar (types.class d) o.like.0)) gs s) back) does later.match (given v later)
+        (λ xs ys u m behind.
+        let then_now : Stands U K v p f g = stands_later U K w v p f g later stands in
+        let now : Stands U K u p f g = stands_later U K v u p f g behind then_now in
+        object_entered q.0 qualified d t args can u xs ys now.locks behind.match m o.like.0 y
+        (scalar_later U K v u (types.class d) o.like.0 y behind o.like.2)))))))
 
   -- ---- what it gives, as a value
 
-  module _ (ty : Ty) (q : ProcId) (qualified : Bool) (args : Passed) (covers : covers_type ty ≡ true) where
+  module _ (ty : Ty) (q : ProcId) (qualified : Bool) (of : Object) (args : Passed) (covers : covers_type ty ≡ true) where
     abbrev e : Expr
-    e = typed ty (call q qualified no_object args)
+    e = typed ty (call q qualified of args)
 
     abbrev behind : Parts → Memory → Outcome Memory Value
-    behind x v = then (source.as_new C (call q qualified no_object args) x v) (source.value_in C e)
+    behind x v = then (source.as_new C (call q qualified of args) x v) (source.value_in C e)
 
     result_agrees : (v : World) (o : Option Value) (o' : Option net_value.Value) (s : shape.Shape) → MemoryMatch U v → ResultMatch U v o o'
         → Agrees U K v (ScalarMatch U ty) (behind (result_parts o) v.src) (target.read (result_address s o') v.net)
@@ -198,12 +239,12 @@ module _ (U : Upgrade) (K : Pledge) (p : ℕ) (f : SourceFrame) (g : NetFrame) (
 
     -- a call that gives what matches gives a value that does
     pub call_value_agrees : (w : World) (r' : Outcome net.Memory net.Address) → MemoryMatch U w
-        → Agrees U K w (GivenMatch U) (source.term_parts C ty (call q qualified no_object args) w.src) r'
+        → Agrees U K w (GivenMatch U) (source.term_parts C ty (call q qualified of args) w.src) r'
         → Agrees U K w (ScalarMatch U ty) (source.value_of C e w.src) (then r' target.read)
     call_value_agrees w r' start h =
-        let r = source.term_parts C ty (call q qualified no_object args) w.src in
+        let r = source.term_parts C ty (call q qualified of args) w.src in
         subst (λ z. Agrees U K w (ScalarMatch U ty) z (then r' target.read))
-        (sym (then_assoc r (source.as_new C (call q qualified no_object args)) (source.value_in C e)))
+        (sym (then_assoc r (source.as_new C (call q qualified of args)) (source.value_in C e)))
         (then_agrees U K w (GivenMatch U) (ScalarMatch U ty) r r' behind target.read start h
         (λ x a v m later.
         subst (λ z. Agrees U K v (ScalarMatch U ty) (behind z v.src) (target.read a v.net)) (sym m.is_given)

@@ -1,11 +1,11 @@
 -- Calls while the arrays of the elements that they are given are kept.
 use Rattle.vb_tree.specs.declared.declared.ProcId.{ProcId}
 use Rattle.run_matches.specs.Keeping.{given_types}
-use Rattle.expression_laws.proofs.Giving.{can_giving, giving, giving_more, stands_giving}
-use Rattle.std.proofs.Common.{◌≡◌, ◌∙◌, ap, ℕ, ◌+◌, Bool, Some}
+use Rattle.expression_laws.proofs.Giving.{called_giving_for, can_giving, giving, giving_more, stands_giving}
+use Rattle.std.proofs.Common.{◌≡◌, ◌∙◌, ap, ℕ, ◌+◌, Bool, true, Some}
 use Rattle.vb_tree.specs.BoundTree.{Ty}
-use Rattle.bound_tree.specs.Tree.{Expr, call, no_object, Passed}
-use Rattle.net_tree.specs.Tree.{call_of, path}
+use Rattle.bound_tree.specs.Tree.{Expr, typed, call, Object, Passed}
+use Rattle.net_tree.specs.Tree.{call_of}
 use Rattle.run_base.specs.Outcomes.{Outcome}
 use Rattle.vb6_run.specs.Expressions as source
 use Rattle.vb6_run.specs.Expressions.{Context}
@@ -20,20 +20,24 @@ use Rattle.net_run.specs.Names as net_names
 use Rattle.net_run.specs.Store as net
 use Rattle.net_run.specs.Values as net_value
 use Rattle.written_trees.specs.Arguments.{takes_reference}
-use Rattle.written_trees.specs.Exprs.{exp_of, passed_of}
-use Rattle.written_trees.specs.Names.{Scope, procedure_path}
+use Rattle.written_trees.specs.Exprs.{callee_of, exp_of, passed_of}
+use Rattle.written_trees.specs.Names.{Scope}
 use Rattle.run_matches.specs.Agreeing.{Agrees}
+use Rattle.run_matches.specs.CoveredExprs.{Uses, covers_receiver}
 use Rattle.run_matches.specs.Maps.{World}
 use Rattle.run_matches.specs.Match.{MemoryMatch}
-use Rattle.run_matches.specs.Pledges.{Pledge}
+use Rattle.run_matches.specs.Pledges.{Later, Pledge}
 use Rattle.run_matches.specs.Upgrades.{Upgrade}
 use Rattle.run_matches.specs.Runs.{CallsAgree}
-use Rattle.run_statements.specs.Frames.{CanCall, Demands, demands, context_of, passing_at, passing_by}
+use Rattle.run_statements.specs.Frames.{AllCalled, AllCalledFor, AreReadable, CanCall, Demands, demands, context_of, passing_at, passing_by}
 use Rattle.run_statements.specs.Written.{Passes}
 use Rattle.agreeing_laws.proofs.Agreeing.{agrees_promised}
 use Rattle.expression_laws.specs.Calls.{ArgumentsMatch, GivenMatch, Stands}
+use Rattle.expression_laws.proofs.Arguments.{stands_later}
 use Rattle.expression_laws.proofs.Calls.{call_agrees}
+use Rattle.expression_laws.proofs.Receivers.{ReceiverIs, receiver_is}
 use Rattle.expression_laws.proofs.References.{first}
+use Rattle.expression_laws.proofs.Withs.{HavePlaces, places_giving, places_later}
 
 module _ (U : Upgrade) (p : ℕ) (f : SourceFrame) (g : NetFrame) (oracle : SourceCalls) (net_oracle : Jobs)
     (l : SourceLine) (k : NetLine) (c : Code) (T : Scope) (agree : CallsAgree U (Passes U) oracle net_oracle) where
@@ -46,13 +50,13 @@ module _ (U : Upgrade) (p : ℕ) (f : SourceFrame) (g : NetFrame) (oracle : Sour
   abbrev written : Expr → World → Outcome net.Memory net_value.Value
   written e w = target.value_of S net_oracle (exp_of T e) w.net
 
-  abbrev Can : Pledge → ℕ → Passed → Type 0
-  Can K q called_with = CanCall U K (scope_of U.written c g k) T q called_with
+  abbrev Can : Pledge → ℕ → (qualified : Bool) → Object → Passed → Type 0
+  Can K q qualified of called_with = CanCall U K (scope_of U.written c g k) T p q qualified of called_with
 
   abbrev Asked : Pledge → Demands
   Asked K = demands U K p l k (scope_of U.written c g k) T
 
-  pub from_first : (K : Pledge) {q : ℕ} {called_with : Passed} (can : Can K q called_with) (n : ℕ)
+  pub from_first : (K : Pledge) {q : ℕ} {qualified : Bool} {of : Object} {called_with : Passed} (can : Can K q qualified of called_with) (n : ℕ)
       → passing_at (passings_at U.written (Some can.number)) n ≡ passing_by (takes_reference U.program.declarations q (0 + n))
   from_first K {q} can n = can.passings n ∙ ap (λ m. passing_by (takes_reference U.program.declarations q m)) (first n)
 
@@ -60,15 +64,42 @@ module _ (U : Upgrade) (p : ℕ) (f : SourceFrame) (g : NetFrame) (oracle : Sour
   abbrev kept_with : Pledge → Passed → Pledge
   kept_with K args = giving K (given_types args)
 
-  pub call_made : (K : Pledge) (ty : Ty) (q : ProcId) (qualified : Bool) (args : Passed) (w : World) → MemoryMatch U w → Stands U K w f g
-      → (can : Can K q.0 args)
-      → Agrees U (kept_with K args) w (ArgumentsMatch U (kept_with K args) q.0 0) (source.args_of C q.0 0 args w.src)
-      (target.args_of S net_oracle (passings_at U.written (Some can.number)) (passed_of T q.0 0 args) w.net)
-      → Agrees U K w (GivenMatch U) (source.term_parts C ty (call q qualified no_object args) w.src)
-      (target.address_of S net_oracle (call_of (path (procedure_path T qualified q.0)) (passed_of T q.0 0 args)) w.net)
-  call_made K ty q qualified args w start stands can given =
+  -- the arguments agree, where they are evaluated
+  abbrev pub ArgumentsAgree : Pledge → (q : ProcId) → Passed → (number : ℕ) → World → Type 0
+  ArgumentsAgree K q args n v =
+      Agrees U (giving K (given_types args)) v (ArgumentsMatch U (giving K (given_types args)) q.0 0)
+      (source.args_of (context_of U oracle p f l) q.0 0 args v.src)
+      (target.args_of (scope_of U.written c g k) net_oracle (passings_at U.written (Some n)) (passed_of T q.0 0 args) v.net)
+
+  pub call_made : (K : Pledge) (ty : Ty) (q : ProcId) (qualified : Bool) (of : Object) (args : Passed) (w : World) → MemoryMatch U w → Stands U K w p f g
+      → (can : Can K q.0 qualified of args) → ReceiverIs U (kept_with K args) C S net_oracle T w of
+      → ((v : World) → Later U (kept_with K args) w v → ArgumentsAgree K q args can.number v)
+      → Agrees U K w (GivenMatch U) (source.term_parts C ty (call q qualified of args) w.src)
+      (target.address_of S net_oracle (call_of (callee_of T q.0 qualified of) (passed_of T q.0 0 args)) w.net)
+  call_made K ty q qualified of args w start stands can is given =
       let ts = given_types args in
-      agrees_promised U K (giving K ts) w (GivenMatch U) (source.term_parts C ty (call q qualified no_object args) w.src)
-      (target.address_of S net_oracle (call_of (path (procedure_path T qualified q.0)) (passed_of T q.0 0 args)) w.net) start (giving_more K ts w)
-      (call_agrees U (giving K ts) p f g oracle net_oracle l k c T agree ty q qualified args (can_giving U K S T ts q.0 args can.given can) w
-      (stands_giving U K ts w start f g stands) start given)
+      agrees_promised U K (giving K ts) w (GivenMatch U) (source.term_parts C ty (call q qualified of args) w.src)
+      (target.address_of S net_oracle (call_of (callee_of T q.0 qualified of) (passed_of T q.0 0 args)) w.net) start (giving_more K ts w)
+      (call_agrees U (giving K ts) p f g oracle net_oracle l k c T agree ty q qualified args of
+      (can_giving U K S T ts p q.0 qualified of args can.given can) w is (stands_giving U K ts w start p f g stands) start given)
+
+  -- so it is where its uses are placed
+  module _ (uses : Uses) (same_declarations : T.declarations ≡ U.program.declarations) (readable : AreReadable U T uses) where
+    abbrev Have : Pledge → World → Type 0
+    Have K w = HavePlaces U p f g oracle net_oracle l k c T uses K w
+
+    pub call_placed : (K : Pledge) (ty : Ty) (q : ProcId) (qualified : Bool) (of : Object) (args : Passed) (w : World) → MemoryMatch U w → Have K w
+        → Stands U K w p f g → (can : AllCalled (Asked K) (typed ty (call q qualified of args))) → covers_receiver uses of ≡ true
+        → ((v : World) → MemoryMatch U v → Have (kept_with K args) v → Stands U (kept_with K args) v p f g
+        → AllCalledFor (Asked (kept_with K args)) args → ArgumentsAgree K q args can.0.number v)
+        → Agrees U K w (GivenMatch U) (source.term_parts C ty (call q qualified of args) w.src)
+        (target.address_of S net_oracle (call_of (callee_of T q.0 qualified of) (passed_of T q.0 0 args)) w.net)
+    call_placed K ty q qualified of args w start have stands can covers given =
+        let ts = given_types args in
+        let M : Pledge = giving K ts in
+        let there : Have M w = places_giving U p f g oracle net_oracle l k c T uses K ts w start have in
+        call_made K ty q qualified of args w start stands can.0
+        (receiver_is U M p f g oracle net_oracle l k c T uses same_declarations readable w start there of covers)
+        (λ v later.
+        given v later.match (places_later U p f g oracle net_oracle l k c T uses M w v start later there)
+        (stands_later U M w v p f g later (stands_giving U K ts w start p f g stands)) (called_giving_for U K S T ts p l k args can.0.inside can.1))

@@ -222,8 +222,8 @@ element_reached S oracle e names args b w is start =
 
 module _ (U : Upgrade) (K : Pledge) (p : ℕ) (f : SourceFrame) (g : NetFrame) (oracle : SourceCalls) (net_oracle : Jobs) (l : SourceLine) (k : NetLine)
     (c : Code) (T : Scope) (same_declarations : T.declarations ≡ U.program.declarations) (ty : Ty) (rank : ℕ) (v : VarId) (qualified : Bool)
-    (r : IsArray U v.0 ty) (w : World) (start : MemoryMatch U w)
-    (have : (a : Address) → variable_address U.program.declarations f v.0 ≡ Some a → HasImage U K w (scope_of U.written c g k) T v.0 a) where
+    (r : IsArray U v.0 ty) (w : World) (start : MemoryMatch U w) (named : (qualified : Bool) → Bool) (is_named : named qualified ≡ true)
+    (have : (a : Address) → variable_address U.program.declarations f v.0 ≡ Some a → HasImage U K w (scope_of U.written c g k) T named v.0 a) where
   abbrev C : Context
   C = context_of U oracle p f l
 
@@ -254,13 +254,13 @@ module _ (U : Upgrade) (K : Pledge) (p : ℕ) (f : SourceFrame) (g : NetFrame) (
           → Agrees U K w (ArrayMatch U K ty (U.facts.rank v.0)) (some_of o (λ a w. gives [] a w) w.src) (target.address_of S net_oracle (exp_of T the_array) w.net)
       by None is = agrees_outside U K w (ArrayMatch U K ty (U.facts.rank v.0)) (target.address_of S net_oracle (exp_of T the_array) w.net)
       by (Some a) is =
-          let x : HasImage U K w S T v.0 a = have a is in
+          let x : HasImage U K w S T named v.0 a = have a is in
           let stands = array_stands U v.0 ty r a (x.image r.exact).position (x.image r.exact).stands in
           let there : ArrayThere U w (simple ty) (x.image r.exact).position x.address =
           array_there U K w (simple ty) stands.0 (x.image r.exact).position a x.address stands.1 (x.image r.exact).same in
           subst (λ z. Agrees U K w (ArrayMatch U K ty (U.facts.rank v.0)) (gives [] a w.src) z)
           (sym (ap (λ e. target.address_of S net_oracle e w.net) array_exp
-          ∙ ap (λ s. target.address_from S net_oracle (target.started S net_oracle s w.net)) (x.found qualified)))
+          ∙ ap (λ s. target.address_from S net_oracle (target.started S net_oracle s w.net)) (x.found qualified is_named)))
           (agrees_gives U K w (ArrayMatch U K ty (U.facts.rank v.0)) a x.address start (record {
             bounds = stands.0;
             position = (x.image r.exact).position;
@@ -273,7 +273,7 @@ module _ (U : Upgrade) (K : Pledge) (p : ℕ) (f : SourceFrame) (g : NetFrame) (
 
   -- ---- the array and its indexes
 
-  indexed_at : (a : Address) (x : HasImage U K w S T v.0 a) (count : ℕ) → count ≡ U.facts.rank v.0 → (zs : List ℤ) (ys : List net_value.Value) (u : World) → Later U K w u
+  indexed_at : (a : Address) (x : HasImage U K w S T named v.0 a) (count : ℕ) → count ≡ U.facts.rank v.0 → (zs : List ℤ) (ys : List net_value.Value) (u : World) → Later U K w u
       → IndexesLike (U.facts.low v.0) 0 count zs ys
       → IndexedMatch U (lows_at C the_array) ty u (a, zs)
       (found_at (net_names.at_element (shape.element_of (net.shape_at x.address)) (net.looked_up x.address u.net) ys))
@@ -321,14 +321,14 @@ module _ (U : Upgrade) (K : Pledge) (p : ℕ) (f : SourceFrame) (g : NetFrame) (
           agrees_outside U K w (IndexedMatch U (lows_at C the_array) ty)
           (target.reach S net_oracle false (exp_of T (typed ty (element the_array indexes))) w.net)
       by (Some a) is =
-          let x : HasImage U K w S T v.0 a = have a is in
+          let x : HasImage U K w S T named v.0 a = have a is in
           let args : Exps = indexes_of T the_array 0 indexes in
           let lows : T.facts.low v.0 ≡ U.facts.low v.0 = ap (λ F. F.low v.0) facts in
           left_alone U K w (IndexedMatch U (lows_at C the_array) ty) (then (source.indexes_of C indexes w.src) (λ zs s. gives [] (a, zs) s))
           (target.reach S net_oracle false (exp_of T (typed ty (element the_array indexes))) w.net)
           (subst (λ z. Agrees U K w (IndexedMatch U (lows_at C the_array) ty) (then (source.indexes_of C indexes w.src) (λ zs s. gives [] (a, zs) s)) z)
           (sym (element_reached S net_oracle (exp_of T the_array) (variable_path T qualified v.0) args x.address w.net array_exp
-          (leads qualified ∙ x.found qualified)))
+          (leads qualified ∙ x.found qualified is_named)))
           (then_agrees U K w (λ u zs ys. IndexesLike (λ d. low_at T the_array d) 0 count zs ys) (IndexedMatch U (lows_at C the_array) ty)
           (source.indexes_of C indexes w.src) (target.values_of S net_oracle args w.net) (λ zs s. gives [] (a, zs) s)
           (λ ys w. gives [] (found_at (net_names.at_element (shape.element_of (net.shape_at x.address)) (net.looked_up x.address w) ys)) w) start given

@@ -1,20 +1,18 @@
 -- Covered expressions do the same as what is written for them.
 use Rattle.run_matches.specs.Keeping.{given_types, given_by}
-use Rattle.expression_laws.proofs.Giving.{called_giving_for, giving, stands_giving}
-use Rattle.std.proofs.Common.{◌≡◌, inr, ◌∙◌, refl, sym, ap, subst, ℕ, suc, ◌+◌, ◌≤◌, length, Bool, true, false, true≢false, ◌&&◌, ◌||◌, List, [], ◌∷◌, Some, inl, ◌++◌}
+use Rattle.expression_laws.proofs.Giving.{giving}
+use Rattle.std.proofs.Common.{◌≡◌, inr, ◌∙◌, refl, sym, ap, subst, ℕ, suc, ◌+◌, ◌≤◌, length, true, false, true≢false, ◌&&◌, ◌||◌, List, [], ◌∷◌, Some, inl, ◌++◌}
 use Rattle.std.specs.Prelude.{is_some, slice_get}
 use Rattle.vb_tree.specs.BoundTree as types
 use Rattle.vb_tree.specs.BoundTree.{Ty}
-use Rattle.vb_tree.specs.declared.declared.ProcId.{ProcId}
 use Rattle.vb6_meaning.specs.Values.{operate}
-use Rattle.bound_tree.specs.Tree.{Expr, typed, constant, variable, field, element, call, library, unary, binary, convert, new_object, me, with_object, err_number, err_raise, err_clear, is_same, loose, Exprs, no_exprs, next_expr, no_object, of_object, by_value, by_reference, Passed, no_passed, next_passed}
+use Rattle.bound_tree.specs.Tree.{Expr, typed, constant, variable, field, element, call, library, unary, binary, convert, new_object, me, with_object, err_number, err_raise, err_clear, is_same, loose, Exprs, no_exprs, next_expr, by_value, by_reference, Passed, no_passed, next_passed}
 use Rattle.bound_facts.specs.Effects.{params_at}
 use Rattle.bound_facts.specs.Locks.{is_same_type}
 use Rattle.bound_facts.specs.Node.{type_at}
 use Rattle.up_base.proofs.Tests.{by_test}
 use Rattle.net_tree.specs.declared.declaration.NetPassing.{NetPassing}
 use Rattle.net_tree.specs.declared.declaration.NetPassing.TheVariants as passing
-use Rattle.net_tree.specs.Tree.{call_of, path}
 use Rattle.net_meaning.specs.declared.value.ValueN.TheVariants as net_scalar
 use Rattle.net_meaning.specs.WrittenRows.{write_operator, write_unary, write_conversion}
 use Rattle.run_base.specs.Outcomes.{Outcome, then, answered}
@@ -30,13 +28,13 @@ use Rattle.net_run.specs.Members.{Code}
 use Rattle.net_run.specs.Names as net_names
 use Rattle.net_run.specs.Store as net
 use Rattle.net_run.specs.Values as net_value
-use Rattle.written_trees.specs.Arguments.{argument_exp, has_address, is_conversion, is_copied, is_property, kept, takes_reference}
+use Rattle.written_trees.specs.Arguments.{argument_exp, has_address, is_conversion, is_copied, kept, takes_reference}
 use Rattle.written_trees.specs.Exprs.{exp_of, index_at, indexes_of, passed_of}
 use Rattle.written_trees.specs.Library.{low_at}
-use Rattle.written_trees.specs.Names.{Scope, procedure_path}
+use Rattle.written_trees.specs.Names.{Scope}
 use Rattle.run_matches.specs.Agreeing.{Agrees}
 use Rattle.run_matches.specs.CoveredVariables.{covers_type}
-use Rattle.run_matches.specs.CoveredExprs.{Uses, covers_array, covers_bounded, covers_exprs, covers_library, is_bound, covers_operand, covers_operator, covers_expr, covers_group, covers_passed, covers_place, is_passable, is_variable}
+use Rattle.run_matches.specs.CoveredExprs.{Uses, covers_array, covers_bounded, covers_exprs, covers_library, is_bound, covers_operand, covers_operator, covers_expr, covers_group, covers_passed, covers_place, covers_receiver, is_passable, is_variable}
 use Rattle.run_matches.specs.Covered.{is_referred, suits_array, suits_group, suits_passed, hands_argument, hands_passed, is_group_field, is_item, is_type_at}
 use Rattle.run_matches.specs.UserTypes.{is_group_type}
 use Rattle.run_matches.specs.Likeness.{are_same}
@@ -46,7 +44,7 @@ use Rattle.run_matches.specs.Pledges.{Pledge, Later}
 use Rattle.run_matches.specs.Upgrades.{Upgrade, runnable_of}
 use Rattle.run_matches.specs.Runs.{CallsAgree}
 use Rattle.run_statements.specs.Fitting.{FitsPassed}
-use Rattle.run_statements.specs.Frames.{AllCalled, AllCalledAll, AllCalledFor, CanCall, Demands, demands, ScalarMatch, PlainMatch, IsOpen, context_of, AreReadable, passing_at, passing_by, IsOne, type_shape}
+use Rattle.run_statements.specs.Frames.{AllCalled, AllCalledAll, AllCalledFor, Demands, demands, ScalarMatch, PlainMatch, IsOpen, context_of, AreReadable, passing_at, passing_by, IsOne, type_shape}
 use Rattle.run_statements.specs.Groups.{ValueMatch}
 use Rattle.run_statements.specs.Written.{Passes}
 use Rattle.row_laws.proofs.Stated as rows
@@ -57,13 +55,13 @@ use Rattle.expression_laws.proofs.Types.{both_true, covered_type, covered_typed,
 use Rattle.expression_laws.proofs.Checks.{TermMatch, term_agrees, plain_agrees}
 use Rattle.expression_laws.proofs.Conversions.{formed_constant, constant_agrees, conversion_agrees}
 use Rattle.expression_laws.proofs.Arguments.{stands_later}
-use Rattle.expression_laws.proofs.Calls.{call_value_agrees, callee_is, no_copy}
+use Rattle.expression_laws.proofs.Calls.{no_copy}
+use Rattle.expression_laws.proofs.CallValues.{call_gives, call_value}
 use Rattle.expression_laws.proofs.FieldValues.{place_value_agrees}
 use Rattle.expression_laws.proofs.GroupArguments.{group_goes, grouped}
-use Rattle.expression_laws.proofs.GroupCalls.{group_value_agrees}
 use Rattle.expression_laws.proofs.FieldReferences.{field_passed}
 use Rattle.expression_laws.proofs.Is.{is_agrees}
-use Rattle.expression_laws.proofs.MemberValues.{field_agrees, group_field_agrees}
+use Rattle.expression_laws.proofs.MemberValues.{field_agrees, group_field_agrees, me_agrees}
 use Rattle.expression_laws.proofs.Nothings.{nothing_agrees, nothing_converted, operand_agrees, operand_reference}
 use Rattle.expression_laws.specs.Statements.{ParametersAreSound}
 use Rattle.expression_laws.proofs.Handed.{scalar_lasts, taken_agrees}
@@ -76,13 +74,14 @@ use Rattle.expression_laws.proofs.ErrNumbers.{err_number_agrees}
 use Rattle.expression_laws.proofs.References.{IsPassed, or_true, further, here, passed_by, reference_agrees, scalar_passed, suited}
 use Rattle.expression_laws.proofs.Temporaries.{conversion_given, conversion_goes, value_goes}
 use Rattle.expression_laws.proofs.Variables.{variable_agrees}
-use Rattle.expression_laws.proofs.Withs.{HavePlaces, places_giving, places_later}
+use Rattle.expression_laws.proofs.Seen.{IsSeen}
+use Rattle.expression_laws.proofs.Withs.{HavePlaces, places_later}
 use Rattle.expression_laws.proofs.WrittenValues.{exp_handles, group_handles}
 use Rattle.expression_laws.proofs.RowsAgree.{any_same}
 use Rattle.expression_laws.proofs.Operators.{binary_agrees, formed_held, same_operator, same_unary, typed_binary, typed_unary, unary_agrees}
 use Rattle.expression_laws.proofs.ArrayUses.{AllLead, AllLong, all_long, bounded_by, from_none, in_two, in_two_more, indexed_by}
 use Rattle.expression_laws.proofs.ItemArguments.{ItemAgrees, item_passed}
-use Rattle.expression_laws.proofs.CallsGiven.{call_made, from_first}
+use Rattle.expression_laws.proofs.CallsGiven.{call_placed, from_first}
 
 one_left : (xs ys : List Ty) (t : Ty) → IsOne xs t → IsOne (xs ++ ys) t
 one_left [] ys t o = absurd o
@@ -106,9 +105,6 @@ module _ (U : Upgrade) (p : ℕ) (f : SourceFrame) (g : NetFrame) (oracle : Sour
   abbrev written : Expr → World → Outcome net.Memory net_value.Value
   written e w = target.value_of S net_oracle (exp_of T e) w.net
 
-  abbrev Can : Pledge → ℕ → Passed → Type 0
-  Can K q called_with = CanCall U K (scope_of U.written c g k) T q called_with
-
   abbrev Have : Pledge → World → Type 0
   Have K w = HavePlaces U p f g oracle net_oracle l k c T uses K w
 
@@ -116,39 +112,31 @@ module _ (U : Upgrade) (p : ℕ) (f : SourceFrame) (g : NetFrame) (oracle : Sour
   Asked K = demands U K p l k (scope_of U.written c g k) T
 
   -- what is written for a value without an address
-  handles : (K : Pledge) (e : Expr) → AllCalled (Asked K) e → covers_expr uses e ≡ true → is_formed e ≡ true → has_address T.declarations (kept e) ≡ false
-      → Handles S (exp_of T e)
-  handles K e can covers formed none =
-      exp_handles U K p l k (scope_of U.written c g k) opened T uses same_declarations e can covers formed (ap (λ E. has_address E (kept e)) (sym same_declarations) ∙ none)
+  abbrev Written : World → Expr → Type 0
+  Written w e = has_address T.declarations (kept e) ≡ false → Handles S (IsSeen C S net_oracle w e) (exp_of T e)
 
-  handles_group : (K : Pledge) (e : Expr) → AllCalled (Asked K) e → covers_group uses e ≡ true → has_address T.declarations (kept e) ≡ false → Handles S (exp_of T e)
-  handles_group K e can covers none =
-      group_handles U K p l k (scope_of U.written c g k) opened T uses same_declarations e can covers (ap (λ E. has_address E (kept e)) (sym same_declarations) ∙ none)
+  handles : (K : Pledge) (e : Expr) (w : World) → MemoryMatch U w → Have K w → AllCalled (Asked K) e → covers_expr uses e ≡ true → is_formed e ≡ true
+      → Written w e
+  handles K e w start have can covers formed none =
+      exp_handles U K p f g oracle net_oracle l k c T uses same_declarations opened readable w start have e can covers formed
+      (ap (λ E. has_address E (kept e)) (sym same_declarations) ∙ none)
 
-  -- a call of a user type or a class whose arguments agree
-  call_gives : (K : Pledge) (ty : Ty) (q : ProcId) (qualified : Bool) (args : Passed) (w : World) → is_group_type ty ≡ true → MemoryMatch U w → Stands U K w f g
-      → (can : Can K q.0 args) → Agrees U (giving K (given_types args)) w (ArgumentsMatch U (giving K (given_types args)) q.0 0) (source.args_of C q.0 0 args w.src)
-      (target.args_of S net_oracle (passings_at U.written (Some can.number)) (passed_of T q.0 0 args) w.net)
-      → Agrees U K w (ValueMatch U (type_shape U ty))
-      (source.value_of C (typed ty (call q qualified no_object args)) w.src) (written (typed ty (call q qualified no_object args)) w)
-  call_gives K ty q qualified args w is_group start stands can given =
-      let parted = call_of (path (procedure_path T qualified q.0)) (passed_of T q.0 0 args) in
-      subst (λ x. Agrees U K w (ValueMatch U (type_shape U ty)) (source.value_of C (typed ty (call q qualified no_object args)) w.src)
-      (target.value_of S net_oracle x w.net))
-      (sym (callee_is T ty q qualified args (ap (λ D. is_property D q.0) same_declarations ∙ can.plain)))
-      (group_value_agrees U K p f oracle l ty is_group q qualified args w (target.address_of S net_oracle parted w.net) start
-      (call_made U p f g oracle net_oracle l k c T agree K ty q qualified args w start stands can given))
+  handles_group : (K : Pledge) (e : Expr) (w : World) → MemoryMatch U w → Have K w → AllCalled (Asked K) e → covers_group uses e ≡ true → Written w e
+  handles_group K e w start have can covers none =
+      group_handles U K p f g oracle net_oracle l k c T uses same_declarations opened readable w start have e can covers
+      (ap (λ E. has_address E (kept e)) (sym same_declarations) ∙ none)
 
   mutual
-    pub expression_agrees : (K : Pledge) (e : Expr) (w : World) → MemoryMatch U w → Have K w → Stands U K w f g → AllCalled (Asked K) e
+    pub expression_agrees : (K : Pledge) (e : Expr) (w : World) → MemoryMatch U w → Have K w → Stands U K w p f g → AllCalled (Asked K) e
         → covers_expr uses e ≡ true → is_formed e ≡ true → Agrees U K w (ScalarMatch U (type_at e)) (source.value_of C e w.src) (written e w)
     expression_agrees K (typed ty (constant x origin)) w start have stands can covers formed =
         let both = both_true (covers_type ty) true covers in
         term_agrees U K C ty ty (constant x origin) w (written (typed ty (constant x origin)) w) refl both.0 start
         (constant_agrees U K S net_oracle opened w ty x origin (formed_constant ty x origin both.0 formed) start)
     expression_agrees K (typed ty (variable v qualified)) w start have stands can covers formed =
-        let both = both_true (covers_type ty) (uses.scalar v) covers in
-        variable_agrees U K p f g oracle net_oracle l k c T uses ty v qualified w same_declarations readable have.variables both.1 both.0 start
+        let both = both_true (covers_type ty) (uses.scalar v && uses.named v qualified) covers in
+        let used = both_true (uses.scalar v) (uses.named v qualified) both.1 in
+        variable_agrees U K p f g oracle net_oracle l k c T uses ty v qualified w same_declarations readable have.variables used.0 used.1 both.0 start
     expression_agrees K (typed ty (unary o e)) w start have stands can covers formed =
         let both = both_true (covers_type ty) (covers_expr uses e) covers in
         let forms = both_true (is_row_of_one ty (write_unary o (type_at e))) (is_formed e) formed in
@@ -183,7 +171,7 @@ module _ (U : Upgrade) (p : ℕ) (f : SourceFrame) (g : NetFrame) (oracle : Sour
         start (plain_agrees U K C d (type_at d) w (written d w) start (expression_agrees K d w start have stands can.0 operands.0 inner.0))
         (λ v later.
         plain_agrees U K C e (type_at e) v (written e v) later.match
-        (expression_agrees K e v later.match (places_later U p f g oracle net_oracle l k c T uses K w v start later have) (stands_later U K w v f g later stands) can.1 operands.1 inner.1))))
+        (expression_agrees K e v later.match (places_later U p f g oracle net_oracle l k c T uses K w v start later have) (stands_later U K w v p f g later stands) can.1 operands.1 inner.1))))
     expression_agrees K (typed ty (convert to (typed from t))) w start have stands can covers formed =
         let both = both_true (covers_type ty) (covers_type to && covers_expr uses (typed from t)) covers in
         let operand = both_true (covers_type to) (covers_expr uses (typed from t)) both.1 in
@@ -203,19 +191,14 @@ module _ (U : Upgrade) (p : ℕ) (f : SourceFrame) (g : NetFrame) (oracle : Sour
         (element_agrees U K C e ty indexes w (target.reach S net_oracle false (exp_of T (typed ty (element e indexes))) w.net) start
         (indexed_by U p f g oracle net_oracle l k c T uses same_declarations opened readable leads K ty e indexes w start have.variables inner.0 forms.0 can.0
         (indexes_agree K e 0 indexes w (from_none (types_of indexes) longs.1) longs.0 start have stands can.1 inner.1 rest.1)))
-    expression_agrees K (typed ty (call q qualified (of_object e) args)) w start have stands can covers formed =
-        absurd (cc (both_true (covers_type ty) false covers).1)
-    expression_agrees K (typed ty (call q qualified no_object args)) w start have stands can covers formed =
-        let both = both_true (covers_type ty) (covers_passed uses args) covers in
-        let parted = call_of (path (procedure_path T qualified q.0)) (passed_of T q.0 0 args) in
-        let ts = given_types args in
-        let called = call_made U p f g oracle net_oracle l k c T agree K ty q qualified args w start stands can.0
-        (passed_agree (giving K ts) q.0 0 can.0.passes args (passings_at U.written (Some can.0.number)) w (from_first U p f g oracle net_oracle l k c T agree K can.0) can.0.suits can.0.hands start
-        (places_giving U p f g oracle net_oracle l k c T uses K ts w start have) (stands_giving U K ts w start f g stands) (called_giving_for U K S T ts p l k args can.0.inside can.1) both.1 formed
-        can.0.ranks (λ t o. inr o)) in
-        subst (λ x. Agrees U K w (ScalarMatch U ty) (source.value_of C (typed ty (call q qualified no_object args)) w.src) (target.value_of S net_oracle x w.net))
-        (sym (callee_is T ty q qualified args (ap (λ D. is_property D q.0) same_declarations ∙ can.0.plain)))
-        (call_value_agrees U K p f g oracle net_oracle l k c T agree ty q qualified args both.0 w (target.address_of S net_oracle parted w.net) start called)
+    expression_agrees K (typed ty (call q qualified of args)) w start have stands can covers formed =
+        let both = both_true (covers_type ty) (covers_receiver uses of && covers_passed uses args) covers in
+        let parts = both_true (covers_receiver uses of) (covers_passed uses args) both.1 in
+        call_value U K p f g oracle net_oracle l k c T same_declarations agree ty q qualified of args w can.0.plain start both.0
+        (call_placed U p f g oracle net_oracle l k c T agree uses same_declarations readable K ty q qualified of args w start have stands can parts.0
+        (λ v start_there there now asked.
+        passed_agree (giving K (given_types args)) q.0 0 can.0.passes args (passings_at U.written (Some can.0.number)) v
+        (from_first U p f g oracle net_oracle l k c T agree K can.0) can.0.suits can.0.hands start_there there now asked parts.1 formed can.0.ranks (λ t o. inr o)))
     expression_agrees K (typed ty (library function no_exprs)) w start have stands can covers formed =
         let args : Exprs = no_exprs in
         let both = both_true (covers_type ty) ((covers_library function && covers_exprs uses args) || (is_bound function && covers_bounded uses args)) covers in
@@ -226,15 +209,15 @@ module _ (U : Upgrade) (p : ℕ) (f : SourceFrame) (g : NetFrame) (oracle : Sour
         let args : Exprs = (next_expr d no_exprs) in
         let both = both_true (covers_type ty) ((covers_library function && covers_exprs uses args) || (is_bound function && covers_bounded uses args)) covers in
         by_either (covers_library function && covers_exprs uses args) (is_bound function && covers_bounded uses args) both.1
-        (λ values. library_agrees U K S net_oracle opened C T uses ty function args w start both.0 values formed ((λ v later h i. expression_agrees K d v later.match (places_later U p f g oracle net_oracle l k c T uses K w v start later have) (stands_later U K w v f g later stands) can.1.0 h i), tt))
+        (λ values. library_agrees U K S net_oracle opened C T uses ty function args w start both.0 values formed ((λ v later h i. expression_agrees K d v later.match (places_later U p f g oracle net_oracle l k c T uses K w v start later have) (stands_later U K w v p f g later stands) can.1.0 h i), tt))
         (λ bounds. bounded_by U p f g oracle net_oracle l k c T uses same_declarations opened readable K ty function args w start have.variables bounds formed)
     expression_agrees K (typed ty (library function (next_expr d (next_expr e no_exprs)))) w start have stands can covers formed =
         let args : Exprs = (next_expr d (next_expr e no_exprs)) in
         let both = both_true (covers_type ty) ((covers_library function && covers_exprs uses args) || (is_bound function && covers_bounded uses args)) covers in
         by_either (covers_library function && covers_exprs uses args) (is_bound function && covers_bounded uses args) both.1
         (λ values. library_agrees U K S net_oracle opened C T uses ty function args w start both.0 values formed (
-          (λ v later h i. expression_agrees K d v later.match (places_later U p f g oracle net_oracle l k c T uses K w v start later have) (stands_later U K w v f g later stands) can.1.0 h i),
-          ((λ v later h i. expression_agrees K e v later.match (places_later U p f g oracle net_oracle l k c T uses K w v start later have) (stands_later U K w v f g later stands) can.1.1.0 h i), tt),
+          (λ v later h i. expression_agrees K d v later.match (places_later U p f g oracle net_oracle l k c T uses K w v start later have) (stands_later U K w v p f g later stands) can.1.0 h i),
+          ((λ v later h i. expression_agrees K e v later.match (places_later U p f g oracle net_oracle l k c T uses K w v start later have) (stands_later U K w v p f g later stands) can.1.1.0 h i), tt),
         ))
         (λ bounds. bounded_by U p f g oracle net_oracle l k c T uses same_declarations opened readable K ty function args w start have.variables bounds formed)
     expression_agrees K (typed ty (library function (next_expr d (next_expr e (next_expr x rest))))) w start have stands can covers formed =
@@ -242,15 +225,15 @@ module _ (U : Upgrade) (p : ℕ) (f : SourceFrame) (g : NetFrame) (oracle : Sour
         let both = both_true (covers_type ty) ((covers_library function && covers_exprs uses args) || (is_bound function && covers_bounded uses args)) covers in
         by_either (covers_library function && covers_exprs uses args) (is_bound function && covers_bounded uses args) both.1
         (λ values. library_agrees U K S net_oracle opened C T uses ty function args w start both.0 values formed (
-          (λ v later h i. expression_agrees K d v later.match (places_later U p f g oracle net_oracle l k c T uses K w v start later have) (stands_later U K w v f g later stands) can.1.0 h i),
+          (λ v later h i. expression_agrees K d v later.match (places_later U p f g oracle net_oracle l k c T uses K w v start later have) (stands_later U K w v p f g later stands) can.1.0 h i),
           (
-            (λ v later h i. expression_agrees K e v later.match (places_later U p f g oracle net_oracle l k c T uses K w v start later have) (stands_later U K w v f g later stands) can.1.1.0 h i),
-            ((λ v later h i. expression_agrees K x v later.match (places_later U p f g oracle net_oracle l k c T uses K w v start later have) (stands_later U K w v f g later stands) can.1.1.1.0 h i), tt),
+            (λ v later h i. expression_agrees K e v later.match (places_later U p f g oracle net_oracle l k c T uses K w v start later have) (stands_later U K w v p f g later stands) can.1.1.0 h i),
+            ((λ v later h i. expression_agrees K x v later.match (places_later U p f g oracle net_oracle l k c T uses K w v start later have) (stands_later U K w v p f g later stands) can.1.1.1.0 h i), tt),
           ),
         ))
         (λ bounds. bounded_by U p f g oracle net_oracle l k c T uses same_declarations opened readable K ty function args w start have.variables bounds formed)
     expression_agrees K (typed ty (new_object class)) w start have stands can covers formed = absurd (cc formed)
-    expression_agrees K (typed ty me) w start have stands can covers formed = absurd (cc formed)
+    expression_agrees K (typed ty me) w start have stands can covers formed = absurd (cc (both_true (covers_type ty) false covers).1)
     expression_agrees K (typed ty (with_object root)) w start have stands can covers formed = absurd (cc formed)
     expression_agrees K (typed ty err_number) w start have stands can covers formed = err_number_agrees U K C S net_oracle opened.support T w start ty formed
     expression_agrees K (typed ty (err_raise e)) w start have stands can covers formed = absurd (cc (both_true (covers_type ty) false covers).1)
@@ -264,11 +247,11 @@ module _ (U : Upgrade) (p : ℕ) (f : SourceFrame) (g : NetFrame) (oracle : Sour
         (operand_agrees U K C S net_oracle T w start uses d operands.0 (λ h. group_agrees K d w start have stands can.0 h inner.0))
         (λ v later.
         operand_agrees U K C S net_oracle T v later.match uses e operands.1 (λ h.
-        group_agrees K e v later.match (places_later U p f g oracle net_oracle l k c T uses K w v start later have) (stands_later U K w v f g later stands) can.1 h inner.1))
+        group_agrees K e v later.match (places_later U p f g oracle net_oracle l k c T uses K w v start later have) (stands_later U K w v p f g later stands) can.1 h inner.1))
     expression_agrees K (typed ty (loose e rules)) w start have stands can covers formed = absurd (cc formed)
 
     -- a user type or an object as a value
-    pub group_agrees : (K : Pledge) (e : Expr) (w : World) → MemoryMatch U w → Have K w → Stands U K w f g → AllCalled (Asked K) e
+    pub group_agrees : (K : Pledge) (e : Expr) (w : World) → MemoryMatch U w → Have K w → Stands U K w p f g → AllCalled (Asked K) e
         → covers_group uses e ≡ true → is_formed e ≡ true
         → Agrees U K w (ValueMatch U (type_shape U (type_at e))) (source.value_of C e w.src) (written e w)
     group_agrees K (typed ty (variable v qualified)) w start have stands can covers formed =
@@ -276,20 +259,23 @@ module _ (U : Upgrade) (p : ℕ) (f : SourceFrame) (g : NetFrame) (oracle : Sour
         (or_false (covers_place uses (typed ty (variable v qualified))) covers)
     group_agrees K (typed ty (field d j)) w start have stands can covers formed =
         group_field_agrees U K p f g oracle net_oracle l k c T uses same_declarations readable w have start ty d j can covers
-    group_agrees K (typed ty (call q qualified no_object args)) w start have stands can covers formed =
-        let ts = given_types args in
-        call_gives K ty q qualified args w (grouped U T uses readable (typed ty (call q qualified no_object args)) covers) start stands can.0
-        (passed_agree (giving K ts) q.0 0 can.0.passes args (passings_at U.written (Some can.0.number)) w (from_first U p f g oracle net_oracle l k c T agree K can.0)
-        can.0.suits can.0.hands start (places_giving U p f g oracle net_oracle l k c T uses K ts w start have) (stands_giving U K ts w start f g stands)
-        (called_giving_for U K S T ts p l k args can.0.inside can.1) (both_true (uses.given ty) (covers_passed uses args) covers).1 formed can.0.ranks (λ t o. inr o))
-    group_agrees K (typed ty (call q qualified (of_object e) args)) w start have stands can covers formed =
-        absurd (true≢false (sym (both_true (uses.given ty) false covers).1))
+    group_agrees K (typed ty me) w start have stands can covers formed =
+        me_agrees U K p f g oracle net_oracle l k c T uses same_declarations readable w have start ty covers
+    group_agrees K (typed ty (call q qualified of args)) w start have stands can covers formed =
+        let both = both_true (uses.given ty) (covers_receiver uses of && covers_passed uses args) covers in
+        let parts = both_true (covers_receiver uses of) (covers_passed uses args) both.1 in
+        call_gives U K p f g oracle net_oracle l k c T same_declarations agree ty q qualified of args w can.0.plain start
+        (grouped U T uses readable (typed ty (call q qualified of args)) covers)
+        (call_placed U p f g oracle net_oracle l k c T agree uses same_declarations readable K ty q qualified of args w start have stands can parts.0
+        (λ v start_there there now asked.
+        passed_agree (giving K (given_types args)) q.0 0 can.0.passes args (passings_at U.written (Some can.0.number)) v
+        (from_first U p f g oracle net_oracle l k c T agree K can.0) can.0.suits can.0.hands start_there there now asked parts.1 formed can.0.ranks (λ t o. inr o)))
     group_agrees K (typed ty (convert to e)) w start have stands can covers formed =
         nothing_agrees U K C S net_oracle T w start ty to e (nothing_converted (uses.given ty) ty to e covers)
     group_agrees K (typed ty _) w start have stands can covers formed = absurd (true≢false (sym covers))
 
     -- an element, as a place
-    item_agrees : (K : Pledge) (e : Expr) (w : World) → MemoryMatch U w → Have K w → Stands U K w f g → AllCalled (Asked K) e
+    item_agrees : (K : Pledge) (e : Expr) (w : World) → MemoryMatch U w → Have K w → Stands U K w p f g → AllCalled (Asked K) e
         → covers_expr uses e ≡ true → is_formed e ≡ true → ItemAgrees U C S net_oracle T K w e
     item_agrees K (typed ty (element e indexes)) w start have stands can covers formed =
         let both = both_true (covers_type ty) (covers_array uses e && covers_exprs uses indexes) covers in
@@ -304,7 +290,7 @@ module _ (U : Upgrade) (p : ℕ) (f : SourceFrame) (g : NetFrame) (oracle : Sour
 
     -- indexes from a dimension on
     pub indexes_agree : (K : Pledge) (a : Expr) (d : ℕ) (indexes : Exprs) (w : World) → d + length (types_of indexes) ≤ 2 → AllLong (types_of indexes) → MemoryMatch U w
-        → Have K w → Stands U K w f g → AllCalledAll (Asked K) indexes → covers_exprs uses indexes ≡ true → are_formed indexes ≡ true
+        → Have K w → Stands U K w p f g → AllCalledAll (Asked K) indexes → covers_exprs uses indexes ≡ true → are_formed indexes ≡ true
         → Agrees U K w (λ u zs ys. IndexesLike (λ j. low_at T a j) d (length (types_of indexes)) zs ys) (source.indexes_of C indexes w.src)
         (target.values_of S net_oracle (indexes_of T a d indexes) w.net)
     indexes_agree K a d no_exprs w few longs start have stands can covers formed =
@@ -319,12 +305,12 @@ module _ (U : Upgrade) (p : ℕ) (f : SourceFrame) (g : NetFrame) (oracle : Sour
         (plain_agrees U K C e (type_at e) w (written e w) start (expression_agrees K e w start have stands can.0 both.0 forms.0))))
         (λ v later.
         indexes_agree K a (suc d) rest v (in_two_more d (type_at e) (types_of rest) few) longs.1 later.match (places_later U p f g oracle net_oracle l k c T uses K w v start later have)
-        (stands_later U K w v f g later stands) can.1 both.1 forms.1)
+        (stands_later U K w v p f g later stands) can.1 both.1 forms.1)
 
     -- arguments from a place on, as they are taken
     pub passed_agree : (K : Pledge) (q i : ℕ) (passes : Passes U q) (args : Passed) (modes : List NetPassing) (w : World)
         → ((n : ℕ) → passing_at modes n ≡ passing_by (takes_reference U.program.declarations q (i + n))) → suits_passed U.program.declarations q i args ≡ true
-        → hands_passed U.program q i args ≡ true → MemoryMatch U w → Have K w → Stands U K w f g → AllCalledFor (Asked K) args → covers_passed uses args ≡ true
+        → hands_passed U.program q i args ≡ true → MemoryMatch U w → Have K w → Stands U K w p f g → AllCalledFor (Asked K) args → covers_passed uses args ≡ true
         → passed_are_formed args ≡ true → FitsPassed U q i args → ((t : Ty) → IsOne (given_types args) t → K.keeps t)
         → Agrees U K w (ArgumentsMatch U K q i) (source.args_of C q i args w.src) (target.args_of S net_oracle modes (passed_of T q i args) w.net)
     passed_agree K q i passes no_passed modes w takes suits hands start have stands can covers formed fits kept = agrees_gives U K w (ArgumentsMatch U K q i) [] [] start (no_arguments i w)
@@ -363,13 +349,13 @@ module _ (U : Upgrade) (p : ℕ) (f : SourceFrame) (g : NetFrame) (oracle : Sour
         (target.reach S net_oracle false (argument_exp T (takes_reference T.declarations q i) (by_reference e) (exp_of T e)) w.net))
         (source.args_of C q (suc i) rest) (target.args_of S net_oracle (target.rest_passings modes) (passed_of T q (suc i) rest))
         (conversion_given C ((runnable_of U).quiet q i) e w.src covered is_one)
-        (conversion_goes S net_oracle T e (no_copy T.facts (type_at e) (is_copied e) covered) w.net (handles K e can.0 scalar forms.0) (target.first_passing modes)
+        (conversion_goes C S net_oracle T e (no_copy T.facts (type_at e) (is_copied e) covered) w (handles K e w start have can.0 scalar forms.0) (target.first_passing modes)
         (takes_reference T.declarations q i) covered mode is_one)
         start
         (expression_agrees K e w start have stands can.0 scalar forms.0)
         (λ v later.
         passed_agree K q (suc i) passes rest (target.rest_passings modes) v next fit.1 hand.1 later.match (places_later U p f g oracle net_oracle l k c T uses K w v start later have)
-        (stands_later U K w v f g later stands) can.1 both.1 forms.1 fits.1 keep))
+        (stands_later U K w v p f g later stands) can.1 both.1 forms.1 fits.1 keep))
         (λ other is_none left.
         by_test (is_item e) (λ b. is_item e ≡ b → (b || is_group_field e) ≡ true
         → Agrees U K w (ArgumentsMatch U K q i) (source.args_of C q i (next_passed (by_reference e) rest) w.src)
@@ -381,7 +367,7 @@ module _ (U : Upgrade) (p : ℕ) (f : SourceFrame) (g : NetFrame) (oracle : Sour
         (λ t o. kept t (one_left (given_by (by_reference e)) (given_types rest) t o)) hand.0 start (item_agrees K e w start have stands can.0 scalar forms.0)
         (λ v later.
         passed_agree K q (suc i) passes rest (target.rest_passings modes) v next fit.1 hand.1 later.match (places_later U p f g oracle net_oracle l k c T uses K w v start later have)
-        (stands_later U K w v f g later stands) can.1 both.1 forms.1 fits.1 keep))
+        (stands_later U K w v p f g later stands) can.1 both.1 forms.1 fits.1 keep))
         (λ none no_item is_field.
         field_passed U K p f g oracle net_oracle l k c T uses same_declarations readable q i w start have ((runnable_of U).quiet q i) (target.first_passing modes)
         (takes_reference T.declarations q i) (source.args_of C q (suc i) rest)
@@ -399,7 +385,7 @@ module _ (U : Upgrade) (p : ℕ) (f : SourceFrame) (g : NetFrame) (oracle : Sour
         let mode : target.first_passing modes ≡ passing_by (takes_reference D q i) = takes 0 ∙ ap (λ n. passing_by (takes_reference D q n)) (here i) in
         let more = λ (v : World) (later : Later U K w v).
         passed_agree K q (suc i) passes rest (target.rest_passings modes) v next fit.1 hand.1 later.match (places_later U p f g oracle net_oracle l k c T uses K w v start later have)
-        (stands_later U K w v f g later stands) can.1 both.1 forms.1 fits.1 keep in
+        (stands_later U K w v p f g later stands) can.1 both.1 forms.1 fits.1 keep in
         by_either (covers_expr uses e) (covers_group uses e) both.0
         (λ scalar.
         taken_agrees U K q i (ScalarMatch U (type_at e)) (scalar_lasts U K q i (type_at e)) w (source.value_of C e w.src) (target.value_of S net_oracle (exp_of T e) w.net)
@@ -407,7 +393,7 @@ module _ (U : Upgrade) (p : ℕ) (f : SourceFrame) (g : NetFrame) (oracle : Sour
         (target.given S net_oracle (target.first_passing modes)
         (target.reach S net_oracle false (argument_exp T (takes_reference T.declarations q i) (by_value e) (exp_of T e)) w.net))
         (source.args_of C q (suc i) rest) (target.args_of S net_oracle (target.rest_passings modes) (passed_of T q (suc i) rest)) refl
-        (value_goes S net_oracle T e (no_copy T.facts (type_at e) (is_copied e) (covered_type uses e scalar)) w.net (handles K e can.0 scalar forms.0)
+        (value_goes C S net_oracle T e (no_copy T.facts (type_at e) (is_copied e) (covered_type uses e scalar)) w (handles K e w start have can.0 scalar forms.0)
         (takes_reference D q i) (target.first_passing modes) (takes_reference T.declarations q i) mode (ap (λ E. takes_reference E q i) same_declarations))
         start (expression_agrees K e w start have stands can.0 scalar forms.0) more)
         (λ of_group.
@@ -416,5 +402,5 @@ module _ (U : Upgrade) (p : ℕ) (f : SourceFrame) (g : NetFrame) (oracle : Sour
         (source.args_of C q (suc i) rest) (target.args_of S net_oracle (target.rest_passings modes) (passed_of T q (suc i) rest)) mode
         (sound q i (type_at e) passes is_group
         (suited (is_group_type (type_at e)) (is_type_at D (type_at e) (slice_get (params_at (slice_get D.procs q)) i)) is_group fit.0))
-        (handles_group K e can.0 of_group)
+        (handles_group K e w start have can.0 of_group)
         (group_agrees K e w start have stands can.0 of_group forms.0) more)

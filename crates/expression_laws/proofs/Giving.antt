@@ -1,7 +1,7 @@
 -- While a call with elements by reference is evaluated, their arrays are kept.
 use Rattle.std.proofs.Common.{◌⊎◌, inl, inr, refl, ℕ, Bool, not, List, [], ◌∷◌, ◌++◌}
 use Rattle.vb_tree.specs.BoundTree.{Ty}
-use Rattle.bound_tree.specs.Tree.{Expr, typed, constant, variable, field, element, call, library, unary, binary, convert, new_object, me, with_object, err_number, err_raise, err_clear, is_same, loose, Exprs, no_exprs, next_expr, Passed, no_passed, next_passed, by_value, by_reference}
+use Rattle.bound_tree.specs.Tree.{Expr, typed, constant, variable, field, element, call, library, unary, binary, convert, new_object, me, with_object, err_number, err_raise, err_clear, is_same, loose, Exprs, no_exprs, next_expr, Object, Passed, no_passed, next_passed, by_value, by_reference}
 use Rattle.bound_facts.specs.Facts.{is_quiet}
 use Rattle.bound_facts.specs.Locks.{Keeps}
 use Rattle.bound_facts.specs.Nodes.{nodes, nodes_of_all, nodes_of_object, nodes_of_passed}
@@ -58,7 +58,7 @@ module _ (U : Upgrade) (K : Pledge) (ts : List Ty) (w : World) (start : MemoryMa
 
   pub images_giving : (f : SourceFrame) (S : net_names.Scope) (T : Scope) (uses : Uses) → HaveImages U K w f S T uses → HaveImages U (giving K ts) w f S T uses
   images_giving f S T uses h v a used is =
-      let x : HasImage U K w S T v.0 a = h v a used is in
+      let x : HasImage U K w S T (uses.named v) v.0 a = h v a used is in
       record {
         address = x.address;
         found = x.found;
@@ -68,8 +68,13 @@ module _ (U : Upgrade) (K : Pledge) (ts : List Ty) (w : World) (start : MemoryMa
         image = λ exact. image_giving v.0 a x.address (x.image exact);
       }
 
-  pub stands_giving : (f : SourceFrame) (g : NetFrame) → Stands U K w f g → Stands U (giving K ts) w f g
-  stands_giving f g h = record { me = h.me; object = h.object; locks = locks_promised U K (giving K ts) w w f.env (giving_more K ts w) h.locks }
+  pub stands_giving : (p : ℕ) (f : SourceFrame) (g : NetFrame) → Stands U K w p f g → Stands U (giving K ts) w p f g
+  stands_giving p f g h = record {
+    me = h.me;
+    object = h.object;
+    own_object = h.own_object;
+    locks = locks_promised U K (giving K ts) w w f.env (giving_more K ts w) h.locks;
+  }
 
 -- ---- what is called
 
@@ -87,15 +92,16 @@ keeps_both U K ts q old new t (inl h) = old t h
 keeps_both U K ts q old new t (inr h) = new t h
 
 module _ (U : Upgrade) (K : Pledge) (S : net_names.Scope) (T : Scope) (ts : List Ty) where
-  abbrev pub can_giving : (q : ℕ) (args : Passed) → KeepsEach U q ts → CanCall U K S T q args → CanCall U (giving K ts) S T q args
-  can_giving q args new c = record {
+  abbrev pub can_giving : (p q : ℕ) (qualified : Bool) (of : Object) (args : Passed) → KeepsEach U q ts → CanCall U K S T p q qualified of args
+      → CanCall U (giving K ts) S T p q qualified of args
+  can_giving p q qualified of args new c = record {
     passes = c.passes;
     keeps = keeps_both U K ts q c.keeps new;
     inward = c.inward;
     number = c.number;
     is_number = c.is_number;
     plain = c.plain;
-    standard = c.standard;
+    receives = c.receives;
     suits = c.suits;
     hands = c.hands;
     given = c.given;
@@ -121,8 +127,8 @@ module _ (U : Upgrade) (K : Pledge) (S : net_names.Scope) (T : Scope) (ts : List
       called_giving (typed ty (variable v qualified)) s h = tt
       called_giving (typed ty (field e k)) s h = called_giving e s.1 h
       called_giving (typed ty (element e indexes)) s h = (h.0, called_giving_all indexes (nodes_right U ts (nodes e) (nodes_of_all indexes) s.1) h.1)
-      called_giving (typed ty (call p qualified of args)) s h =
-          (can_giving p.0 args (s.0 p.0 refl) h.0, called_giving_for args (nodes_right U ts (nodes_of_object of) (nodes_of_passed args) s.1) h.1)
+      called_giving (typed ty (call q qualified of args)) s h =
+          (can_giving p q.0 qualified of args (s.0 q.0 refl) h.0, called_giving_for args (nodes_right U ts (nodes_of_object of) (nodes_of_passed args) s.1) h.1)
       called_giving (typed ty (library f args)) s h = (h.0, called_giving_all args s.1 h.1)
       called_giving (typed ty (unary op e)) s h = called_giving e s.1 h
       called_giving (typed ty (binary op d e)) s h =

@@ -2,7 +2,7 @@
 use Rattle.std.proofs.Common.{◌≡◌, refl, sym, ap, subst, ◌∙◌, ℕ, suc, Bool, true, false, ◌&&◌, List, [], ◌∷◌, ◌++◌, true≢false}
 use Rattle.vb_tree.specs.BoundTree as types
 use Rattle.vb_tree.specs.BoundTree.{Ty}
-use Rattle.bound_tree.specs.Tree.{Expr, typed, variable, field, call, convert}
+use Rattle.bound_tree.specs.Tree.{Expr, typed, variable, field, call, convert, me}
 use Rattle.bound_tree.specs.Tree as tree
 use Rattle.bound_facts.specs.Node.{type_at}
 use Rattle.net_tree.specs.declared.declaration.NetPassing.{NetPassing}
@@ -26,7 +26,7 @@ use Rattle.written_trees.specs.Facts.{Facts, holds_array}
 use Rattle.written_trees.specs.Names.{Scope}
 use Rattle.run_matches.specs.Addresses.{IsDeclaredShape, IsGivable}
 use Rattle.run_matches.specs.Agreeing.{Agrees}
-use Rattle.run_matches.specs.CoveredExprs.{Uses, covers_group, covers_passed, is_without_object}
+use Rattle.run_matches.specs.CoveredExprs.{Uses, covers_group, covers_passed, covers_receiver}
 use Rattle.run_matches.specs.CoveredVariables.{covers_group_type}
 use Rattle.run_matches.specs.Kinds.{AreValuesOf, IsValueOf}
 use Rattle.run_matches.specs.Likeness.{FieldsLike, LikeV, like_elements, like_field, like_fields, like_flagged, like_none, like_scalar, numbers_of}
@@ -46,7 +46,9 @@ use Rattle.expression_laws.specs.Statements.{IsSoundType}
 use Rattle.expression_laws.proofs.Arguments.{no_arrays}
 use Rattle.expression_laws.proofs.Handed.{Lasts, taken_agrees}
 use Rattle.expression_laws.proofs.Handled.{Handles}
+use Rattle.expression_laws.proofs.Me.{me_class}
 use Rattle.expression_laws.proofs.Nothings.{nothing_converted}
+use Rattle.expression_laws.proofs.Seen.{IsSeen}
 use Rattle.expression_laws.proofs.Temporaries.{value_goes}
 use Rattle.expression_laws.proofs.Types.{both_true, is_group, or_false}
 
@@ -110,12 +112,13 @@ uncopied U T uses readable _ copied covers = absurd (true≢false (sym covers))
 -- what is given as a user type or an object is of one
 pub grouped : (U : Upgrade) (T : Scope) (uses : Uses) → AreReadable U T uses → (e : Expr) → covers_group uses e ≡ true → is_group_type (type_at e) ≡ true
 grouped U T uses readable (typed ty (variable v qualified)) h =
-    is_group U.program.declarations ty (readable.groups v ty (or_false (uses.group v ty) h)).covers
+    is_group U.program.declarations ty (readable.groups v ty (both_true (uses.group v ty) (uses.named v qualified) (or_false (uses.group v ty && uses.named v qualified) h)).0).covers
 grouped U T uses readable (typed (types.user t) (field e j)) h = refl
 grouped U T uses readable (typed (types.class d) (field e j)) h = refl
 grouped U T uses readable (typed _ (field e j)) h = absurd (true≢false (sym h))
 grouped U T uses readable (typed ty (call q qualified of args)) h =
-    is_group U.program.declarations ty (readable.given ty (both_true (uses.given ty) (is_without_object of && covers_passed uses args) h).0)
+    is_group U.program.declarations ty (readable.given ty (both_true (uses.given ty) (covers_receiver uses of && covers_passed uses args) h).0)
+grouped U T uses readable (typed ty me) h = ap is_group_type (me_class uses.me ty h).1
 grouped U T uses readable (typed ty (convert to e)) h = ap is_group_type (nothing_converted (uses.given ty) ty to e h).is_type
 grouped U T uses readable (typed ty _) h = absurd (true≢false (sym h))
 
@@ -140,7 +143,8 @@ module _ (U : Upgrade) (K : Pledge) (p : ℕ) (f : SourceFrame) (g : NetFrame) (
   -- a value goes as one, whatever its parameter takes
   pub group_goes : (quiet : Bool) (mode : NetPassing) (e : Expr) (rest : Memory → Outcome Memory (List SourceGiven))
       (rest' : net.Memory → Outcome net.Memory Arguments) → mode ≡ passing_by (takes_reference U.program.declarations q i) → IsSoundType U (type_at e)
-      → (has_address T.declarations (kept e) ≡ false → Handles (scope_of U.written c g k) (exp_of T e))
+      → (has_address T.declarations (kept e) ≡ false
+      → Handles (scope_of U.written c g k) (IsSeen (context_of U oracle p f l) (scope_of U.written c g k) net_oracle w e) (exp_of T e))
       → Agrees U K w (ValueMatch U (type_shape U (type_at e))) (source.value_of (context_of U oracle p f l) e w.src)
       (target.value_of (scope_of U.written c g k) net_oracle (exp_of T e) w.net)
       → ((v : World) → Later U K w v → Agrees U K v (ArgumentsMatch U K q (suc i)) (rest v.src) (rest' v.net)) → Goes quiet mode e rest rest'
@@ -151,6 +155,6 @@ module _ (U : Upgrade) (K : Pledge) (p : ℕ) (f : SourceFrame) (g : NetFrame) (
       (target.given S net_oracle mode
       (target.reach S net_oracle false (argument_exp T (takes_reference T.declarations q i) (tree.by_value e) (exp_of T e)) w.net))
       rest rest' refl
-      (value_goes S net_oracle T e (uncopied U T uses readable ty (is_copied e) of.covers) w.net handles
+      (value_goes C S net_oracle T e (uncopied U T uses readable ty (is_copied e) of.covers) w handles
       (takes_reference U.program.declarations q i) mode (takes_reference T.declarations q i) m (ap (λ E. takes_reference E q i) same_declarations))
       start values more

@@ -5,7 +5,7 @@ use Rattle.vb_tree.specs.BoundTree as types
 use Rattle.vb_tree.specs.BoundTree.{Ty}
 use Rattle.vb_tree.specs.declared.declared.ProcId.{ProcId}
 use Rattle.bound_tree.specs.declared.declared.TypeDecl.{TypeDecl}
-use Rattle.bound_tree.specs.Tree.{Declarations, Expr, typed, call, no_object, Passed}
+use Rattle.bound_tree.specs.Tree.{Declarations, Expr, typed, call, Object, Passed}
 use Rattle.bound_facts.specs.Locks.{is_same_type}
 use Rattle.run_base.specs.Outcomes.{Outcome, after, gives, then}
 use Rattle.vb6_run.specs.Expressions as source
@@ -84,18 +84,18 @@ group_value U _ x grouped ok whole = absurd (true≢false (sym grouped))
 -- ---- what a call gives
 
 module _ (U : Upgrade) (K : Pledge) (p : ℕ) (f : SourceFrame) (oracle : SourceCalls) (l : SourceLine) (ty : Ty) (grouped : is_group_type ty ≡ true)
-    (q : ProcId) (qualified : Bool) (args : Passed) where
+    (q : ProcId) (qualified : Bool) (of : Object) (args : Passed) where
   abbrev C : Context
   C = context_of U oracle p f l
 
   abbrev e : Expr
-  e = typed ty (call q qualified no_object args)
+  e = typed ty (call q qualified of args)
 
   abbrev R : World → Value → net_value.Value → Type 0
   R = ValueMatch U (type_shape U ty)
 
   abbrev behind : Parts → Memory → Outcome Memory Value
-  behind x v = then (source.as_new C (call q qualified no_object args) x v) (source.value_in C e)
+  behind x v = then (source.as_new C (call q qualified of args) x v) (source.value_in C e)
 
   result_agrees : (v : World) (o : Option Value) (o' : Option net_value.Value) (s : shape.Shape) → MemoryMatch U v → ResultMatch U v o o'
       → Agrees U K v R (behind (result_parts o) v.src) (target.read (result_address s o') v.net)
@@ -111,13 +111,13 @@ module _ (U : Upgrade) (K : Pledge) (p : ℕ) (f : SourceFrame) (oracle : Source
 
   -- a call that gives what matches gives a value of the type that does
   pub group_value_agrees : (w : World) (r' : Outcome net.Memory net.Address) → MemoryMatch U w
-      → Agrees U K w (GivenMatch U) (source.term_parts (context_of U oracle p f l) ty (call q qualified no_object args) w.src) r'
+      → Agrees U K w (GivenMatch U) (source.term_parts (context_of U oracle p f l) ty (call q qualified of args) w.src) r'
       → Agrees U K w (ValueMatch U (type_shape U ty))
-      (source.value_of (context_of U oracle p f l) (typed ty (call q qualified no_object args)) w.src) (then r' target.read)
+      (source.value_of (context_of U oracle p f l) (typed ty (call q qualified of args)) w.src) (then r' target.read)
   group_value_agrees w r' start h =
-      let r = source.term_parts C ty (call q qualified no_object args) w.src in
+      let r = source.term_parts C ty (call q qualified of args) w.src in
       subst (λ z. Agrees U K w R z (then r' target.read))
-      (sym (then_assoc r (source.as_new C (call q qualified no_object args)) (source.value_in C e)))
+      (sym (then_assoc r (source.as_new C (call q qualified of args)) (source.value_in C e)))
       (then_agrees U K w (GivenMatch U) R r r' behind target.read start h
       (λ x a v m later.
       subst (λ z. Agrees U K v R (behind z v.src) (target.read a v.net)) (sym m.is_given)

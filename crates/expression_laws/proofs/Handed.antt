@@ -24,7 +24,7 @@ use Rattle.expression_laws.specs.Calls.{ArgumentsMatch, next_value}
 use Rattle.expression_laws.proofs.Arguments.{no_arrays}
 use Rattle.expression_laws.proofs.Handled.{Handed}
 use Rattle.expression_laws.proofs.NoPlaces.{NoPlace}
-use Rattle.expression_laws.proofs.Temporaries.{IsTaken}
+use Rattle.expression_laws.proofs.Temporaries.{GoesAsValue, goes_as, goes_out}
 
 -- values that match go on to, and hold no array
 pub record Lasts (U : Upgrade) (K : Pledge) (q i : ℕ) (R : World → Value → net_value.Value → Type 0) : Type 0 where
@@ -91,17 +91,22 @@ module _ (U : Upgrade) (K : Pledge) (q i : ℕ) (R : World → Value → net_val
       (next_value i u m.given m.net_given xs ys (lasts.later v u m.given m.net_given later m.match) (lasts.givable v m.given m.net_given m.match)
       (lasts.no_arrays v m.given m.net_given m.match) rest))
 
+  value_agrees : (w : World) (r : Outcome Memory Value) (r' : Outcome net.Memory net_value.Value) (t : Outcome net.Memory NetGiven) → GoesAsValue r t r'
+      → Agrees U K w R r r' → Agrees U K w (HandedMatch R) (SourceHanded r) t
+  value_agrees w r r' t (goes_as taken) first =
+      subst (λ z. Agrees U K w (HandedMatch R) (SourceHanded r) z) (sym taken.goes)
+      (handed_agrees U K w R lasts.like r taken.address (subst (λ z. Agrees U K w R r z) (sym taken.value) first) taken.no_place)
+  value_agrees w r r' t (goes_out o rest is out) first =
+      subst (λ z. Agrees U K w (HandedMatch R) (SourceHanded z) t) (sym is) (rest, out)
+
   -- one more argument, that both sides give as a value
   pub taken_agrees : (w : World) (r : Outcome Memory Value) (r' : Outcome net.Memory net_value.Value) (s : Outcome Memory SourceGiven)
       (t : Outcome net.Memory NetGiven) (rest : Memory → Outcome Memory (List SourceGiven)) (rest' : net.Memory → Outcome net.Memory Arguments)
-      → s ≡ SourceHanded r → IsTaken t r' → MemoryMatch U w → Agrees U K w R r r'
+      → s ≡ SourceHanded r → GoesAsValue r t r' → MemoryMatch U w → Agrees U K w R r r'
       → ((v : World) → Later U K w v → Agrees U K v (ArgumentsMatch U K q (suc i)) (rest v.src) (rest' v.net))
       → Agrees U K w (ArgumentsMatch U K q i) (then s (λ g w. then (rest w) (λ gs w. gives [] (g ∷ gs) w))) (then t (λ g w. then (rest' w) (λ gs w. gives [] (g ∷ gs) w)))
   taken_agrees w r r' s t rest rest' e taken start first more =
-      let both : Agrees U K w (HandedMatch R) s t =
-      subst (λ z. Agrees U K w (HandedMatch R) z t) (sym e)
-      (subst (λ z. Agrees U K w (HandedMatch R) (SourceHanded r) z) (sym taken.goes)
-      (handed_agrees U K w R lasts.like r taken.address (subst (λ z. Agrees U K w R r z) (sym taken.value) first) taken.no_place)) in
+      let both : Agrees U K w (HandedMatch R) s t = subst (λ z. Agrees U K w (HandedMatch R) z t) (sym e) (value_agrees w r r' t taken first) in
       then_agrees U K w (HandedMatch R) (ArgumentsMatch U K q i) s t (λ g w. then (rest w) (λ gs w. gives [] (g ∷ gs) w))
       (λ g w. then (rest' w) (λ gs w. gives [] (g ∷ gs) w)) start both
       (λ g h v m l.

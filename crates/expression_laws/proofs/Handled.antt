@@ -1,5 +1,5 @@
 -- What leads to a value, or to a call: a reference parameter is given the value as a temporary, for a call gives no place.
-use Rattle.std.proofs.Common.{◌≡◌, refl, sym, subst, Bool, true, false, true≢false, List, [], ℕ}
+use Rattle.std.proofs.Common.{◌≡◌, ◌⊎◌, inl, inr, refl, sym, subst, Bool, true, false, true≢false, List, [], ℕ}
 use Rattle.vb6_meaning.specs.Answers.{Answer}
 use Rattle.vb6_meaning.specs.Answers as value
 use Rattle.net_tree.specs.Tree.{Exp, Exps, call_of, paren, path}
@@ -40,10 +40,17 @@ IsNoProperty (to_support name) = Unit {0}
 IsNoProperty (to_library names) = Unit {0}
 IsNoProperty (to_clone s y) = Unit {0}
 
--- such a value, or a call that is no property's
-pub data Handles (S : Scope) : Exp → Type 0 where
-  as_value : (e : Exp) → is_valued e ≡ true → Handles S e
-  as_call : (c : Callee) (names : List (List ℕ)) (args : Exps) → path_start S true names ≡ starts (named c) [] → IsNoProperty c → Handles S (call_of (path names) args)
+-- such a value, a call that is no property's, or what is seen where it is evaluated
+pub data Handles (S : Scope) (Q : Exp → Type 0) : Exp → Type 0 where
+  as_value : (e : Exp) → is_valued e ≡ true → Handles S Q e
+  as_call : (c : Callee) (names : List (List ℕ)) (args : Exps) → path_start S true names ≡ starts (named c) [] → IsNoProperty c
+      → Handles S Q (call_of (path names) args)
+  as_seen : (e : Exp) → Q e → Handles S Q e
+
+pub handles_map : (S : Scope) (Q R : Exp → Type 0) → ((e : Exp) → Q e → R e) → (e : Exp) → Handles S Q e → Handles S R e
+handles_map S Q R f _ (as_value e h) = as_value e h
+handles_map S Q R f _ (as_call c names args start plain) = as_call c names args start plain
+handles_map S Q R f _ (as_seen e q) = as_seen e (f e q)
 
 -- ---- what they lead to
 
@@ -57,13 +64,13 @@ IsHandled (found_at (at_field s y key)) w = ⊥
 IsHandled (named c) w = IsNoProperty c
 IsHandled (called c args) w = IsNoProperty c
 
-yields_behind : (o : List Output) (r : Outcome net.Memory Reached) → Yields IsHandled r → Yields IsHandled (after o r)
+pub yields_behind : (o : List Output) (r : Outcome net.Memory Reached) → Yields IsHandled r → Yields IsHandled (after o r)
 yields_behind o (gives q r w) h = h
 yields_behind o (raises q e w) h = tt
 yields_behind o (spent q w) h = tt
 yields_behind o (outside q) h = tt
 
-yields_then : {A : Type 0} (r : Outcome net.Memory A) (k : A → net.Memory → Outcome net.Memory Reached) → ((a : A) (w : net.Memory) → Yields IsHandled (k a w))
+pub yields_then : {A : Type 0} (r : Outcome net.Memory A) (k : A → net.Memory → Outcome net.Memory Reached) → ((a : A) (w : net.Memory) → Yields IsHandled (k a w))
     → Yields IsHandled (then r k)
 yields_then (gives o a w) k h = yields_behind o (k a w) (h a w)
 yields_then (raises o e w) k h = tt
@@ -127,9 +134,10 @@ module _ (S : Scope) (oracle : Jobs) where
       subst (λ s. Yields IsHandled (then (target.started S oracle s w) (target.applied S oracle modes values))) (sym start)
       (yields_behind [] (then (modes (passings_of S.project c) w) give) (yields_then (modes (passings_of S.project c) w) give (λ gs w. plain)))
 
-  pub handled : (e : Exp) → Handles S e → (w : net.Memory) → Yields IsHandled (target.reach S oracle false e w)
-  handled _ (as_value e h) w = valued e h w
-  handled _ (as_call c names args start plain) w = call_handled c names args start plain w
+  pub handled : (Q : Exp → Type 0) (e : Exp) → Handles S Q e → (w : net.Memory) → Yields IsHandled (target.reach S oracle false e w) ⊎ Q e
+  handled Q _ (as_value e h) w = inl (valued e h w)
+  handled Q _ (as_call c names args start plain) w = inl (call_handled c names args start plain w)
+  handled Q _ (as_seen e q) w = inr q
 
   -- ---- how they are given
 

@@ -31,7 +31,7 @@ use Rattle.run_statements.specs.Frames.{IsKnown, IsOwnStatic, IsGiven, IsPlaced,
 use Rattle.agreeing_laws.proofs.Moves.{matched_whole}
 use Rattle.expression_laws.specs.Images.{HasImage, HaveImages}
 use Rattle.expression_laws.proofs.UsedShapes.{UsedShape, known_used, not_auto, shape_used, stands_as, static_ranked}
-use Rattle.expression_laws.proofs.ModuleImages.{at_key, exactly, field_image, shared_image, some_is}
+use Rattle.expression_laws.proofs.ModuleImages.{at_key, exactly, field_image, named_alone, shared_image, some_is}
 
 exact_same : (U : Upgrade) (K : Pledge) (w : World) (exact : Bool) (a : Address) (b : net.Address) → exact ≡ true → Bound U K w exact a b → Same U K w a b
 exact_same U K w _ _ _ e (images exact a b same) = same
@@ -106,8 +106,9 @@ outer_root D me v file o e outer = ap (static_root D me v) e ∙ ap (λ b. cond 
 
 module _ (U : Upgrade) (K : Pledge) (w : World) (p : ℕ) (f : SourceFrame) (g : NetFrame) (S : net_names.Scope) (vars : S.vars ≡ g.vars) (same_me : S.me ≡ g.me) (T : Scope)
     (same_declarations : T.declarations ≡ U.program.declarations) (h : FrameMatch U K w p f g) where
-  own_image : (v : ℕ) → IsKnown U v → is_own_of U p v ≡ true → (a : Address) → variable_address U.program.declarations f v ≡ Some a → HasImage U K w S T v a
-  own_image v r own a is =
+  own_image : (named : (qualified : Bool) → Bool) (v : ℕ) → IsKnown U v → is_own_of U p v ≡ true → (a : Address)
+      → variable_address U.program.declarations f v ≡ Some a → HasImage U K w S T named v a
+  own_image named v r own a is =
       let of : is_own_owner p r.variable.owner ≡ true = own_is U p v r.variable r.is_variable own in
       let at : lookup (nat_eq v) f.vars ≡ Some a =
       sym (ap (declared_address U.program.declarations f v) r.is_variable ∙ own_address U.program.declarations f p v r.variable.owner of) ∙ is in
@@ -120,7 +121,7 @@ module _ (U : Upgrade) (K : Pledge) (w : World) (p : ℕ) (f : SourceFrame) (g :
       ∙ own_path T q r.variable.name p r.variable.owner of in
       record {
         address = same.address;
-        found = λ q. ap (path_start S false) (path q) ∙ named_start S r.variable.name same.address name;
+        found = λ q so. ap (path_start S false) (path q) ∙ named_start S r.variable.name same.address name;
         bound = same.bound;
         of_scalars = inl (ap is_element place.stands);
         whole = λ relied. ap is_element place.stands;
@@ -134,8 +135,8 @@ module _ (U : Upgrade) (K : Pledge) (w : World) (p : ℕ) (f : SourceFrame) (g :
         };
       }
 
-  static_image : StoreMatch U w → (v : ℕ) → UsedShape U v (variable_shape U.program.declarations v) → IsKnown U v → IsOwnStatic U p v → (a : Address) → variable_address U.program.declarations f v ≡ Some a → HasImage U K w S T v a
-  static_image start v used r s a is =
+  static_image : (named : (qualified : Bool) → Bool) → StoreMatch U w → (v : ℕ) → UsedShape U v (variable_shape U.program.declarations v) → IsKnown U v → IsOwnStatic U p v → (a : Address) → variable_address U.program.declarations f v ≡ Some a → HasImage U K w S T named v a
+  static_image named start v used r s a is =
       let same_is : s.variable ≡ r.variable = some_is s.variable r.variable (sym s.is_variable ∙ r.is_variable) in
       let o = static_owner p s.variable.owner s.is_static in
       let procs = U.program.declarations.procs in
@@ -162,7 +163,7 @@ module _ (U : Upgrade) (K : Pledge) (w : World) (p : ℕ) (f : SourceFrame) (g :
       (same_root (variable_shape U.program.declarations v) x.written (at_key v) x.same x.is_matched x.ranked) in
       record {
         address = address;
-        found = λ q. ap (path_start S false) (path q) ∙ named_start S s.variable.name address name;
+        found = λ q so. ap (path_start S false) (path q) ∙ named_start S s.variable.name address name;
         bound = exactly U K w v a address same;
         of_scalars = inl (ap is_element stands);
         whole = λ relied. ap is_element stands;
@@ -190,8 +191,9 @@ module _ (U : Upgrade) (K : Pledge) (w : World) (p : ℕ) (f : SourceFrame) (g :
         };
       }
 
-  given_image : (v : ℕ) → IsKnown U v → IsGiven U p f v → (a : Address) → variable_address U.program.declarations f v ≡ Some a → HasImage U K w S T v a
-  given_image v r x a is =
+  given_image : (named : (qualified : Bool) → Bool) (v : ℕ) → IsKnown U v → IsGiven U p f v → (a : Address)
+      → variable_address U.program.declarations f v ≡ Some a → HasImage U K w S T named v a
+  given_image named v r x a is =
       let of : is_reference_owner_of p r.variable.owner ≡ true = given_is U p v r.variable r.is_variable x.reference in
       let at : lookup (nat_eq v) f.vars ≡ Some a =
       sym (ap (declared_address U.program.declarations f v) r.is_variable ∙ given_address U.program.declarations f p v r.variable.owner of) ∙ is in
@@ -204,7 +206,7 @@ module _ (U : Upgrade) (K : Pledge) (w : World) (p : ℕ) (f : SourceFrame) (g :
       ∙ given_path T q r.variable.name p r.variable.owner of in
       record {
         address = same.address;
-        found = λ q. ap (path_start S false) (path q) ∙ named_start S r.variable.name same.address name;
+        found = λ q so. ap (path_start S false) (path q) ∙ named_start S r.variable.name same.address name;
         bound = same.bound;
         of_scalars = there.of_scalars;
         whole = there.whole;
@@ -222,10 +224,11 @@ module _ (U : Upgrade) (K : Pledge) (w : World) (p : ℕ) (f : SourceFrame) (g :
   pub images_now : (uses : Uses) → MemoryMatch U w → AreReadable U T uses → ArePlaced U p f S T uses → HaveImages U K w f S T uses
   images_now uses start readable placed v a used is = by (known_used U T uses readable v used) (placed.places v used)
     where
-      by : IsKnown U v.0 → IsPlaced U p f S T v.0 → HasImage U K w S T v.0 a
-      by r (inl own) = own_image v.0 r own a is
-      by r (inr (inl s)) = static_image start.stores v.0 (shape_used U T uses readable v used) r s a is
-      by r (inr (inr (inl s))) = shared_image U K w start.stores f S T v.0 r (shape_used U T uses readable v used) s a is
-      by r (inr (inr (inr (inl x)))) = given_image v.0 r x a is
+      by : IsKnown U v.0 → IsPlaced U p f S T v.0 → HasImage U K w S T (uses.named v) v.0 a
+      by r (inl own) = own_image (uses.named v) v.0 r own a is
+      by r (inr (inl s)) = static_image (uses.named v) start.stores v.0 (shape_used U T uses readable v used) r s a is
+      by r (inr (inr (inl s))) = shared_image U K w start.stores f S T v.0 r (shape_used U T uses readable v used) s (uses.named v) a is
+      by r (inr (inr (inr (inl x)))) = given_image (uses.named v) v.0 r x a is
       by r (inr (inr (inr (inr s)))) =
-          field_image U K w start.stores p f S T v.0 r (shape_used U T uses readable v used) s (h.own_object s.file s.own s.is_class) (same_me ∙ h.me) a is
+          field_image U K w start.stores p f S T v.0 r (shape_used U T uses readable v used) s (h.own_object s.file s.own s.is_class) (same_me ∙ h.me) (uses.named v)
+          (λ q so. named_alone U p S T v s q (placed.named v q so)) a is

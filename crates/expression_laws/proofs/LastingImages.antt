@@ -45,7 +45,7 @@ image_later U K w0 w1 v a b l x = record {
 pub images_later : (U : Upgrade) (K : Pledge) (w0 w1 : World) (f : SourceFrame) (S : net_names.Scope) (T : Scope) (uses : Uses) → MemoryMatch U w0
     → Later U K w0 w1 → HaveImages U K w0 f S T uses → HaveImages U K w1 f S T uses
 images_later U K w0 w1 f S T uses start l h v a used is =
-    let x : HasImage U K w0 S T v.0 a = h v a used is in
+    let x : HasImage U K w0 S T (uses.named v) v.0 a = h v a used is in
     record {
       address = x.address;
       found = x.found;

@@ -8,6 +8,7 @@ pub mod ModuleImages
 pub mod Images
 pub mod LastingImages
 pub mod Giving
+pub mod Me
 pub mod Withs
 pub mod Places
 pub mod FieldValues
@@ -15,25 +16,30 @@ mod LibraryArguments
 mod Inputs
 pub mod Library
 pub mod Arguments
+pub mod Callees
 pub mod Calls
 pub mod References
 pub mod GivenElements
+pub mod NoPlaces
+pub mod Handled
+pub mod Seen
 pub mod Temporaries
 pub mod Nothings
+pub mod BeforeArguments
 pub mod Objects
+pub mod Receivers
 pub mod MemberValues
 pub mod Is
 pub mod GroupArguments
 pub mod GroupCalls
+pub mod CallValues
 pub mod FieldReferences
-pub mod NoPlaces
 pub mod IndexRows
 pub mod Elements
 pub mod ElementValues
 pub mod Bounds
 mod ErrNumbers
 pub mod Handed
-pub mod Handled
 pub mod WrittenValues
 pub mod Operators
 pub mod ArrayUses

@@ -2,7 +2,7 @@
 use Rattle.std.proofs.Common.{◌≡◌, refl, sym, ap, subst, inl, ℕ, Bool, true, ◌&&◌, ◌||◌, true≢false, []}
 use Rattle.vb_tree.specs.BoundTree as types
 use Rattle.vb_tree.specs.BoundTree.{Ty}
-use Rattle.bound_tree.specs.Tree.{Expr, typed, field}
+use Rattle.bound_tree.specs.Tree.{Expr, typed, Term, field, me}
 use Rattle.bound_facts.specs.Node.{type_at}
 use Rattle.run_base.specs.Outcomes.{gives, then}
 use Rattle.vb6_run.specs.Expressions as source
@@ -33,6 +33,7 @@ use Rattle.run_statements.specs.Frames.{AllCalled, AreReadable, ScalarMatch, con
 use Rattle.run_statements.specs.Groups.{ValueMatch}
 use Rattle.row_laws.proofs.Composing.{after_nil, then_gives}
 use Rattle.agreeing_laws.proofs.Agreeing.{agrees_gives, agrees_outside, then_agrees}
+use Rattle.agreeing_laws.proofs.Members.{is_alone}
 use Rattle.expression_laws.proofs.FieldValues.{place_value_agrees, scalar_field_agrees}
 use Rattle.expression_laws.proofs.Objects.{ObjectIs, ObjectMatch, member_declared, member_read, no_value, object_is, reached}
 use Rattle.expression_laws.proofs.Library.{by_either}
@@ -61,31 +62,43 @@ module _ (U : Upgrade) (K : Pledge) (p : ℕ) (f : SourceFrame) (g : NetFrame) (
       (same_agrees U K C ty a b v (inl (ap is_element found.stands)) covers match found.same))
   member_scalar_agrees ty (typed _ t) j covers has object = absurd (true≢false (sym has))
 
-  -- an object that an object has
-  member_object_agrees : (ty : Ty) (e : Expr) (j : ℕ) → covers_object uses (typed ty (field e j)) ≡ true
-      → Agrees U K w (ValueMatch U (type_shape U ty)) (source.value_of C (typed ty (field e j)) w.src)
-      (target.value_of S net_oracle (exp_of T (typed ty (field e j))) w.net)
-  member_object_agrees (types.class d) e j covers =
-      by (object_is U K p f g oracle net_oracle l k c T same_declarations w start uses readable have d (field e j) covers)
+  -- an object that is kept, as a value
+  object_value : (d : ℕ) (t : Term) → is_alone (typed (types.class d) t) ≡ true → covers_object uses (typed (types.class d) t) ≡ true
+      → Agrees U K w (ValueMatch U (simple (types.class d))) (source.value_of C (typed (types.class d) t) w.src)
+      (target.value_of S net_oracle (exp_of T (typed (types.class d) t)) w.net)
+  object_value d t alone covers = by (object_is U K p f g oracle net_oracle l k c T same_declarations w start uses readable have d t covers)
     where
       whole : Expr
-      whole = typed (types.class d) (field e j)
+      whole = typed (types.class d) t
 
       R : World → Value → net_value.Value → Type 0
       R = ValueMatch U (simple (types.class d))
 
-      by : ObjectIs U K C S net_oracle T w d (field e j) → Agrees U K w R (source.value_of C whole w.src) (target.value_of S net_oracle (exp_of T whole) w.net)
+      by : ObjectIs U K C S net_oracle T w d t → Agrees U K w R (source.value_of C whole w.src) (target.value_of S net_oracle (exp_of T whole) w.net)
       by (no_value none) =
           subst (λ z. Agrees U K w R z (target.value_of S net_oracle (exp_of T whole) w.net)) (sym none)
           (agrees_outside U K w R (target.value_of S net_oracle (exp_of T whole) w.net))
-      by (reached r leads agrees) =
-          subst (λ z. Agrees U K w R (source.value_of C whole w.src) (target.value_from S net_oracle z)) (sym (leads.reached refl w.net))
+      by (reached r leads before agrees) =
+          subst (λ z. Agrees U K w R (source.value_of C whole w.src) (target.value_from S net_oracle z)) (sym (leads.reached alone w.net))
           (subst (λ z. Agrees U K w R z (target.value_from S net_oracle (r w.net))) (then_gives (source.value_of C whole w.src))
           (then_agrees U K w (ObjectMatch U d) R (source.value_of C whole w.src) (target.address_from S net_oracle (r w.net)) (λ x v. gives [] x v) target.read start
           agrees
           (λ x a v m later.
           agrees_gives U K v R x (net.looked_up a v.net) later.match (subst (λ z. R v z (net.looked_up a v.net)) (sym m.like.1) (refl, m.like.2)))))
+
+  -- one that an object has
+  member_object_agrees : (ty : Ty) (e : Expr) (j : ℕ) → covers_object uses (typed ty (field e j)) ≡ true
+      → Agrees U K w (ValueMatch U (type_shape U ty)) (source.value_of C (typed ty (field e j)) w.src)
+      (target.value_of S net_oracle (exp_of T (typed ty (field e j))) w.net)
+  member_object_agrees (types.class d) e j covers = object_value d (field e j) refl covers
   member_object_agrees _ e j covers = absurd (true≢false (sym covers))
+
+  -- Me
+  pub me_agrees : (ty : Ty) → covers_object uses (typed ty me) ≡ true
+      → Agrees U K w (ValueMatch U (type_shape U ty)) (source.value_of (context_of U oracle p f l) (typed ty me) w.src)
+      (target.value_of (scope_of U.written c g k) net_oracle (exp_of T (typed ty me)) w.net)
+  me_agrees (types.class d) covers = object_value d me refl covers
+  me_agrees _ covers = absurd (true≢false (sym covers))
 
   -- ---- of either
 

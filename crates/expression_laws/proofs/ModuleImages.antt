@@ -1,8 +1,9 @@
 -- Variables of standard modules, and those of the class of the procedure, are images of each other.
-use Rattle.std.proofs.Common.{◌≡◌, refl, sym, ap, subst, ◌∙◌, inl, inr, ℕ, Bool, true, false, cond, not, [], ◌∷◌, Some, option_map}
+use Rattle.std.proofs.Common.{◌≡◌, refl, sym, ap, subst, ◌∙◌, inl, inr, ℕ, Bool, true, false, cond, not, [], ◌∷◌, Some, option_map, true≢false}
 use Rattle.std.specs.Prelude.{slice_get, is_some}
 use Rattle.std.proofs.lemmas.Bool.{eq-eqb}
 use Rattle.vb_tree.specs.declared.declared.Owner.TheVariants as owner
+use Rattle.vb_tree.specs.declared.declared.VarId.{VarId}
 use Rattle.bound_tree.specs.Tree.{Variable, Declarations}
 use Rattle.bound_facts.specs.Facts.{is_quiet}
 use Rattle.run_base.specs.Positions.{Position, field, shared, whole}
@@ -15,6 +16,7 @@ use Rattle.net_run.specs.Names as net_names
 use Rattle.net_run.specs.Names.{path_start, starts, at_place, own_field}
 use Rattle.net_run.specs.Store as net
 use Rattle.run_matches.specs.Addresses.{Same, same_root, Bound, images, position_of, is_element}
+use Rattle.run_matches.specs.CoveredVariables.{is_class_member, is_named_so, is_of_class}
 use Rattle.run_matches.specs.Frames.{OwnObject}
 use Rattle.run_matches.specs.Kinds.{AreKinds}
 use Rattle.run_matches.specs.Maps.{World, IsMatched, is_auto_root, key_or_none, moved_at}
@@ -84,14 +86,14 @@ module _ (U : Upgrade) (K : Pledge) (w : World) (start : StoreMatch U w) (f : So
       same_root (variable_shape D v) s.written (at_key v) s.same (declared_all U w (shared (v ∷ [])) v refl (variable_shape D v) used m kind)
       (declared_ranked U w start (shared (v ∷ [])) v refl (variable_shape D v) used s.written s.same s.ranked m kind)
 
-  pub shared_image : (a : Address) → variable_address D f v ≡ Some a → HasImage U K w S T v a
-  shared_image a is =
+  pub shared_image : (named : (qualified : Bool) → Bool) (a : Address) → variable_address D f v ≡ Some a → HasImage U K w S T named v a
+  shared_image named a is =
       let stands : a ≡ root (variable_shape D v) (at_key v) =
       some_is a (root (variable_shape D v) (at_key v)) (sym is ∙ shared_address D f v s.variable s.file s.is_variable s.is_owner s.standard) in
       let same : Same U K w a there = subst (λ z. Same U K w z there) (sym stands) shared_same in
       record {
         address = there;
-        found = λ q. s.leads q ∙ ap (λ b. starts (at_place b) []) (sym stands_there);
+        found = λ q so. s.leads q ∙ ap (λ b. starts (at_place b) []) (sym stands_there);
         bound = exactly U K w v a there same;
         of_scalars = inl (ap is_element stands);
         whole = λ relied. ap is_element stands;
@@ -116,6 +118,14 @@ module _ (U : Upgrade) (K : Pledge) (w : World) (start : StoreMatch U w) (f : So
       }
 
 -- ---- those of the class of the procedure
+
+-- what may not be named behind the name of the class is named by itself
+pub named_alone : (U : Upgrade) (p : ℕ) (S : net_names.Scope) (T : Scope) (v : VarId) → IsOwnField U p S T v.0 → (qualified : Bool)
+    → is_named_so U.program.declarations v qualified ≡ true → qualified ≡ false
+named_alone U p S T v s true h =
+    let D : Declarations = U.program.declarations in
+    absurd (true≢false (sym h ∙ ap (λ o. not (is_class_member D o)) s.is_variable ∙ ap (λ o. not (is_of_class D o)) s.is_owner ∙ ap not s.is_class))
+named_alone U p S T v s false h = refl
 
 module _ (U : Upgrade) (K : Pledge) (w : World) (start : StoreMatch U w) (p : ℕ) (f : SourceFrame) (S : net_names.Scope) (T : Scope) (v : ℕ)
     (r : IsKnown U v) (used : UsedShape U v (variable_shape U.program.declarations v)) (s : IsOwnField U p S T v)
@@ -147,18 +157,20 @@ module _ (U : Upgrade) (K : Pledge) (w : World) (start : StoreMatch U w) (p : �
       (declared_all U w (field x.object (v ∷ [])) v refl (variable_shape U.program.declarations v) used field_matched field_kind)
       (declared_ranked U w start (field x.object (v ∷ [])) v refl (variable_shape U.program.declarations v) used s.written s.same s.ranked field_matched field_kind)
 
-  pub field_leads : (qualified : Bool) → path_start S false (variable_path T qualified v) ≡ starts (at_place field_there) []
-  field_leads q =
-      s.leads q ∙ (ap (λ m. starts (own_field s.written s.key m) []) net_me ∙ ap (λ b. starts (at_place b) []) (sym stands_field))
+  pub field_leads : path_start S false (variable_path T false v) ≡ starts (at_place field_there) []
+  field_leads =
+      s.leads ∙ (ap (λ m. starts (own_field s.written s.key m) []) net_me ∙ ap (λ b. starts (at_place b) []) (sym stands_field))
 
-  pub field_image : (a : Address) → variable_address U.program.declarations f v ≡ Some a → HasImage U K w S T v a
-  field_image a is =
+  -- it is named by itself alone
+  pub field_image : (named : (qualified : Bool) → Bool) → ((qualified : Bool) → named qualified ≡ true → qualified ≡ false) → (a : Address)
+      → variable_address U.program.declarations f v ≡ Some a → HasImage U K w S T named v a
+  field_image named alone a is =
       let stands : a ≡ root (variable_shape U.program.declarations v) here =
       some_is a (root (variable_shape U.program.declarations v) here) (sym is ∙ field_address U.program.declarations f v s.variable s.file x.object s.is_variable s.is_owner s.is_class x.is_me) in
       let same : Same U K w a field_there = subst (λ z. Same U K w z field_there) (sym stands) field_same in
       record {
         address = field_there;
-        found = field_leads;
+        found = λ q so. ap (λ z. path_start S false (variable_path T z v)) (alone q so) ∙ field_leads;
         bound = exactly U K w v a field_there same;
         of_scalars = inl (ap is_element stands);
         whole = λ relied. ap is_element stands;

@@ -1,13 +1,19 @@
 -- Objects that are kept, and variables of objects: what is written reaches them.
-use Rattle.std.proofs.Common.{◌≡◌, ◌⊎◌, ◌∙◌, refl, sym, ap, subst, inr, ℕ, Bool, true, false, true≢false, List, [], ◌∷◌, Option, Some, None}
+use Rattle.std.proofs.Common.{◌≡◌, ◌⊎◌, ◌∙◌, refl, sym, ap, subst, inr, ℕ, Bool, true, false, true≢false, List, [], ◌∷◌, Option, Some, None, lt-ltb}
+use Rattle.std.proofs.lemmas.Bool.{eq-eqb}
+use Rattle.std.specs.Prelude.{nat_eq, nat_lt, slice_get}
+use Rattle.up_base.proofs.Tests.{and_true}
 use Rattle.vb_tree.specs.BoundTree as types
 use Rattle.vb_tree.specs.BoundTree.{Ty}
 use Rattle.vb_tree.specs.declared.declared.VarId.{VarId}
-use Rattle.bound_tree.specs.Tree.{Declarations, Expr, typed, Term, variable, field}
+use Rattle.vb_tree.specs.declared.value.Value6.TheVariants as v6
+use Rattle.bound_tree.specs.Tree.{Declarations, Expr, typed, Term, variable, field, me}
 use Rattle.bound_facts.specs.Locks.{is_same_type}
 use Rattle.bound_facts.specs.Members.{field_of}
 use Rattle.bound_facts.specs.Node.{auto_class, type_at, variable_number}
-use Rattle.run_base.specs.Outcomes.{Outcome, gives, raises, spent, outside, then, some_of}
+use Rattle.net_meaning.specs.declared.value.ValueN.TheVariants as n
+use Rattle.net_meaning.specs.ValueMatch.{objects_of}
+use Rattle.run_base.specs.Outcomes.{Outcome, after, gives, raises, spent, outside, then, some_of}
 use Rattle.run_base.specs.Positions as position
 use Rattle.run_base.specs.Positions.{Position, whole}
 use Rattle.vb6_run.specs.Expressions as source
@@ -16,7 +22,7 @@ use Rattle.vb6_run.specs.Forms.{SourceLine}
 use Rattle.vb6_run.specs.Shapes.{Shape, simple, variable_shape}
 use Rattle.vb6_run.specs.Store as store
 use Rattle.vb6_run.specs.Store.{Address, root, Memory, SourceCalls, SourceFrame}
-use Rattle.vb6_run.specs.Values.{Value, is_of_shape}
+use Rattle.vb6_run.specs.Values.{Value, is_of_shape, scalar}
 use Rattle.net_run.specs.Expressions as target
 use Rattle.net_run.specs.Lines.{NetFrame, NetLine, scope_of}
 use Rattle.net_run.specs.Making.{Jobs}
@@ -30,26 +36,28 @@ use Rattle.written_trees.specs.Exprs.{exp_of, made_if, member_of}
 use Rattle.written_trees.specs.Names.{Scope, variable_name, variable_name_of}
 use Rattle.run_matches.specs.Addresses.{Same, same_root}
 use Rattle.run_matches.specs.Agreeing.{Agrees}
-use Rattle.run_matches.specs.CoveredExprs.{Uses, covers_object, has_member, is_passing}
+use Rattle.run_matches.specs.CoveredExprs.{Uses, covers_object, covers_place, has_member, is_passing}
 use Rattle.run_matches.specs.CoveredVariables.{covers_type}
 use Rattle.run_matches.specs.Likeness as likeness
-use Rattle.run_matches.specs.Likeness.{SameShape}
+use Rattle.run_matches.specs.Likeness.{SameShape, like_scalar}
 use Rattle.run_matches.specs.Maps.{World}
 use Rattle.run_matches.specs.Match.{MemoryMatch}
 use Rattle.run_matches.specs.Pledges.{Pledge}
 use Rattle.run_matches.specs.SoundShapes.{IsSoundShape}
 use Rattle.run_matches.specs.Upgrades.{Upgrade, class_home}
 use Rattle.run_matches.specs.UserTypes.{is_class_type}
-use Rattle.run_statements.specs.Frames.{AreReadable, IsMember, ScalarMatch, context_of}
+use Rattle.run_statements.specs.Frames.{AreReadable, IsKnown, IsMember, ScalarMatch, context_of}
 use Rattle.run_statements.specs.Groups.{ValueMatch}
 use Rattle.run_statements.specs.Members.{MemberFound, ReachedMember}
 use Rattle.row_laws.proofs.Composing.{then_assoc, then_gives}
 use Rattle.agreeing_laws.proofs.Agreeing.{agrees_gives, agrees_outside, left_alone, right_alone, then_agrees}
-use Rattle.agreeing_laws.proofs.Members.{Reaches, member_behind, member_reaches}
+use Rattle.agreeing_laws.proofs.Members.{Reaches, me_leads, member_behind, member_reaches}
 use Rattle.memory_laws.proofs.Groups.{groups_are_read}
 use Rattle.memory_laws.proofs.Members.{member_shape, member_sound, members_are_found}
 use Rattle.expression_laws.specs.Statements.{MembersAgreeBy}
+use Rattle.expression_laws.proofs.BeforeArguments.{IsBefore, field_before, me_before, variable_before}
 use Rattle.expression_laws.proofs.Checks.{provided_agrees, source_then}
+use Rattle.expression_laws.proofs.Me.{IsMe, numbered}
 use Rattle.expression_laws.proofs.Nothings.{as_scalar}
 use Rattle.expression_laws.proofs.Places.{place_is}
 use Rattle.expression_laws.proofs.Types.{both_true, same_class}
@@ -68,6 +76,7 @@ pub data ObjectIs (U : Upgrade) (K : Pledge) (C : Context) (S : net_names.Scope)
   no_value : source.value_of C (typed (types.class of_class) t) w.src ≡ outside [] → ObjectIs U K C S oracle T w of_class t
   reached :
       (r : net.Memory → Outcome net.Memory net_names.Reached) → Reaches S oracle T (typed (types.class of_class) t) r
+      → IsBefore S oracle T (typed (types.class of_class) t)
       → Agrees U K w (ObjectMatch U of_class) (source.value_of C (typed (types.class of_class) t) w.src) (target.address_from S oracle (r w.net))
       → ObjectIs U K C S oracle T w of_class t
 
@@ -207,7 +216,7 @@ module _ (U : Upgrade) (K : Pledge) (p : ℕ) (f : SourceFrame) (g : NetFrame) (
     member_parts (no_value none) =
         let r' = target.reach S net_oracle false (exp_of T the_member) w.net in
         subst (λ z. Agrees U K w (ReachedMember U of_class m.number) z r') (sym (absent none)) (agrees_outside U K w (ReachedMember U of_class m.number) r')
-    member_parts (reached r leads agrees) =
+    member_parts (reached r leads before agrees) =
         let R = ReachedMember U of_class m.number in
         subst (λ z. Agrees U K w R z (target.reach S net_oracle false (exp_of T the_member) w.net)) (sym parts_are)
         (subst (λ z. Agrees U K w R (then (source.value_of C e w.src) goes) z)
@@ -266,38 +275,86 @@ module _ (U : Upgrade) (K : Pledge) (p : ℕ) (f : SourceFrame) (g : NetFrame) (
 
     member_is : Is of_class t → Is d (field inner i)
     member_is (no_value none) = no_value (ap (λ z. then z (source.value_in C whole_object)) (absent of_class i t (types.class d) m (types.class d) none))
-    member_is (reached r leads agrees) =
+    member_is (reached r leads before agrees) =
         let name = m.known.variable.name in
         let there : Reaches S net_oracle T whole_object (member_behind S net_oracle r name) =
         member_reaches S net_oracle T inner r leads (types.class d) i name (member_exp of_class i t (types.class d) m (types.class d)) in
-        reached (member_behind S net_oracle r name) there
+        reached (member_behind S net_oracle r name) there (field_before S net_oracle T (types.class d) inner i)
         (subst (λ z. Agrees U K w (ObjectMatch U d) (source.value_of C whole_object w.src) (target.address_from S net_oracle z)) (there.reached refl w.net)
         (subst (λ z. Agrees U K w (ObjectMatch U d) (source.value_of C whole_object w.src) z)
         (then_gives (target.address_of S net_oracle (exp_of T whole_object) w.net))
-        (member_read of_class i t (types.class d) m (types.class d) (inr refl) (reached r leads agrees) (ObjectMatch U d) (λ b v. gives [] b v) reads)))
+        (member_read of_class i t (types.class d) m (types.class d) (inr refl) (reached r leads before agrees) (ObjectMatch U d) (λ b v. gives [] b v) reads)))
 
   -- ---- what keeps an object
 
   module _ (uses : Uses) (readable : AreReadable U T uses) (have : HavePlaces U p f g oracle net_oracle l k c T uses K w) where
     -- a variable
-    variable_is : (d : ℕ) (v : VarId) (qualified : Bool) → uses.group v (types.class d) ≡ true → Is d (variable v qualified)
-    variable_is d v qualified used =
+    variable_is : (d : ℕ) (v : VarId) (qualified : Bool) → covers_place uses (typed (types.class d) (variable v qualified)) ≡ true → Is d (variable v qualified)
+    variable_is d v qualified covers =
         by
-        (place_is U K p f g oracle net_oracle l k c T uses same_declarations readable w have (types.class d) (variable v qualified) tt used)
+        (place_is U K p f g oracle net_oracle l k c T uses same_declarations readable w have (types.class d) (variable v qualified) tt covers)
       where
         the_variable : Expr
         the_variable = typed (types.class d) (variable v qualified)
+
+        known : IsKnown U v.0
+        known = (readable.groups v (types.class d) (both_true (uses.group v (types.class d)) (uses.named v qualified) covers).0).known
+
+        declared : slice_get T.declarations.vars v.0 ≡ Some known.variable
+        declared = ap (λ (E : Declarations). slice_get E.vars v.0) same_declarations ∙ known.is_variable
 
         by : PlaceIs U K C S net_oracle T w (types.class d) the_variable → Is d (variable v qualified)
         by (missing none) = no_value (ap (λ z. then z (source.value_in C the_variable)) (none w.src))
         by (placed r plain x) =
             let a : Address = root (simple (types.class d)) x.position in
-            reached (λ t. gives [] (at_place x.address) t) x.written
+            reached (λ t. gives [] (at_place x.address) t) x.written (variable_before S net_oracle T (types.class d) v qualified known.variable declared known.plain)
             (subst (λ z. Agrees U K w (ObjectMatch U d) z (gives [] x.address w.net))
             (sym (value_by_address C the_variable w.src
             ∙ ap (λ z. then (then z source.finished) (λ a v. then (store.read a v) (Checked C (types.class d)))) (x.found w.src)))
             (left_alone U K w (ObjectMatch U d) (then (store.read a w.src) (Checked C (types.class d))) (gives [] x.address w.net)
             (object_read U K C d x.position x.address w x.sound start x.same)))
+
+    -- Me
+    mine_is : (d : ℕ) → IsMe U f S w d → Is d me
+    mine_is d x =
+        reached (λ t. gives [] (at_place (target.own_object S)) t) (me_leads S net_oracle T (types.class d)) (me_before S net_oracle T (types.class d)) agrees
+      where
+        z : Value
+        z = scalar (types.class d) (v6.Object x.object)
+
+        b : net.Address
+        b = net.constant (shape.class x.home) (net_value.single (n.Object (w.map.objects x.object)))
+
+        is : Outcome Memory Value
+        is = Checked C (types.class d) z w.src
+
+        value_is : source.value_of C (typed (types.class d) me) w.src ≡ after [] (after [] is)
+        value_is =
+            ap (λ o. then (then (source.me_value (types.class d) o w.src) (source.as_new C me)) (source.value_in C (typed (types.class d) me))) x.is_me
+
+        there : ObjectMatch U d w z b
+        there = record {
+          like = (
+            v6.Object x.object,
+            refl,
+            like_scalar (types.class d) (v6.Object x.object) (n.Object (w.map.objects x.object))
+                (objects_of d x.object (w.map.objects x.object)
+                (and_true (nat_lt x.object w.src.next_object) (nat_eq (w.map.objects x.object) (w.map.objects x.object))
+                (lt-ltb x.object w.src.next_object x.is_made) (eq-eqb (w.map.objects x.object) (w.map.objects x.object) refl))),
+          );
+          home = x.home;
+          is_home = x.is_home;
+          shaped = refl;
+        }
+
+        agrees : Agrees U K w (ObjectMatch U d) (source.value_of C (typed (types.class d) me) w.src) (gives [] (target.own_object S) w.net)
+        agrees =
+            subst (λ y. Agrees U K w (ObjectMatch U d) (source.value_of C (typed (types.class d) me) w.src) (gives [] y w.net)) (sym x.written)
+            (subst (λ y. Agrees U K w (ObjectMatch U d) y (gives [] b w.net)) (sym value_is)
+            (left_alone U K w (ObjectMatch U d) (after [] is) (gives [] b w.net)
+            (left_alone U K w (ObjectMatch U d) is (gives [] b w.net)
+            (provided_agrees U K w (ObjectMatch U d) (is_of_shape (source.type_shape (declared C) (types.class d)) z) z (gives [] b w.net)
+            (λ ok. agrees_gives U K w (ObjectMatch U d) z b start there)))))
 
     pub object_is : (d : ℕ) (t : Term) → covers_object uses (typed (types.class d) t) ≡ true
         → ObjectIs U K (context_of U oracle p f l) (scope_of U.written c g k) net_oracle T w d t
@@ -307,6 +364,7 @@ module _ (U : Upgrade) (K : Pledge) (p : ℕ) (f : SourceFrame) (g : NetFrame) (
         let x = member_declared U T uses readable (is_same_type (types.class d)) of_class i (uses.member_type of_class i) refl both.0 in
         member_is of_class i t d (subst (λ z. IsMember U of_class i z) (same_class d x.0 x.1) x.2) (object_is of_class t both.1)
     object_is d (field (typed _ t) i) covers = absurd (true≢false (sym covers))
+    object_is d me covers = mine_is d (have.me d (numbered d uses.me covers))
     object_is d _ covers = absurd (true≢false (sym covers))
 
 -- ---- the law

@@ -94,9 +94,12 @@ module _ (U : Upgrade) (K : Pledge) (p : ℕ) (f : SourceFrame) (g : NetFrame) (
   module _ (w : World) where
     -- ---- variables
 
-    module _ (have : HaveImages U K w f S T uses) (ty : Ty) (v : VarId) (qualified : Bool) (used : uses.group v ty ≡ true) where
+    module _ (have : HaveImages U K w f S T uses) (ty : Ty) (v : VarId) (qualified : Bool) (covers : covers_place uses (typed ty (variable v qualified)) ≡ true) where
       abbrev the_variable : Expr
       the_variable = typed ty (variable v qualified)
+
+      used : uses.group v ty ≡ true
+      used = (both_true (uses.group v ty) (uses.named v qualified) covers).0
 
       of_type : IsGroup U v.0 ty
       of_type = readable.groups v ty used
@@ -109,7 +112,7 @@ module _ (U : Upgrade) (K : Pledge) (p : ℕ) (f : SourceFrame) (g : NetFrame) (
           ∙ ap (λ o. some_of o (λ a w. gives [] (at_address a) w) s) is
 
       module _ (a : Address) (at : variable_address D f v.0 ≡ Some a) where
-        image : HasImage U K w S T v.0 a
+        image : HasImage U K w S T (uses.named v) v.0 a
         image = have v a (inr (inr (ty, used))) at
 
         exact : IsImage U K w v.0 a image.address
@@ -127,7 +130,7 @@ module _ (U : Upgrade) (K : Pledge) (p : ℕ) (f : SourceFrame) (g : NetFrame) (
         leads more m =
             let b : StandsAt image.address = image_stands U K w (type_shape U ty) q a image.address stands exact.same in
             ap (λ z. target.started S net_oracle z m)
-            (path_more S b.0 b.1 (variable_path T qualified v.0) more (image.found qualified ∙ ap (λ z. starts (at_place z) []) b.2)
+            (path_more S b.0 b.1 (variable_path T qualified v.0) more (image.found qualified (both_true (uses.group v ty) (uses.named v qualified) covers).1 ∙ ap (λ z. starts (at_place z) []) b.2)
             ∙ ap (λ z. starts (at_place z) more) (sym b.2))
 
         variable_found : Found w exact.position.root ty the_variable

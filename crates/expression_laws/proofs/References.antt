@@ -90,8 +90,10 @@ source_given C quiet ty v qualified (Some a) m e w =
 
 -- an array variable
 pub array_used : (uses : Uses) (ty : Ty) (v : VarId) (qualified : Bool) → covers_array uses (typed ty (variable v qualified)) ≡ true
-    → (element : Ty) × (uses.array v element ≡ true)
-array_used uses (types.array e rank) v qualified h = (e, h)
+    → (element : Ty) × (uses.array v element ≡ true) × (uses.named v qualified ≡ true)
+array_used uses (types.array e rank) v qualified h =
+    let both = both_true (uses.array v e) (uses.named v qualified) h in
+    (e, both.0, both.1)
 array_used uses _ v qualified h = absurd (cc h)
 
 array_typed : (uses : Uses) (ty : Ty) (v : VarId) (qualified : Bool) → covers_array uses (typed ty (variable v qualified)) ≡ true → is_array_type ty ≡ true
@@ -112,11 +114,24 @@ passed_by uses e h = by (either_true (is_passable uses e && covers_expr uses e) 
 pub scalar_of_passed : (uses : Uses) (e : Expr) → (is_passable uses e && covers_expr uses e) ≡ true → covers_expr uses e ≡ true
 scalar_of_passed uses e h = (both_true (is_passable uses e) (covers_expr uses e) h).1
 
+scalar_used : (uses : Uses) (ty : Ty) (v : VarId) (qualified : Bool) → covers_expr uses (typed ty (variable v qualified)) ≡ true
+    → (uses.scalar v ≡ true) × (uses.named v qualified ≡ true)
+scalar_used uses ty v qualified h =
+    both_true (uses.scalar v) (uses.named v qualified) (both_true (covers_type ty) (uses.scalar v && uses.named v qualified) h).1
+
 used_by : (uses : Uses) (ty : Ty) (v : VarId) (qualified : Bool) → IsPassed uses (typed ty (variable v qualified)) → IsUsed uses v
 used_by uses ty v qualified (inl h) =
-    inl (both_true (covers_type ty) (uses.scalar v) (scalar_of_passed uses (typed ty (variable v qualified)) h)).1
-used_by uses ty v qualified (inr (inl h)) = inr (inl (array_used uses ty v qualified h))
-used_by uses ty v qualified (inr (inr h)) = inr (inr (ty, h))
+    inl (scalar_used uses ty v qualified (scalar_of_passed uses (typed ty (variable v qualified)) h)).0
+used_by uses ty v qualified (inr (inl h)) =
+    let used = array_used uses ty v qualified h in
+    inr (inl (used.0, used.1))
+used_by uses ty v qualified (inr (inr h)) = inr (inr (ty, (both_true (uses.group v ty) (uses.named v qualified) h).0))
+
+-- it is named as it may be
+named_by : (uses : Uses) (ty : Ty) (v : VarId) (qualified : Bool) → IsPassed uses (typed ty (variable v qualified)) → uses.named v qualified ≡ true
+named_by uses ty v qualified (inl h) = (scalar_used uses ty v qualified (scalar_of_passed uses (typed ty (variable v qualified)) h)).1
+named_by uses ty v qualified (inr (inl h)) = (array_used uses ty v qualified h).2
+named_by uses ty v qualified (inr (inr h)) = (both_true (uses.group v ty) (uses.named v qualified) h).1
 
 -- it is no quiet parameter
 passed_exact : (U : Upgrade) (T : Scope) (uses : Uses) → AreReadable U T uses → (ty : Ty) (v : VarId) (qualified : Bool)
@@ -126,7 +141,8 @@ passed_exact U T uses readable ty v qualified (inl h) =
 passed_exact U T uses readable ty v qualified (inr (inl h)) =
     let used = array_used uses ty v qualified h in
     (readable.arrays v used.0 used.1).exact
-passed_exact U T uses readable ty v qualified (inr (inr h)) = (readable.groups v ty h).exact
+passed_exact U T uses readable ty v qualified (inr (inr h)) =
+    (readable.groups v ty (both_true (uses.group v ty) (uses.named v qualified) h).0).exact
 
 no_array : (uses : Uses) (e : Expr) → covers_array uses e ≡ true → is_variable e ≡ false → ⊥
 no_array uses (typed (types.array e rank) (variable v qualified)) h other = true≢false other
@@ -201,10 +217,10 @@ parameter_ranked : (U : Upgrade) (K : Pledge) (w : World) (T : Scope) (uses : Us
     → suits_array U.program.declarations q i (typed ty (variable v qualified)) ≡ true → (a : Address)
     (b : net.Address) (x : IsImage U K w v.0 a b) → HasParameterRank U q i (net.shape_at b)
 parameter_ranked U K w T uses readable q i ty v qualified (inl h) fits suits a b x =
-    let r : IsReadable U v.0 = readable.scalars v (both_true (covers_type ty) (uses.scalar v) (scalar_of_passed uses (typed ty (variable v qualified)) h)).1 in
+    let r : IsReadable U v.0 = readable.scalars v (scalar_used uses ty v qualified (scalar_of_passed uses (typed ty (variable v qualified)) h)).0 in
     plain_ranked U K w q i a b r.variable.ty x.position (scalar_stands U v.0 r a x.position x.stands) x.same
 parameter_ranked U K w T uses readable q i ty v qualified (inr (inr h)) fits suits a b x =
-    let r : IsGroup U v.0 ty = readable.groups v ty h in
+    let r : IsGroup U v.0 ty = readable.groups v ty (both_true (uses.group v ty) (uses.named v qualified) h).0 in
     group_ranked U K w q i (type_shape U ty) a b x.position r.sound (group_stands U v.0 ty r a x.position x.stands x.target) x.same
 parameter_ranked U K w T uses readable q i ty v qualified (inr (inl h)) fits suits a b x =
     let used = array_used uses ty v qualified h in
@@ -223,14 +239,14 @@ scalar_declared U a ty p (inr e) = subst (λ z. IsDeclaredAt U z) (sym e.1) tt
 parameter_declared : (U : Upgrade) (K : Pledge) (w : World) (T : Scope) (uses : Uses) → AreReadable U T uses → (ty : Ty) (v : VarId) (qualified : Bool)
     → IsPassed uses (typed ty (variable v qualified)) → (a : Address) (b : net.Address) → IsImage U K w v.0 a b → IsDeclaredAt U a
 parameter_declared U K w T uses readable ty v qualified (inl h) a b x =
-    let r : IsReadable U v.0 = readable.scalars v (both_true (covers_type ty) (uses.scalar v) (scalar_of_passed uses (typed ty (variable v qualified)) h)).1 in
+    let r : IsReadable U v.0 = readable.scalars v (scalar_used uses ty v qualified (scalar_of_passed uses (typed ty (variable v qualified)) h)).0 in
     scalar_declared U a r.variable.ty x.position (scalar_stands U v.0 r a x.position x.stands)
 parameter_declared U K w T uses readable ty v qualified (inr (inl h)) a b x =
     let used = array_used uses ty v qualified h in
     let stands = array_stands U v.0 used.0 (readable.arrays v used.0 used.1) a x.position x.stands in
     subst (λ z. IsDeclaredAt U z) (sym stands.1) tt
 parameter_declared U K w T uses readable ty v qualified (inr (inr h)) a b x =
-    let r : IsGroup U v.0 ty = readable.groups v ty h in
+    let r : IsGroup U v.0 ty = readable.groups v ty (both_true (uses.group v ty) (uses.named v qualified) h).0 in
     subst (λ z. IsDeclaredAt U z) (sym (group_stands U v.0 ty r a x.position x.stands x.target)) (declared_group U ty r.covers)
 
 -- ---- the target
@@ -333,12 +349,12 @@ module _ (U : Upgrade) (K : Pledge) (p : ℕ) (f : SourceFrame) (g : NetFrame) (
           (target.reach (scope_of U.written c g k) net_oracle false (path (variable_path T qualified v.0)) w.net))
           (λ g w. then (rest' w) (λ gs w. gives [] (g ∷ gs) w)))
       by (Some a) at used loud =
-          let x : HasImage U K w (scope_of U.written c g k) T v.0 a = have v a used at in
+          let x : HasImage U K w (scope_of U.written c g k) T (uses.named v) v.0 a = have v a used at in
           let y : IsImage U K w v.0 a x.address = x.image loud in
           subst (λ z. Agrees U K w (ArgumentsMatch U K q i)
           (then (source.given_address quiet a w.src) (λ g w. then (rest w) (λ gs w. gives [] (g ∷ gs) w)))
           (then z (λ g w. then (rest' w) (λ gs w. gives [] (g ∷ gs) w))))
-          (sym (target_given (scope_of U.written c g k) net_oracle mode (variable_path T qualified v.0) x.address w.net takes (x.found qualified)
+          (sym (target_given (scope_of U.written c g k) net_oracle mode (variable_path T qualified v.0) x.address w.net takes (x.found qualified (named_by uses ty v qualified passed))
           (image_given U K w a x.address y.same)))
           (given_agrees w quiet a x.address rest rest' start y.same y.target (λ e. x.whole (handed_whole U.program q i ty v qualified hands e)) y.plain
           (parameter_ranked U K w T uses readable q i ty v qualified passed fits suits a x.address y, parameter_declared U K w T uses readable ty v qualified passed a x.address y) more)

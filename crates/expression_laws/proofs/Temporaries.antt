@@ -1,5 +1,5 @@
 -- Values that are given where a reference is taken: temporaries.
-use Rattle.std.proofs.Common.{◌≡◌, refl, sym, ap, subst, ◌∙◌, Bool, true, false, cond, ◌||◌, true≢false, [], ◌++◌, append-nil}
+use Rattle.std.proofs.Common.{◌≡◌, ◌⊎◌, inl, inr, refl, sym, ap, subst, ◌∙◌, Bool, true, false, cond, ◌||◌, true≢false, List, [], ◌++◌, append-nil}
 use Rattle.vb_tree.specs.BoundTree as types
 use Rattle.vb_tree.specs.BoundTree.{Ty}
 use Rattle.bound_tree.specs.Tree.{Expr, typed, convert, by_reference}
@@ -9,9 +9,10 @@ use Rattle.net_tree.specs.Tree.{Exp, paren}
 use Rattle.net_tree.specs.declared.declaration.NetPassing.{NetPassing}
 use Rattle.net_tree.specs.declared.declaration.NetPassing.TheVariants as passing
 use Rattle.run_base.specs.Frames.{by_value}
-use Rattle.run_base.specs.Outcomes.{Outcome, gives, outside, raises, spent, then}
+use Rattle.run_base.specs.Outcomes.{Outcome, Output, gives, outputs, outside, raises, spent, then}
 use Rattle.vb6_run.specs.Expressions as source
 use Rattle.vb6_run.specs.Store.{Memory}
+use Rattle.vb6_run.specs.Values.{Value}
 use Rattle.net_run.specs.Expressions as target
 use Rattle.net_run.specs.Making.{Jobs}
 use Rattle.net_run.specs.Names.{Scope, at_address, found_at}
@@ -22,13 +23,16 @@ use Rattle.written_trees.specs.Arguments.{argument_exp, copy_by, has_address, in
 use Rattle.written_trees.specs.Exprs.{exp_of}
 use Rattle.written_trees.specs.Names as written_names
 use Rattle.run_matches.specs.CoveredVariables.{covers_type}
+use Rattle.run_matches.specs.Maps.{World}
 use Rattle.run_matches.specs.Pledges.{NetGiven}
 use Rattle.agreeing_laws.specs.Promises.{Yields}
+use Rattle.agreeing_laws.proofs.Outputs.{outputs_then}
 use Rattle.row_laws.proofs.Composing.{then_assoc, then_gives}
 use Rattle.run_statements.specs.Frames.{passing_by}
 use Rattle.expression_laws.proofs.Calls.{argument_is, given_is}
 use Rattle.expression_laws.proofs.Handled.{Handed, Handles, IsHandled, handled, handled_given, handled_place, paren_handled}
 use Rattle.expression_laws.proofs.NoPlaces.{NoPlace, yields_then}
+use Rattle.expression_laws.proofs.Seen.{IsSeen, leads, leaves}
 
 -- ---- what goes as a value
 
@@ -38,6 +42,11 @@ pub record IsTaken (t : Outcome net.Memory NetGiven) (v : Outcome net.Memory net
   pub goes : t ≡ Handed address
   pub no_place : Yields NoPlace address
   pub value : then address target.read ≡ v
+
+-- so it is, or the source has left before, and what is written has put out the same until then
+pub data GoesAsValue (s : Outcome Memory Value) (t : Outcome net.Memory NetGiven) (v : Outcome net.Memory net_value.Value) : Type 0 where
+  goes_as : IsTaken t v → GoesAsValue s t v
+  goes_out : (o rest : List Output) → s ≡ outside o → outputs t ≡ o ++ rest → GoesAsValue s t v
 
 -- the parameter takes a value
 value_taken : (t : Outcome net.Memory NetGiven) (v : Outcome net.Memory net_value.Value) → t ≡ then v (λ y w. gives [] (by_value y) w) → IsTaken t v
@@ -64,15 +73,13 @@ module _ (S : Scope) (oracle : Jobs) where
   abbrev Taken : Exp → Exp → net.Memory → Type 0
   Taken x e w = IsTaken (target.given S oracle passing.Reference (target.reach S oracle false x w)) (target.value_of S oracle e w)
 
-  alone : (e : Exp) (w : net.Memory) → Handles S e → Taken e e w
-  alone e w h =
-      let y : Yields IsHandled (target.reach S oracle false e w) = handled S oracle e h w in
-      record {
-        address = target.address_of S oracle e w;
-        goes = handled_given S oracle (target.reach S oracle false e w) y;
-        no_place = handled_place S oracle (target.reach S oracle false e w) y;
-        value = refl;
-      }
+  alone : (e : Exp) (w : net.Memory) → Yields IsHandled (target.reach S oracle false e w) → Taken e e w
+  alone e w y = record {
+    address = target.address_of S oracle e w;
+    goes = handled_given S oracle (target.reach S oracle false e w) y;
+    no_place = handled_place S oracle (target.reach S oracle false e w) y;
+    value = refl;
+  }
 
   in_parens : (e : Exp) (w : net.Memory) → Taken (paren e) e w
   in_parens e w =
@@ -84,16 +91,34 @@ module _ (S : Scope) (oracle : Jobs) where
         value = in_value (target.address_of S oracle e w);
       }
 
-  module _ (T : written_names.Scope) (e : Expr) (uncopied : needs_copy T.facts e ≡ false) (w : net.Memory)
-      (handles : has_address T.declarations (kept e) ≡ false → Handles S (exp_of T e)) where
-    by_test : (b : Bool) → (b ≡ false → Handles S (exp_of T e)) → Taken (in_parentheses b (exp_of T e)) (exp_of T e) w
-    by_test true h = in_parens (exp_of T e) w
-    by_test false h = alone (exp_of T e) w (h refl)
+  module _ (C : source.Context) (T : written_names.Scope) (e : Expr) (uncopied : needs_copy T.facts e ≡ false) (w : World)
+      (handles : has_address T.declarations (kept e) ≡ false → Handles S (IsSeen C S oracle w e) (exp_of T e)) where
+    abbrev GoesFor : Exp → Type 0
+    GoesFor x =
+        GoesAsValue (source.value_of C e w.src) (target.given S oracle passing.Reference (target.reach S oracle false x w.net))
+        (target.value_of S oracle (exp_of T e) w.net)
+
+    seen_goes : IsSeen C S oracle w e (exp_of T e) → GoesFor (exp_of T e)
+    seen_goes (leads y) = goes_as (alone (exp_of T e) w.net y)
+    seen_goes (leaves o rest is out) =
+        let r = target.reach S oracle false (exp_of T e) w.net in
+        let x = outputs_then o rest r (target.referred_parts S oracle) out in
+        let y = outputs_then o x.0 (then r (target.referred_parts S oracle)) target.finished x.1 in
+        let z = outputs_then o y.0 (then (then r (target.referred_parts S oracle)) target.finished) (λ a w. gives [] (target.given_by a) w) y.1 in
+        goes_out o z.0 (ap (λ q. then q (source.value_in C e)) is) z.1
+
+    by_test : (b : Bool) → (b ≡ false → Handles S (IsSeen C S oracle w e) (exp_of T e)) → GoesFor (in_parentheses b (exp_of T e))
+    by_test true h = goes_as (in_parens (exp_of T e) w.net)
+    by_test false h = by (handled S oracle (IsSeen C S oracle w e) (exp_of T e) (h refl) w.net)
+      where
+        by : Yields IsHandled (target.reach S oracle false (exp_of T e) w.net) ⊎ IsSeen C S oracle w e (exp_of T e) → GoesFor (exp_of T e)
+        by (inl y) = goes_as (alone (exp_of T e) w.net y)
+        by (inr s) = seen_goes s
 
     -- what has an address is in parentheses
-    pub temporary_taken : Taken (temporary_exp T e (exp_of T e)) (exp_of T e) w
-    temporary_taken =
-        subst (λ b. Taken (cond b (copy_by (type_at e) (exp_of T e)) (in_parentheses (has_address T.declarations (kept e)) (exp_of T e))) (exp_of T e) w)
+    pub temporary_goes : GoesFor (temporary_exp T e (exp_of T e))
+    temporary_goes =
+        subst (λ b. GoesFor (cond b (copy_by (type_at e) (exp_of T e)) (in_parentheses (has_address T.declarations (kept e)) (exp_of T e))))
         (sym uncopied) (by_test (has_address T.declarations (kept e)) handles)
 
 -- ---- conversions that are given by reference
@@ -118,26 +143,30 @@ conversion_given C quiet (typed ty _) w covers h = absurd (true≢false (sym h))
 
 -- ---- arguments
 
-module _ (S : Scope) (oracle : Jobs) (T : written_names.Scope) (e : Expr) (uncopied : needs_copy T.facts e ≡ false) (w : net.Memory)
-    (handles : has_address T.declarations (kept e) ≡ false → Handles S (exp_of T e)) where
+module _ (C : source.Context) (S : Scope) (oracle : Jobs) (T : written_names.Scope) (e : Expr) (uncopied : needs_copy T.facts e ≡ false) (w : World)
+    (handles : has_address T.declarations (kept e) ≡ false → Handles S (IsSeen C S oracle w e) (exp_of T e)) where
   abbrev Goes : NetPassing → bound.Argument → Bool → Type 0
   Goes mode a referred =
-      IsTaken (target.given S oracle mode (target.reach S oracle false (argument_exp T referred a (exp_of T e)) w)) (target.value_of S oracle (exp_of T e) w)
+      GoesAsValue (source.value_of C e w.src) (target.given S oracle mode (target.reach S oracle false (argument_exp T referred a (exp_of T e)) w.net))
+      (target.value_of S oracle (exp_of T e) w.net)
 
   -- a value goes as one, whatever its parameter takes
   pub value_goes : (b : Bool) (mode : NetPassing) (referred : Bool) → mode ≡ passing_by b → referred ≡ b → Goes mode (bound.by_value e) referred
   value_goes true mode referred m r =
       subst (λ z. Goes z (bound.by_value e) referred) (sym m)
-      (subst (λ z. Goes passing.Reference (bound.by_value e) z) (sym r) (temporary_taken S oracle T e uncopied w handles))
+      (subst (λ z. Goes passing.Reference (bound.by_value e) z) (sym r) (temporary_goes S oracle C T e uncopied w handles))
   value_goes false mode referred m r =
-      value_taken (target.given S oracle mode (target.reach S oracle false (argument_exp T referred (bound.by_value e) (exp_of T e)) w))
-      (target.value_of S oracle (exp_of T e) w)
-      (ap (λ z. target.given S oracle mode (target.reach S oracle false z w)) (argument_is T referred e r uncopied) ∙ given_is S oracle mode (exp_of T e) w m)
+      goes_as
+      (value_taken (target.given S oracle mode (target.reach S oracle false (argument_exp T referred (bound.by_value e) (exp_of T e)) w.net))
+      (target.value_of S oracle (exp_of T e) w.net)
+      (ap (λ z. target.given S oracle mode (target.reach S oracle false z w.net)) (argument_is T referred e r uncopied)
+      ∙ given_is S oracle mode (exp_of T e) w.net m))
 
   -- and so does a conversion that is given by reference
   pub conversion_goes : (mode : NetPassing) (referred : Bool) → covers_type (type_at e) ≡ true → mode ≡ passing.Reference → is_conversion e ≡ true
       → Goes mode (by_reference e) referred
   conversion_goes mode referred covers m is =
       subst (λ z. Goes z (by_reference e) referred) (sym m)
-      (subst (λ z. IsTaken (target.given S oracle passing.Reference (target.reach S oracle false z w)) (target.value_of S oracle (exp_of T e) w))
-      (sym (conversion_written T referred e (exp_of T e) covers is)) (temporary_taken S oracle T e uncopied w handles))
+      (subst (λ z. GoesAsValue (source.value_of C e w.src) (target.given S oracle passing.Reference (target.reach S oracle false z w.net))
+      (target.value_of S oracle (exp_of T e) w.net))
+      (sym (conversion_written T referred e (exp_of T e) covers is)) (temporary_goes S oracle C T e uncopied w handles))

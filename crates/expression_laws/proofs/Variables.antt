@@ -215,11 +215,11 @@ module _ (U : Upgrade) (K : Pledge) (p : ℕ) (f : SourceFrame) (g : NetFrame) (
 module _ (U : Upgrade) (K : Pledge) (p : ℕ) (f : SourceFrame) (g : NetFrame) (oracle : SourceCalls) (net_oracle : Jobs)
     (l : SourceLine) (k : NetLine) (c : Code) (T : Scope) (uses : Uses) where
   pub variable_agrees : (ty : Ty) (v : VarId) (qualified : Bool) (w : World) → T.declarations ≡ U.program.declarations → AreReadable U T uses
-      → HaveImages U K w f (scope_of U.written c g k) T uses → uses.scalar v ≡ true → covers_type ty ≡ true → MemoryMatch U w
+      → HaveImages U K w f (scope_of U.written c g k) T uses → uses.scalar v ≡ true → uses.named v qualified ≡ true → covers_type ty ≡ true → MemoryMatch U w
       → Agrees U K w (ScalarMatch U ty)
       (source.value_of (context_of U oracle p f l) (typed ty (variable v qualified)) w.src)
       (target.value_of (scope_of U.written c g k) net_oracle (exp_of T (typed ty (variable v qualified))) w.net)
-  variable_agrees ty v qualified w same readable have used covers start =
+  variable_agrees ty v qualified w same readable have used named covers start =
       let r : IsReadable U v.0 = readable.scalars v used in
       subst (λ m. From U K p f g oracle net_oracle l k c T ty v qualified w (variable_address U.program.declarations f v.0) m)
       (sym (auto_none U.program.declarations.vars v.0 r.variable r.is_variable r.covers))
@@ -237,8 +237,8 @@ module _ (U : Upgrade) (K : Pledge) (p : ℕ) (f : SourceFrame) (g : NetFrame) (
           → From U K p f g oracle net_oracle l k c T ty v qualified w o None
       by_address None is r = agrees_outside U K w (ScalarMatch U ty) (Whole U K p f g oracle net_oracle l k c T ty v qualified w)
       by_address (Some a) is r =
-          let x : HasImage U K w (scope_of U.written c g k) T v.0 a = have v a (inl used) is in
+          let x : HasImage U K w (scope_of U.written c g k) T (uses.named v) v.0 a = have v a (inl used) is in
           subst (λ z. Agrees U K w (ScalarMatch U ty) (after [] (then (after [] (store.read a w.src)) (Checked (context_of U oracle p f l) ty))) z)
-          (sym (written r x.address (x.found qualified)))
+          (sym (written r x.address (x.found qualified named)))
           (left_alone U K w (ScalarMatch U ty) (then (after [] (store.read a w.src)) (Checked (context_of U oracle p f l) ty)) (target.read x.address w.net)
           (bound_agrees U K (context_of U oracle p f l) ty (not (is_quiet U.program.declarations U.known v.0)) a x.address w x.of_scalars covers start x.bound))

@@ -1,5 +1,5 @@
 -- Places of user types, and what a With keeps: they are found on both sides, and stay so.
-use Rattle.std.proofs.Common.{◌≡◌, ◌∙◌, ◌⊎◌, refl, ap, subst, inl, inr, ℕ, false, List, []}
+use Rattle.std.proofs.Common.{◌≡◌, ◌∙◌, ◌⊎◌, refl, ap, subst, inl, inr, ℕ, false, List, [], Some}
 use Rattle.vb_tree.specs.BoundTree as types
 use Rattle.vb_tree.specs.BoundTree.{Ty}
 use Rattle.bound_tree.specs.Tree.{Expr, typed, with_object}
@@ -31,6 +31,7 @@ use Rattle.expression_laws.specs.Images.{HaveImages}
 use Rattle.expression_laws.proofs.Giving.{giving, giving_more, images_giving}
 use Rattle.expression_laws.proofs.Images.{images_now}
 use Rattle.expression_laws.proofs.LastingImages.{images_later, plain_later}
+use Rattle.expression_laws.proofs.Me.{IsMe, me_later, me_now}
 use Rattle.expression_laws.proofs.ModuleImages.{some_is}
 
 -- what the source does with a place, in any memory; it stands in a variable that is no As New one
@@ -54,10 +55,11 @@ module _ (U : Upgrade) (p : ℕ) (f : SourceFrame) (g : NetFrame) (oracle : Sour
   abbrev Is : Pledge → World → Ty → Expr → Type 0
   Is K w ty e = PlaceIs U K C S net_oracle T w ty e
 
-  -- variables that are used stand on both sides, and so does what a With keeps
+  -- variables that are used stand on both sides, and so do what a With keeps and Me
   pub record HavePlaces (K : Pledge) (w : World) : Type 0 where
     pub variables : HaveImages U K w f S T uses
     pub withs : (t : ℕ) (r : expression.Root) → StandsWithin U p l k (types.user t) r → PlaceIs U K C S net_oracle T w (types.user t) (typed (types.user t) (with_object r))
+    pub me : (class : ℕ) → uses.me ≡ Some class → IsMe U f S w class
 
   -- ---- later, and while arrays are kept
 
@@ -100,12 +102,14 @@ module _ (U : Upgrade) (p : ℕ) (f : SourceFrame) (g : NetFrame) (oracle : Sour
   places_later K w v start later have = record {
     variables = images_later U K w v f S T uses start later have.variables;
     withs = λ t r x. is_later K w v (types.user t) (typed (types.user t) (with_object r)) later (have.withs t r x);
+    me = λ class used. me_later U f S class K w v later (have.me class used);
   }
 
   pub places_giving : (K : Pledge) (ts : List Ty) (w : World) → MemoryMatch U w → HavePlaces K w → HavePlaces (giving K ts) w
   places_giving K ts w start have = record {
     variables = images_giving U K ts w start f S T uses have.variables;
     withs = λ t r x. is_giving K ts w (types.user t) (typed (types.user t) (with_object r)) (have.withs t r x);
+    me = have.me;
   }
 
   -- ---- where a line begins
@@ -125,4 +129,5 @@ module _ (U : Upgrade) (p : ℕ) (f : SourceFrame) (g : NetFrame) (oracle : Sour
     places_now start declarations readable stands = record {
       variables = images_now U K w p f g S refl refl T declarations frames uses start readable stands;
       withs = with_is;
+      me = λ class used. me_now U f S class K w p g frames refl (stands.me class used) (stands.here class used).is_home (stands.here class used).is_class;
     }

@@ -28,10 +28,11 @@ pub record IsImage (U : Upgrade) (K : Pledge) (w : World) (v : ℕ) (a : Address
   -- an array has the rank of its declaration
   pub ranked : (element : shape.Shape) (rank : ℕ) → net.shape_at b ≡ shape.array element rank → rank ≡ U.facts.rank v
 
--- What is written for a variable of the source leads to one of the target. A quiet parameter may stand for a value on either side.
-pub record HasImage (U : Upgrade) (K : Pledge) (w : World) (S : net_names.Scope) (T : Scope) (v : ℕ) (a : Address) : Type 0 where
+-- What is written for a variable of the source, where it may be named so, leads to one of the target. A quiet parameter may stand for a
+-- value on either side.
+pub record HasImage (U : Upgrade) (K : Pledge) (w : World) (S : net_names.Scope) (T : Scope) (named : (qualified : Bool) → Bool) (v : ℕ) (a : Address) : Type 0 where
   pub address : net.Address
-  pub found : (qualified : Bool) → path_start S false (variable_path T qualified v) ≡ starts (at_place address) []
+  pub found : (qualified : Bool) → named qualified ≡ true → path_start S false (variable_path T qualified v) ≡ starts (at_place address) []
   pub bound : Bound U K w (not (is_quiet U.program.declarations U.known v)) a address
   pub of_scalars : IsWhole a ⊎ IsElement a
   pub whole : is_relied_on U.program v ≡ true → IsWhole a
@@ -39,4 +40,4 @@ pub record HasImage (U : Upgrade) (K : Pledge) (w : World) (S : net_names.Scope)
 
 abbrev pub HaveImages : Upgrade → Pledge → World → SourceFrame → net_names.Scope → Scope → Uses → Type 0
 HaveImages U K w f S T uses =
-    (v : VarId) (a : Address) → IsUsed uses v → variable_address U.program.declarations f v.0 ≡ Some a → HasImage U K w S T v.0 a
+    (v : VarId) (a : Address) → IsUsed uses v → variable_address U.program.declarations f v.0 ≡ Some a → HasImage U K w S T (uses.named v) v.0 a

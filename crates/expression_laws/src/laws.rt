@@ -38,14 +38,14 @@ pub fn places_agree()
     ensures { (U : Upgrade) (p : ℕ) (w : World) (f : SourceFrame) → PlacesAgreeBy U (frame_pledge U p w f) }
 {}
 
-/// A law: a variable of an object that is kept, by a variable or by a variable of such an object, has parts that are the images of the
-/// source's; whether there is an object is seen behind them.
+/// A law: a variable of an object that is kept, by a variable or by a variable of such an object, or of Me, has parts that are the images
+/// of the source's; whether there is an object is seen behind them.
 pub fn members_agree()
     ensures { (U : Upgrade) (p : ℕ) (w : World) (f : SourceFrame) → MembersAgreeBy U (frame_pledge U p w f) }
 {}
 
-/// A law: a user type or an object as a value, of a place, of a variable of an object, what a Function gives or Nothing, matches what is
-/// written for it.
+/// A law: a user type or an object as a value, of a place, of a variable of an object, Me, what a Function gives or Nothing, matches what
+/// is written for it.
 pub fn groups_agree()
     ensures { (U : Upgrade) (sound : ParametersAreSound U) (p : ℕ) (w : World) (f : SourceFrame) → GroupsAgreeBy U (frame_pledge U p w f) }
 {}

@@ -1,4 +1,9 @@
+pub mod Chains
+pub mod Fits
 pub mod Unmarked
 pub mod Written
 pub mod Stores
 pub mod Stated
+pub mod ObjectsWritten
+pub mod ObjectStores
+pub mod ObjectsStated

@@ -1,7 +1,7 @@
 -- The memories match under the map, so that Main may be called.
-use Rattle.std.proofs.Common.{◌≡◌, inl, inr, refl, sym, ap, subst, ◌∙◌, ℕ, zero, suc, ◌+◌, ◌<◌, ◌≤◌, ◌^◌, pos, Bool, true, false, List, [], ◌∷◌, length, Some, None, arith, true≢false}
+use Rattle.std.proofs.Common.{◌≡◌, inl, inr, refl, sym, ap, subst, ◌∙◌, ℕ, zero, suc, ◌+◌, ◌<◌, ◌^◌, pos, Bool, true, false, cond, List, [], ◌∷◌, length, Some, None, arith, true≢false}
 use Rattle.std.proofs.lemmas.Bool.{eqb-true, true≢false}
-use Rattle.std.specs.Prelude.{nat_eq, Option, slice_get}
+use Rattle.std.specs.Prelude.{nat_eq, slice_get}
 use Rattle.bound_facts.specs.SelfMade.{module_of}
 use Rattle.vb6_run.specs.Runnables.{is_class_file}
 use Rattle.vb6_run.specs.Programs.{is_module_variable}
@@ -17,17 +17,20 @@ use Rattle.vb6_run.specs.Programs.{is_module_variable}
 use Rattle.vb6_run.specs.Shapes.{simple}
 use Rattle.vb6_run.specs.Store.{blank}
 use Rattle.net_run.specs.Store as net
-use Rattle.run_matches.specs.Addresses.{no_args}
+use Rattle.run_matches.specs.Addresses.{ArgsOk, no_args}
 use Rattle.run_matches.specs.Likeness.{same_scalar, same_counts, like_scalar, no_items, next_item, same_elements}
-use Rattle.run_matches.specs.Maps.{IsMatched, has_key, mark, net_mark, IsUnmade, moved_at}
+use Rattle.run_matches.specs.Maps.{IsMatched, World, has_key, mark, net_mark, IsUnmade, moved_at}
 use Rattle.run_matches.specs.Pledges.{stands_in_class}
 use Rattle.run_matches.specs.Match.{HeldAs, Holds, holds_blank, holds_single, holds_table, StoreMatch}
-use Rattle.run_matches.specs.Runs.{Start}
+use Rattle.run_matches.specs.Runs.{Start, call_pledge}
+use Rattle.run_matches.specs.Upgrades.{Upgrade}
+use Rattle.vb_tree.specs.declared.declared.Owner.{Owner}
+use Rattle.name_laws.proofs.Lists.{some_same}
 use Rattle.run_laws.proofs.Covered.{not_none}
 use Rattle.inhabited_laws.specs.Memories.{arrays_at, cell_at, held_at, items, sample_map, sample_source, sample_target, sample_world, seven_if, three}
 use Rattle.inhabited_laws.specs.Sample.{program, sample}
 
-abbrev at : Root → List ℕ → Position
+abbrev pub at : Root → List ℕ → Position
 at r path = record { root = r; path = path }
 
 -- of the variables total alone has a key
@@ -132,48 +135,45 @@ unmade_at (made zero) path u = absurd (omega (arith, u))
 unmade_at (made (suc p)) path u = refl
 unmade_at (field o k) path u = refl
 
-not_seven : (p : ℕ) (b : Bool) → nat_eq p 17 ≡ b → 18 ≤ p → seven_if b ≡ net.blank
-not_seven p true e le = absurd (let same : p ≡ 17 = eqb-true p 17 e in omega arith)
-not_seven p false e le = refl
+-- nor behind the last number that was made
+pub behind : (last n : ℕ) (b : Bool) (c : net.Cell) → nat_eq n last ≡ b → last < n → cond b c net.blank ≡ net.blank
+behind last n true c e lt = absurd (let same : n ≡ last = eqb-true n last e in omega arith)
+behind last n false c e lt = refl
 
 net_unmade_at : (r : Root) (path : List ℕ) → IsUnmade (net_mark sample_target) r → cell_at r path ≡ net.blank
 net_unmade_at (shared k) path u = absurd u
-net_unmade_at (made p) [] u = not_seven p (nat_eq p 17) refl u
+net_unmade_at (made p) [] u = behind 17 p (nat_eq p 17) (net.holds (n.Integer (pos 7))) refl u
 net_unmade_at (made p) (i ∷ path) u = refl
 net_unmade_at (field o k) path u = refl
 
-below_zero : (a : ℕ) {B : Type 0} → a < 0 → B
+pub below_zero : (a : ℕ) {B : Type 0} → a < 0 → B
 below_zero a lt = absurd (omega arith)
 
-into_at : (a : ℕ) → a < 1 → a + 17 < 18
-into_at a lt = omega arith
+pub into_at : (by a : ℕ) → a < 1 → a + by < suc by
+into_at by a lt = omega arith
 
-moved_once : (a b : ℕ) → a + 17 ≡ b + 17 → a ≡ b
-moved_once a b e = omega arith
+pub moved_once : (by a b : ℕ) → a + by ≡ b + by → a ≡ b
+moved_once by a b e = omega arith
 
 -- ---- total is an array of Longs, and nothing else stands in a standard module
 
-not_module : (x y : Variable) → Some x ≡ Some y → is_module_variable program.declarations x.owner ≡ false
-    → is_module_variable program.declarations y.owner ≡ false
-not_module x y e f = subst (λ z. is_module_variable program.declarations z.owner ≡ false) (from_some x y e) f
-  where
-    from_some : (x y : Variable) → Some x ≡ Some y → x ≡ y
-    from_some x y e = cc
+pub not_laid : (laid : Owner → Bool) (x y : Variable) → Some x ≡ Some y → laid x.owner ≡ false → laid y.owner ≡ false
+not_laid laid x y e f = subst (λ (z : Variable). laid z.owner ≡ false) (some_same x y e) f
 
 kinds_at : (x : ℕ) (y : Variable) → slice_get program.declarations.vars x ≡ Some y
     → HeldAs program.declarations x (is_module_variable program.declarations y.owner) (shared (x ∷ [])) (λ q. held_at q.root q.path)
 kinds_at zero y e = inr (three ∷ [], items, refl)
-kinds_at (suc zero) y e = inl (λ path. refl, not_module _ y e refl)
-kinds_at (suc (suc zero)) y e = inl (λ path. refl, not_module _ y e refl)
-kinds_at (suc (suc (suc zero))) y e = inl (λ path. refl, not_module _ y e refl)
-kinds_at (suc (suc (suc (suc zero)))) y e = inl (λ path. refl, not_module _ y e refl)
-kinds_at (suc (suc (suc (suc (suc zero))))) y e = inl (λ path. refl, not_module _ y e refl)
+kinds_at (suc zero) y e = inl (λ path. refl, not_laid (is_module_variable program.declarations) _ y e refl)
+kinds_at (suc (suc zero)) y e = inl (λ path. refl, not_laid (is_module_variable program.declarations) _ y e refl)
+kinds_at (suc (suc (suc zero))) y e = inl (λ path. refl, not_laid (is_module_variable program.declarations) _ y e refl)
+kinds_at (suc (suc (suc (suc zero)))) y e = inl (λ path. refl, not_laid (is_module_variable program.declarations) _ y e refl)
+kinds_at (suc (suc (suc (suc (suc zero))))) y e = inl (λ path. refl, not_laid (is_module_variable program.declarations) _ y e refl)
 kinds_at (suc (suc (suc (suc (suc (suc x)))))) y e = absurd (not_none e)
 
 stores_match : StoreMatch sample sample_world
 stores_match = record {
-  into = λ a lt e. into_at a lt;
-  one_to_one = λ a b lt more e f same. moved_once a b same;
+  into = λ a lt e. into_at 17 a lt;
+  one_to_one = λ a b lt more e f same. moved_once 17 a b same;
   objects_into = λ o lt. below_zero o lt;
   objects_one_to_one = λ a b lt more same. below_zero a lt;
   classes = λ o lt. below_zero o lt;
@@ -189,13 +189,19 @@ stores_match = record {
   fields = λ o c x y lt of e f. below_zero o lt;
 }
 
-no_class : (file : ℕ) → module_of (slice_get program.declarations.procs 0) ≡ Some file → is_class_file program.declarations file ≡ true → ⊥
-no_class file of class = true≢false (sym class ∙ subst (λ o. stands_in_class sample o ≡ false) of refl)
+-- the first procedure stands in no class
+pub no_class : (U : Upgrade) (file : ℕ) → stands_in_class U (module_of (slice_get U.program.declarations.procs 0)) ≡ false
+    → module_of (slice_get U.program.declarations.procs 0) ≡ Some file → is_class_file U.program.declarations file ≡ true → ⊥
+no_class U file not of class = true≢false (sym class ∙ subst (λ o. stands_in_class U o ≡ false) of not)
+
+-- no arguments are given to it
+pub no_arguments : (U : Upgrade) (w : World) → ArgsOk U (call_pledge U 0 (mark w.src) None [] []) w 0 [] []
+no_arguments U w = record { match = no_args 0; loose = λ k c. below_zero c.0 c.1; once = λ i j d lt more. below_zero j more }
 
 pub may_start : Start sample sample_world 0 None [] []
 may_start = record {
   stores = stores_match;
   object = tt;
-  own_object = λ file of class. absurd (no_class file of class);
-  args = record { match = no_args 0; loose = λ k c. below_zero c.0 c.1; once = λ i j d lt more. below_zero j more };
+  own_object = λ file of class. absurd (no_class sample file refl of class);
+  args = no_arguments sample sample_world;
 }

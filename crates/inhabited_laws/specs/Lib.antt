@@ -1,2 +1,4 @@
 pub mod Sample
 pub mod Memories
+pub mod Objects
+pub mod ObjectMemories

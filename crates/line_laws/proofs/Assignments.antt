@@ -5,9 +5,8 @@ use Rattle.vb_tree.specs.BoundTree as types
 use Rattle.vb_tree.specs.BoundTree.{Ty}
 use Rattle.bound_tree.specs.Tree.{Expr, typed, Term, variable, field, element, with_object}
 use Rattle.bound_facts.proofs.Chains.{both_true}
-use Rattle.bound_facts.specs.Effects.{is_outside}
 use Rattle.bound_facts.specs.Locks.{is_same_type}
-use Rattle.bound_facts.specs.Node.{root, type_at}
+use Rattle.bound_facts.specs.Node.{type_at}
 use Rattle.net_tree.specs.Tree as net
 use Rattle.run_base.specs.Outcomes.{gives, then}
 use Rattle.written_trees.specs.Conversions.{support_call, two}
@@ -28,7 +27,7 @@ use Rattle.run_matches.specs.CoveredVariables.{covers_type}
 use Rattle.run_matches.specs.CoveredExprs.{Uses, covers_array, covers_expr, covers_base, covers_exprs, covers_object, has_member, has_scalar, is_changeable_in, keeps_order}
 use Rattle.run_matches.specs.CoveredLines.{covers_copy, covers_store, is_member_ordered_in, is_ordered_in}
 use Rattle.run_matches.specs.Formed.{is_formed}
-use Rattle.run_matches.specs.Frames.{OwnsAll, is_own_of}
+use Rattle.run_matches.specs.Frames.{OwnsAll}
 use Rattle.run_matches.specs.Maps.{World}
 use Rattle.run_matches.specs.Match.{MemoryMatch}
 use Rattle.run_matches.specs.Pledges.{Pledge}
@@ -43,11 +42,12 @@ use Rattle.run_statements.specs.Written.{Passes}
 use Rattle.agreeing_laws.proofs.Lasting.{later_now}
 use Rattle.line_laws.specs.Lasting.{GoOnMatching}
 use Rattle.line_laws.proofs.Copies.{copy_stored}
-use Rattle.line_laws.proofs.ElementLines.{element_stored, not_outside}
+use Rattle.line_laws.proofs.ElementLines.{element_stored}
 use Rattle.line_laws.proofs.ElementStores.{either_true}
 use Rattle.line_laws.proofs.FieldStores.{field_stored, order_is_hidden}
 use Rattle.line_laws.proofs.MemberLines.{member_stored}
 use Rattle.line_laws.proofs.MemberOrders.{member_order_hidden}
+use Rattle.line_laws.proofs.OwnTargets.{IsOwnTarget}
 use Rattle.line_laws.proofs.Stores.{assignment_agrees, line_is, same_type}
 use Rattle.line_laws.proofs.Targets.{SameStore}
 use Rattle.line_laws.proofs.Uses.{good}
@@ -66,10 +66,6 @@ module _ (U : Upgrade) (expressions : ExpressionsAgree U) (scalars : ScalarsAreW
 
   abbrev Can : Expr → Type 0
   Can e = AllCalled (demands U K p l k S T) e
-
-  -- a steady procedure stores to its own variables alone
-  abbrev IsOwnTarget : Expr → Type 0
-  IsOwnTarget e = K.steady → is_outside U.program.declarations.vars p (root e) ≡ false
 
   -- a Put function does the same
   abbrev SamePut : (name : List ℕ) → (to value : Expr) → Type 0
@@ -90,7 +86,7 @@ module _ (U : Upgrade) (expressions : ExpressionsAgree U) (scalars : ScalarsAreW
     -- a scalar to a variable of an object, or a field of a user type
     part_stored : (ty of : Ty) (t : Term) (j : ℕ) (e : Expr) → Can (typed of t) → Can e → Places ty (field (typed of t) j) e ≡ true
         → covers_expr uses (typed ty (field (typed of t) j)) ≡ true → covers_expr uses e ≡ true → is_formed e ≡ true
-        → IsOwnTarget (typed ty (field (typed of t) j)) → Stored (typed ty (field (typed of t) j)) e
+        → IsOwnTarget U K p f (typed ty (field (typed of t) j)) → Stored (typed ty (field (typed of t) j)) e
     part_stored ty (types.user s) t j e can_to can is to_covers covers formed own assigns puts =
         let d : Expr = typed (types.user s) t in
         let scalar : Bool = has_scalar uses (types.user s) j && covers_base uses d in
@@ -115,15 +111,16 @@ module _ (U : Upgrade) (expressions : ExpressionsAgree U) (scalars : ScalarsAreW
 
     -- a scalar
     value_stored : (ty : Ty) (t : Term) (e : Expr) → Can (typed ty t) → Can e → Places ty t e ≡ true
-        → covers_expr uses (typed ty t) ≡ true → is_formed (typed ty t) ≡ true → covers_expr uses e ≡ true → is_formed e ≡ true → IsOwnTarget (typed ty t)
+        → covers_expr uses (typed ty t) ≡ true → is_formed (typed ty t) ≡ true → covers_expr uses e ≡ true → is_formed e ≡ true → IsOwnTarget U K p f (typed ty t)
         → Stored (typed ty t) e
     value_stored ty (variable v qualified) e can_to can is to_covers to_formed covers formed own assigns puts =
-        let parts : (covers_type ty ≡ true) × (uses.scalar v ≡ true) = both_true (covers_type ty) (uses.scalar v) to_covers in
+        let parts = both_true (covers_type ty) (uses.scalar v && uses.named v qualified) to_covers in
+        let used = both_true (uses.scalar v) (uses.named v qualified) parts.1 in
         subst (λ x. P x) (sym (line_is T (typed ty (variable v qualified)) e refl parts.0))
         (assigns
         (assignment_agrees U expressions scalars K p f g l k c T declared oracle net_oracle is_open uses readable placed agree w h (G w (later_now U K w h)) e can
-        (good uses e covers formed) owns ty v qualified parts.1 (readable.exact v (sym (or-false (uses.exact v)) ∙ is))
-        (λ steady. not_outside (is_own_of U p v.0) (own steady))))
+        (good uses e covers formed) owns ty v qualified used.0 used.1 (readable.exact v (sym (or-false (uses.exact v)) ∙ is))
+        own))
     value_stored ty (field (typed of t) j) e can_to can is to_covers to_formed covers formed own assigns puts =
         part_stored ty of t j e can_to can is to_covers covers formed own assigns puts
     value_stored ty (element a indexes) e can_to can is to_covers to_formed covers formed own assigns puts =
@@ -135,7 +132,7 @@ module _ (U : Upgrade) (expressions : ExpressionsAgree U) (scalars : ScalarsAreW
         absurd (true≢false (sym (both_true (covers_type ty) false to_covers).1))
     value_stored ty _ e can_to can is to_covers to_formed covers formed own assigns puts = absurd (true≢false (sym is))
 
-    pub stored : (to e : Expr) → Can to → Can e → covers_store uses (to ∷ e ∷ []) ≡ true → is_formed to ≡ true → is_formed e ≡ true → IsOwnTarget to → Stored to e
+    pub stored : (to e : Expr) → Can to → Can e → covers_store uses (to ∷ e ∷ []) ≡ true → is_formed to ≡ true → is_formed e ≡ true → IsOwnTarget U K p f to → Stored to e
     stored (typed ty t) e can_to can covers to_formed formed own assigns puts =
         let places : Bool = Places ty t e in
         let values : Bool = covers_expr uses (typed ty t) && covers_expr uses e in

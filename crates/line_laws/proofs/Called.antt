@@ -43,7 +43,7 @@ contains_flat f (z ∷ zs) x y (suc k) lt e h = Contains-append_right (f z) (fla
 module _ (Q : Demands) where
   -- what is demanded of a node by itself
   abbrev pub NodeHas : Expr → Type 0
-  NodeHas (typed ty (call p qualified of args)) = Q.calls p.0 args
+  NodeHas (typed ty (call p qualified of args)) = Q.calls p.0 qualified of args
   NodeHas (typed ty (element e indexes)) = Q.elements e indexes
   NodeHas (typed ty (library f args)) = Q.bounds f args
   NodeHas (typed ty (with_object root)) = Q.withs ty root
@@ -134,6 +134,7 @@ object_called Q uses ty (variable v qualified) covers = tt
 object_called Q uses ty (field (typed of t) k) covers =
     let member = both_true (is_class_type ty) (has_member uses of k (is_same_type ty) && covers_object uses (typed of t)) covers in
     object_called Q uses of t (both_true (has_member uses of k (is_same_type ty)) (covers_object uses (typed of t)) member.1).1
+object_called Q uses ty me covers = tt
 object_called Q uses ty _ covers = absurd (true≢false (sym covers))
 
 set_target_called : (Q : Demands) (uses : Uses) (ty : Ty) (t : Term) (e : Expr) → covers_set uses (typed ty t ∷ e ∷ []) ≡ true → AllCalled Q (typed ty t)

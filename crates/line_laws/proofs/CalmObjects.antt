@@ -1,10 +1,10 @@
--- The object that a variable keeps is the same whatever is evaluated before it, where nothing that was there has changed.
-use Rattle.std.proofs.Common.{◌≡◌, ◌∙◌, refl, sym, ap, subst, ℕ, Bool, true, false, ◌&&◌, eq-eqb, [], true≢false}
+-- The object that a variable keeps, and Me, are the same whatever is evaluated before them, where nothing that was there has changed.
+use Rattle.std.proofs.Common.{◌≡◌, ◌∙◌, refl, sym, ap, subst, ℕ, Bool, true, false, ◌&&◌, Some, [], true≢false}
 use Rattle.vb_tree.specs.BoundTree as types
 use Rattle.vb_tree.specs.BoundTree.{Ty}
 use Rattle.vb_tree.specs.declared.value.Value6.{Value6}
-use Rattle.bound_tree.specs.Tree.{Expr, typed, Term, variable}
-use Rattle.bound_facts.specs.Locks.{is_same_type}
+use Rattle.vb_tree.specs.declared.value.Value6.TheVariants as v
+use Rattle.bound_tree.specs.Tree.{Expr, typed, Term, variable, me}
 use Rattle.net_meaning.specs.declared.value.ValueN.{ValueN}
 use Rattle.net_meaning.specs.ValueMatch.{Matches, no_object_of, objects_of}
 use Rattle.run_base.specs.Outcomes.{after, then}
@@ -29,11 +29,9 @@ use Rattle.run_matches.specs.Pledges.{Pledge}
 use Rattle.run_matches.specs.Upgrades.{Upgrade}
 use Rattle.run_statements.specs.Frames.{AreReadable, ArePlaced, context_of}
 use Rattle.line_laws.proofs.Calm.{Gives, IsFit, typed_read}
+use Rattle.line_laws.proofs.Me.{has_object, me_gives, numbered, same_class}
 use Rattle.line_laws.proofs.Places.{Place, variable_place}
 use Rattle.line_laws.proofs.Standing.{Stable, held_fit, not_blank, read_single, same_matched}
-
-pub same_class : (k : ℕ) → is_same_type (types.class k) (types.class k) ≡ true
-same_class k = eq-eqb k k refl
 
 -- Nothing or an object
 object_typed : (k : ℕ) (x : Value6) → IsFit (types.class k) x → is_typed (types.class k) x ≡ true
@@ -74,4 +72,7 @@ module _ (U : Upgrade) (K : Pledge) (p : ℕ) (f : SourceFrame) (g : NetFrame) (
             ap (λ r. then r (value_in C e)) (x.place.found s)
             ∙ ap (after []) (typed_read C e a s kind.0 refl shaped (read_single ty kind.0 q s (same_class of_class) is)),
       )
+  calm_object of_class me calm covers =
+      let x : (o : ℕ) × (f.me ≡ Some o) = has_object U K w p f g F of_class (placed.me of_class (numbered of_class uses.me covers)) in
+      (v.Object x.0, λ s before. me_gives C of_class x.0 x.1 s)
   calm_object of_class _ calm covers = absurd (true≢false (sym calm))

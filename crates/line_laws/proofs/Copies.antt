@@ -4,9 +4,7 @@ use Rattle.vb_tree.specs.BoundTree as types
 use Rattle.vb_tree.specs.BoundTree.{Ty}
 use Rattle.bound_tree.specs.Tree.{Expr, typed, Term, variable, field}
 use Rattle.bound_facts.proofs.Chains.{both_true}
-use Rattle.bound_facts.specs.Effects.{is_outside}
 use Rattle.bound_facts.specs.Locks.{is_same_type}
-use Rattle.bound_facts.specs.Node.{root}
 use Rattle.net_tree.specs.Tree as net
 use Rattle.run_base.specs.Outcomes.{then}
 use Rattle.written_trees.specs.Exprs.{exp_of}
@@ -43,6 +41,7 @@ use Rattle.run_matches.specs.Runs.{CallsAgree}
 use Rattle.run_matches.specs.Formed.{is_formed}
 use Rattle.run_statements.specs.Groups.{GroupsAgree, GroupsAreWritten, ValueMatch}
 use Rattle.agreeing_laws.proofs.WithPlaces.{same_user}
+use Rattle.line_laws.proofs.OwnTargets.{IsOwnTarget}
 use Rattle.line_laws.proofs.Places.{Located, place_alone, place_is, place_target, user_type}
 use Rattle.line_laws.proofs.Targets.{SameStore, Target, absent_stored, target_stored}
 
@@ -82,9 +81,6 @@ module _ (U : Upgrade) (groups : GroupsAgree U) (writes : GroupsAreWritten U) (K
   abbrev Can : Expr → Type 0
   Can e = AllCalled (demands U K p l k S T) e
 
-  abbrev IsOwnTarget : Expr → Type 0
-  IsOwnTarget e = K.steady → is_outside U.program.declarations.vars p (root e) ≡ false
-
   abbrev PlaceAt : Ty → Term → Type 0
   PlaceAt ty tm = Located U K p w C S T net_oracle ty (typed ty tm)
 
@@ -99,7 +95,7 @@ module _ (U : Upgrade) (groups : GroupsAgree U) (writes : GroupsAreWritten U) (K
     d = typed ty to
 
     -- to a place, or to none
-    stored_at : PlaceAt ty to → IsOwnTarget d → (e : Expr)
+    stored_at : PlaceAt ty to → IsOwnTarget U K p f d → (e : Expr)
         → Agrees U K w (ValueMatch U (type_shape U ty)) (source.value_of C e w.src) (target.value_of S net_oracle (exp_of T e) w.net)
         → SameStore U K w C S T net_oracle d e
     stored_at (inl x) own e values =
@@ -119,7 +115,7 @@ module _ (U : Upgrade) (groups : GroupsAgree U) (writes : GroupsAreWritten U) (K
 
       -- what is of the type
       pub whole_stored : (from : Term) → Can (typed ty from) → covers_group uses (typed ty from) ≡ true → is_formed (typed ty from) ≡ true
-          → IsOwnTarget d → SameStore U K w C S T net_oracle d (typed ty from)
+          → IsOwnTarget U K p f d → SameStore U K w C S T net_oracle d (typed ty from)
       whole_stored from can covers formed own =
           stored_at there own (typed ty from)
           (groups K w p f g oracle net_oracle l k c T uses ty from h F declared is_open readable placed agree can covers formed)
@@ -140,7 +136,7 @@ module _ (U : Upgrade) (groups : GroupsAgree U) (writes : GroupsAreWritten U) (K
     abbrev IsCopied : Ty → Term → Ty → Term → Type 0
     IsCopied ty to of from =
         is_same_type ty of ≡ true → Can (typed ty to) → Can (typed of from) → covers_place uses (typed ty to) ≡ true → covers_group uses (typed of from) ≡ true
-        → is_formed (typed of from) ≡ true → IsOwnTarget (typed ty to)
+        → is_formed (typed of from) ≡ true → IsOwnTarget U K p f (typed ty to)
         → (SameStore U K w C S T net_oracle (typed ty to) (typed of from) → P (net.assign (exp_of T (typed ty to)) (exp_of T (typed of from))))
         → P (store_line T (typed ty to) (typed of from))
 
@@ -152,7 +148,7 @@ module _ (U : Upgrade) (groups : GroupsAgree U) (writes : GroupsAreWritten U) (K
     of_type : (t : ℕ) (to : Term) (ty : Ty) (from : Term) → IsCopied (types.user t) to ty from
     of_type t to ty from same = subst (λ z. IsCopied (types.user t) to z from) (sym (same_user t ty same)) (to_same t to from) same
 
-    pub copy_stored : (to e : Expr) → Can to → Can e → covers_copy uses to e ≡ true → is_formed e ≡ true → IsOwnTarget to
+    pub copy_stored : (to e : Expr) → Can to → Can e → covers_copy uses to e ≡ true → is_formed e ≡ true → IsOwnTarget U K p f to
         → (SameStore U K w C S T net_oracle to e → P (net.assign (exp_of T to) (exp_of T e))) → P (store_line T to e)
     copy_stored (typed ty to) (typed of from) can_to can covers formed own go =
         let placed_of : Bool = covers_place uses (typed ty to) && covers_group uses (typed of from) in

@@ -271,7 +271,7 @@ module _ (U : Upgrade) (expressions : ExpressionsAgree U) (scalars : ScalarsAreW
       (target_lines.for_does S net_oracle g k (exp_of T (typed ty t)) (exp_of T start) (exp_of T limit) (step_exp T steps) w.net)
   by_term ty (variable v qualified) counts covers local head first last pace start limit steps can keep a d e x y z =
       let found : (q : Address) × (lookup (nat_eq v.0) f.vars ≡ Some q) = (G w (later_now U K w h)).has_locals v.0 local in
-      head_agrees ty v qualified counts (both_true (covers_type ty) (uses.scalar v) covers).1 found.0 found.1 (own_local U p v.0 local) head first last pace
+      head_agrees ty v qualified counts (both_true (uses.scalar v) (uses.named v qualified) (both_true (covers_type ty) (uses.scalar v && uses.named v qualified) covers).1).0 found.0 found.1 (own_local U p v.0 local) head first last pace
       (start ∷ limit ∷ steps) keep
       start limit steps can a d e x y z
   by_term ty _ counts covers local head first last pace start limit steps can keep a d e x y z = absurd (true≢false (sym local))

@@ -1,13 +1,12 @@
 -- An assignment to an element is written by the order that shows.
-use Rattle.std.proofs.Common.{◌≡◌, ◌∙◌, ⊎_elim, refl, sym, ap, subst, ℕ, Bool, true, false, not, ◌&&◌, ◌||◌, List, [], ◌∷◌, ◌++◌, codes, true≢false}
+use Rattle.std.proofs.Common.{◌≡◌, ◌∙◌, ⊎_elim, refl, sym, ap, subst, ℕ, Bool, true, false, ◌&&◌, ◌||◌, List, [], ◌∷◌, ◌++◌, codes, true≢false}
 use Rattle.std.specs.Prelude.{is_some}
 use Rattle.std.specs.List.{list_any}
 use Rattle.vb_tree.specs.BoundTree.{Ty}
 use Rattle.bound_tree.specs.Tree.{Declarations, Expr, Exprs, typed, element}
 use Rattle.bound_facts.proofs.Chains.{both_true}
 use Rattle.bound_facts.specs.CanRaise.{can_raise, raises, raises_by}
-use Rattle.bound_facts.specs.Effects.{is_outside}
-use Rattle.bound_facts.specs.Node.{created_in, root, type_at}
+use Rattle.bound_facts.specs.Node.{created_in, type_at}
 use Rattle.bound_facts.specs.Nodes.{nodes, nodes_of_all}
 use Rattle.net_tree.specs.Tree as net
 use Rattle.run_base.specs.Outcomes.{Outcome, gives, then}
@@ -30,7 +29,7 @@ use Rattle.run_matches.specs.Agreeing.{Agrees}
 use Rattle.run_matches.specs.CoveredVariables.{covers_type}
 use Rattle.run_matches.specs.CoveredExprs.{Uses, are_calm, are_still, both_raise, covers_array, covers_expr, covers_exprs, is_calm, is_literal_value, is_raising, keeps_order}
 use Rattle.run_matches.specs.Formed.{is_formed}
-use Rattle.run_matches.specs.Frames.{OwnsAll, is_own_of}
+use Rattle.run_matches.specs.Frames.{OwnsAll}
 use Rattle.run_matches.specs.Maps.{World}
 use Rattle.run_matches.specs.Match.{MemoryMatch}
 use Rattle.run_matches.specs.Pledges.{Pledge}
@@ -42,8 +41,8 @@ use Rattle.run_statements.specs.Memory.{ElementsAreWritten}
 use Rattle.run_statements.specs.Written.{Passes}
 use Rattle.agreeing_laws.proofs.Agreeing.{agrees_gives, then_agrees}
 use Rattle.line_laws.specs.Lasting.{GoOnMatching}
-use Rattle.line_laws.proofs.Elements.{ArrayVariable}
 use Rattle.line_laws.proofs.ElementStores.{either_true, plain_agrees, put_agrees}
+use Rattle.line_laws.proofs.OwnTargets.{IsOwnTarget}
 use Rattle.line_laws.proofs.Prints.{AnyAddress}
 use Rattle.line_laws.proofs.Puts.{PutOf, put_of}
 use Rattle.line_laws.proofs.Stores.{formed_alone}
@@ -84,10 +83,6 @@ order_is_shown D ty a indexes e h =
 
 -- ---- the line
 
-pub not_outside : (b : Bool) → not b ≡ false → b ≡ true
-not_outside true e = refl
-not_outside false e = absurd (true≢false e)
-
 module _ (U : Upgrade) (expressions : ExpressionsAgree U) (elements : ElementsAgree U) (indexed : IndexesAgree U) (writes : ElementsAreWritten U) (K : Pledge)
     (p : ℕ) (f : SourceFrame) (g : NetFrame) (l : SourceLine) (k : NetLine) (c : Code) (T : Scope) (declared : T.declarations ≡ U.program.declarations)
     (oracle : SourceCalls) (net_oracle : Jobs) (is_open : IsOpen (scope_of U.written c g k)) (uses : Uses) (readable : AreReadable U T uses)
@@ -96,7 +91,7 @@ module _ (U : Upgrade) (expressions : ExpressionsAgree U) (elements : ElementsAg
     (can_to : AllCalled (demands U K p l k (scope_of U.written c g k) T) (typed ty (element a indexes))) (can : AllCalled (demands U K p l k (scope_of U.written c g k) T) e)
     (to_covers : covers_expr uses (typed ty (element a indexes)) ≡ true) (to_formed : is_formed (typed ty (element a indexes)) ≡ true)
     (covers : covers_expr uses e ≡ true) (formed : is_formed e ≡ true)
-    (own : K.steady → is_outside U.program.declarations.vars p (root (typed ty (element a indexes))) ≡ false) (same : type_at e ≡ ty) where
+    (own : IsOwnTarget U K p f (typed ty (element a indexes))) (same : type_at e ≡ ty) where
   abbrev S : net_names.Scope
   S = scope_of U.written c g k
 
@@ -118,10 +113,6 @@ module _ (U : Upgrade) (expressions : ExpressionsAgree U) (elements : ElementsAg
   parts_cover : (covers_array uses a ≡ true) × (covers_exprs uses indexes ≡ true)
   parts_cover = both_true (covers_array uses a) (covers_exprs uses indexes) (both_true (covers_type ty) (covers_array uses a && covers_exprs uses indexes) to_covers).1
 
-  stores_own : K.steady → (v : ArrayVariable uses a) → is_own_of U p v.number.0 ≡ true
-  stores_own steady v =
-      not_outside (is_own_of U p v.number.0) (subst (λ d. is_outside U.program.declarations.vars p (root d) ≡ false) v.is (own steady))
-
   put : PutOf ty
   put = put_of ty ty_covers
 
@@ -132,7 +123,7 @@ module _ (U : Upgrade) (expressions : ExpressionsAgree U) (elements : ElementsAg
       subst (λ z. Agrees U K w AnyUnits z (Put put.name)) (then_gives Stored)
       (then_agrees U K w AnyAddress AnyUnits Stored call (λ u s. gives [] u s) (λ a t. gives [] tt t) h
       (put_agrees U expressions elements indexed writes K p f g l k c T declared oracle net_oracle is_open uses readable placed agree ty a indexes e ty_covers
-      parts_cover.0 parts_cover.1 to_formed can_to put w h G owns stores_own can covers formed same)
+      parts_cover.0 parts_cover.1 to_formed can_to put w h G owns own can covers formed same)
       (λ u b w1 m later. agrees_gives U K w1 AnyUnits u tt later.match tt))
 
   abbrev IsFree : Bool
@@ -141,7 +132,7 @@ module _ (U : Upgrade) (expressions : ExpressionsAgree U) (elements : ElementsAg
   by_assignment : IsFree ≡ true → Agrees U K w AnyUnits Stored Assigned
   by_assignment test =
       plain_agrees U expressions elements indexed writes K p f g l k c T declared oracle net_oracle is_open uses readable placed agree ty a indexes e ty_covers
-      parts_cover.0 parts_cover.1 to_formed can_to w h G owns stores_own can covers formed same test
+      parts_cover.0 parts_cover.1 to_formed can_to w h G owns own can covers formed same test
 
   -- what holds of a line that does either
   module _ (P : net.Line → Type 0) (assigns : Agrees U K w AnyUnits Stored Assigned → P (net.assign (exp_of T to) (exp_of T e)))

@@ -21,6 +21,7 @@ use Rattle.vb6_run.specs.Expressions as source
 use Rattle.vb6_run.specs.Expressions.{element_parts, lows_at}
 use Rattle.vb6_run.specs.Forms.{SourceLine}
 use Rattle.vb6_run.specs.Lines.{let_to}
+use Rattle.vb6_run.specs.Runnables.{variable_address}
 use Rattle.vb6_run.specs.Shapes as source_shape
 use Rattle.vb6_run.specs.Shapes.{simple}
 use Rattle.vb6_run.specs.Store.{Address, Memory, provided, root, table, SourceCalls, SourceFrame}
@@ -41,7 +42,7 @@ use Rattle.run_matches.specs.Addresses.{IsPlain}
 use Rattle.run_matches.specs.CoveredVariables.{covers_type}
 use Rattle.run_matches.specs.CoveredExprs.{Uses, are_calm, are_still, covers_array, covers_expr, covers_exprs, is_calm, is_literal_value}
 use Rattle.run_matches.specs.Formed.{are_formed, are_longs, has_elements, is_formed, types_of}
-use Rattle.run_matches.specs.Frames.{FrameMatch, IsOwnAddress, OwnsAll, is_own_of}
+use Rattle.run_matches.specs.Frames.{FrameMatch, IsOwnAddress, OwnsAll}
 use Rattle.run_matches.specs.Likeness.{LikeV, SameShape, same_class, same_scalar, scalar_word}
 use Rattle.run_matches.specs.Maps.{Map, World, is_auto_root}
 use Rattle.run_matches.specs.Match.{MemoryMatch}
@@ -59,12 +60,13 @@ use Rattle.agreeing_laws.specs.Promises.{Yields}
 use Rattle.line_laws.specs.Lasting.{GoOnMatching}
 use Rattle.line_laws.proofs.Bounds.{some_is}
 use Rattle.line_laws.proofs.EitherOrder.{parts_first, value_first}
-use Rattle.line_laws.proofs.Elements.{ArrayVariable, IsElementIn, array_variable, element_array, element_in, let_is, indexed, known_address, known_found, own_element, parts_are, parts_by, spelt, stored_by}
+use Rattle.line_laws.proofs.Elements.{ArrayVariable, IsElementIn, array_variable, element_array, element_in, let_is, indexed, known_found, own_element, parts_are, parts_by, spelt, stored_by}
 use Rattle.line_laws.proofs.Calm.{IsConstant, calm_still, literal_is_constant, literal_still, scalar_part}
 use Rattle.line_laws.proofs.Orders.{element_stays, indexed_stays, stable_behind, stable_later}
 use Rattle.line_laws.proofs.Standing.{Stable, calm_known, indexes_known, longs_are, known_plain, known_there}
 use Rattle.line_laws.proofs.Still.{called_in_still, called_in_still_all, frame_still, still}
 use Rattle.line_laws.proofs.Puts.{PutOf, put_is, put_stores}
+use Rattle.line_laws.proofs.OwnTargets.{IsOwnTarget, target_changes}
 use Rattle.line_laws.proofs.Prints.{AnyAddress}
 
 -- ---- shapes
@@ -108,9 +110,9 @@ module _ (U : Upgrade) (expressions : ExpressionsAgree U) (elements : ElementsAg
   abbrev PlainElement : World → source.Parts → net_names.Reached → Type 0
   PlainElement w x r = (o : OwnElement w x r) × (is_auto_root U w.map o.0.position.root ≡ false)
 
-  -- a steady procedure stores to its own array alone
+  -- the array may change
   abbrev StoresOwn : Type 0
-  StoresOwn = K.steady → (v : ArrayVariable uses a) → is_own_of U p v.number.0 ≡ true
+  StoresOwn = IsOwnTarget U K p f a
 
   abbrev variable : ArrayVariable uses a
   variable = array_variable uses a array
@@ -120,6 +122,11 @@ module _ (U : Upgrade) (expressions : ExpressionsAgree U) (elements : ElementsAg
 
   place : IsPlaced U p f S T variable.number.0
   place = placed.places variable.number (inr (inl (variable.of, variable.used)))
+
+  array_changes : (w : World) → FrameMatch U K w p f g → OwnsAll U K p f → StoresOwn → K.steady → (b : Address)
+      → variable_address U.program.declarations f variable.number.0 ≡ Some b → IsOwnAddress K b
+  array_changes w F owns own steady b found =
+      target_changes U K w p f g F owns S T variable.number.0 known place (subst (λ d. IsOwnTarget U K p f d) variable.is own steady) b found
 
   in_array : (s : Memory) → Yields (IsElementIn U f variable.number.0) (source.term_parts C ty (element a indexes) s)
   in_array s =
@@ -133,7 +140,7 @@ module _ (U : Upgrade) (expressions : ExpressionsAgree U) (elements : ElementsAg
       (source.term_parts C ty (element a indexes) w.src) (reach S net_oracle false (exp_of T to) w.net)
       (λ u x r later y.
       let d : source_shape.Shape = source_shape.array (simple ty) y.0.bounds in (
-        (y.0, λ steady. own_element U K p f owns variable.number.0 known (inward steady variable) x u.src y.1 y.0.position d y.0.indexes y.0.stands),
+        (y.0, λ steady. own_element U K f variable.number.0 (array_changes w (G w (later_now U K w h)) owns inward steady) x u.src y.1 y.0.position d y.0.indexes y.0.stands),
         subst (λ b. IsPlain U u b) (element_array y.1.0 x y.0.position d y.0.indexes y.1.2 y.0.stands)
             (known_plain U K u p f g k c T declared (G u later) variable.number.0 known place y.1.0 y.1.1) y.0.position refl,
       ))
@@ -369,7 +376,7 @@ module _ (U : Upgrade) (expressions : ExpressionsAgree U) (elements : ElementsAg
         (indexes_agree K w p f g oracle net_oracle l k c T uses ty a indexes h F declared is_open readable placed agree can array all_indexes formed)
         (λ steady q d is old.
         subst (λ i. IsOwnAddress K i) is
-        (owns.variables variable.number.0 b.0 (sym (known_address U variable.number.0 known p (inward steady variable) f) ∙ b.1) (inward steady variable)) q refl old)
+        (array_changes w F owns inward steady b.0 b.1) q refl old)
         (value_steady is_still)
 
     pub plain_agrees : (is_literal_value e || ((are_calm uses indexes && are_still uses (nodes e)) || (is_calm uses e && are_still uses (nodes_of_all indexes)))) ≡ true → Goal

@@ -6,6 +6,7 @@ use Rattle.vb_tree.specs.BoundTree.{Ty}
 use Rattle.vb_tree.specs.declared.declared.VarId.{VarId}
 use Rattle.vb_tree.specs.declared.value.Value6.{Value6}
 use Rattle.bound_tree.specs.Tree.{Expr, typed, variable, element, Exprs}
+use Rattle.bound_facts.proofs.Chains.{both_true}
 use Rattle.bound_facts.specs.Effects.{is_own_variable}
 use Rattle.bound_facts.specs.Node.{auto_class, class_in}
 use Rattle.net_meaning.specs.declared.value.ValueN.TheVariants as n
@@ -24,7 +25,7 @@ use Rattle.net_run.specs.Names as net_names
 use Rattle.net_run.specs.Values as net_value
 use Rattle.row_laws.proofs.Composing.{after_nil, then_assoc, then_gives}
 use Rattle.run_matches.specs.CoveredExprs.{Uses, covers_array}
-use Rattle.run_matches.specs.Frames.{OwnsAll, IsOwnAddress, is_own_of}
+use Rattle.run_matches.specs.Frames.{IsOwnAddress, is_own_of}
 use Rattle.run_matches.specs.Maps.{World}
 use Rattle.run_matches.specs.Pledges.{IsOld, Pledge}
 use Rattle.run_matches.specs.Upgrades.{Upgrade, runnable_of}
@@ -42,10 +43,12 @@ pub record ArrayVariable (uses : Uses) (a : Expr) : Type 0 where
   pub qualified : Bool
   pub is : a ≡ typed (types.array of rank) (variable number qualified)
   pub used : uses.array number of ≡ true
+  pub named : uses.named number qualified ≡ true
 
 pub array_variable : (uses : Uses) (a : Expr) → covers_array uses a ≡ true → ArrayVariable uses a
 array_variable uses (typed (types.array e rank) (variable v q)) h =
-    record { of = e; rank = rank; number = v; qualified = q; is = refl; used = h }
+    let both = both_true (uses.array v e) (uses.named v q) h in
+    record { of = e; rank = rank; number = v; qualified = q; is = refl; used = both.0; named = both.1 }
 array_variable uses (typed (types.array e rank) _) h = absurd (true≢false (sym h))
 array_variable uses (typed _ _) h = absurd (true≢false (sym h))
 
@@ -197,12 +200,12 @@ array_of no_value = None
 pub element_array : (b : Address) (x : Parts) (q : Position) (d : source_shape.Shape) (zs : List ℤ) → IsElementOf b x → x ≡ at_element (root d q) zs → b ≡ root d q
 element_array b x q d zs i e = some_is b (root d q) (sym (ap array_of i.1) ∙ ap array_of e)
 
--- where the array is the procedure's own
-pub own_element : (U : Upgrade) (K : Pledge) (p : ℕ) (f : SourceFrame) → OwnsAll U K p f → (v : ℕ) (k : IsKnown U v) → is_own_of U p v ≡ true
+-- where the array may change
+pub own_element : (U : Upgrade) (K : Pledge) (f : SourceFrame) (v : ℕ)
+    → ((a : Address) → variable_address U.program.declarations f v ≡ Some a → IsOwnAddress K a)
     → (x : Parts) (s : Memory) → IsElementIn U f v x s → (q : Position) (d : source_shape.Shape) (zs : List ℤ) → x ≡ at_element (root d q) zs → IsOld K q.root → ⊥
-own_element U K p f owns v k own x s i q d zs e old =
-    let own_is : IsOwnAddress K i.0 = owns.variables v i.0 (sym (known_address U v k p own f) ∙ i.1) own in
-    subst (λ b. IsOwnAddress K b) (element_array i.0 x q d zs i.2 e) own_is q refl old
+own_element U K f v changes x s i q d zs e old =
+    subst (λ b. IsOwnAddress K b) (element_array i.0 x q d zs i.2 e) (changes i.0 i.1) q refl old
 
 -- the same element of parts that are spelt
 abbrev pub spelt : (U : Upgrade) (ty : Ty) (w : World) (x : Parts) (r : net_names.Reached) (m : ElementMatch U ty w x r)

@@ -6,8 +6,7 @@ use Rattle.vb_tree.specs.BoundTree.{Ty}
 use Rattle.bound_tree.specs.Tree.{Declarations, Expr, typed, Term, variable, field, with_object}
 use Rattle.bound_facts.proofs.Chains.{both_true}
 use Rattle.bound_facts.specs.CanRaise.{can_raise, raises}
-use Rattle.bound_facts.specs.Effects.{is_outside}
-use Rattle.bound_facts.specs.Node.{root, type_at}
+use Rattle.bound_facts.specs.Node.{type_at}
 use Rattle.written_trees.specs.Names.{Scope}
 use Rattle.written_trees.specs.Puts.{before_store, order_shows}
 use Rattle.run_base.specs.Outcomes.{then}
@@ -32,6 +31,7 @@ use Rattle.run_matches.specs.Runs.{CallsAgree}
 use Rattle.run_matches.specs.Upgrades.{Upgrade}
 use Rattle.run_statements.specs.Frames.{AllCalled, AreReadable, ArePlaced, ExpressionsAgree, IsOpen, ScalarMatch, ScalarsAreWritten, context_of, demands}
 use Rattle.run_statements.specs.Written.{Passes}
+use Rattle.line_laws.proofs.OwnTargets.{IsOwnTarget}
 use Rattle.line_laws.proofs.Places.{Located, ScalarPlace, place_target, scalar_place}
 use Rattle.line_laws.proofs.Stores.{scalar_stored}
 use Rattle.line_laws.proofs.Targets.{SameStore, absent_stored}
@@ -76,7 +76,7 @@ module _ (U : Upgrade) (expressions : ExpressionsAgree U) (scalars : ScalarsAreW
   Goal = SameStore U K w C S T net_oracle to e
 
   stored_at : (of : Ty) → covers_type of ≡ true → Located U K p w C S T net_oracle of to
-      → (K.steady → is_outside U.program.declarations.vars p (root to) ≡ false) → Goal
+      → IsOwnTarget U K p f to → Goal
   stored_at of covers (inl x) own =
       scalar_stored U expressions scalars K p f g l k c T declared oracle net_oracle is_open uses readable placed agree w h F e can well to _ _
       (place_target U K p f g l k c T declared oracle net_oracle uses readable placed w h F owns of to refl x (λ y s. refl) own)
@@ -89,7 +89,7 @@ module _ (U : Upgrade) (expressions : ExpressionsAgree U) (scalars : ScalarsAreW
       (x.written.reached refl) (λ y s. ap (λ r. then (then r source.finished) (store_at C to y)) (x.missing s))
 
   pub field_stored : AllCalled (demands U K p l k S T) d → (has_scalar uses (type_at d) j && covers_base uses d) ≡ true
-      → (K.steady → is_outside U.program.declarations.vars p (root to) ≡ false) → Goal
+      → IsOwnTarget U K p f to → Goal
   field_stored can_to covers own =
       let x : ScalarPlace U K p w C S T net_oracle to =
       scalar_place U K p f g l k c T declared oracle net_oracle uses readable placed w h F owns ty d j can_to covers in

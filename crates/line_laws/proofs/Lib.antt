@@ -8,6 +8,7 @@ pub mod Uses
 pub mod Flat
 pub mod Elements
 pub mod Placed
+pub mod OwnTargets
 pub mod Targets
 pub mod Stores
 pub mod Prints
@@ -31,8 +32,10 @@ pub mod ElementLines
 pub mod Settled
 pub mod Places
 pub mod EitherOrder
+pub mod Me
 pub mod CalmObjects
 pub mod MemberParts
+pub mod MyMembers
 pub mod MemberStores
 pub mod MemberOrders
 pub mod MemberLines

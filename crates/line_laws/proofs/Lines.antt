@@ -8,10 +8,9 @@ use Rattle.vb_tree.specs.declared.form_parts.Label6.{Label6}
 use Rattle.vb_tree.specs.Tree.{Form}
 use Rattle.vb_tree.specs.Tree as source_form
 use Rattle.bound_tree.specs.Labels.{Label, labels}
-use Rattle.bound_tree.specs.Tree.{Expr, Line, typed, element, call, library, with_object, err_raise, err_clear, no_object, of_object, Passed}
+use Rattle.bound_tree.specs.Tree.{Expr, Line, typed, element, call, library, with_object, err_raise, err_clear, Object, Passed}
 use Rattle.bound_facts.proofs.Chains.{both_true}
-use Rattle.bound_facts.specs.Effects.{is_outside}
-use Rattle.bound_facts.specs.Node.{args_at, called, declared_at, root, type_at}
+use Rattle.bound_facts.specs.Node.{args_at, called, declared_at, type_at}
 use Rattle.bound_facts.specs.Parts.{line_uses, resizes}
 use Rattle.bound_tree.specs.Targets.{with_round}
 use Rattle.net_tree.specs.Tree as net
@@ -20,11 +19,11 @@ use Rattle.run_base.specs.Machines.{go, handled, nth_line}
 use Rattle.run_base.specs.Outcomes.{Outcome, gives, then, some_of}
 use Rattle.written_trees.specs.Bodies.{inside_procedure}
 use Rattle.written_trees.specs.Conversions.{one, support_call, two}
-use Rattle.written_trees.specs.Exprs.{exp_of, has_none, passed_of, reads_itself, target_exp}
+use Rattle.written_trees.specs.Exprs.{callee_of, exp_of, has_none, passed_of, reads_itself, target_exp}
 use Rattle.written_trees.specs.Lines.{assign_line, first_exp, items_exp, jump, print_name, line_of, call_line, as_call, empty_extents, resized_array}
 use Rattle.written_trees.specs.Types.{element_type, written_type}
 use Rattle.written_trees.specs.Puts as written_puts
-use Rattle.written_trees.specs.Names.{Scope, procedure_path}
+use Rattle.written_trees.specs.Names.{Scope}
 use Rattle.written_trees.specs.Arguments.{is_property}
 use Rattle.written_trees.specs.Exprs as written
 use Rattle.vb6_run.specs.Arrays.{erase}
@@ -50,7 +49,7 @@ use Rattle.run_matches.specs.Match.{MemoryMatch}
 use Rattle.run_matches.specs.Pledges.{Pledge, Later}
 use Rattle.run_matches.specs.Agreeing.{Agrees}
 use Rattle.run_matches.specs.Formed.{is_formed}
-use Rattle.run_matches.specs.CoveredExprs.{Uses, uses_in}
+use Rattle.run_matches.specs.CoveredExprs.{Uses, covers_passed, covers_receiver, uses_in}
 use Rattle.run_matches.specs.CoveredLines.{covers_condition, covers_store, covers_form, covers_part, covers_within, head_line, is_within_with, jump_of, resumes, covers_call, covers_called}
 use Rattle.run_matches.specs.Frames.{FrameMatch, NextMatch, OwnsAll, frame_pledge, lines_of}
 use Rattle.run_matches.specs.Runs.{line_result, CallsAgree}
@@ -60,7 +59,7 @@ use Rattle.run_statements.specs.Memory.{ArraysAreErased, ArraysAreResized, Eleme
 use Rattle.run_statements.specs.Frames.{ArraysAgree, ElementsAgree, ExpressionsAgree, ScalarsAreRead, ScalarsAreWritten, IsOpen, AnyUnits, context_of, ArePlaced, AllCalled, AnyParts, CallsAreMade, CanCall, demands, AreReadable}
 use Rattle.run_statements.specs.Fitting.{FitsNode}
 use Rattle.run_statements.specs.Groups.{GroupsAgree, GroupsAreWritten}
-use Rattle.run_statements.specs.Kept.{AllSameWays, LinesAgree}
+use Rattle.run_statements.specs.Kept.{AllSameWays, LinesAgree, qualified_at, receiver_at}
 use Rattle.run_statements.specs.Members.{MembersAgree, MembersAreFound}
 use Rattle.run_statements.specs.Written.{Passes, site_scope}
 use Rattle.agreeing_laws.specs.Beside.{with_steps}
@@ -84,6 +83,7 @@ use Rattle.line_laws.proofs.Boxes.{AnyShown, AgreesAsCall, box_agrees}
 use Rattle.line_laws.proofs.Called.{AllIn, NodeHas, line_called}
 use Rattle.line_laws.proofs.Errors.{clear_agrees, raise_agrees}
 use Rattle.line_laws.proofs.Owning.{owns_now}
+use Rattle.line_laws.proofs.OwnTargets.{IsOwnTarget, own_target}
 use Rattle.line_laws.proofs.Prints.{AnyAddress, print_agrees}
 use Rattle.line_laws.proofs.Resizes.{MayStore, erase_agrees, redim_agrees}
 use Rattle.line_laws.proofs.Rounds.{next_agrees}
@@ -98,11 +98,11 @@ abbrev AnyDone : World → source.Parts → Unit {0} → Type 0
 AnyDone w x u = Unit {0}
 
 -- a call of a procedure that is no part of a property is written as one
-call_is : (U : Upgrade) (T : Scope) → T.declarations ≡ U.program.declarations → (ty : Ty) (q : ProcId) (qualified : Bool) (args : Passed)
+call_is : (U : Upgrade) (T : Scope) → T.declarations ≡ U.program.declarations → (ty : Ty) (q : ProcId) (qualified : Bool) (of : Object) (args : Passed)
     → is_property U.program.declarations q.0 ≡ false
-    → as_call (exp_of T (typed ty (call q qualified no_object args))) ≡ net.call (net.path (procedure_path T qualified q.0)) (passed_of T q.0 0 args)
-call_is U T declared ty q qualified args h =
-    ap (λ b. as_call (written.called (b && (has_none args && not (reads_itself T q.0 qualified no_object))) (net.path (procedure_path T qualified q.0)) (passed_of T q.0 0 args)))
+    → as_call (exp_of T (typed ty (call q qualified of args))) ≡ net.call (callee_of T q.0 qualified of) (passed_of T q.0 0 args)
+call_is U T declared ty q qualified of args h =
+    ap (λ b. as_call (written.called (b && (has_none args && not (reads_itself T q.0 qualified of))) (callee_of T q.0 qualified of) (passed_of T q.0 0 args)))
     (ap (λ D. is_property D q.0) declared ∙ h)
 
 module _ (U : Upgrade) (expressions : ExpressionsAgree U) (calls : CallsAreMade U) (reads : ScalarsAreRead U) (scalars : ScalarsAreWritten U) (elements : ElementsAgree U) (indexed : IndexesAgree U)
@@ -173,12 +173,8 @@ module _ (U : Upgrade) (expressions : ExpressionsAgree U) (calls : CallsAreMade 
       (good uses e covers (both_true (is_formed e) true formed).0)
   tested m n go both (e ∷ d ∷ es) can covers formed = absurd (true≢false (sym covers))
 
-  -- a steady procedure stores to its own variables alone
-  abbrev IsOwnTarget : Expr → Type 0
-  IsOwnTarget e = K.steady → is_outside U.program.declarations.vars p (root e) ≡ false
-
   assigned : (target value : Expr) → Can target → Can value → covers_store uses (target ∷ value ∷ []) ≡ true → is_formed target ≡ true → is_formed value ≡ true
-      → IsOwnTarget target
+      → IsOwnTarget U K p f target
       → Agrees U K w R (then (then (source.value_of C value w.src) (let_to C target)) (λ x s. goes_on C s)) (does (assign_line T (target ∷ value ∷ [])))
   assigned to e can_to can covers to_formed formed own =
       let stores : Outcome Memory Unit = then (source.value_of C e w.src) (let_to C to) in
@@ -198,19 +194,19 @@ module _ (U : Upgrade) (expressions : ExpressionsAgree U) (calls : CallsAreMade 
   -- a call as a line
   called_line : (e : Expr) → Can e → covers_called uses e ≡ true → is_formed e ≡ true
       → Agrees U K w R (then (source.parts_of C e w.src) (λ x s. goes_on C s)) (does (as_call (exp_of T e)))
-  called_line (typed ty (call id qualified no_object args)) can covers formed =
-      let t = call id qualified no_object args in
+  called_line (typed ty (call id qualified of args)) can covers formed =
+      let t = call id qualified of args in
+      let both = both_true (covers_receiver uses of) (covers_passed uses args) covers in
       let r = source.term_parts C ty t w.src in
-      let r' = target.address_of S net_oracle (net.call_of (net.path (procedure_path T qualified id.0)) (passed_of T id.0 0 args)) w.net in
-      let end = does (net.call (net.path (procedure_path T qualified id.0)) (passed_of T id.0 0 args)) in
-      subst (λ x. Agrees U K w R (then (source.parts_of C (typed ty t) w.src) (λ x s. goes_on C s)) (does x)) (sym (call_is U T declared ty id qualified args can.0.plain))
+      let r' = target.address_of S net_oracle (net.call_of (callee_of T id.0 qualified of) (passed_of T id.0 0 args)) w.net in
+      let end = does (net.call (callee_of T id.0 qualified of) (passed_of T id.0 0 args)) in
+      subst (λ x. Agrees U K w R (then (source.parts_of C (typed ty t) w.src) (λ x s. goes_on C s)) (does x)) (sym (call_is U T declared ty id qualified of args can.0.plain))
       (subst (λ x. Agrees U K w R (then x (λ x s. goes_on C s)) end) (sym (then_gives r))
       (goes AnyDone r (then r' (λ a t. gives [] tt t))
       (subst (λ x. Agrees U K w AnyDone x (then r' (λ a t. gives [] tt t))) (then_gives r)
       (then_agrees U K w AnyParts AnyDone r r' (λ x s. gives [] x s) (λ a t. gives [] tt t) h
-      (calls K w p f g oracle net_oracle l k c T uses ty id qualified args h (F w (later_now U K w h)) declared is_open readable placed agree can covers formed)
+      (calls K w p f g oracle net_oracle l k c T uses ty id qualified of args h (F w (later_now U K w h)) declared is_open readable placed agree can both.0 both.1 formed)
       (λ x a w1 m later. agrees_gives U K w1 AnyDone x tt later.match tt)))))
-  called_line (typed ty (call id qualified (of_object d) args)) can covers formed = absurd (true≢false (sym covers))
   called_line (typed ty (library function args)) can covers formed =
       shown (source.parts_of C (typed ty (library function args)) w.src) (exp_of T (typed ty (library function args)))
       (box_agrees U expressions K p f g l k c T declared oracle net_oracle is_open uses readable placed agree w h (F w (later_now U K w h)) ty
@@ -231,7 +227,7 @@ module _ (U : Upgrade) (expressions : ExpressionsAgree U) (calls : CallsAreMade 
 
   pub form_agrees : (ls : List (Option Label)) (form : Form) (es : List Expr) → AllIn Can es → covers_form uses form es ≡ true → list_all is_formed es ≡ true
       → ((a : Label6) → jump_of form ≡ Some a → target_lines.target_of c (jump ls a) ≡ line_of_label C a)
-      → MayStore U K p form es → Keeps U K p f g R w form es
+      → MayStore U K p f form es → Keeps U K p f g R w form es
       → covers_part U.program p form es (head_line (lines_of U p) l.aims.own) ≡ true → (resumes form ≡ true → AllSameWays U p q)
       → Agrees U K w R (source_forms.form_does C form es w.src) (does (line_of T ls form es))
   form_agrees ls (source_form.assign to value) [] can covers formed found may keep stands ways = absurd (true≢false (sym covers))
@@ -338,7 +334,7 @@ module _ (U : Upgrade) (expressions : ExpressionsAgree U) (calls : CallsAreMade 
 
 -- what is demanded of a node by itself
 node_has : (U : Upgrade) (K : Pledge) (p : ℕ) (l : SourceLine) (k : NetLine) (S : net_names.Scope) (T : Scope) (d : Expr)
-    → ((q : ℕ) → called d ≡ Some q → CanCall U K S T q (args_at d)) → FitsNode U d → k.aims ≡ l.aims
+    → ((q : ℕ) → called d ≡ Some q → CanCall U K S T p q (qualified_at d) (receiver_at d) (args_at d)) → FitsNode U d → k.aims ≡ l.aims
     → is_within_with U.program p (head_line (lines_of U p) (with_round l.aims)) d ≡ true → NodeHas (demands U K p l k S T) d
 node_has U K p l k S T (typed ty (call q qualified of args)) can fits aims within = can q.0 refl
 node_has U K p l k S T (typed ty (element a indexes)) can fits aims within = fits
@@ -396,7 +392,7 @@ steady_lines_agree U expressions calls reads scalars elements indexed writes gro
     (λ d m. node_has U K p l L.line (scope_of U.written c g L.line) T d (λ q e. can d q m e w f g L.line now.names) (fits d m) L.aims (all_within d m)))
     both.0 both.1 stands.label
     (record {
-      own = λ e m steady. own steady e m;
+      own = λ e m steady. own_target U p w f e (own steady e m);
       unkept = λ e m element rank is covered. resizing_not_kept U.program p number l.form stands.is_procedure stands.is_there e m element rank is covered;
       fits = remade;
     }) keep blocks.0 stands.ways))))

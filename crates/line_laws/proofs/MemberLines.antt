@@ -1,13 +1,12 @@
 -- An assignment of a scalar to a variable of an object does the same as what is written for it.
-use Rattle.std.proofs.Common.{◌≡◌, ◌∙◌, refl, sym, ap, inl, ⊎_elim, ℕ, ℤ, Bool, true, false, ◌&&◌, ◌||◌, Option, Some, None, List, [], ◌∷◌, true≢false}
+use Rattle.std.proofs.Common.{◌≡◌, ◌∙◌, refl, sym, ap, inl, ⊎_elim, ℕ, ℤ, Bool, true, ◌&&◌, ◌||◌, Option, Some, None, List, [], ◌∷◌, true≢false}
 use Rattle.std.proofs.lemmas.Bool.{or_cases}
 use Rattle.vb_tree.specs.BoundTree as types
 use Rattle.vb_tree.specs.BoundTree.{Ty}
 use Rattle.vb_tree.specs.declared.value.Value6.{Value6}
 use Rattle.bound_tree.specs.Tree.{Expr, typed, Term, field}
 use Rattle.bound_facts.proofs.Chains.{both_true}
-use Rattle.bound_facts.specs.Effects.{is_outside}
-use Rattle.bound_facts.specs.Node.{root, type_at}
+use Rattle.bound_facts.specs.Node.{type_at}
 use Rattle.bound_facts.specs.Nodes.{nodes}
 use Rattle.run_base.specs.Positions as position
 use Rattle.run_base.specs.Positions.{Position, whole}
@@ -36,13 +35,15 @@ use Rattle.run_matches.specs.Match.{MemoryMatch}
 use Rattle.run_matches.specs.Pledges.{Later, Pledge}
 use Rattle.run_matches.specs.Runs.{CallsAgree}
 use Rattle.run_matches.specs.Upgrades.{Upgrade}
-use Rattle.run_statements.specs.Frames.{AllCalled, AnyUnits, AreReadable, ArePlaced, ExpressionsAgree, IsMember, IsOpen, MayChange, ScalarMatch, ScalarsAreWritten, context_of, demands}
+use Rattle.run_statements.specs.Frames.{AllCalled, AnyUnits, AreReadable, ArePlaced, ExpressionsAgree, IsMember, IsOpen, ScalarMatch, ScalarsAreWritten, context_of, demands}
 use Rattle.run_statements.specs.Members.{MemberFound, MembersAgree, MembersAreFound}
 use Rattle.run_statements.specs.Written.{Passes}
 use Rattle.agreeing_laws.proofs.Lasting.{later_now}
 use Rattle.line_laws.specs.Lasting.{GoOnMatching}
 use Rattle.line_laws.proofs.Calm.{literal_is_constant}
 use Rattle.line_laws.proofs.MemberStores.{calm_stored, constant_stored, object_stored}
+use Rattle.line_laws.proofs.MyMembers.{IsMyAddress, member_change}
+use Rattle.line_laws.proofs.OwnTargets.{IsOwnTarget}
 use Rattle.line_laws.proofs.Standing.{calm_known}
 use Rattle.line_laws.proofs.Still.{called_in_still, frame_still, still}
 use Rattle.line_laws.proofs.Stores.{scalar_written}
@@ -68,11 +69,6 @@ module _ (U : Upgrade) (of_class i : ℕ) (ty : Ty) (m : IsMember U of_class i t
       → MemberFound U K m.number u a b → (q : Position) × (a ≡ source_store.root (simple ty) q)
   member_stands K u a b shaped found =
       let q : Position = whole (position.field found.object (m.number ∷ [])) in (q, found.stands ∙ ap (λ s. source_store.root s q) shaped)
-
--- a steady procedure changes no variable of an object
-pub member_change : (U : Upgrade) (K : Pledge) (p of_class i : ℕ) (ty : Ty) (t : Term) (a : Address)
-    → (K.steady → is_outside U.program.declarations.vars p (root (typed ty (field (typed (types.class of_class) t) i))) ≡ false) → MayChange K a
-member_change U K p of_class i ty t a own steady = absurd (true≢false (own steady))
 
 -- ---- the assignment
 
@@ -111,16 +107,16 @@ module _ (U : Upgrade) (expressions : ExpressionsAgree U) (scalars : ScalarsAreW
       expressions (still K u) u p f g oracle net_oracle l k c T uses e lat.match (frame_still U K u lat.match p f g (G u lat)) declared is_open readable placed agree
       (called_in_still U K p l k u S T uses readable e is_still can) parts.0 parts.1
 
-  module _ (own : K.steady → is_outside U.program.declarations.vars p (root to) ≡ false) (keeps : keeps_object uses d e ≡ true)
+  module _ (own : IsOwnTarget U K p f to) (keeps : keeps_object uses d e ≡ true)
       (covers : covers_object uses d ≡ true) (member_type : Ty) (m : IsMember U of_class i member_type) (of_type : covers_type member_type ≡ true) where
     writes : (u : World) (a : Address) (b : net_store.Address) (z : Value6) (y : net_value.Value) → MemoryMatch U u → MemberFound U K m.number u a b
-        → LikeV U u (scalar (type_at e) z) y
+        → IsMyAddress U f of_class m.number t a → LikeV U u (scalar (type_at e) z) y
         → Agrees U K u AnyUnits (write f.env (scalar (type_at e) z) a u.src) (net_store.written b y u.net)
-    writes u a b z y start found like =
+    writes u a b z y start found mine like =
         let at : (q : Position) × (a ≡ source_store.root (simple member_type) q) =
         member_stands U of_class i member_type m K u a b
         (member_shape U of_class i member_type m (λ bounds. simple_type (user_shapes U.program.declarations) bounds member_type of_type)) found in
-        scalar_written U scalars K u start member_type of_type a b at.0 found.same (inl at.1) found.target (member_change U K p of_class i ty t a own) f.env
+        scalar_written U scalars K u start member_type of_type a b at.0 found.same (inl at.1) found.target (member_change U K p f of_class m.number i ty t a own mine) f.env
         (type_at e) (type_covered uses e (good_parts uses e well).0) z y like
 
     kept : Goal
@@ -144,7 +140,7 @@ module _ (U : Upgrade) (expressions : ExpressionsAgree U) (scalars : ScalarsAreW
         (or_cases (is_calm_object uses d && are_still uses (nodes e)) (is_calm uses e && are_still uses (nodes d)) x))
         (or_cases (is_literal_value e) ((is_calm_object uses d && are_still uses (nodes e)) || (is_calm uses e && are_still uses (nodes d))) keeps)
 
-  pub member_stored : (K.steady → is_outside U.program.declarations.vars p (root to) ≡ false) → keeps_object uses d e ≡ true
+  pub member_stored : IsOwnTarget U K p f to → keeps_object uses d e ≡ true
       → (has_member uses (types.class of_class) i covers_type && covers_object uses d) ≡ true → Goal
   member_stored own keeps covers =
       let both = both_true (has_member uses (types.class of_class) i covers_type) (covers_object uses d) covers in

@@ -6,7 +6,7 @@ use Rattle.std.specs.Prelude.{is_some}
 use Rattle.std.specs.List.{list_any}
 use Rattle.vb_tree.specs.BoundTree as types
 use Rattle.vb_tree.specs.BoundTree.{Ty}
-use Rattle.bound_tree.specs.Tree.{Declarations, Expr, typed, Term, constant, variable, field, convert}
+use Rattle.bound_tree.specs.Tree.{Declarations, Expr, typed, Term, constant, variable, field, convert, me}
 use Rattle.bound_facts.proofs.Chains.{both_true}
 use Rattle.bound_facts.specs.CanRaise.{can_raise, is_constant_node, is_safe, raises}
 use Rattle.bound_facts.specs.Locks.{is_same_type}
@@ -47,8 +47,8 @@ module _ (U : Upgrade) (T : Scope) (uses : Uses) (readable : AreReadable U T use
   calm_raises : (e : Expr) → is_calm uses e ≡ true → can_raise D e ≡ false
   calm_raises (typed ty (constant x o)) h = refl
   calm_raises (typed ty (variable v qualified)) h =
-      let used = (both_true (uses.scalar v) (uses.exact v && (uses.is_of v ty && uses.relied v)) h).0 in
-      ap (λ o. is_some o || false) (no_auto U v.0 (readable.scalars v used))
+      let used = (both_true (uses.scalar v && uses.named v qualified) (uses.exact v && (uses.is_of v ty && uses.relied v)) h).0 in
+      ap (λ o. is_some o || false) (no_auto U v.0 (readable.scalars v (both_true (uses.scalar v) (uses.named v qualified) used).0))
   calm_raises (typed ty (convert to e)) h =
       let all = both_true (is_same_type to ty) (widens (type_at e) to && is_calm uses e) h in
       let both = both_true (widens (type_at e) to) (is_calm uses e) all.1 in
@@ -60,7 +60,9 @@ module _ (U : Upgrade) (T : Scope) (uses : Uses) (readable : AreReadable U T use
   object_raises : (of_class : ℕ) (t : Term) → is_calm_object_term uses t ≡ true → covers_object_term uses (types.class of_class) t ≡ true
       → list_any (raises D) (nodes (typed (types.class of_class) t)) ≡ false
   object_raises of_class (variable v qualified) calm covers =
-      ap (λ o. is_some o || false) (known_auto U v.0 (readable.groups v (types.class of_class) covers).known)
+      let used = (both_true (uses.group v (types.class of_class)) (uses.named v qualified) covers).0 in
+      ap (λ o. is_some o || false) (known_auto U v.0 (readable.groups v (types.class of_class) used).known)
+  object_raises of_class me calm covers = refl
   object_raises of_class _ calm covers = absurd (true≢false (sym calm))
 
   module _ (ty : Ty) (of_class i : ℕ) (t : Term) (e : Expr) where

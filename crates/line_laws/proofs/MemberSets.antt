@@ -1,5 +1,5 @@
 -- A Set of a variable of an object does the same as what is written for it.
-use Rattle.std.proofs.Common.{◌≡◌, ◌∙◌, refl, sym, ap, subst, inr, ⊎_elim, ℕ, Bool, true, false, ◌&&◌, ◌||◌, true≢false, eqb-true}
+use Rattle.std.proofs.Common.{◌≡◌, ◌∙◌, refl, sym, ap, subst, inr, ⊎_elim, ℕ, Bool, true, ◌&&◌, ◌||◌, true≢false, eqb-true}
 use Rattle.std.proofs.Math.Bool.{or-false}
 use Rattle.std.proofs.lemmas.Bool.{or_cases}
 use Rattle.vb_tree.specs.BoundTree as types
@@ -9,9 +9,8 @@ use Rattle.vb_tree.specs.declared.value.Value6.TheVariants as v
 use Rattle.bound_tree.specs.declared.expression.Origin.{Origin}
 use Rattle.bound_tree.specs.Tree.{Expr, typed, Term, constant, variable, field, convert}
 use Rattle.bound_facts.proofs.Chains.{both_true}
-use Rattle.bound_facts.specs.Effects.{is_outside}
 use Rattle.bound_facts.specs.Locks.{is_same_type}
-use Rattle.bound_facts.specs.Node.{root, type_at}
+use Rattle.bound_facts.specs.Node.{type_at}
 use Rattle.bound_facts.specs.Nodes.{nodes}
 use Rattle.run_base.specs.Outcomes.{then}
 use Rattle.run_base.specs.Positions.{Position}
@@ -44,7 +43,7 @@ use Rattle.run_matches.specs.Match.{MemoryMatch}
 use Rattle.run_matches.specs.Pledges.{Later, Pledge}
 use Rattle.run_matches.specs.Runs.{CallsAgree}
 use Rattle.run_matches.specs.Upgrades.{Upgrade}
-use Rattle.run_statements.specs.Frames.{AllCalled, AnyUnits, AreReadable, ArePlaced, IsGroup, IsMember, IsOpen, IsReadable, ScalarMatch, context_of, demands}
+use Rattle.run_statements.specs.Frames.{AllCalled, AnyUnits, AreReadable, ArePlaced, IsGroup, IsMember, IsOpen, IsReadable, MayChange, ScalarMatch, context_of, demands}
 use Rattle.run_statements.specs.Groups.{GroupsAgree, GroupsAreWritten, ValueMatch}
 use Rattle.run_statements.specs.Members.{MemberFound, MembersAgree, MembersAreFound}
 use Rattle.run_statements.specs.Written.{Passes}
@@ -53,10 +52,12 @@ use Rattle.agreeing_laws.proofs.UserShapes.{class_written}
 use Rattle.line_laws.specs.Lasting.{GoOnMatching}
 use Rattle.line_laws.proofs.Bounds.{some_is}
 use Rattle.line_laws.proofs.Calm.{IsConstant, typed_converted}
-use Rattle.line_laws.proofs.CalmObjects.{same_class}
-use Rattle.line_laws.proofs.MemberLines.{member_change, member_shape, member_stands, passing_type}
+use Rattle.line_laws.proofs.Me.{same_class}
+use Rattle.line_laws.proofs.MemberLines.{member_shape, member_stands, passing_type}
 use Rattle.line_laws.proofs.MemberParts.{member_set, member_target}
 use Rattle.line_laws.proofs.MemberStores.{constant_stored, object_stored}
+use Rattle.line_laws.proofs.MyMembers.{IsMyAddress, member_change}
+use Rattle.line_laws.proofs.OwnTargets.{IsOwnTarget}
 use Rattle.line_laws.proofs.Still.{called_in_still, frame_still, still}
 use Rattle.line_laws.proofs.Targets.{SameStore}
 use Rattle.line_laws.proofs.Uses.{scalar_type}
@@ -104,9 +105,10 @@ no_calm_object : (U : Upgrade) (T : Scope) (uses : Uses) → AreReadable U T use
 no_calm_object U T uses readable of_class (constant x o) calm covers = true≢false (sym covers)
 no_calm_object U T uses readable of_class (variable x qualified) calm covers =
     let ty : Ty = types.class of_class in
-    let used = (both_true (uses.scalar x) (uses.exact x && (uses.is_of x ty && uses.relied x)) calm).0 in
-    let r : IsReadable U x.0 = readable.scalars x used in
-    let o : IsGroup U x.0 ty = readable.groups x ty (sym (or-false (uses.group x ty)) ∙ covers) in
+    let used = (both_true (uses.scalar x && uses.named x qualified) (uses.exact x && (uses.is_of x ty && uses.relied x)) calm).0 in
+    let r : IsReadable U x.0 = readable.scalars x (both_true (uses.scalar x) (uses.named x qualified) used).0 in
+    let place = both_true (uses.group x ty) (uses.named x qualified) (sym (or-false (uses.group x ty && uses.named x qualified)) ∙ covers) in
+    let o : IsGroup U x.0 ty = readable.groups x ty place.0 in
     let same : r.variable.ty ≡ ty = ap (λ z. z.ty) (some_is r.variable o.known.variable (sym r.is_variable ∙ o.known.is_variable)) ∙ o.is_type in
     true≢false (sym (subst (λ z. covers_type z ≡ true) same (scalar_type U x.0 r)))
 no_calm_object U T uses readable of_class (convert to e) calm covers =
@@ -133,9 +135,6 @@ module _ (U : Upgrade) (groups : GroupsAgree U) (writes_groups : GroupsAreWritte
 
   abbrev Can : Expr → Type 0
   Can e = AllCalled (demands U K p l k S T) e
-
-  abbrev IsOwnTarget : Expr → Type 0
-  IsOwnTarget e = K.steady → is_outside U.program.declarations.vars p (root e) ≡ false
 
   abbrev SameSet : (to value : Expr) → Type 0
   SameSet to e =
@@ -175,18 +174,18 @@ module _ (U : Upgrade) (groups : GroupsAgree U) (writes_groups : GroupsAreWritte
         (groups (still K u) u p f g oracle net_oracle l k c T uses ty from lat.match (frame_still U K u lat.match p f g (G u lat)) declared is_open readable placed
         agree (called_in_still U K p l k u S T uses readable e is_still can) covers_from formed)
 
-    module _ (own : IsOwnTarget to) (m : IsMember U of_class i ty) where
+    module _ (own : IsOwnTarget U K p f to) (m : IsMember U of_class i ty) where
       shaped : variable_shape U.program.declarations m.number ≡ simple ty
       shaped = member_shape U of_class i ty m (λ bounds. refl)
 
       writes : (u : World) (a : Address) (b : net_store.Address) (z : Value6) (y : net_value.Value) → MemoryMatch U u → MemberFound U K m.number u a b
-          → LikeV U u (scalar ty z) y → Agrees U K u AnyUnits (write f.env (scalar ty z) a u.src) (net_store.written b y u.net)
-      writes u a b z y start found like =
+          → IsMyAddress U f of_class m.number t a → LikeV U u (scalar ty z) y → Agrees U K u AnyUnits (write f.env (scalar ty z) a u.src) (net_store.written b y u.net)
+      writes u a b z y start found mine like =
           let at : (q : Position) × (a ≡ source_store.root (simple ty) q) = member_stands U of_class i ty m K u a b shaped found in
           subst (λ x. Agrees U K u AnyUnits (write f.env (scalar ty z) x u.src) (net_store.written b y u.net)) (sym at.1)
           (writes_groups K u (simple ty) at.0 b f.env (scalar ty z) y
           (inr (class_written U ty m.written refl (subst (λ s. SameShape U s m.written) shaped m.same))) start (subst (λ x. Same U K u x b) at.1 found.same)
-          (subst (λ x. IsTarget U x) at.1 found.target) (member_change U K p of_class i ty t (source_store.root (simple ty) at.0) own) (refl, like))
+          (subst (λ x. IsTarget U x) at.1 found.target) (subst (λ x. MayChange K x) at.1 (member_change U K p f of_class m.number i ty t a own mine)) (refl, like))
 
       kept : keeps_object uses d e ≡ true → covers_object uses d ≡ true → SameStore U K w C S T net_oracle to e
       kept keeps covers =
@@ -215,7 +214,7 @@ module _ (U : Upgrade) (groups : GroupsAgree U) (writes_groups : GroupsAreWritte
       → covers_object uses (typed (types.class j) (field (typed (types.class of_class) t) i)) ≡ true
       → covers_group uses (typed (types.class j) from) ≡ true → is_formed (typed (types.class j) from) ≡ true
       → keeps_object uses (typed (types.class of_class) t) (typed (types.class j) from) ≡ true
-      → IsOwnTarget (typed (types.class j) (field (typed (types.class of_class) t) i))
+      → IsOwnTarget U K p f (typed (types.class j) (field (typed (types.class of_class) t) i))
       → SameSet (typed (types.class j) (field (typed (types.class of_class) t) i)) (typed (types.class j) from)
   member_kept of_class j i t from can covers_to covers_from formed keeps own =
       let d : Expr = typed (types.class of_class) t in
@@ -226,14 +225,14 @@ module _ (U : Upgrade) (groups : GroupsAgree U) (writes_groups : GroupsAreWritte
 
   to_class : (j : ℕ) (to from : Term) → Can (typed (types.class j) from) → is_member_ordered uses (typed (types.class j) to) (typed (types.class j) from) ≡ true
       → covers_object uses (typed (types.class j) to) ≡ true → covers_group uses (typed (types.class j) from) ≡ true
-      → is_formed (typed (types.class j) from) ≡ true → IsOwnTarget (typed (types.class j) to) → SameSet (typed (types.class j) to) (typed (types.class j) from)
+      → is_formed (typed (types.class j) from) ≡ true → IsOwnTarget U K p f (typed (types.class j) to) → SameSet (typed (types.class j) to) (typed (types.class j) from)
   to_class j (field (typed (types.class of_class) t) i) from can ordered covers_to covers_from formed own =
       member_kept of_class j i t from can covers_to covers_from formed ordered own
   to_class j (field (typed _ t) i) from can ordered covers_to covers_from formed own = absurd (true≢false (sym ordered))
   to_class j _ from can ordered covers_to covers_from formed own = absurd (true≢false (sym ordered))
 
   pub member_set_agrees : (j : ℕ) (to : Term) (e : Expr) → Can e → covers_set_member uses (typed (types.class j) to) e ≡ true → is_formed e ≡ true
-      → IsOwnTarget (typed (types.class j) to) → SameSet (typed (types.class j) to) e
+      → IsOwnTarget U K p f (typed (types.class j) to) → SameSet (typed (types.class j) to) e
   member_set_agrees j to (typed of from) can covers formed own =
       let d : Expr = typed (types.class j) to in
       let e : Expr = typed of from in

@@ -35,7 +35,7 @@ use Rattle.run_matches.specs.Upgrades.{Upgrade}
 use Rattle.run_matches.specs.UserTypes.{is_class_type}
 use Rattle.run_statements.specs.Frames.{AnyUnits, AreReadable, ArePlaced, IsMember, ScalarMatch, context_of}
 use Rattle.run_statements.specs.Members.{MemberFound, MembersAgree, MembersAreFound, ReachedMember}
-use Rattle.agreeing_laws.proofs.Agreeing.{agrees_later, agrees_weaker, left_alone, then_agrees}
+use Rattle.agreeing_laws.proofs.Agreeing.{agrees_later, agrees_weaker, agrees_yields, left_alone, then_agrees}
 use Rattle.agreeing_laws.proofs.Lasting.{later_now}
 use Rattle.agreeing_laws.proofs.Scalars.{scalar_later}
 use Rattle.line_laws.specs.Lasting.{GoOnMatching}
@@ -43,6 +43,7 @@ use Rattle.line_laws.proofs.Calm.{Gives, IsConstant}
 use Rattle.line_laws.proofs.CalmObjects.{calm_object}
 use Rattle.line_laws.proofs.EitherOrder.{parts_first, value_first}
 use Rattle.line_laws.proofs.MemberParts.{member_later, member_let, member_parts, stored_by}
+use Rattle.line_laws.proofs.MyMembers.{HasMyParts, IsMyAddress, my_address, my_parts}
 use Rattle.line_laws.proofs.Orders.{stable_behind, stable_later}
 use Rattle.line_laws.proofs.Standing.{Stable}
 use Rattle.line_laws.proofs.Still.{frame_still, still}
@@ -54,7 +55,7 @@ module _ (U : Upgrade) (members : MembersAgree U) (finds : MembersAreFound U) (K
     (m : IsMember U of_class i member_type) (of_type : (covers_type member_type ≡ true) ⊎ (is_class_type member_type ≡ true))
     (covers : covers_object_term uses (types.class of_class) t ≡ true) (e : Expr)
     (writes : (u : World) (a : Address) (b : net_store.Address) (z : Value6) (y : net_value.Value) → MemoryMatch U u → MemberFound U K m.number u a b
-    → LikeV U u (scalar (type_at e) z) y
+    → IsMyAddress U f of_class m.number t a → LikeV U u (scalar (type_at e) z) y
     → Agrees U K u AnyUnits (write f.env (scalar (type_at e) z) a u.src) (net_store.written b y u.net)) where
   abbrev C : source.Context
   C = context_of U oracle p f l
@@ -79,19 +80,32 @@ module _ (U : Upgrade) (members : MembersAgree U) (finds : MembersAreFound U) (K
   abbrev by : Value6 → source.Parts → Memory → Outcome Memory Unit
   by z = stored_by U of_class i member_type m oracle p f l ty t (type_at e) z
 
+  -- the parts of the variable
+  abbrev Reached : World → source.Parts → net_names.Reached → Type 0
+  Reached u x r = ReachedMember U of_class m.number u x r × HasMyParts U f of_class m.number t x
+
+  abbrev Found : World → Address → net_store.Address → Type 0
+  Found u a b = MemberFound U K m.number u a b × IsMyAddress U f of_class m.number t a
+
   reached : (L : Pledge) → FrameMatch U L w p f g
-      → Agrees U L w (ReachedMember U of_class m.number) (source.parts_of C to w.src) (reach S net_oracle false (exp_of T to) w.net)
-  reached L now = members L w p f g oracle net_oracle l k c T uses ty of_class i t member_type m h now declared readable placed covers
+      → Agrees U L w Reached (source.parts_of C to w.src) (reach S net_oracle false (exp_of T to) w.net)
+  reached L now =
+      agrees_yields U L w (ReachedMember U of_class m.number) (λ x s. HasMyParts U f of_class m.number t x) (source.parts_of C to w.src)
+      (reach S net_oracle false (exp_of T to) w.net) (my_parts U L p f g l k c T oracle uses placed w now of_class i member_type m ty t covers)
+      (members L w p f g oracle net_oracle l k c T uses ty of_class i t member_type m h now declared readable placed covers)
 
   -- a value behind the parts, on both sides
-  written : (u v : World) → MemoryMatch U v → (x : source.Parts) (r : net_names.Reached) → ReachedMember U of_class m.number u x r → Later U K u v
+  written : (u v : World) → MemoryMatch U v → (x : source.Parts) (r : net_names.Reached) → Reached u x r → Later U K u v
       → (z : Value6) (y : net_value.Value) → LikeV U v (scalar (type_at e) z) y → Agrees U K v AnyUnits (by z x v.src) (assigned S net_oracle r y v.net)
   written u v start x r at later z y like =
-      subst (λ q. Agrees U K v AnyUnits (by z x v.src) (assigned S net_oracle q y v.net)) (sym at.1)
-      (then_agrees U K v (MemberFound U K m.number) AnyUnits (source.finished x v.src) (target.finished at.0 v.net) (write f.env (scalar (type_at e) z))
+      let reached_at = at.0 in
+      subst (λ q. Agrees U K v AnyUnits (by z x v.src) (assigned S net_oracle q y v.net)) (sym reached_at.1)
+      (then_agrees U K v Found AnyUnits (source.finished x v.src) (target.finished reached_at.0 v.net) (write f.env (scalar (type_at e) z))
       (λ b t. net_store.written b y t) start
-      (finds K v of_class i member_type m x at.0 of_type start (member_later U K u v of_class m.number x at.0 later at.2))
-      (λ a b v1 found more. writes v1 a b z y more.match found (scalar_later U K v v1 (type_at e) z y more like)))
+      (agrees_yields U K v (MemberFound U K m.number) (λ a s. IsMyAddress U f of_class m.number t a) (source.finished x v.src)
+      (target.finished reached_at.0 v.net) (my_address U f of_class m.number t x v.src at.1)
+      (finds K v of_class i member_type m x reached_at.0 of_type start (member_later U K u v of_class m.number x reached_at.0 later reached_at.2)))
+      (λ a b v1 found more. writes v1 a b z y more.match found.0 found.1 (scalar_later U K v v1 (type_at e) z y more like)))
 
   like_as : (u : World) (z : Value6) (x : Value) (y : net_value.Value) → x ≡ scalar (type_at e) z → ScalarMatch U (type_at e) u x y
       → LikeV U u (scalar (type_at e) z) y
@@ -99,15 +113,15 @@ module _ (U : Upgrade) (members : MembersAgree U) (finds : MembersAreFound U) (K
 
   -- the value is known, and the same behind the object
   known_first : (X : World → Type 0) (z : Value6) → Gives C e z w.src → ((u : World) → X u → Gives C e z u.src)
-      → Agrees U K w (λ u x r. ReachedMember U of_class m.number u x r × X u) (source.parts_of C to w.src) (reach S net_oracle false (exp_of T to) w.net)
+      → Agrees U K w (λ u x r. Reached u x r × X u) (source.parts_of C to w.src) (reach S net_oracle false (exp_of T to) w.net)
       → ((u : World) → Later U K w u → Values K u) → Goal
   known_first X z now later agree values =
       value_first U K w h source.Parts (source.value_of C e) (target.value_of S net_oracle (exp_of T e)) (source.parts_of C to)
-      (reach S net_oracle false (exp_of T to)) (let_to C to) (assigned S net_oracle) (ReachedMember U of_class m.number)
+      (reach S net_oracle false (exp_of T to)) (let_to C to) (assigned S net_oracle) Reached
       (λ u v x y. ScalarMatch U (type_at e) v x y) values (scalar (type_at e) z) (by z) now
       (member_let U of_class i member_type m oracle p f l ty t (type_at e) z)
-      (agrees_weaker U K w (λ u x r. ReachedMember U of_class m.number u x r × X u)
-      (λ u x r. ReachedMember U of_class m.number u x r × (source.value_of C e u.src ≡ gives [] (scalar (type_at e) z) u.src)) (source.parts_of C to w.src)
+      (agrees_weaker U K w (λ u x r. Reached u x r × X u)
+      (λ u x r. Reached u x r × (source.value_of C e u.src ≡ gives [] (scalar (type_at e) z) u.src)) (source.parts_of C to w.src)
       (reach S net_oracle false (exp_of T to) w.net) (λ u x r lat y. (y.0, later u y.1)) agree)
       (λ u v x r y at more match. written u v more.match x r at more z y (like_as v z (scalar (type_at e) z) y refl match))
 
@@ -115,14 +129,14 @@ module _ (U : Upgrade) (members : MembersAgree U) (finds : MembersAreFound U) (K
   pub constant_stored : IsConstant C e → ((u : World) → Later U K w u → Values K u) → Goal
   constant_stored x values =
       known_first (λ u. Unit {0}) x.value (x.gives w.src) (λ u i. x.gives u.src)
-      (agrees_weaker U K w (ReachedMember U of_class m.number) (λ u x r. ReachedMember U of_class m.number u x r × Unit {0}) (source.parts_of C to w.src)
+      (agrees_weaker U K w Reached (λ u x r. Reached u x r × Unit {0}) (source.parts_of C to w.src)
       (reach S net_oracle false (exp_of T to) w.net) (λ u x r lat y. (y, tt)) (reached K F)) values
 
   -- a value that is the same while nothing changes, which no object does
   pub calm_stored : (z : Value6) → ((s : Memory) → Stable U w s → Gives C e z s) → ((u : World) → Later U K w u → Values K u) → Goal
   calm_stored z is values =
       known_first (λ u. Later U (still K w) w u) z (is w.src (λ q made plain held. refl)) (λ u lat. is u.src (stable_later U K w u lat))
-      (agrees_later U K (still K w) w (ReachedMember U of_class m.number) (ReachedMember U of_class m.number) (source.parts_of C to w.src)
+      (agrees_later U K (still K w) w Reached Reached (source.parts_of C to w.src)
       (reach S net_oracle false (exp_of T to) w.net) (λ i x. x) (reached K F) (reached (still K w) (frame_still U K w h p f g F))) values
 
   -- a calm object, and a value that changes nothing
@@ -135,7 +149,7 @@ module _ (U : Upgrade) (members : MembersAgree U) (finds : MembersAreFound U) (K
       let parts_are : (s : Memory) → Stable U w s → source.parts_of C to s ≡ gives [] parts s =
       λ s before. member_parts U of_class i member_type m oracle p f l ty t x.0 s (x.1 s before) in
       parts_first U K w h source.Parts (source.value_of C e) (target.value_of S net_oracle (exp_of T e)) (source.parts_of C to)
-      (reach S net_oracle false (exp_of T to)) (let_to C to) (assigned S net_oracle) (ReachedMember U of_class m.number)
+      (reach S net_oracle false (exp_of T to)) (let_to C to) (assigned S net_oracle) Reached
       (λ u v x y. ScalarMatch U (type_at e) v x y × Later U (still K u) u v)
       (λ u lat.
       agrees_later U K (still K u) u (ScalarMatch U (type_at e)) (ScalarMatch U (type_at e)) (source.value_of C e u.src)

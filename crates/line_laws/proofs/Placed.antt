@@ -1,5 +1,5 @@
 -- A variable that is placed is found on both sides, where it stands for itself if it holds no array.
-use Rattle.std.proofs.Common.{◌≡◌, ◌∙◌, ◌⊎◌, inl, inr, ⊎_elim, refl, sym, ap, subst, ℕ, Bool, true, false, cond, not, nat_eq, Option, Some, None, option_map, List, [], ◌∷◌, slice_get, true≢false}
+use Rattle.std.proofs.Common.{◌≡◌, ◌∙◌, ◌⊎◌, inl, inr, ⊎_elim, refl, sym, ap, subst, ℕ, Bool, true, false, cond, not, ◌&&◌, nat_eq, Option, Some, None, option_map, List, [], ◌∷◌, slice_get, true≢false}
 use Rattle.std.specs.Prelude.{is_some}
 use Rattle.std.proofs.lemmas.Bool.{eq-eqb, eqb-true}
 use Rattle.std.specs.Map.{lookup}
@@ -23,22 +23,27 @@ use Rattle.net_run.specs.Shapes as shape
 use Rattle.net_run.specs.Store as net
 use Rattle.run_matches.specs.Addresses.{IsPlain, IsTarget, IsVariable, IsWhole, Same, is_element, same_root}
 use Rattle.run_matches.specs.CoveredExprs.{is_relied_on}
+use Rattle.run_matches.specs.CoveredVariables.{is_class_member, is_of_class}
 use Rattle.run_matches.specs.CoveredLines.{is_local_in, is_passing_in, is_passing_of}
 use Rattle.run_matches.specs.Covered.{is_reference_in, is_reference_owner_of}
-use Rattle.run_matches.specs.Frames.{FrameMatch, GivenPlace, HasPlace, OwnObject, OwnsAll, SameStatic, SameVariable, StandsAs, is_own_of, is_static_in, name_of, static_of}
+use Rattle.run_matches.specs.Frames.{FrameMatch, GivenPlace, HasPlace, OwnObject, SameStatic, SameVariable, StandsAs, is_own_of, is_static_in, name_of, static_of}
 use Rattle.run_matches.specs.Kinds.{AreKinds}
 use Rattle.run_matches.specs.Likeness.{SameShape}
 use Rattle.run_matches.specs.Maps.{World, IsMade, is_auto_root, is_auto_variable, key_or_none, mark, moved_at, root_variable, has_counterpart}
 use Rattle.run_matches.specs.Match.{HeldAs, MemoryMatch, is_class_variable}
 use Rattle.run_matches.specs.Pledges.{Pledge}
 use Rattle.run_matches.specs.Upgrades.{Upgrade, is_auto, is_that, variable_key}
-use Rattle.run_statements.specs.Frames.{IsGiven, IsKnown, IsOwnField, IsOwnStatic, IsPlaced, IsShared, MayChange}
+use Rattle.run_statements.specs.Frames.{IsGiven, IsKnown, IsOwnField, IsOwnStatic, IsPlaced, IsShared}
 use Rattle.agreeing_laws.proofs.Moves.{matched_whole}
 use Rattle.agreeing_laws.proofs.SoundParts.{all_matched_made, all_ranked_sound}
 use Rattle.line_laws.proofs.Bounds.{exactly, some_is}
 use Rattle.line_laws.proofs.Elements.{known_address, known_auto}
 use Rattle.line_laws.proofs.Flat.{IsFlatVariable, stands_as}
 use Rattle.line_laws.proofs.Uses.{given_address}
+
+-- one of a class is named by itself
+abbrev pub IsNamedSo : Declarations → (variable : ℕ) → (qualified : Bool) → Type 0
+IsNamedSo D v qualified = not (qualified && is_class_member D (slice_get D.vars v)) ≡ true
 
 -- the images of a variable without arrays, which can be written
 pub record FlatImages (U : Upgrade) (K : Pledge) (w : World) (v : ℕ) (a : Address) (b : net.Address) : Type 0 where
@@ -52,7 +57,8 @@ pub record PlacedVariable (U : Upgrade) (K : Pledge) (w : World) (f : SourceFram
   pub address : Address
   pub net_address : net.Address
   pub found : variable_address U.program.declarations f v ≡ Some address
-  pub leads : (qualified : Bool) → path_start S false (variable_path T qualified v) ≡ starts (at_place net_address) []
+  pub leads :
+      (qualified : Bool) → IsNamedSo U.program.declarations v qualified → path_start S false (variable_path T qualified v) ≡ starts (at_place net_address) []
   pub plain : IsPlain U w address
   pub whole : is_relied_on U.program v ≡ true → IsWhole address
   pub flat : MemoryMatch U w → IsFlatVariable U v → is_quiet U.program.declarations U.known v ≡ false → FlatImages U K w v address net_address
@@ -105,11 +111,23 @@ key_there : (o : Option Key) → is_some o ≡ true → o ≡ Some (key_or_none 
 key_there None e = absurd (true≢false (sym e))
 key_there (Some k) e = refl
 
+by_itself : (q of_class : Bool) → of_class ≡ true → not (q && of_class) ≡ true → q ≡ false
+by_itself true of_class is so = absurd (true≢false (sym so ∙ ap not is))
+by_itself false of_class is so = refl
+
 -- what is laid holds what it declares
 is_laid : (D : Declarations) (v : ℕ) (laid : Bool) (r : Root) (h : Position → Held) → laid ≡ true → HeldAs D v laid r h
     → AreKinds (variable_shape D v) (whole r) h
 is_laid D v laid r h is (inl b) = absurd (true≢false (sym is ∙ b.1))
 is_laid D v laid r h is (inr kind) = kind
+
+-- a variable of the class of the procedure stands in its object
+pub field_found : (U : Upgrade) (p : ℕ) (f : SourceFrame) (S : net_names.Scope) (T : Scope) (v : ℕ) → IsOwnField U p S T v → (o : ℕ) → f.me ≡ Some o
+    → variable_address U.program.declarations f v ≡ Some (root (variable_shape U.program.declarations v) (whole (field o (v ∷ []))))
+field_found U p f S T v s o is =
+    let D : Declarations = U.program.declarations in
+    ap (declared_address D f v) s.is_variable ∙ ap (owned_address D f v) s.is_owner
+    ∙ (ap (λ b. root_address D v (cond b (object_root f.me v) (Some (shared (v ∷ []))))) s.is_class ∙ ap (λ m. root_address D v (object_root m v)) is)
 
 -- ---- where they are found
 
@@ -146,7 +164,7 @@ module _ (U : Upgrade) (K : Pledge) (w : World) (p : ℕ) (f : SourceFrame) (g :
         address = a;
         net_address = s.address;
         found = is ∙ found;
-        leads = λ q. named q s.address (path q) s.found;
+        leads = λ q so. named q s.address (path q) s.found;
         plain = s.plain not_auto;
         whole = whole;
         flat = λ h flat exact. record {
@@ -184,7 +202,7 @@ module _ (U : Upgrade) (K : Pledge) (w : World) (p : ℕ) (f : SourceFrame) (g :
     here = root (variable_shape D v) (whole r)
 
     of_root : (b : net.Address) → variable_address D f v ≡ Some here
-        → ((qualified : Bool) → path_start S false (variable_path T qualified v) ≡ starts (at_place b) [])
+        → ((qualified : Bool) → IsNamedSo D v qualified → path_start S false (variable_path T qualified v) ≡ starts (at_place b) [])
         → IsVariable U here → (MemoryMatch U w → IsFlatVariable U v → Same U K w here b) → At
     of_root b is leads target same = record {
       address = here;
@@ -217,7 +235,7 @@ module _ (U : Upgrade) (K : Pledge) (w : World) (p : ℕ) (f : SourceFrame) (g :
       of_root r refl (net.root s.written (whole (shared s.key)))
       (ap (declared_address D f v) s.is_variable ∙ ap (owned_address D f v) s.is_owner
       ∙ ap (λ b. root_address D v (cond b (object_root f.me v) (Some (shared (v ∷ []))))) s.standard)
-      s.leads
+      (λ q so. s.leads q)
       (inr (inl (record { variable = v; key = s.key; of_shape = variable_shape D v; path = []; stands = refl; is_key = s.is_key; differs = s.differs })))
       (λ h flat.
       subst (λ b. Same U K w (root (variable_shape D v) (whole r)) b) there
@@ -242,7 +260,7 @@ module _ (U : Upgrade) (K : Pledge) (w : World) (p : ℕ) (f : SourceFrame) (g :
       of_root r refl (net.root m.written (moved_at U w.map (whole r)))
       (ap (declared_address D f v) x.is_variable ∙ o.2 D f v
       ∙ ap (λ q. root_address D v (static_root D f.me v (module_of (slice_get D.procs q)))) o.1 ∙ ap (root_address D v) stands)
-      (λ q. named q _ (static_alone p x.variable.owner of T q x.variable.name) m.found)
+      (λ q so. named q _ (static_alone p x.variable.owner of T q x.variable.name) m.found)
       (inr (inl (record {
         variable = v;
         key = key_or_none (variable_key U v);
@@ -262,9 +280,11 @@ module _ (U : Upgrade) (K : Pledge) (w : World) (p : ℕ) (f : SourceFrame) (g :
       let there : net.root s.written (moved_at U w.map (whole r)) ≡ net.root s.written (whole (field (w.map.objects y.object) s.key)) =
       ap (λ o. net.root s.written (whole (field (w.map.objects y.object) (key_or_none o)))) s.is_key in
       of_root r refl (net.root s.written (whole (field (w.map.objects y.object) s.key)))
-      (ap (declared_address D f v) s.is_variable ∙ ap (owned_address D f v) s.is_owner
-      ∙ (ap (λ b. root_address D v (cond b (object_root f.me v) (Some (shared (v ∷ []))))) s.is_class ∙ ap (λ m. root_address D v (object_root m v)) y.is_me))
-      (λ q. s.leads q ∙ ap (λ m. starts (own_field s.written s.key m) []) (F.me ∙ ap (option_map w.map.objects) y.is_me))
+      (field_found U p f S T v s y.object y.is_me)
+      (λ q so.
+      subst (λ b. path_start S false (variable_path T b v) ≡ starts (own_field s.written s.key S.me) [])
+      (sym (by_itself q (is_class_member D (slice_get D.vars v)) (ap (is_class_member D) s.is_variable ∙ ap (is_of_class D) s.is_owner ∙ s.is_class) so)) s.leads
+      ∙ ap (λ m. starts (own_field s.written s.key m) []) (F.me ∙ ap (option_map w.map.objects) y.is_me))
       (inr (inr (record {
         object = y.object;
         variable = v;
@@ -288,8 +308,3 @@ module _ (U : Upgrade) (K : Pledge) (w : World) (p : ℕ) (f : SourceFrame) (g :
   placed_variable (inr (inr (inl s))) = of_shared s
   placed_variable (inr (inr (inr (inl y)))) = of_given y
   placed_variable (inr (inr (inr (inr s)))) = of_field s
-
--- a steady procedure changes what is its own alone
-pub own_change : (U : Upgrade) (K : Pledge) (p : ℕ) (f : SourceFrame) → OwnsAll U K p f → (v : ℕ) → IsKnown U v → (K.steady → is_own_of U p v ≡ true)
-    → (a : Address) → variable_address U.program.declarations f v ≡ Some a → MayChange K a
-own_change U K p f owns v k inward a found steady = owns.variables v a (sym (known_address U v k p (inward steady) f) ∙ found) (inward steady)

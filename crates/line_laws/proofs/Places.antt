@@ -1,5 +1,5 @@
 -- Places of user types and objects: variables, what a With keeps, and fields of these, are found on both sides whatever was done before.
-use Rattle.std.proofs.Common.{◌≡◌, ◌∙◌, ◌⊎◌, refl, sym, ap, subst, inl, inr, ℕ, zero, suc, nat_eq, Bool, true, false, not, ◌&&◌, Option, Some, None, List, [], slice_get, true≢false}
+use Rattle.std.proofs.Common.{◌≡◌, ◌∙◌, ◌⊎◌, refl, sym, ap, subst, inl, inr, ⊎_elim, ℕ, zero, suc, nat_eq, Bool, true, false, not, ◌&&◌, Option, Some, None, List, [], slice_get, true≢false}
 use Rattle.std.proofs.lemmas.Bool.{or_right}
 use Rattle.std.specs.Map.{lookup}
 use Rattle.vb_tree.specs.BoundTree as types
@@ -13,6 +13,7 @@ use Rattle.bound_facts.proofs.Chains.{both_true}
 use Rattle.bound_facts.specs.Effects.{is_outside}
 use Rattle.bound_facts.specs.Node as node
 use Rattle.bound_facts.specs.Node.{class_in}
+use Rattle.bound_facts.specs.SelfMade.{is_mine}
 use Rattle.run_base.specs.Outcomes.{after, gives, then, some_of}
 use Rattle.run_base.specs.Frames.{keeps_address}
 use Rattle.run_base.specs.Machines.{nth_line}
@@ -51,9 +52,9 @@ use Rattle.agreeing_laws.proofs.Members.{is_alone, path_leads}
 use Rattle.agreeing_laws.proofs.WithPlaces.{IsHeadOf, IsWithPlace, head_of, same_user, with_found}
 use Rattle.agreeing_laws.proofs.UserShapes.{group_type_of}
 use Rattle.line_laws.proofs.Bounds.{some_is}
-use Rattle.line_laws.proofs.ElementLines.{not_outside}
 use Rattle.line_laws.proofs.Elements.{known_address, known_auto}
 use Rattle.line_laws.proofs.Flat.{flat_group, group_shape_is, group_stands}
+use Rattle.line_laws.proofs.OwnTargets.{IsOwnTarget, OwnsObject, not_outside, target_changes}
 use Rattle.line_laws.proofs.Placed.{FlatImages, PlacedVariable, placed_variable}
 use Rattle.line_laws.proofs.Settled.{known_path}
 use Rattle.line_laws.proofs.Targets.{Target}
@@ -103,12 +104,13 @@ place_alone uses ty _ covers = refl
 abbrev pub IsOwnRoot : Pledge → Root → Type 0
 IsOwnRoot K r = ((n : ℕ) × (r ≡ made n)) × (IsOld K r → ⊥)
 
--- a place in a variable, which is the procedure's own where the expression says so
+-- a place in a variable, which is the procedure's own, or its object's, where the expression says so
 pub record Place (U : Upgrade) (K : Pledge) (p : ℕ) (w : World) (C : source.Context) (S : net_names.Scope) (T : Scope) (oracle : Jobs) (ty : Ty) (e : Expr) : Type 0 where
   pub root : Root
   pub place : PlaceFound U K w C S oracle T root ty e
   pub plain : is_auto_root U w.map root ≡ false
   pub own : is_outside U.program.declarations.vars p (node.root e) ≡ false → IsOwnRoot K root
+  pub mine : is_mine U.program.declarations p e ≡ true → OwnsObject U K p C.frame → IsOld K root → ⊥
 
 -- a place, or none in a With that hasn't kept one
 abbrev pub Located : Upgrade → Pledge → (procedure : ℕ) → World → source.Context → net_names.Scope → Scope → Jobs → Ty → Expr → Type 0
@@ -141,11 +143,12 @@ module _ (U : Upgrade) (K : Pledge) (p : ℕ) (f : SourceFrame) (g : NetFrame) (
 
   -- ---- variables
 
-  pub variable_place : (ty : Ty) (v : VarId) (qualified : Bool) → uses.group v ty ≡ true
+  pub variable_place : (ty : Ty) (v : VarId) (qualified : Bool) → covers_place uses (typed ty (variable v qualified)) ≡ true
       → Place U K p w C S T net_oracle ty (typed ty (variable v qualified))
-  variable_place ty v qualified used =
-      let r : IsGroup U v.0 ty = readable.groups v ty used in
-      let x : PlacedVariable U K w f S T v.0 = placed_variable U K w p f g k c T declared F v.0 r.known (placed.places v (inr (inr (ty, used)))) in
+  variable_place ty v qualified covers =
+      let both = both_true (uses.group v ty) (uses.named v qualified) covers in
+      let r : IsGroup U v.0 ty = readable.groups v ty both.0 in
+      let x : PlacedVariable U K w f S T v.0 = placed_variable U K w p f g k c T declared F v.0 r.known (placed.places v (inr (inr (ty, both.0)))) in
       let i : FlatImages U K w v.0 x.address x.net_address = x.flat h (flat_group U v.0 ty r) r.exact in
       let stands : x.address ≡ root (type_shape U ty) i.position =
       group_stands U (type_shape U ty) ty x.address i.position r.sound (group_type_of D ty r.covers) r.covers i.target
@@ -170,7 +173,7 @@ module _ (U : Upgrade) (K : Pledge) (p : ℕ) (f : SourceFrame) (g : NetFrame) (
               (known_path U T declared ty v qualified r.known) (λ name. refl)
               (λ more m.
               ap (λ z. target.started S net_oracle z m)
-              (path_more S b.0 b.1 (variable_path T qualified v.0) more (x.leads qualified ∙ ap (λ z. starts (at_place z) []) b.2)
+              (path_more S b.0 b.1 (variable_path T qualified v.0) more (x.leads qualified (placed.named v qualified both.1) ∙ ap (λ z. starts (at_place z) []) b.2)
               ∙ ap (λ z. starts (at_place z) more) (sym b.2)));
         };
         plain = x.plain i.position (ap position_of stands);
@@ -181,6 +184,9 @@ module _ (U : Upgrade) (K : Pledge) (p : ℕ) (f : SourceFrame) (g : NetFrame) (
               (y.place, in_root_of x.address i.position (whole (made y.place)) (ap position_of stands) (ap position_of y.stands)),
               λ old. owns.variables v.0 x.address there own i.position (ap position_of stands) old,
             );
+        mine = λ is object old.
+            target_changes U K w p f g F owns S T v.0 r.known (placed.places v (inr (inr (ty, both.0)))) (inr (is, object)) x.address x.found i.position
+            (ap position_of stands) old;
       }
     where
       in_root_of : (a : Address) (q z : Position) → position_of a ≡ Some q → position_of a ≡ Some z → q.root ≡ z.root
@@ -228,6 +234,7 @@ module _ (U : Upgrade) (K : Pledge) (p : ℕ) (f : SourceFrame) (g : NetFrame) (
           place = y.place;
           plain = subst (λ q. is_auto_root U w.map q ≡ false) y.place.in_root (y.plain y.place.position (ap position_of y.stands));
           own = kept_own y;
+          mine = λ is object old. true≢false (sym is);
         })
         by (inr y) = inr y
 
@@ -241,6 +248,7 @@ module _ (U : Upgrade) (K : Pledge) (p : ℕ) (f : SourceFrame) (g : NetFrame) (
     place = field_found U K w C S net_oracle T x.root refl declared s j tm fty ty i none x.place;
     plain = x.plain;
     own = x.own;
+    mine = x.mine;
   })
   field_place s j tm fty ty i none (inr x) = inr (field_absent U C S net_oracle T declared s j tm fty ty i none x)
 
@@ -285,10 +293,10 @@ module _ (U : Upgrade) (K : Pledge) (p : ℕ) (f : SourceFrame) (g : NetFrame) (
 
   -- ---- as targets
 
-  -- a place that a steady procedure stores to in its own variables alone
+  -- a place that a steady procedure stores to in its own variables or in those of its object
   pub place_target : (ty : Ty) (e : Expr) → is_alone e ≡ true → (x : Place U K p w C S T net_oracle ty e)
       → ((y : Value) (s : Memory) → let_to C e y s ≡ then (source.address_of C e s) (store_at C e y))
-      → (K.steady → is_outside D.vars p (node.root e) ≡ false)
+      → IsOwnTarget U K p f e
       → Target U K w C S T net_oracle e (root (shape_by (user_shapes D) [] ty) x.place.position) x.place.address
   place_target ty e alone x lets inside = record {
     lets = lets;
@@ -296,5 +304,5 @@ module _ (U : Upgrade) (K : Pledge) (p : ℕ) (f : SourceFrame) (g : NetFrame) (
     leads = x.place.written.reached alone;
     same = x.place.same;
     target = x.place.target;
-    change = place_change K (shape_by (user_shapes D) [] ty) x.place.position x.root x.place.in_root (λ steady. (x.own (inside steady)).1);
+    change = place_change K (shape_by (user_shapes D) [] ty) x.place.position x.root x.place.in_root (λ steady. ⊎_elim (λ y. (x.own y).1) (λ y. x.mine y.0 y.1) (inside steady));
   }

@@ -8,8 +8,8 @@ use Rattle.vb_tree.specs.declared.declared.VarId.{VarId}
 use Rattle.vb_tree.specs.Tree.{Form, ReDimItem}
 use Rattle.bound_tree.specs.Tree.{Expr, typed, variable}
 use Rattle.bound_facts.proofs.Chains.{both_true}
-use Rattle.bound_facts.specs.Effects.{is_outside, resized_stores}
-use Rattle.bound_facts.specs.Node.{declared_at, is_array_type, root, type_at}
+use Rattle.bound_facts.specs.Effects.{resized_stores}
+use Rattle.bound_facts.specs.Node.{declared_at, is_array_type, type_at}
 use Rattle.bound_facts.specs.Parts.{Extent, Resize, resized_by, resizes, stores}
 use Rattle.vb6_meaning.specs.Answers.{then_answer}
 use Rattle.vb6_meaning.specs.Answers as answer
@@ -56,7 +56,7 @@ use Rattle.run_matches.specs.Formed.{is_formed}
 use Rattle.run_matches.specs.CoveredVariables.{covers_type}
 use Rattle.run_matches.specs.CoveredExprs.{Uses, covers_array}
 use Rattle.run_matches.specs.CoveredLines.{covers_extent, covers_resize, covers_resizes}
-use Rattle.run_matches.specs.Frames.{FrameMatch, OwnsAll, is_own_of}
+use Rattle.run_matches.specs.Frames.{FrameMatch, OwnsAll}
 use Rattle.run_matches.specs.Runs.{CallsAgree}
 use Rattle.run_statements.specs.Fitting.{FitsExtent, FitsResize, IsSoundArray, low_in_dimension, rank_of}
 use Rattle.run_statements.specs.Frames.{AllCalled, AnyUnits, ArrayMatch, ArraysAgree, AreReadable, ArePlaced, ExpressionsAgree, IsArray, IsOpen, MayChange, context_of, demands}
@@ -67,8 +67,9 @@ use Rattle.agreeing_laws.proofs.Agreeing.{agrees_gives, agrees_yields, right_alo
 use Rattle.agreeing_laws.proofs.Lasting.{later_now, later_then}
 use Rattle.line_laws.specs.Lasting.{GoOnMatching}
 use Rattle.line_laws.proofs.Called.{AllIn}
-use Rattle.line_laws.proofs.Elements.{ArrayVariable, array_variable, known_address, known_found}
+use Rattle.line_laws.proofs.Elements.{ArrayVariable, array_variable, known_found}
 use Rattle.line_laws.proofs.Extents.{AllFit, AllUppers, DimsMatch, all_fit, all_formed, all_mapped, all_of, all_resized, dims_agree}
+use Rattle.line_laws.proofs.OwnTargets.{IsOwnTarget, target_changes}
 use Rattle.line_laws.proofs.Settled.{IsSettled, known_path, settled}
 
 -- ---- what an erased array is
@@ -77,10 +78,10 @@ use Rattle.line_laws.proofs.Settled.{IsSettled, known_path, settled}
 abbrev pub IsUnkept : Pledge → Expr → Type 0
 IsUnkept K e = (element : Ty) (rank : ℕ) → type_at e ≡ types.array element rank → covers_type element ≡ true → MayResize K element
 
--- What a line owes to the pledge of its frame: where that is steady it stores to what is the procedure's own, it makes no array anew that is
+-- What a line owes to the pledge of its frame: where that is steady it stores to what is its own, it makes no array anew that is
 -- kept, and its dimensions suit the array.
-pub record MayStore (U : Upgrade) (K : Pledge) (p : ℕ) (form : Form) (es : List Expr) : Type 0 where
-  pub own : (e : Expr) → Contains (stores form es) e → K.steady → is_outside U.program.declarations.vars p (root e) ≡ false
+pub record MayStore (U : Upgrade) (K : Pledge) (p : ℕ) (f : SourceFrame) (form : Form) (es : List Expr) : Type 0 where
+  pub own : (e : Expr) → Contains (stores form es) e → IsOwnTarget U K p f e
   pub unkept : (e : Expr) → Contains (resized_stores form es) e → IsUnkept K e
   pub fits : (r : Resize) → Contains (resized_by form es) r → IsSoundArray U r.array → FitsResize U p r
 
@@ -134,16 +135,12 @@ empty_value S oracle ty rank t =
       elements = replicate (net_store.product (replicate rank 0)) (shape.default_of d);
     }) (shape.array d (length (replicate rank 0))) t))
 
-not_outside : (b : Bool) → not b ≡ false → b ≡ true
-not_outside true e = refl
-not_outside false e = absurd (true≢false e)
-
 -- ---- lines
 
 -- an array that a line may make anew
-pub record MayRenew (U : Upgrade) (K : Pledge) (p : ℕ) (a : Expr) : Type 0 where
+pub record MayRenew (U : Upgrade) (K : Pledge) (p : ℕ) (f : SourceFrame) (a : Expr) : Type 0 where
   pub unkept : IsUnkept K a
-  pub own : K.steady → is_outside U.program.declarations.vars p (root a) ≡ false
+  pub own : IsOwnTarget U K p f a
 
 module _ (U : Upgrade) (expressions : ExpressionsAgree U) (arrays : ArraysAgree U) (resizing : ArraysAreResized U) (erasing : ArraysAreErased U) (K : Pledge) (p : ℕ)
     (f : SourceFrame) (g : NetFrame) (l : SourceLine) (k : NetLine) (c : Code) (T : Scope) (declared : T.declarations ≡ U.program.declarations) (oracle : SourceCalls)
@@ -159,7 +156,8 @@ module _ (U : Upgrade) (expressions : ExpressionsAgree U) (arrays : ArraysAgree 
   Can e = AllCalled (demands U K p l k (scope_of U.written c g k) T) e
 
   -- the variable of an array
-  module _ (of : Ty) (rank : ℕ) (v : VarId) (qualified : Bool) (used : uses.array v of ≡ true) (may : MayRenew U K p (typed (types.array of rank) (variable v qualified))) where
+  module _ (of : Ty) (rank : ℕ) (v : VarId) (qualified : Bool) (used : uses.array v of ≡ true) (named : uses.named v qualified ≡ true)
+      (may : MayRenew U K p f (typed (types.array of rank) (variable v qualified))) where
     abbrev a : Expr
     a = typed (types.array of rank) (variable v qualified)
 
@@ -167,7 +165,7 @@ module _ (U : Upgrade) (expressions : ExpressionsAgree U) (arrays : ArraysAgree 
     is_array = readable.arrays v of used
 
     covers : covers_array uses a ≡ true
-    covers = used
+    covers = ap (λ b. b && uses.named v qualified) used ∙ named
 
     free : MayResize K of
     free = may.unkept of rank refl is_array.covers
@@ -184,15 +182,14 @@ module _ (U : Upgrade) (expressions : ExpressionsAgree U) (arrays : ArraysAgree 
         subst (λ r. Yields IsFound r) (sym (known_found U C refl (types.array of rank) v qualified is_array.known s))
         (found_by (variable_address U.program.declarations f v.0) s)
 
-    own_address : (b : Address) (s : Memory) → IsFound b s → MayChange K b
-    own_address b s is steady =
-        let own : is_own_of U p v.0 ≡ true = not_outside (is_own_of U p v.0) (may.own steady) in
-        owns.variables v.0 b (sym (known_address U v.0 is_array.known p own f) ∙ is) own
+    own_address : (w : World) → FrameMatch U K w p f g → (b : Address) (s : Memory) → IsFound b s → MayChange K b
+    own_address w F b s is steady =
+        target_changes U K w p f g F owns S T v.0 is_array.known (placed.places v (inr (inl (of, used)))) (may.own steady) b is
 
     settles : (w : World) → FrameMatch U K w p f g → IsSettled S net_oracle (exp_of T a)
     settles w F =
         subst (λ e. IsSettled S net_oracle e) (sym (known_path U T declared (types.array of rank) v qualified is_array.known))
-        (settled U K w p f g k c T declared net_oracle F v.0 qualified is_array.known (placed.places v (inr (inl (of, used)))))
+        (settled U K w p f g k c T declared net_oracle F v.0 qualified (placed.named v qualified named) is_array.known (placed.places v (inr (inl (of, used)))))
 
     -- the array on both sides, whatever has been evaluated before
     abbrev Standing : World → Address → net_store.Address → Type 0
@@ -237,8 +234,8 @@ module _ (U : Upgrade) (expressions : ExpressionsAgree U) (arrays : ArraysAgree 
           (then_agrees U K w Standing AnyUnits (source.address_of C a w.src) (gives [] x.address w.net)
           (λ b s. resize f.env (lows_at C a) preserve dims b s) (λ d t. redimmed preserve counts d t) h (address_agrees w h (G w (later_now U K w h)) x)
           (λ b d w1 i later.
-          resizing K w1 of (rank_of U a) b d f.env (lows_at C a) preserve dims is_array.covers later.match i.0 (G w1 later).locks free (own_address b w1.src i.1)
-          (m.0 ∙ ranked) (λ e. m.0 ∙ one e)))))
+          resizing K w1 of (rank_of U a) b d f.env (lows_at C a) preserve dims is_array.covers later.match i.0 (G w1 later).locks free
+          (own_address w1 (G w1 later) b w1.src i.1) (m.0 ∙ ranked) (λ e. m.0 ∙ one e)))))
 
       one_agrees : (w : World) → MemoryMatch U w → GoOnMatching U K p f g w → AllFit U p a 0 xs → AllUppers Can xs → AllUppers (λ e. is_formed e ≡ true) xs
           → list_all (covers_extent uses) xs ≡ true → length xs ≡ rank_of U a → (preserve ≡ true → length xs ≡ 1)
@@ -288,7 +285,8 @@ module _ (U : Upgrade) (expressions : ExpressionsAgree U) (arrays : ArraysAgree 
         (then_agrees U K w Standing AnyUnits (source.address_of C a w.src) (gives [] x.address w.net) (erase f.env) (into (U.facts.rank v.0)) h
         (address_agrees w h F x)
         (λ b y w1 i later.
-        erasing K w1 of (rank_of U a) b y f.env d is_array.covers later.match i.0 (G w1 later).locks free (own_address b w1.src i.1) same)))
+        erasing K w1 of (rank_of U a) b y f.env d is_array.covers later.match i.0 (G w1 later).locks free
+        (own_address w1 (G w1 later) b w1.src i.1) same)))
 
   -- ---- by an expression
 
@@ -312,12 +310,12 @@ module _ (U : Upgrade) (expressions : ExpressionsAgree U) (arrays : ArraysAgree 
       })
 
   renews : (w : World) → MemoryMatch U w → GoOnMatching U K p f g w → (preserve : Bool) (e : Expr) (xs : List Extent) → covers_array uses e ≡ true
-      → MayRenew U K p e → AllFit U p e 0 xs → AllUppers Can xs → AllUppers (λ e. is_formed e ≡ true) xs → list_all (covers_extent uses) xs ≡ true
+      → MayRenew U K p f e → AllFit U p e 0 xs → AllUppers Can xs → AllUppers (λ e. is_formed e ≡ true) xs → list_all (covers_extent uses) xs ≡ true
       → length xs ≡ rank_of U e → (preserve ≡ true → length xs ≡ 1) → Agrees U K w AnyUnits (source_of preserve e xs w.src) (net_of preserve e xs w.net)
   renews w h G preserve e xs array may fits can formed covered ranked one =
       let x : ArrayVariable uses e = array_variable uses e array in
       subst (λ z. Agrees U K w AnyUnits (source_of preserve z xs w.src) (net_of preserve z xs w.net)) (sym x.is)
-      (one_agrees x.of x.rank x.number x.qualified x.used (subst (λ z. MayRenew U K p z) x.is may) preserve xs w h G
+      (one_agrees x.of x.rank x.number x.qualified x.used x.named (subst (λ z. MayRenew U K p f z) x.is may) preserve xs w h G
       (subst (λ z. AllFit U p z 0 xs) x.is fits) can formed covered (subst (λ z. length xs ≡ rank_of U z) x.is ranked) one)
 
   -- ---- all arrays of a line
@@ -331,7 +329,7 @@ module _ (U : Upgrade) (expressions : ExpressionsAgree U) (arrays : ArraysAgree 
       (λ i dims s. then_assoc (source.address_of C r.array s) (λ b s. resize f.env (lows_at C r.array) preserve dims b s) (λ u s. redim_does C preserve rs s) i))
 
   redims_agree : (w : World) → MemoryMatch U w → GoOnMatching U K p f g w → (preserve : Bool) (rs : List Resize) → covers_resizes uses preserve rs ≡ true
-      → AllIn (λ (r : Resize). IsSoundArray U r.array → FitsResize U p r) rs → AllIn (λ (r : Resize). MayRenew U K p r.array) rs
+      → AllIn (λ (r : Resize). IsSoundArray U r.array → FitsResize U p r) rs → AllIn (λ (r : Resize). MayRenew U K p f r.array) rs
       → AllIn (λ (r : Resize). AllUppers Can r.extents) rs → AllIn (λ (r : Resize). AllUppers (λ e. is_formed e ≡ true) r.extents) rs
       → Agrees U K w AnyUnits (redim_does C preserve rs w.src) (redim_all S net_oracle preserve (map (resized_array T) rs) w.net)
   redims_agree w h G preserve [] covers fits may can formed = agrees_gives U K w AnyUnits tt tt h tt
@@ -358,17 +356,17 @@ module _ (U : Upgrade) (expressions : ExpressionsAgree U) (arrays : ArraysAgree 
   pub redim_agrees : (w : World) → MemoryMatch U w → GoOnMatching U K p f g w → (preserve : Bool) (items : List ReDimItem) (es : List Expr) → AllIn Can es
       → list_all is_formed es ≡ true → covers_resizes uses preserve (resizes items es) ≡ true
       → ((r : Resize) → Contains (resizes items es) r → IsSoundArray U r.array → FitsResize U p r)
-      → ((e : Expr) → Contains (map (λ (r : Resize). r.array) (resizes items es)) e → MayRenew U K p e)
+      → ((e : Expr) → Contains (map (λ (r : Resize). r.array) (resizes items es)) e → MayRenew U K p f e)
       → Agrees U K w AnyUnits (redim_does C preserve (resizes items es) w.src)
       (redim_all S net_oracle preserve (map (resized_array T) (resizes items es)) w.net)
   redim_agrees w h G preserve items es can formed covers fits may =
       redims_agree w h G preserve (resizes items es) covers (all_of (λ (r : Resize). IsSoundArray U r.array → FitsResize U p r) (resizes items es) fits)
-      (all_mapped (λ e. MayRenew U K p e) (λ (r : Resize). r.array) (resizes items es)
-      (all_of (λ e. MayRenew U K p e) (map (λ (r : Resize). r.array) (resizes items es)) may))
+      (all_mapped (λ e. MayRenew U K p f e) (λ (r : Resize). r.array) (resizes items es)
+      (all_of (λ e. MayRenew U K p f e) (map (λ (r : Resize). r.array) (resizes items es)) may))
       (all_resized Can items es can) (all_resized (λ e. is_formed e ≡ true) items es (all_formed es formed))
 
   -- an Erase
-  pub erase_agrees : (w : World) → MemoryMatch U w → GoOnMatching U K p f g w → (e : Expr) → covers_array uses e ≡ true → MayRenew U K p e
+  pub erase_agrees : (w : World) → MemoryMatch U w → GoOnMatching U K p f g w → (e : Expr) → covers_array uses e ≡ true → MayRenew U K p f e
       → Agrees U K w AnyUnits (then (source.address_of C e w.src) (erase f.env))
       (assignment S net_oracle (exp_of T e)
       (net.new_array (written_type T (element_type (type_at e))) (empty_extents (written_puts.rank_of T.facts (declared_at T.declarations e)))) w.net)
@@ -377,4 +375,4 @@ module _ (U : Upgrade) (expressions : ExpressionsAgree U) (arrays : ArraysAgree 
       subst (λ z. Agrees U K w AnyUnits (then (source.address_of C z w.src) (erase f.env))
       (assignment S net_oracle (exp_of T z)
       (net.new_array (written_type T (element_type (type_at z))) (empty_extents (written_puts.rank_of T.facts (declared_at T.declarations z)))) w.net)) (sym x.is)
-      (erase_one x.of x.rank x.number x.qualified x.used (subst (λ z. MayRenew U K p z) x.is may) w h G)
+      (erase_one x.of x.rank x.number x.qualified x.used x.named (subst (λ z. MayRenew U K p f z) x.is may) w h G)

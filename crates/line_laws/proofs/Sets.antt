@@ -1,14 +1,12 @@
 -- A Set of a variable, or of a variable of an object, does the same as what is written for it.
-use Rattle.std.proofs.Common.{◌≡◌, ◌∙◌, refl, sym, ap, subst, ℕ, Bool, true, false, ◌&&◌, Option, Some, None, [], ◌∷◌, ⊎_elim, true≢false}
+use Rattle.std.proofs.Common.{◌≡◌, ◌∙◌, refl, sym, ap, subst, ℕ, Bool, true, ◌&&◌, Option, Some, None, [], ◌∷◌, ⊎_elim, true≢false}
 use Rattle.std.proofs.lemmas.Bool.{or_cases}
 use Rattle.vb_tree.specs.BoundTree as types
 use Rattle.vb_tree.specs.BoundTree.{Ty}
 use Rattle.vb_tree.specs.declared.declared.VarId.{VarId}
 use Rattle.bound_tree.specs.Tree.{Expr, typed, Term, variable, field}
 use Rattle.bound_facts.proofs.Chains.{both_true}
-use Rattle.bound_facts.specs.Effects.{is_outside}
 use Rattle.bound_facts.specs.Locks.{is_same_type}
-use Rattle.bound_facts.specs.Node.{root}
 use Rattle.run_base.specs.Outcomes.{gives, then, some_of}
 use Rattle.written_trees.specs.Exprs.{exp_of, target_exp}
 use Rattle.written_trees.specs.Names.{Scope}
@@ -42,6 +40,7 @@ use Rattle.line_laws.specs.Lasting.{GoOnMatching}
 use Rattle.line_laws.proofs.Copies.{whole_stored}
 use Rattle.line_laws.proofs.Elements.{known_found}
 use Rattle.line_laws.proofs.MemberSets.{class_is, member_set_agrees}
+use Rattle.line_laws.proofs.OwnTargets.{IsOwnTarget}
 use Rattle.line_laws.proofs.Settled.{known_path}
 
 -- where no object is made, the target of a Set is found as that of an assignment
@@ -63,9 +62,6 @@ module _ (U : Upgrade) (groups : GroupsAgree U) (writes : GroupsAreWritten U) (m
   abbrev Can : Expr → Type 0
   Can e = AllCalled (demands U K p l k S T) e
 
-  abbrev IsOwnTarget : Expr → Type 0
-  IsOwnTarget e = K.steady → is_outside U.program.declarations.vars p (root e) ≡ false
-
   abbrev SameSet : (to value : Expr) → Type 0
   SameSet to e =
       Agrees U K w AnyUnits (then (source.value_of C e w.src) (set_to C to)) (assignment S net_oracle (target_exp T to) (exp_of T e) w.net)
@@ -78,12 +74,13 @@ module _ (U : Upgrade) (groups : GroupsAgree U) (writes : GroupsAreWritten U) (m
 
   -- an object to a variable
   object_set : (t : ℕ) (to from : Term) → Can (typed (types.class t) from) → covers_place uses (typed (types.class t) to) ≡ true
-      → covers_group uses (typed (types.class t) from) ≡ true → is_formed (typed (types.class t) from) ≡ true → IsOwnTarget (typed (types.class t) to)
+      → covers_group uses (typed (types.class t) from) ≡ true → is_formed (typed (types.class t) from) ≡ true → IsOwnTarget U K p f (typed (types.class t) to)
       → SameSet (typed (types.class t) to) (typed (types.class t) from)
   object_set t (variable v qualified) from can covers_to covers formed own =
       let to : Expr = typed (types.class t) (variable v qualified) in
       let e : Expr = typed (types.class t) from in
-      let r : IsGroup U v.0 (types.class t) = readable.groups v (types.class t) covers_to in
+      let r : IsGroup U v.0 (types.class t) =
+      readable.groups v (types.class t) (both_true (uses.group v (types.class t)) (uses.named v qualified) covers_to).0 in
       subst (λ a. Agrees U K w AnyUnits (then (source.value_of C e w.src) (set_to C to)) (assignment S net_oracle a (exp_of T e) w.net))
       (known_path U T declared (types.class t) v qualified r.known)
       (subst (λ go. Agrees U K w AnyUnits (then (source.value_of C e w.src) go) (assignment S net_oracle (exp_of T to) (exp_of T e) w.net))
@@ -94,7 +91,7 @@ module _ (U : Upgrade) (groups : GroupsAgree U) (writes : GroupsAreWritten U) (m
   object_set t _ from can covers_to covers formed own = absurd (true≢false (sym covers_to))
 
   variable_set : (t : ℕ) (to : Term) (e : Expr) → Can e → covers_set_variable uses (typed (types.class t) to) e ≡ true → is_formed e ≡ true
-      → IsOwnTarget (typed (types.class t) to) → SameSet (typed (types.class t) to) e
+      → IsOwnTarget U K p f (typed (types.class t) to) → SameSet (typed (types.class t) to) e
   variable_set t to (typed of from) can covers formed own =
       let d : Expr = typed (types.class t) to in
       let stands : Bool = covers_place uses d && covers_group uses (typed of from) in
@@ -104,7 +101,7 @@ module _ (U : Upgrade) (groups : GroupsAgree U) (writes : GroupsAreWritten U) (m
       subst (λ z. Can (typed z from) → covers_group uses (typed z from) ≡ true → is_formed (typed z from) ≡ true → SameSet d (typed z from))
       (sym (class_is t of second.0)) (λ can_from covers_from is. object_set t to from can_from third.0 covers_from is own) can third.1 formed
 
-  pub set_agrees : (to e : Expr) → Can e → covers_set uses (to ∷ e ∷ []) ≡ true → is_formed e ≡ true → IsOwnTarget to → SameSet to e
+  pub set_agrees : (to e : Expr) → Can e → covers_set uses (to ∷ e ∷ []) ≡ true → is_formed e ≡ true → IsOwnTarget U K p f to → SameSet to e
   set_agrees (typed (types.class t) to) e can covers formed own =
       let d : Expr = typed (types.class t) to in
       ⊎_elim (λ x. variable_set t to e can x formed own)

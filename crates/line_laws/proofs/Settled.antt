@@ -21,7 +21,7 @@ use Rattle.run_matches.specs.Maps.{World}
 use Rattle.run_matches.specs.Pledges.{Pledge}
 use Rattle.run_matches.specs.Frames.{FrameMatch}
 use Rattle.run_statements.specs.Frames.{IsKnown, IsPlaced}
-use Rattle.line_laws.proofs.Placed.{PlacedVariable, placed_variable}
+use Rattle.line_laws.proofs.Placed.{IsNamedSo, PlacedVariable, placed_variable}
 use Rattle.line_laws.proofs.Uses.{variable_reached}
 
 -- it leads to an address, from any memory
@@ -30,12 +30,12 @@ pub record IsSettled (S : net_names.Scope) (oracle : Jobs) (e : net.Exp) : Type 
   pub leads : (t : net_store.Memory) → target.reach S oracle false e t ≡ gives [] (at_place address) t
 
 pub settled : (U : Upgrade) (K : Pledge) (w : World) (p : ℕ) (f : SourceFrame) (g : NetFrame) (k : NetLine) (c : Code) (T : Scope)
-    → T.declarations ≡ U.program.declarations → (oracle : Jobs) → FrameMatch U K w p f g → (v : ℕ) (qualified : Bool) → IsKnown U v
-    → IsPlaced U p f (scope_of U.written c g k) T v → IsSettled (scope_of U.written c g k) oracle (net.path (variable_path T qualified v))
-settled U K w p f g k c T declared oracle F v qualified x placed =
+    → T.declarations ≡ U.program.declarations → (oracle : Jobs) → FrameMatch U K w p f g → (v : ℕ) (qualified : Bool)
+    → IsNamedSo U.program.declarations v qualified → IsKnown U v → IsPlaced U p f (scope_of U.written c g k) T v → IsSettled (scope_of U.written c g k) oracle (net.path (variable_path T qualified v))
+settled U K w p f g k c T declared oracle F v qualified so x placed =
     let S : net_names.Scope = scope_of U.written c g k in
     let y : PlacedVariable U K w f S T v = placed_variable U K w p f g k c T declared F v x placed in
-    record { address = y.net_address; leads = λ t. variable_reached S oracle (variable_path T qualified v) y.net_address t (y.leads qualified) }
+    record { address = y.net_address; leads = λ t. variable_reached S oracle (variable_path T qualified v) y.net_address t (y.leads qualified so) }
 
 -- for an array it is its path alone
 pub known_path : (U : Upgrade) (T : Scope) → T.declarations ≡ U.program.declarations → (ty : Ty) (v : VarId) (qualified : Bool) → IsKnown U v.0

@@ -206,15 +206,16 @@ module _ (U : Upgrade) (expressions : ExpressionsAgree U) (K : Pledge) (p : ℕ)
       let covers_ty = (both_true (covers_type ty) true covers).0 in
       known (typed ty (constant x o)) x can covers formed (λ s stable. constant_gives C ty x o s covers_ty (formed_constant ty x o covers_ty formed))
   calm_known (typed ty (variable v qualified)) calm can covers formed =
-      let all = both_true (uses.scalar v) (uses.exact v && (uses.is_of v ty && uses.relied v)) calm in
+      let all = both_true (uses.scalar v && uses.named v qualified) (uses.exact v && (uses.is_of v ty && uses.relied v)) calm in
+      let used = (both_true (uses.scalar v) (uses.named v qualified) all.0).0 in
       let exact = both_true (uses.exact v) (uses.is_of v ty && uses.relied v) all.1 in
       let relied = both_true (uses.is_of v ty) (uses.relied v) exact.1 in
-      let covers_ty = (both_true (covers_type ty) (uses.scalar v) covers).0 in
-      let r : IsReadable U v.0 = readable.scalars v all.0 in
+      let covers_ty = (both_true (covers_type ty) (uses.scalar v && uses.named v qualified) covers).0 in
+      let r : IsReadable U v.0 = readable.scalars v used in
       let same : r.variable.ty ≡ ty =
       same_type ty r.variable.ty covers_ty (sym (ap (is_declared_as ty) r.is_variable) ∙ readable.types v ty relied.0) in
       let at : Standing U w f v.0 r.variable.ty =
-      standing U K w h p f g k c T declared F v.0 r (readable.exact v exact.0) (readable.relied v relied.1) (placed.places v (inl all.0)) in
+      standing U K w h p f g k c T declared F v.0 r (readable.exact v exact.0) (readable.relied v relied.1) (placed.places v (inl used)) in
       let x = variable_gives ty v qualified r covers_ty (subst (λ t. Standing U w f v.0 t) same at) in
       known (typed ty (variable v qualified)) x.0 can covers formed x.1
   calm_known (typed ty (convert to e)) calm can covers formed =

@@ -1,7 +1,7 @@
 -- What is still changes nothing that was there: the promise of it, in frames and calls.
 use Rattle.std.proofs.Common.{◌≡◌, ◌∙◌, refl, ap, ℕ, Bool, true, false, not, ◌&&◌, List, [], ◌∷◌, ◌++◌, None}
 use Rattle.std.specs.List.{list_all}
-use Rattle.bound_tree.specs.Tree.{Expr, typed, constant, variable, field, element, call, library, unary, binary, convert, new_object, me, with_object, err_number, err_raise, err_clear, is_same, loose, Exprs, no_exprs, next_expr, by_value, by_reference, Passed, no_passed, next_passed}
+use Rattle.bound_tree.specs.Tree.{Expr, typed, constant, variable, field, element, call, library, unary, binary, convert, new_object, me, with_object, err_number, err_raise, err_clear, is_same, loose, Object, Exprs, no_exprs, next_expr, by_value, by_reference, Passed, no_passed, next_passed}
 use Rattle.vb_tree.specs.BoundTree.{Ty}
 use Rattle.vb_tree.specs.declared.bound.LibCall.{LibCall}
 use Rattle.bound_tree.specs.declared.expression.Root as expression
@@ -116,7 +116,7 @@ all_right t (x ∷ xs) ys h = all_right t xs ys (both_true (t x) (list_all t (xs
 module _ (uses : Uses) (Q R : Demands) (elements : (a : Expr) (indexes : Exprs) → Q.elements a indexes → R.elements a indexes)
     (bounds : (f : LibCall) (args : Exprs) → Q.bounds f args → R.bounds f args)
     (withs : (ty : Ty) (r : expression.Root) → Q.withs ty r → R.withs ty r)
-    (calls : (q : ℕ) (args : Passed) → uses.inward q ≡ true → Q.calls q args → R.calls q args) where
+    (calls : (q : ℕ) (qualified : Bool) (of : Object) (args : Passed) → uses.inward q ≡ true → Q.calls q qualified of args → R.calls q qualified of args) where
   abbrev IsStill : List Expr → Type 0
   IsStill es = are_still uses es ≡ true
 
@@ -135,7 +135,7 @@ module _ (uses : Uses) (Q R : Demands) (elements : (a : Expr) (indexes : Exprs) 
         (elements e indexes h.0, still_all indexes (all_right seen (nodes e) (nodes_of_all indexes) (behind_node (typed ty (element e indexes)) (nodes_in (element e indexes)) s)) h.1)
     still_called (typed ty (call p qualified of args)) s h =
         let both = both_true (uses.inward p.0) (are_still uses (nodes_of_object of ++ nodes_of_passed args)) s in
-        (calls p.0 args both.0 h.0, still_for args (all_right seen (nodes_of_object of) (nodes_of_passed args) both.1) h.1)
+        (calls p.0 qualified of args both.0 h.0, still_for args (all_right seen (nodes_of_object of) (nodes_of_passed args) both.1) h.1)
     still_called (typed ty (library f args)) s h =
         (bounds f args h.0, still_all args (behind_node (typed ty (library f args)) (nodes_of_all args) s) h.1)
     still_called (typed ty (unary op e)) s h = still_called e (behind_node (typed ty (unary op e)) (nodes e) s) h
@@ -167,16 +167,16 @@ module _ (uses : Uses) (Q R : Demands) (elements : (a : Expr) (indexes : Exprs) 
         (still_called e (all_left seen (nodes e) (nodes_of_passed rest) s) h.0, still_for rest (all_right seen (nodes e) (nodes_of_passed rest) s) h.1)
 
 -- a call of an inward procedure
-can_call_still : (U : Upgrade) (K : Pledge) (w : World) (S : net_names.Scope) (T : Scope) (q : ℕ) (args : Passed) → is_inward U q ≡ true → CanCall U K S T q args
-    → CanCall U (still K w) S T q args
-can_call_still U K w S T q args inward c = record {
+can_call_still : (U : Upgrade) (K : Pledge) (w : World) (S : net_names.Scope) (T : Scope) (p q : ℕ) (qualified : Bool) (of : Object) (args : Passed)
+    → is_inward U q ≡ true → CanCall U K S T p q qualified of args → CanCall U (still K w) S T p q qualified of args
+can_call_still U K w S T p q qualified of args inward c = record {
   passes = c.passes;
   keeps = c.keeps;
   inward = λ s. inward;
   number = c.number;
   is_number = c.is_number;
   plain = c.plain;
-  standard = c.standard;
+  receives = c.receives;
   suits = c.suits;
   hands = c.hands;
   given = c.given;
@@ -190,9 +190,9 @@ module _ (U : Upgrade) (K : Pledge) (p : ℕ) (l : SourceLine) (k : NetLine) (w 
   pub called_in_still : (e : Expr) → are_still uses (nodes e) ≡ true → AllCalled (demands U K p l k S T) e → AllCalled (demands U (still K w) p l k S T) e
   called_in_still e s h =
       still_called uses (demands U K p l k S T) (demands U (still K w) p l k S T) (λ a indexes x. x) (λ f args x. x) (λ ty r x. x)
-      (λ q args inward x. can_call_still U K w S T q args (readable.inward q inward) x) e s h
+      (λ q qualified of args inward x. can_call_still U K w S T p q qualified of args (readable.inward q inward) x) e s h
 
   pub called_in_still_all : (es : Exprs) → are_still uses (nodes_of_all es) ≡ true → AllCalledAll (demands U K p l k S T) es → AllCalledAll (demands U (still K w) p l k S T) es
   called_in_still_all es s h =
       still_all uses (demands U K p l k S T) (demands U (still K w) p l k S T) (λ a indexes x. x) (λ f args x. x) (λ ty r x. x)
-      (λ q args inward x. can_call_still U K w S T q args (readable.inward q inward) x) es s h
+      (λ q qualified of args inward x. can_call_still U K w S T p q qualified of args (readable.inward q inward) x) es s h

@@ -1,10 +1,10 @@
 -- Assignments to elements and to variables of objects that are covered, and some that aren't.
-use Rattle.std.proofs.Common.{◌≡◌, refl, ℕ, pos, true, false, not, nat_eq, None}
+use Rattle.std.proofs.Common.{◌≡◌, refl, ℕ, pos, true, false, not, nat_eq, None, Some}
 use Rattle.vb_tree.specs.BoundTree as types
 use Rattle.vb_tree.specs.declared.expression.BinOp.TheVariants as b
 use Rattle.vb_tree.specs.declared.value.Value6.TheVariants as v
 use Rattle.bound_tree.specs.declared.expression.Origin.TheVariants.{Literal}
-use Rattle.bound_tree.specs.Tree.{Expr, typed, constant, variable, field, element, call, binary, convert, no_object, no_passed, no_exprs, next_expr}
+use Rattle.bound_tree.specs.Tree.{Expr, typed, constant, variable, field, element, call, binary, convert, me, no_object, of_object, no_passed, no_exprs, next_expr}
 use Rattle.bound_facts.specs.Locks.{is_same_type}
 use Rattle.run_matches.specs.CoveredExprs.{Uses}
 use Rattle.run_matches.specs.CoveredLines.{is_member_ordered, is_ordered}
@@ -17,6 +17,8 @@ uses = record {
   group = λ w ty. false;
   field_type = λ t k. None;
   member_type = λ k i. None;
+  me = Some 0;
+  named = λ w qualified. true;
   given = λ ty. false;
   is_of = λ w ty. is_same_type ty types.long;
   inward = λ q. nat_eq q 0;
@@ -81,6 +83,9 @@ quiet_before_value = refl
 abbrev object : ℕ → Expr
 object k = typed (types.class 0) (variable (record { 0 = k }) false)
 
+abbrev self : Expr
+self = typed (types.class 0) me
+
 -- a Long and an object that each object has
 abbrev count_of : Expr → Expr
 count_of e = typed types.long (field e 0)
@@ -91,6 +96,14 @@ next_of e = typed (types.class 0) (field e 1)
 -- o.Count = o.Count + 1
 calm_object : is_member_ordered uses (count_of (object 0)) (plus_one (count_of (object 0))) ≡ true
 calm_object = refl
+
+-- Me.Count = Me.Count + 1
+calm_me : is_member_ordered uses (count_of self) (plus_one (count_of self)) ≡ true
+calm_me = refl
+
+-- Me.Count = o.f(), where f is inward
+inward_for_object : is_member_ordered uses (count_of self) (typed types.long (call (record { 0 = 0 }) false (of_object (object 0)) no_passed)) ≡ true
+inward_for_object = refl
 
 -- o.Count = f(), where f is inward
 inward_behind_object : is_member_ordered uses (count_of (object 0)) (call_of 0) ≡ true

@@ -36,13 +36,14 @@ use Rattle.run_matches.specs.Addresses.{Same, IsTarget, IsScalarAt}
 use Rattle.run_matches.specs.Agreeing.{Agrees}
 use Rattle.run_matches.specs.CoveredVariables.{covers_type}
 use Rattle.run_matches.specs.CoveredExprs.{Uses}
-use Rattle.run_matches.specs.Frames.{StandsAs, FrameMatch, OwnsAll, is_own_of}
+use Rattle.run_matches.specs.Frames.{StandsAs, FrameMatch, OwnsAll}
 use Rattle.run_statements.specs.Frames.{ExpressionsAgree, ScalarsAreWritten, IsKnown, IsOpen, IsReadable, ArePlaced, MayChange, ScalarMatch, AnyUnits, context_of, AllCalled, demands, AreReadable}
 use Rattle.run_matches.specs.Runs.{CallsAgree}
 use Rattle.run_statements.specs.Written.{Passes}
 use Rattle.agreeing_laws.proofs.Agreeing.{agrees_outside}
 use Rattle.line_laws.proofs.Flat.{flat_scalar, known_scalar}
-use Rattle.line_laws.proofs.Placed.{FlatImages, PlacedVariable, own_change, placed_variable}
+use Rattle.line_laws.proofs.OwnTargets.{IsOwnTarget, target_changes}
+use Rattle.line_laws.proofs.Placed.{FlatImages, PlacedVariable, placed_variable}
 use Rattle.line_laws.proofs.Targets.{SameStore, Target, target_stored}
 use Rattle.line_laws.proofs.Uses.{good_parts, is_good, type_covered, address_found, path_is, variable_reached, scalar_type, shape_is}
 
@@ -176,9 +177,9 @@ module _ (U : Upgrade) (expressions : ExpressionsAgree U) (scalars : ScalarsAreW
       (scalar_written U scalars K w1 h1 ty covers_ty a b q same stands at.target at.change f.env (type_at e) (type_covered uses e parts.0) m.0 y m.2))
 
   -- to a variable
-  pub assignment_agrees : OwnsAll U K p f → (ty : Ty) (v : VarId) (qualified : Bool) → uses.scalar v ≡ true
-      → is_quiet U.program.declarations U.known v.0 ≡ false → (K.steady → is_own_of U p v.0 ≡ true) → Goal (typed ty (variable v qualified))
-  assignment_agrees owns ty v qualified used exact inward =
+  pub assignment_agrees : OwnsAll U K p f → (ty : Ty) (v : VarId) (qualified : Bool) → uses.scalar v ≡ true → uses.named v qualified ≡ true
+      → is_quiet U.program.declarations U.known v.0 ≡ false → IsOwnTarget U K p f (typed ty (variable v qualified)) → Goal (typed ty (variable v qualified))
+  assignment_agrees owns ty v qualified used named exact own =
       let r : IsReadable U v.0 = readable.scalars v used in
       let known : IsKnown U v.0 = known_scalar U v.0 r in
       let x : PlacedVariable U K w f S T v.0 = placed_variable U K w p f g k c T declared F v.0 known (placed.places v (inl used)) in
@@ -189,9 +190,9 @@ module _ (U : Upgrade) (expressions : ExpressionsAgree U) (scalars : ScalarsAreW
         found = λ s. address_found U C refl ty v qualified r s ∙ ap (λ o. some_of o (λ a s. gives [] a s) s) x.found;
         leads = λ t.
             ap (λ z. target.reach S net_oracle false z t) (path_is U T declared ty v qualified r)
-            ∙ variable_reached S net_oracle (variable_path T qualified v.0) x.net_address t (x.leads qualified);
+            ∙ variable_reached S net_oracle (variable_path T qualified v.0) x.net_address t (x.leads qualified (placed.named v qualified named));
         same = i.same;
         target = i.target;
-        change = own_change U K p f owns v.0 known inward x.address x.found;
+        change = λ steady. target_changes U K w p f g F owns S T v.0 known (placed.places v (inl used)) (own steady) x.address x.found;
       })
       r.variable.ty i.position (scalar_type U v.0 r) (subst (λ d. StandsAs d x.address i.position) (shape_is U v.0 r) i.stands)

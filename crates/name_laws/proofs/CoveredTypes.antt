@@ -1,6 +1,6 @@
 -- Covered user types: their parts, how deep they are taken apart, and that they hold no arrays.
 use Rattle.std.proofs.Common.{◌≡◌, refl, sym, ap, subst, ◌∙◌, ℕ, zero, suc, ◌+◌, Bool, true, false, cond, ◌&&◌, nat_eq, List, [], ◌∷◌, length, map, Option, Some, None, slice_get, arith, inl, inr, ⊎_elim, true≢false}
-use Rattle.std.specs.Prelude.{◌⊎◌, filter, option_to_list, nat_lt, IsTrue}
+use Rattle.std.specs.Prelude.{filter, option_to_list, nat_lt, IsTrue}
 use Rattle.std.specs.List.{flat_map, list_all, list_any}
 use Rattle.std.proofs.lemmas.Bool.{eqb-true}
 use Rattle.vb_tree.specs.BoundTree.{Ty}

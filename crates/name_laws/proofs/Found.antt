@@ -1,31 +1,39 @@
--- A procedure that is called is found by what is written for its name.
+-- A procedure that is called is found by what is written for its name, one of the class of an object behind the object.
 use Rattle.std.proofs.Common.{◌≡◌, refl, sym, ap, subst, ◌∙◌, ℕ, suc, ◌+◌, ◌<◌, ◌≤◌, Bool, true, false, cond, not, ◌&&◌, ◌||◌, nat_eq, List, [], ◌∷◌, ◌++◌, Option, Some, None, slice_get, eqb-true, eq-eqb, arith}
 use Rattle.std.specs.Cmp.Lexicographic.{pointwise}
+use Rattle.std.specs.Prelude.{option_and_then}
 use Rattle.std.proofs.lemmas.Bool.{ltb-true}
 use Rattle.up_base.specs.Names.{is_same_name, lower_case}
 use Rattle.vb_tree.specs.Tree.{Module}
 use Rattle.bound_tree.specs.Tree.{Declarations, Procedure, Program}
+use Rattle.bound_facts.specs.Members.{class_files}
 use Rattle.net_tree.specs.Tree as net
 use Rattle.written_trees.specs.Bodies.{inside_procedure}
 use Rattle.written_trees.specs.Facts.{Facts}
 use Rattle.written_trees.specs.Heads.{is_function, result_type}
-use Rattle.written_trees.specs.Names.{first_name, is_foreign, module_name, procedure_path, procedure_path_of}
+use Rattle.written_trees.specs.Names as written_names
+use Rattle.written_trees.specs.Names.{first_name, is_foreign, is_standard_module, module_name, procedure_name, procedure_path, procedure_path_of}
 use Rattle.written_trees.specs.Placing.{Numbers, behind_members}
 use Rattle.written_trees.specs.Projects.{first_numbers, modules_from, next_module, written_module}
 use Rattle.net_run.specs.Lines.{NetFrame, NetLine, scope_of}
 use Rattle.net_run.specs.Members.{code_number, is_head_named, is_member_named, member_named, result_of}
-use Rattle.net_run.specs.Names.{Scope, frame_start, frame_var, is_result, member_start, module_member, module_start, named, path_start, procedure_reached, some_member, starts, to_procedure, var_in}
+use Rattle.net_run.specs.Names.{Scope, frame_start, frame_var, is_result, member_start, module_member, module_start, named, named_member, path_start, procedure_reached, some_member, starts, to_procedure, var_in}
 use Rattle.net_run.specs.Shapes.{first_from, members_of, module_at, module_named}
-use Rattle.run_matches.specs.Callees.{count_named, is_first_module, is_found, is_found_behind, is_found_here, is_nowhere, is_once, is_source_name, is_that_place, names_in, other_names, result_name}
+use Rattle.net_run.specs.Values.{Value}
+use Rattle.vb6_run.specs.Runnables.{is_class_file}
+use Rattle.run_matches.specs.Callees.{count_named, is_first_module, is_found, is_found_behind, is_found_here, is_found_inside, is_found_outside, is_nowhere, is_once, is_source_name, is_that_place, names_in, other_names, result_name}
+use Rattle.run_matches.specs.Covered.{is_method_site}
+use Rattle.run_matches.specs.CoveredExprs.{is_number}
 use Rattle.run_matches.specs.Frames.{HasNames, declared_names, result_names}
-use Rattle.run_matches.specs.Sites.{Site}
-use Rattle.run_matches.specs.Upgrades.{Upgrade}
-use Rattle.run_statements.specs.Kept.{CalleesAreFound}
+use Rattle.run_matches.specs.Sites.{Site, site_of}
+use Rattle.run_matches.specs.Upgrades.{Upgrade, class_home, home_of}
+use Rattle.run_statements.specs.Kept.{CalleesAreFound, MethodsAreFound}
 use Rattle.run_statements.specs.Written.{IsWritten, WrittenProcedure, site_scope}
 use Rattle.name_laws.proofs.Codes.{IsMember, module_is, number_found, stands_in}
 use Rattle.name_laws.proofs.Counting.{count_of, first_found, found_stands, none_found}
 use Rattle.name_laws.proofs.FrameNames.{code_head, frame_none, no_result_named, none_left, none_right, result_are, var_none}
 use Rattle.name_laws.proofs.Lists.{both_true, same_numbers, some_same}
+use Rattle.name_laws.proofs.Looked.{not_true}
 use Rattle.name_laws.proofs.MemberNames.{head_named, modules_most, named_append}
 
 -- ---- tests
@@ -42,6 +50,31 @@ same_units (x ∷ xs) = ap (λ b. b && pointwise nat_eq xs xs) (eq-eqb x x refl)
 
 same_name : (name : List ℕ) → is_same_name name name ≡ true
 same_name name = same_units (lower_case name)
+
+-- what the test on a procedure of a class says
+pub record MethodTest (D : Declarations) (class : ℕ) (y : Procedure) (t : Site) : Type 0 where
+  pub is_file : slice_get (class_files D.project) class ≡ Some y.module_number
+  pub stands : t.source_module.file ≡ y.module_number
+  pub named : first_name D (Some y) ≡ y.name
+  pub once : is_once y.name (names_in D t.home) ≡ true
+
+pub method_test : (D : Declarations) (class : ℕ) (y : Procedure) (t : Site) → is_method_site D class y (Some t) ≡ true → MethodTest D class y t
+method_test D class y t h =
+    let o = slice_get (class_files D.project) class in
+    let own = pointwise nat_eq (first_name D (Some y)) y.name && is_once y.name (names_in D t.home) in
+    let a = both_true (is_number y.module_number o && nat_eq t.source_module.file y.module_number) (t.source_module.class && own) h in
+    let b = both_true (is_number y.module_number o) (nat_eq t.source_module.file y.module_number) a.0 in
+    let c = both_true (pointwise nat_eq (first_name D (Some y)) y.name) (is_once y.name (names_in D t.home)) (both_true t.source_module.class own a.1).1 in
+    record {
+      is_file = file_is o b.0;
+      stands = eqb-true t.source_module.file y.module_number b.1;
+      named = same_numbers (first_name D (Some y)) y.name c.0;
+      once = c.1;
+    }
+  where
+    file_is : (o : Option ℕ) → is_number y.module_number o ≡ true → o ≡ Some y.module_number
+    file_is None k = absurd (cc k)
+    file_is (Some file) k = ap Some (sym (eqb-true y.module_number file k))
 
 -- ---- modules
 
@@ -126,12 +159,26 @@ module _ (U : Upgrade) (I : IsWritten U) where
         ap (λ h. code_number U.written h V.code.member false) (sym V.home) ∙ number_found U.written V.number V.code V.is_code member.sets
 
     -- what its member leads to
-    pub reached : (S : Scope) → S.project ≡ U.written → is_once y.name (names_in D t.home) ≡ true
-        → some_member S None t.home (member_named y.name (members_of (module_at U.written t.home))) ≡ named (to_procedure None V.number)
-    reached S same once =
-        ap (some_member S None t.home) (member_found once)
-        ∙ ap (λ M. procedure_reached None (code_number M t.home V.code.member false)) same
-        ∙ ap (procedure_reached None) number_is
+    reached : (S : Scope) (object : Option Value) → S.project ≡ U.written → is_once y.name (names_in D t.home) ≡ true
+        → some_member S object t.home (member_named y.name (members_of (module_at U.written t.home))) ≡ named (to_procedure object V.number)
+    reached S object same once =
+        ap (some_member S object t.home) (member_found once)
+        ∙ ap (λ M. procedure_reached object (code_number M t.home V.code.member false)) same
+        ∙ ap (procedure_reached object) number_is
+
+    -- behind an object of its class
+    method_found : (class home : ℕ) (S : Scope) (object : Value) → site_of D q ≡ Some t → slice_get D.procs q ≡ Some y
+        → is_method_site D class y (Some t) ≡ true → class_home U class ≡ Some home → S.project ≡ U.written
+        → named_member S (Some object) home (procedure_name D q) ≡ named (to_procedure (Some object) V.number)
+    method_found class home S object is_site is_procedure h is_home same =
+        let m : MethodTest D class y t = method_test D class y t h in
+        let there : home_of U t.source_module.file ≡ Some home =
+        ap (home_of U) m.stands ∙ ap (option_and_then (home_of U)) (sym m.is_file) ∙ is_home in
+        let at : home ≡ t.home = some_same home t.home (sym there ∙ I.homes q t is_site) in
+        ap (named_member S (Some object) home) (ap (first_name D) is_procedure ∙ m.named)
+        ∙ ap (λ n. named_member S (Some object) n y.name) at
+        ∙ ap (λ M. some_member S (Some object) t.home (member_named y.name (members_of (module_at M t.home)))) same
+        ∙ reached S (Some object) same m.once
 
   -- ---- from where it is called
 
@@ -235,12 +282,8 @@ module _ (U : Upgrade) (I : IsWritten U) where
         ap (λ o. frame_start S module_of (y.name ∷ []) o) (module_not_in_frame a.0 b.0)
         ∙ ap (member_start S module_of (y.name ∷ [])) none
         ∙ ap (module_start S module_of (y.name ∷ [])) (module_at_name d.0)
-        ∙ ap (λ class. module_member S t.home class (y.name ∷ [])) (not_class t.source_module.class e.0)
-        ∙ ap (λ r. starts r []) (reached q t y V S refl e.1)
-      where
-        not_class : (b : Bool) → not b ≡ true → b ≡ false
-        not_class true z = absurd (cc z)
-        not_class false z = refl
+        ∙ ap (λ class. module_member S t.home class (y.name ∷ [])) (not_true t.source_module.class e.0)
+        ∙ ap (λ r. starts r []) (reached q t y V S None refl e.1)
 
     -- by either path
     abbrev foreign : Bool
@@ -260,25 +303,54 @@ module _ (U : Upgrade) (I : IsWritten U) where
         second true b q r = absurd (cc q)
         second false b q r = r
 
-    path_found : slice_get D.procs q ≡ Some y → is_found D (Some x) s (Some y) (Some t) ≡ true → (qualified : Bool)
-        → path_start S true (procedure_path (inside_procedure (site_scope U s) p) qualified q) ≡ starts (named (to_procedure None V.number)) []
-    path_found is h qualified =
+    -- from outside of its module
+    outside : (qualified : Bool) → is_found_outside D (Some x) s y t ≡ true
+        → path_start S true (cond (qualified || foreign) (module_name D y.module_number ∷ y.name ∷ []) (y.name ∷ []))
+        ≡ starts (named (to_procedure None V.number)) []
+    outside qualified h =
         let last = is_found_behind D (result_name (Some x) ++ other_names D (Some x) s) s t y.name in
         let third = foreign || is_found_here D (other_names D (Some x) s) s t y.name in
-        let second = pointwise nat_eq (module_name D y.module_number) module_of in
-        let a = both_true (pointwise nat_eq (first_name D (Some y)) y.name) (second && (third && last)) h in
-        let b = both_true second (third && last) a.1 in
-        let c = both_true third last b.1 in
-        let first : first_name D (Some y) ≡ y.name = same_numbers (first_name D (Some y)) y.name a.0 in
-        let behind_name : module_name D y.module_number ≡ module_of = same_numbers (module_name D y.module_number) module_of b.0 in
-        let T = inside_procedure (site_scope U s) p in
-        ap (λ o. path_start S true (procedure_path_of T qualified o)) is
-        ∙ ap (λ n. path_start S true (cond (qualified || foreign) (module_name D y.module_number ∷ n ∷ []) (n ∷ []))) first
-        ∙ ap (λ m. path_start S true (cond (qualified || foreign) (m ∷ y.name ∷ []) (y.name ∷ []))) behind_name
-        ∙ either_path qualified (qualified || foreign) refl c.0 c.1
+        let a = both_true (pointwise nat_eq (module_name D y.module_number) module_of) (not (is_class_file D y.module_number) && (third && last)) h in
+        let b = both_true third last (both_true (not (is_class_file D y.module_number)) (third && last) a.1).1 in
+        let behind_name : module_name D y.module_number ≡ module_of = same_numbers (module_name D y.module_number) module_of a.0 in
+        ap (λ m. path_start S true (cond (qualified || foreign) (m ∷ y.name ∷ []) (y.name ∷ []))) behind_name
+        ∙ either_path qualified (qualified || foreign) refl b.0 b.1
 
--- ---- the law
+    -- in its class
+    inside : (qualified : Bool) → is_found_inside D (Some x) s y t qualified ≡ true
+        → path_start S true (cond (qualified || foreign) (module_name D y.module_number ∷ y.name ∷ []) (y.name ∷ []))
+        ≡ starts (named (to_procedure None V.number)) []
+    inside qualified h =
+        let there = is_standard_module (written_names.module_at D.project y.module_number) in
+        let path = λ (b : Bool). cond b (module_name D y.module_number ∷ y.name ∷ []) (y.name ∷ []) in
+        let same = nat_eq s.source_module.file y.module_number in
+        let a = both_true (not qualified && (same && nat_eq x.module_number y.module_number)) (is_found_here D (other_names D (Some x) s) s t y.name) h in
+        let b = both_true (not qualified) (same && nat_eq x.module_number y.module_number) a.0 in
+        let c = both_true same (nat_eq x.module_number y.module_number) b.1 in
+        ap (λ q. path_start S true (path (q || foreign))) (not_true qualified b.0) ∙ ap (λ q. path_start S true (path (not q && there))) c.0 ∙ here a.1
+
+    path_found : slice_get D.procs q ≡ Some y → (qualified : Bool) → is_found D (Some x) s (Some y) (Some t) qualified ≡ true
+        → path_start S true (procedure_path (inside_procedure (site_scope U s) p) qualified q) ≡ starts (named (to_procedure None V.number)) []
+    path_found is qualified h =
+        let kinds = cond t.source_module.class (is_found_inside D (Some x) s y t qualified) (is_found_outside D (Some x) s y t) in
+        let a = both_true (pointwise nat_eq (first_name D (Some y)) y.name) kinds h in
+        let first : first_name D (Some y) ≡ y.name = same_numbers (first_name D (Some y)) y.name a.0 in
+        ap (λ o. path_start S true (procedure_path_of (inside_procedure (site_scope U s) p) qualified o)) is
+        ∙ ap (λ n. path_start S true (cond (qualified || foreign) (module_name D y.module_number ∷ n ∷ []) (n ∷ []))) first
+        ∙ by t.source_module.class a.1
+      where
+        by : (class : Bool) → cond class (is_found_inside D (Some x) s y t qualified) (is_found_outside D (Some x) s y t) ≡ true
+            → path_start S true (cond (qualified || foreign) (module_name D y.module_number ∷ y.name ∷ []) (y.name ∷ []))
+            ≡ starts (named (to_procedure None V.number)) []
+        by true k = inside qualified k
+        by false k = outside qualified k
+
+-- ---- the laws
 
 pub callees_are_found : (U : Upgrade) → IsWritten U → CalleesAreFound U
-callees_are_found U I p q s t x y W V g k site procedure kind other_site other_procedure other_kind found names qualified =
-    path_found U I p q s t x y W V g k names other_procedure found qualified
+callees_are_found U I p q s t x y W V g k site procedure kind other_site other_procedure other_kind qualified found names =
+    path_found U I p q s t x y W V g k names other_procedure qualified found
+
+pub methods_are_found : (U : Upgrade) → IsWritten U → MethodsAreFound U
+methods_are_found U I q class home t y V S object site procedure kind test is_home same =
+    method_found U I q t y V class home S object site procedure test is_home same

@@ -17,7 +17,7 @@ use Rattle.written_trees.specs.Heads as heads
 use Rattle.written_trees.specs.Heads.{is_function}
 use Rattle.written_trees.specs.Lines.{counter_name, is_flagged_for}
 use Rattle.written_trees.specs.Names.{Scope}
-use Rattle.written_trees.specs.Prologues.{Code, constant_dim_by, counter_dim, count_replaced, counters_from, declares, dims_from, is_static, object_variable, one_if, prologue, sound_value, typed_variable}
+use Rattle.written_trees.specs.Prologues.{Code, constant_dim_by, counter_dim, count_replaced, counters_from, declares, dims_from, is_static, object_variable, one_if, sound_value, typed_variable}
 use Rattle.net_run.specs.Members.{params_by, params_of, result_by, result_of}
 use Rattle.net_run.specs.Names.{is_result, var_in}
 use Rattle.net_run.specs.Store.{Address}

@@ -1,5 +1,5 @@
 -- A procedure that is seen to keep the arrays of elements of a type does so.
-use Rattle.std.proofs.Common.{◌≡◌, refl, ℕ, ◌+◌, Bool, true, false, cond, not, ◌&&◌, ◌||◌, nat_eq, List, [], ◌∷◌, ◌++◌, ◌⊎◌, inl, inr, ⊎_elim}
+use Rattle.std.proofs.Common.{◌≡◌, refl, ℕ, ◌+◌, Bool, true, false, cond, not, ◌||◌, nat_eq, List, [], ◌∷◌, ◌++◌, ◌⊎◌, inl, inr, ⊎_elim}
 use Rattle.std.specs.Prelude.{nat_lt}
 use Rattle.std.specs.List.{flat_map, list_any}
 use Rattle.vb_tree.specs.BoundTree.{Ty, user, array}
@@ -8,7 +8,7 @@ use Rattle.bound_facts.specs.Calls.{calls, count_procedures}
 use Rattle.bound_facts.specs.Effects.{resized_stores}
 use Rattle.bound_facts.specs.Items.{items_from}
 use Rattle.bound_facts.specs.Leading.{is_in, within}
-use Rattle.bound_facts.specs.Locks.{Keeps, Locks, is_locking_line, is_same_type, lock_items, lockers, makes_anew}
+use Rattle.bound_facts.specs.Locks.{Keeps, is_locking_line, lock_items, lockers, makes_anew}
 use Rattle.bound_facts.specs.Node.{type_at}
 use Rattle.bound_tree.specs.Tree.{Expr, Line, Program}
 use Rattle.run_matches.specs.Inward.{grown, is_closed}

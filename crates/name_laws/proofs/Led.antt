@@ -131,24 +131,39 @@ led D p v name file h =
     by_home (Some home) e k = by_module home e (placed_module D home) refl k
 
 -- so does a variable of a class that declares it alone
-pub stands_alone : (D : Declarations) (v : ℕ) (name : List ℕ) (file : ℕ) → is_alone_field D v name file ≡ true → Stands D v name file
-stands_alone D v name file h =
-    by_home (position (λ (m : Module). nat_eq m.file file) D.project.modules) refl
-    (both_true (is_class_file D file)
-    (keeps_alone D v name (option_and_then (placed_module D) (position (λ (m : Module). nat_eq m.file file) D.project.modules)) && others_differ (is_of_module file) v name 0 D.vars) h).1
+pub record KeptAlone (D : Declarations) (v : ℕ) (name : List ℕ) (file : ℕ) : Type 0 where
+  pub stands : Stands D v name file
+  pub of_class : is_class_file D file ≡ true
+  pub is_class : stands.placed.0.class ≡ true
+
+pub kept_alone : (D : Declarations) (v : ℕ) (name : List ℕ) (file : ℕ) → is_alone_field D v name file ≡ true → KeptAlone D v name file
+kept_alone D v name file h = by_home (position (λ (m : Module). nat_eq m.file file) D.project.modules) refl of_class.1
   where
+    of_class : (is_class_file D file ≡ true)
+        × ((keeps_alone D v name (option_and_then (placed_module D) (position (λ (m : Module). nat_eq m.file file) D.project.modules))
+        && others_differ (is_of_module file) v name 0 D.vars) ≡ true)
+    of_class =
+        both_true (is_class_file D file)
+        (keeps_alone D v name (option_and_then (placed_module D) (position (λ (m : Module). nat_eq m.file file) D.project.modules)) && others_differ (is_of_module file) v name 0 D.vars)
+        h
+
     by_module : (home : ℕ) → position (λ (m : Module). nat_eq m.file file) D.project.modules ≡ Some home → (o : Option (Module × List Placed))
-        → placed_module D home ≡ o → (keeps_alone D v name o && others_differ (is_of_module file) v name 0 D.vars) ≡ true → Stands D v name file
+        → placed_module D home ≡ o → (keeps_alone D v name o && others_differ (is_of_module file) v name 0 D.vars) ≡ true → KeptAlone D v name file
     by_module home i None j k = absurd (cc k)
     by_module home i (Some m) j k =
         let declares = list_any (declares_in D v m.0.file) m.1 in
         let others = list_all (is_other_member D name (Some v) m.0.file) m.1 in
         let a = both_true (m.0.class && (declares && others)) (others_differ (is_of_module file) v name 0 D.vars) k in
-        let b = both_true declares others (both_true m.0.class (declares && others) a.0).1 in
-        record { home = home; is_home = i; placed = m; is_placed = j; declares = b.0; others = b.1; differs = a.1 }
+        let c = both_true m.0.class (declares && others) a.0 in
+        let b = both_true declares others c.1 in
+        record {
+          stands = record { home = home; is_home = i; placed = m; is_placed = j; declares = b.0; others = b.1; differs = a.1 };
+          of_class = of_class.0;
+          is_class = c.0;
+        }
 
     by_home : (o : Option ℕ) → position (λ (m : Module). nat_eq m.file file) D.project.modules ≡ o
-        → (keeps_alone D v name (option_and_then (placed_module D) o) && others_differ (is_of_module file) v name 0 D.vars) ≡ true → Stands D v name file
+        → (keeps_alone D v name (option_and_then (placed_module D) o) && others_differ (is_of_module file) v name 0 D.vars) ≡ true → KeptAlone D v name file
     by_home None e k = absurd (cc k)
     by_home (Some home) e k = by_module home e (placed_module D home) refl k
 

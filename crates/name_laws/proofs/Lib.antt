@@ -36,6 +36,9 @@ pub mod Words
 pub mod Standing
 pub mod Members
 pub mod Shared
+pub mod Classes
+pub mod Receiving
+pub mod OwnFields
 pub mod Placed
 pub mod Outward
 pub mod Keys

@@ -26,7 +26,7 @@ use Rattle.run_matches.specs.Upgrades.{Upgrade, home_of, is_flagged, is_that, is
 use Rattle.run_statements.specs.Frames.{IsMember}
 use Rattle.run_statements.specs.Written.{IsWritten}
 use Rattle.name_laws.proofs.GroupTypes.{group_type}
-use Rattle.name_laws.proofs.Led.{Stands, stands_alone}
+use Rattle.name_laws.proofs.Led.{Stands, kept_alone}
 use Rattle.name_laws.proofs.Lists.{among_at, both_true, same_number}
 use Rattle.name_laws.proofs.Looked.{not_true}
 use Rattle.name_laws.proofs.Owned.{owned_is}
@@ -82,7 +82,7 @@ module _ (U : Upgrade) (I : IsWritten U) (c k file v : ℕ) (x : Variable) (is_f
   covers = both_true (covers_place_type D x.ty) (not x.auto) alone.1
 
   stands : Stands D v x.name file
-  stands = stands_alone D v x.name file alone.0
+  stands = (kept_alone D v x.name file alone.0).stands
 
   abbrev home : ℕ
   home = stands.home

@@ -22,7 +22,7 @@ use Rattle.written_trees.specs.Prologues.{declares, constant_dim_by, constant_di
 use Rattle.written_trees.specs.Types.{element_type}
 use Rattle.vb6_run.specs.Programs.{is_local_of, owned_from, is_static_of}
 use Rattle.run_matches.specs.CoveredVariables.{covers_type, covers_owner, covers_variable, belongs_to, are_different, is_loud, is_loud_owner, is_touched, covers_array_owner, covers_array_variable, covers_bounds, covers_declared, covers_group_type, covers_group_variable, has_extents, is_array_of, is_in_order}
-use Rattle.run_matches.specs.Covered.{covers_head, covers_variables, covers_body, covers_names, covers_all_calls, covers_own, covers_owns, covers_site, covers_procedure, is_scalar_or_loud}
+use Rattle.run_matches.specs.Covered.{covers_head, covers_variables, covers_body, covers_names, covers_all_calls, covers_own, covers_owns, has_no_static, covers_site, covers_procedure, is_scalar_or_loud}
 use Rattle.run_matches.specs.Callees.{frame_owns}
 use Rattle.run_matches.specs.CleanLines.{IsSoundPoint}
 use Rattle.run_matches.specs.Sites.{Site, site_of, site_lines, first_statement, Own, own_variable, own_constant, own_name, owns_from, owns_of, local_number, local_numbers, static_number, static_numbers}
@@ -309,7 +309,7 @@ covered_parts P p s e h =
     let d = both_true (covers_variables P p) (covers_body P p (slice_get P.bodies p)) c.1 in
     let site : covers_site D p (Some s) ≡ true = sym (ap (covers_site D p) e) ∙ c.0 in
     let names = are_different (map own_name (frame_owns D (slice_get D.procs p) s)) in
-    let f = both_true (covers_owns D p os) names (both_true (not s.source_module.class) (covers_owns D p os && names) site).1 in
+    let f = both_true (covers_owns D p os) names (both_true (not s.source_module.class || list_all has_no_static os) (covers_owns D p os && names) site).1 in
     let locals = pointwise nat_eq (local_numbers os) (owned_from (is_local_of p) 0 D.vars) in
     let statics = pointwise nat_eq (static_numbers os) (owned_from (is_static_of p) 0 D.vars) in
     let g = both_true (locals && statics) (list_all (covers_own D p) os) f.0 in

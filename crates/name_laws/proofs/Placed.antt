@@ -26,22 +26,25 @@ use Rattle.run_matches.specs.CoveredVariables.{is_foreign_name, is_named_apart, 
 use Rattle.run_matches.specs.CoveredExprs.{IsUsed, uses_in}
 use Rattle.run_matches.specs.Covered.{is_reference_in, is_reference_owner_of}
 use Rattle.run_matches.specs.Frames.{HasNames, GivenAddress, GivenStand, is_reference_of}
-use Rattle.run_matches.specs.Shared.{names_lead, is_alone_static, is_outer, others_differ}
+use Rattle.run_matches.specs.Shared.{field_leads, names_lead, is_alone_static, is_outer, others_differ}
 use Rattle.run_matches.specs.Sites.{Site, site_of}
-use Rattle.run_matches.specs.Upgrades.{Upgrade, code_of, declared_key, owned_key}
-use Rattle.run_statements.specs.Frames.{AreReadable, IsArray, IsGroup, IsReadable, IsPlaced, IsShared, LeadsBefore}
+use Rattle.run_matches.specs.Upgrades.{Upgrade, code_of, declared_key, home_of, is_flagged, owned_key}
+use Rattle.run_statements.specs.Frames.{AreReadable, IsArray, IsGroup, IsReadable, IsPlaced, LeadsBefore}
 use Rattle.run_statements.specs.Kept.{UsesArePlaced}
 use Rattle.run_statements.specs.Written.{IsWritten, WrittenProcedure, site_scope}
 use Rattle.name_laws.proofs.Lists.{both_true, some_same, same_number}
+use Rattle.name_laws.proofs.Classes.{stands_here, stands_in_class}
 use Rattle.name_laws.proofs.FrameNames.{result_are}
 use Rattle.name_laws.proofs.Keys.{StaticKey, static_parts, key_of_static}
 use Rattle.name_laws.proofs.Looked.{not_true}
-use Rattle.name_laws.proofs.Led.{Led, led, differing}
+use Rattle.name_laws.proofs.Led.{led, differing}
+use Rattle.name_laws.proofs.OwnFields.{own_variable}
+use Rattle.name_laws.proofs.Reached.{either}
 use Rattle.name_laws.proofs.Shared.{shared_variable}
 use Rattle.name_laws.proofs.Uses.{ArrayUse, CoveredUse, GroupUse, array_parts, group_use, used_parts}
 use Rattle.name_laws.proofs.GroupTypes.{group_type}
 use Rattle.name_laws.proofs.Owns.{covered_type}
-use Rattle.name_laws.proofs.Words.{array_type, scalar_type}
+use Rattle.name_laws.proofs.Words.{VariableType, array_type, scalar_type}
 
 plus_none : (n : ℕ) → 0 + n ≡ n
 plus_none n = omega arith
@@ -61,16 +64,17 @@ module _ (U : Upgrade) (I : IsWritten U) (p : ℕ) (s : Site) (x : Procedure) (i
   abbrev Given : ℕ → Type 0
   Given v = is_reference_of U p v ≡ true → (a : Address) → lookup (nat_eq v) f.vars ≡ Some a → GivenAddress U v a
 
-  by_owner : (v : ℕ) (y : Variable) → slice_get D.vars v ≡ Some y → Given v
-      → ((file : ℕ) → y.owner ≡ owner.Module file → Led D p v y.name file
-      → IsShared U (scope_of U.written W.code g k) (inside_procedure (site_scope U s) p) v)
+  by_owner : (v : ℕ) (y : Variable) → slice_get D.vars v ≡ Some y → is_flagged U v ≡ false
+      → ((at home : ℕ) → home_of U at ≡ Some home → VariableType U v y at home) → Given v
       → (o : Owner) → y.owner ≡ o → is_reached D p v y.name o ≡ true → Goal v
-  by_owner v y is_variable given shared (owner.Module file) e h =
-      let b = both_true (names_lead D p v y.name file) (is_foreign_name D p y.name) h in
-      inr (inr (inl (shared file e (led D p v y.name file b.0))))
-  by_owner v y is_variable given shared (owner.Local q) e h =
+  by_owner v y is_variable sound types given (owner.Module file) e h =
+      either (names_lead D p v y.name file) (field_leads D p v y.name file)
+      (both_true (names_lead D p v y.name file || field_leads D p v y.name file) (is_foreign_name D p y.name) h).0
+      (λ n. inr (inr (inl (shared_variable U I p v y is_variable sound types file e (led D p v y.name file n) s x is_site is_procedure W g k names))))
+      (λ n. inr (inr (inr (inr (own_variable U I p v y is_variable sound types file e s x is_site is_procedure n W g k names)))))
+  by_owner v y is_variable sound types given (owner.Local q) e h =
       inl (ap (is_own_variable p) is_variable ∙ ap (is_own_owner p) e ∙ own_number p q.0 h)
-  by_owner v y is_variable given shared (owner.Static q) e h =
+  by_owner v y is_variable sound types given (owner.Static q) e h =
       let b = both_true (nat_eq p q.0) (is_alone_static D p v y.name) h in
       let a = both_true (is_outer D (slice_get D.procs p)) (others_differ (is_static_of p) v y.name 0 D.vars) b.1 in
       let outer : not (is_class_file D x.module_number) ≡ true = sym (ap (is_outer D) is_procedure) ∙ a.0 in
@@ -89,23 +93,20 @@ module _ (U : Upgrade) (I : IsWritten U) (p : ℕ) (s : Site) (x : Procedure) (i
             let owned : is_static_of p z.0.owner ≡ true = subst (λ n. is_static_of n z.0.owner ≡ true) (sym (eqb-true p q.0 b.0)) z.2 in
             differing (is_static_of p) v y.name 0 u D.vars z.0 a.1 z.1 owned z.3 ∙ plus_none u;
       }))
-  by_owner v y is_variable given shared (owner.Value q) e h =
+  by_owner v y is_variable sound types given (owner.Value q) e h =
       inl (ap (is_own_variable p) is_variable ∙ ap (is_own_owner p) e ∙ own_number p q.0 h)
-  by_owner v y is_variable given shared (owner.Reference q) e h =
+  by_owner v y is_variable sound types given (owner.Reference q) e h =
       let reference : is_reference_of U p v ≡ true = ap (is_reference_in p) is_variable ∙ ap (is_reference_owner_of p) e ∙ h in
       inr (inr (inr (inl (record { reference = reference; stands = given reference }))))
-  by_owner v y is_variable given shared (owner.Answer q) e h =
+  by_owner v y is_variable sound types given (owner.Answer q) e h =
       inl (ap (is_own_variable p) is_variable ∙ ap (is_own_owner p) e ∙ own_number p q.0 h)
-  by_owner v y is_variable given shared (owner.Field t) e h = absurd (cc h)
+  by_owner v y is_variable sound types given (owner.Field t) e h = absurd (cc h)
 
   -- a scalar
   placed : (v : ℕ) (r : IsReadable U v) → Given v → CoveredUse U.program p v → Goal v
   placed v r given u =
       let same : u.used ≡ r.variable = some_same u.used r.variable (sym u.is_used ∙ r.is_variable) in
-      by_owner v r.variable r.is_variable given
-      (λ file of lead. shared_variable U I p v r.variable r.is_variable r.sound
-      (λ at home e. scalar_type U v r.variable at home (covered_type r.variable r.covers)) file of lead
-      s x is_site is_procedure W g k names)
+      by_owner v r.variable r.is_variable r.sound (λ at home e. scalar_type U v r.variable at home (covered_type r.variable r.covers)) given
       r.variable.owner refl (subst (λ (z : Variable). is_reached D p v z.name z.owner ≡ true) same u.reached)
 
   -- an array
@@ -113,10 +114,7 @@ module _ (U : Upgrade) (I : IsWritten U) (p : ℕ) (s : Site) (x : Procedure) (i
   array_placed v element r given u =
       let y : Variable = r.known.variable in
       let same : u.used ≡ y = some_same u.used y (sym u.is_used ∙ r.known.is_variable) in
-      by_owner v y r.known.is_variable given
-      (λ file of lead. shared_variable U I p v y r.known.is_variable r.known.sound
-      (λ at home e. array_type U v y element r.rank at home r.is_array r.covers) file of lead
-      s x is_site is_procedure W g k names)
+      by_owner v y r.known.is_variable r.known.sound (λ at home e. array_type U v y element r.rank at home r.is_array r.covers) given
       y.owner refl (subst (λ (z : Variable). is_reached D p v z.name z.owner ≡ true) same u.reached)
 
   -- of a user type or a class
@@ -124,10 +122,7 @@ module _ (U : Upgrade) (I : IsWritten U) (p : ℕ) (s : Site) (x : Procedure) (i
   group_placed v ty r given u =
       let y : Variable = r.known.variable in
       let same : u.used ≡ y = some_same u.used y (sym u.is_used ∙ r.known.is_variable) in
-      by_owner v y r.known.is_variable given
-      (λ file of lead. shared_variable U I p v y r.known.is_variable r.known.sound
-      (λ at home e. group_type U I v y ty at home r.is_type r.covers e) file of lead
-      s x is_site is_procedure W g k names)
+      by_owner v y r.known.is_variable r.known.sound (λ at home e. group_type U I v y ty at home r.is_type r.covers e) given
       y.owner refl (subst (λ (z : Variable). is_reached D p v z.name z.owner ≡ true) same u.reached)
 
 code_is : (U : Upgrade) (p : ℕ) (s : Site) (x : Procedure) (W : WrittenProcedure U p s x) → code_of U p ≡ Some W.code
@@ -199,4 +194,7 @@ uses_are_placed U I p s x e is W l readable f g k names given = record {
   leads = λ v element h.
       let u : ArrayUse U.program p v.0 element = (array_parts U.program p l.bindings.mentions v element h).1 in
       leads_before U p s x is W g k v.0 u.used u.is_used u.apart;
+  me = stands_in_class U p;
+  here = stands_here U I p s x e W g k;
+  named = λ v qualified h. h;
 }

@@ -59,7 +59,8 @@ pub fn uses_are_placed()
         → AreReadable U (inside_procedure (site_scope U s) p) (uses_in U.program p l.bindings.mentions) → UsesArePlaced U p s W.code l }
 {}
 
-/// A law: a covered line of a procedure that promises to change nothing but its own stores to its own variables alone.
+/// A law: a covered line of a procedure that promises to change nothing but its own stores to its own variables alone, and to those of its
+/// object where it is self-made.
 pub fn stores_are_own()
     ensures { (U : Upgrade) → IsWritten U → (p : ℕ) (x : Procedure) → slice_get U.program.declarations.procs p ≡ Some x → (k : ℕ) (l : Line)
         → nth_line (lines_at U.program p) (suc k) ≡ Some l → covers_line U.program p l ≡ true → StoresAreOwn U p l }

@@ -1,14 +1,13 @@
 -- A procedure that passes can be called from the lines of another.
 use Rattle.vb_tree.specs.BoundTree.{Ty}
 use Rattle.name_laws.proofs.Keeping.{seen_to_keep}
-use Rattle.bound_facts.specs.SelfMade.{module_of}
 use Rattle.bound_facts.specs.Nodes.{nodes_of_passed}
 use Rattle.run_matches.specs.Keeping.{given_types, keeps_callee, keeps_each, keeps_given, keeps_seen}
-use Rattle.std.proofs.Common.{◌≡◌, sym, ap, subst, ◌∙◌, ℕ, true, false, Option, Some, ◌++◌, map, ◌&&◌, None, List, [], ◌∷◌, inl, inr}
+use Rattle.std.proofs.Common.{◌≡◌, sym, ap, subst, ◌∙◌, ℕ, Bool, true, false, Option, Some, ◌++◌, map, ◌&&◌, None, List, [], ◌∷◌, inl, inr}
 use Rattle.std.specs.Prelude.{nat_lt, slice_get}
 use Rattle.std.specs.List.{Contains, list_all}
 use Rattle.up_base.proofs.Tests.{both_true}
-use Rattle.bound_tree.specs.Tree.{Declarations, Line, Procedure, Expr, Passed, typed}
+use Rattle.bound_tree.specs.Tree.{Declarations, Line, Procedure, Expr, Object, Passed, typed}
 use Rattle.bound_tree.specs.Tree as tree
 use Rattle.reach_table.specs.Chains.{empty}
 use Rattle.bound_facts.specs.Calls.{count_procedures, line_calls}
@@ -19,15 +18,13 @@ use Rattle.bound_facts.specs.Parts.{line_uses}
 use Rattle.run_base.specs.Machines.{nth_line}
 use Rattle.net_run.specs.Calls.{passings, passings_of_code}
 use Rattle.written_trees.specs.Arguments.{is_property_at, is_property_kind, parameter_in, takes_reference_of}
-use Rattle.run_matches.specs.Callees.{is_found}
 use Rattle.run_matches.specs.CleanLines.{IsCleanLine, line_points, lines_at, result_points}
-use Rattle.run_matches.specs.Covered.{covers_callee, covers_calls, suits, suits_callee, suits_passed, hands, hands_callee, hands_passed}
-use Rattle.run_matches.specs.Pledges.{stands_in_class}
+use Rattle.run_matches.specs.Covered.{covers_called_for, covers_calls, covers_node, suits, suits_callee, suits_passed, hands, hands_callee, hands_passed}
 use Rattle.run_matches.specs.Sites.{Site, site_of}
 use Rattle.run_matches.specs.Upgrades.{Upgrade}
 use Rattle.run_statements.specs.Fitting.{FitsNode, FitsPassed}
 use Rattle.run_statements.specs.Frames.{passing_at, passing_by, KeepsEach, NodesKeep}
-use Rattle.run_statements.specs.Kept.{CalleesAreFound, CanCallFrom}
+use Rattle.run_statements.specs.Kept.{CalleesAreFound, CanCallFrom, MethodsAreFound, qualified_at, receiver_at}
 use Rattle.run_statements.specs.Written.{Passes, ProceduresAreWritten, WrittenProcedure}
 use Rattle.name_laws.proofs.Lists.{Among, all_among, among, among_left, among_right, contains, map_among}
 use Rattle.name_laws.proofs.Uses.{clean_line_is}
@@ -35,32 +32,19 @@ use Rattle.run_laws.proofs.Covered.{CoveredProcedure, covered_parts, no_property
 use Rattle.name_laws.proofs.FrameNames.{params_are}
 use Rattle.run_laws.proofs.Heads.{params_pass}
 use Rattle.run_laws.proofs.Names.{names_in_code}
+use Rattle.run_laws.proofs.Receiving.{called_within, is_found_by, node_test, receives}
 use Rattle.run_laws.proofs.Reaching.{IsLineOf, inward_called, keeps_called}
 
 -- ---- the callee
 
--- the parts of the test on what is called
-record CalleeParts (U : Upgrade) (p q : ℕ) (s : Site) : Type 0 where
-  within : nat_lt q (count_procedures U.program) ≡ true
-  found : is_found U.program.declarations (slice_get U.program.declarations.procs p) s (slice_get U.program.declarations.procs q) (site_of U.program.declarations q) ≡ true
-
-callee_parts : (U : Upgrade) (p q : ℕ) (s : Site) (o : Option Site) → o ≡ Some s → covers_callee U.program p o q ≡ true → CalleeParts U p q s
-callee_parts U p q s o e h =
-    let D : Declarations = U.program.declarations in
-    let test : covers_callee U.program p (Some s) q ≡ true = subst (λ z. covers_callee U.program p z q ≡ true) e h in
-    let both = both_true (nat_lt q (count_procedures U.program)) (is_found D (slice_get D.procs p) s (slice_get D.procs q) (site_of D q)) test in
-    record { within = both.0; found = both.1 }
-
 -- the parts of the test on the calls of a line
 call_parts : (U : Upgrade) (p : ℕ) (l : Line) → covers_calls U.program p l ≡ true
-    → (list_all (λ (z : ℕ × ℕ). covers_callee U.program p (site_of U.program.declarations p) z.1) (line_calls U.program.declarations p l) ≡ true)
+    → (list_all (covers_node U.program p (site_of U.program.declarations p)) (line_uses l) ≡ true)
     × ((list_all (suits U.program.declarations) (line_uses l) ≡ true) × (list_all (hands U.program) (line_uses l) ≡ true))
 call_parts U p l h =
     let uses_suit = list_all (suits U.program.declarations) (line_uses l) in
     let uses_hand = list_all (hands U.program) (line_uses l) in
-    let both =
-    both_true (list_all (λ (z : ℕ × ℕ). covers_callee U.program p (site_of U.program.declarations p) z.1) (line_calls U.program.declarations p l))
-    (uses_suit && uses_hand) h in
+    let both = both_true (list_all (covers_node U.program p (site_of U.program.declarations p)) (line_uses l)) (uses_suit && uses_hand) h in
     (both.0, both_true uses_suit uses_hand both.1)
 
 -- the arguments suit what is called
@@ -83,16 +67,11 @@ call_fits U q (typed ty (tree.call f qualified of args)) h e = subst (λ n. Fits
 call_fits U q (typed ty _) h e = absurd (not_none e)
 
 -- what a line calls passes the test
-pub callee_covered : (U : Upgrade) (p q : ℕ) (l : Line) → covers_calls U.program p l ≡ true → Contains (line_calls U.program.declarations p l) (p, q)
-    → covers_callee U.program p (site_of U.program.declarations p) q ≡ true
-callee_covered U p q l h c =
-    all_among (λ (z : ℕ × ℕ). covers_callee U.program p (site_of U.program.declarations p) z.1) (line_calls U.program.declarations p l) (p, q)
-    (call_parts U p l h).0
-    (among (line_calls U.program.declarations p l) (p, q) c)
-
-pub callee_within : (U : Upgrade) (p q : ℕ) (s : Site) → site_of U.program.declarations p ≡ Some s
-    → covers_callee U.program p (site_of U.program.declarations p) q ≡ true → nat_lt q (count_procedures U.program) ≡ true
-callee_within U p q s e h = (callee_parts U p q s (site_of U.program.declarations p) e h).within
+pub callee_covered : (U : Upgrade) (p q : ℕ) (l : Line) (d : Expr) → covers_calls U.program p l ≡ true → Contains (line_uses l) d → called d ≡ Some q
+    → covers_called_for U.program p (site_of U.program.declarations p) q (qualified_at d) (receiver_at d) ≡ true
+callee_covered U p q l d h m e =
+    node_test U.program p q (site_of U.program.declarations p) d
+    (all_among (covers_node U.program p (site_of U.program.declarations p)) (line_uses l) d (call_parts U p l h).0 (among (line_uses l) d m)) e
 
 -- ---- elements that are given
 
@@ -112,11 +91,12 @@ seen_inside U ts (d ∷ ds) h =
     let both = both_true (keeps_callee U.program ts (called d)) (list_all (λ d. keeps_callee U.program ts (called d)) ds) h in
     ((λ q e. seen_called U ts (called d) q both.0 e), seen_inside U ts ds both.1)
 
-module _ (U : Upgrade) (known : AreFacts U.program U.known) (procedures : ProceduresAreWritten U) (found : CalleesAreFound U) (p q : ℕ) (s : Site) (x : Procedure)
+module _ (U : Upgrade) (known : AreFacts U.program U.known) (procedures : ProceduresAreWritten U) (found : CalleesAreFound U) (methods : MethodsAreFound U)
+    (p q : ℕ) (s : Site) (x : Procedure)
     (is_site : site_of U.program.declarations p ≡ Some s) (is_procedure : slice_get U.program.declarations.procs p ≡ Some x)
     (kind : is_property_kind x.kind ≡ false) (W : WrittenProcedure U p s x) (l : Line) (stands : IsLineOf U.program p l)
-    (call : Contains (line_calls U.program.declarations p l) (p, q)) (test : covers_callee U.program p (site_of U.program.declarations p) q ≡ true)
-    (pass : Passes U q) where
+    (call : Contains (line_calls U.program.declarations p l) (p, q)) (qualified : Bool) (of : Object)
+    (test : covers_called_for U.program p (site_of U.program.declarations p) q qualified of ≡ true) (pass : Passes U q) where
   abbrev D : Declarations
   D = U.program.declarations
 
@@ -126,14 +106,8 @@ module _ (U : Upgrade) (known : AreFacts U.program U.known) (procedures : Proced
   abbrev V : WrittenProcedure U q c.site c.procedure
   V = procedures q c.site c.procedure c.is_site c.is_procedure (no_property c.procedure.kind c.kind)
 
-  abbrev parts : CalleeParts U p q s
-  parts = callee_parts U p q s (site_of D p) is_site test
-
-  is_found_from : is_found D (Some x) s (Some c.procedure) (Some c.site) ≡ true
-  is_found_from =
-      subst (λ o. is_found D (Some x) s (Some c.procedure) o ≡ true) c.is_site
-      (subst (λ o. is_found D (Some x) s o (site_of D q) ≡ true) c.is_procedure
-      (subst (λ o. is_found D o s (slice_get D.procs q) (site_of D q) ≡ true) is_procedure parts.found))
+  within : nat_lt q (count_procedures U.program) ≡ true
+  within = called_within U.program p q (site_of D p) qualified of test
 
   passings_are : (i : ℕ) → passing_at (passings_of_code (Some V.code)) i ≡ passing_by (takes_reference_of D (slice_get c.procedure.params i))
   passings_are i =
@@ -141,19 +115,19 @@ module _ (U : Upgrade) (known : AreFacts U.program U.known) (procedures : Proced
       ∙ params_pass U c.site q c.procedure.params c.params i
 
   pub can_call : (args : Passed) → suits_passed U.program.declarations q 0 args ≡ true → hands_callee U.program (Some q) args ≡ true → FitsPassed U q 0 args
-      → CanCallFrom U p s W.code q args
+      → CanCallFrom U p s W.code q qualified of args
   can_call args fit hand ranks w f g k names =
       let both = both_true (hands_passed U.program q 0 args) (keeps_given U.program q args) hand in
       let ts = given_types args in
       let keeping = both_true (keeps_each U.program q ts) (list_all (λ d. keeps_callee U.program ts (called d)) (nodes_of_passed args)) both.1 in
       record {
         passes = pass;
-        keeps = λ ty h. keeps_called U.program p q x is_procedure parts.within l stands call ty h;
-        inward = λ h. inward_called U known p q x is_procedure parts.within l stands call h;
+        keeps = λ ty h. keeps_called U.program p q x is_procedure within l stands call ty h;
+        inward = λ h. inward_called U known p q x is_procedure within l stands call h;
         number = V.number;
         is_number = V.is_number;
         plain = ap is_property_at c.is_procedure ∙ no_property c.procedure.kind c.kind;
-        standard = ap (λ o. stands_in_class U (module_of o)) c.is_procedure ∙ c.outer;
+        receives = receives U p q s c.site x c.procedure is_site is_procedure c.is_site c.is_procedure qualified of test;
         suits = fit;
         hands = both.0;
         given = seen_each U q ts keeping.0;
@@ -162,9 +136,9 @@ module _ (U : Upgrade) (known : AreFacts U.program U.known) (procedures : Proced
         passings = λ i.
             ap (λ o. passing_at (passings_of_code o) i) V.is_code ∙ passings_are i
             ∙ sym (ap (λ o. passing_by (takes_reference_of D (parameter_in o i))) c.is_procedure);
-        found = λ qualified.
-            found p q s c.site x c.procedure W V g k is_site is_procedure kind c.is_site c.is_procedure (no_property c.procedure.kind c.kind) is_found_from
-            (names_in_code U p s x W g names) qualified;
+        found =
+            is_found_by U p q s c.site x c.procedure is_site is_procedure c.is_site c.is_procedure found methods W V kind
+            (no_property c.procedure.kind c.kind) g k (names_in_code U p s x W g names) qualified of test;
       }
 
 -- ---- what a line that is clean by itself calls

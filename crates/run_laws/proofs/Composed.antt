@@ -16,7 +16,7 @@ use Rattle.placing_laws.proofs.Labels.{labels_are_found}
 use Rattle.placing_laws.proofs.Lines.{lines_are_written, no_further_lines}
 use Rattle.name_laws.proofs.Open.{names_are_open}
 use Rattle.name_laws.proofs.OwnsKept.{owns_are_kept}
-use Rattle.name_laws.proofs.Found.{callees_are_found}
+use Rattle.name_laws.proofs.Found.{callees_are_found, methods_are_found}
 use Rattle.name_laws.proofs.Owns.{usable}
 use Rattle.name_laws.proofs.Lines.{clean_lines_are_unreplaced, clean_line_is_unreplaced}
 use Rattle.name_laws.proofs.Outward.{stores_are_own}
@@ -105,6 +105,7 @@ run_premises U w = record {
   owned = owned_usable U w;
   known = w.known;
   found = callees_are_found U w;
+  methods = methods_are_found U w;
   makes =
       makes_in_calls U (locals_are_made U) (arrays_are_made U) (groups_are_made U) (static_arrays_are_laid U) (static_groups_are_laid U)
       (values_are_made U) (groups_are_given U);
@@ -129,6 +130,7 @@ line_premises U w = record {
   placed = uses_are_placed U w;
   stores = stores_are_own U w;
   found = callees_are_found U w;
+  methods = methods_are_found U w;
   calls = whole.calls_agree U (run_premises U w);
 }
 

@@ -4,7 +4,7 @@ use Rattle.std.specs.Prelude.{◌||◌, slice_get}
 use Rattle.std.specs.Cmp.Lexicographic.{pointwise}
 use Rattle.std.specs.List.{list_all}
 use Rattle.up_base.proofs.Lists.{all_first, all_rest, all_leads}
-use Rattle.up_base.proofs.Tests.{both_true, not_true}
+use Rattle.up_base.proofs.Tests.{both_true}
 use Rattle.up_base.specs.Names.{is_same_name, lower_case}
 use Rattle.vb_tree.specs.BoundTree as types
 use Rattle.vb_tree.specs.BoundTree.{Ty}
@@ -20,16 +20,16 @@ use Rattle.bound_tree.specs.Tree.{Expr, Line, Procedure, Program, Variable, Decl
 use Rattle.vb6_run.specs.Forms.{SourceLine, body_of, tests_in, with_aims}
 use Rattle.vb6_run.specs.Lines.{source_lines}
 use Rattle.vb6_run.specs.Programs.{answer_in, is_static_of, is_local_of, owned_from}
-use Rattle.vb6_run.specs.Runnables.{is_class_file}
 use Rattle.written_trees.specs.Arguments.{is_property_kind}
 use Rattle.written_trees.specs.Types.{element_type}
 use Rattle.run_matches.specs.Formed.{is_formed}
 use Rattle.run_matches.specs.CoveredVariables.{belongs_to, covers_array_owner, covers_bounds, covers_declared, covers_group_type, has_extents, is_array_of, are_different, covers_owner, covers_type}
 use Rattle.run_matches.specs.CoveredExprs.{Uses, uses_in}
 use Rattle.run_matches.specs.CoveredLines.{covers_form, covers_in_block, covers_label, covers_line, has_sound_label, has_sound_label_in, jump_of}
-use Rattle.run_matches.specs.Covered.{covers_body, covers_head, covers_kind, covers_names, covers_owns, covers_procedure, covers_site, covers_variables, is_plain, is_plain_kind, keeps_blocks, keeps_blocks_in, covers_own, covers_all_calls, covers_calls, covers_parameter, covers_result, has_result, is_answer_of, is_parameter_of}
+use Rattle.run_matches.specs.Covered.{covers_body, covers_head, covers_kind, covers_names, covers_owns, covers_procedure, covers_site, covers_variables, is_plain, is_plain_kind, keeps_blocks, keeps_blocks_in, covers_own, covers_all_calls, covers_calls, covers_parameter, covers_result, has_no_static, has_result, is_answer_of, is_parameter_of}
 use Rattle.run_matches.specs.Callees.{frame_owns}
 use Rattle.run_matches.specs.Sites.{Site, own_name, owns_of, site_of, local_numbers, static_numbers}
+use Rattle.run_laws.proofs.Outside.{AreStaticsOutside, statics_outside}
 
 pub some_is : {A : Type 0} {x y : A} → ◌≡◌ {A = Option A} (Some x) (Some y) → x ≡ y
 some_is e = cc e
@@ -77,19 +77,16 @@ record Head (P : Program) (p : ℕ) (o : Option Procedure) : Type 0 where
   result : has_result P.declarations p procedure procedure.kind ≡ true
   parameters : map (λ (v : VarId). v.0) procedure.params ≡ owned_from (is_parameter_of p) 0 P.declarations.vars
   answers : answer_in procedure.answer ≡ owned_from (is_answer_of p) 0 P.declarations.vars
-  outer : is_class_file P.declarations procedure.module_number ≡ false
 
 head_parts : (P : Program) (p : ℕ) (o : Option Procedure) → covers_head P p o ≡ true → Head P p o
 head_parts P p None h = absurd (true≢false (sym h))
 head_parts P p (Some x) h =
     let D : Declarations = P.declarations in
-    let outer = not (is_class_file D x.module_number) in
     let numbers = pointwise nat_eq (map (λ (v : VarId). v.0) x.params) (owned_from (is_parameter_of p) 0 D.vars)
     && pointwise nat_eq (answer_in x.answer) (owned_from (is_answer_of p) 0 D.vars) in
-    let a = both_true (covers_kind x.kind) (list_all (covers_parameter P p) x.params && (covers_result D p x && outer)) h in
-    let b = both_true (list_all (covers_parameter P p) x.params) (covers_result D p x && outer) a.1 in
-    let c = both_true (covers_result D p x) outer b.1 in
-    let d = both_true (has_result D p x x.kind) numbers c.0 in
+    let a = both_true (covers_kind x.kind) (list_all (covers_parameter P p) x.params && covers_result D p x) h in
+    let b = both_true (list_all (covers_parameter P p) x.params) (covers_result D p x) a.1 in
+    let d = both_true (has_result D p x x.kind) numbers b.1 in
     let e = both_true (pointwise nat_eq (map (λ (v : VarId). v.0) x.params) (owned_from (is_parameter_of p) 0 D.vars))
     (pointwise nat_eq (answer_in x.answer) (owned_from (is_answer_of p) 0 D.vars)) d.1 in
     record {
@@ -100,13 +97,12 @@ head_parts P p (Some x) h =
       result = d.0;
       parameters = same_numbers (map (λ (v : VarId). v.0) x.params) (owned_from (is_parameter_of p) 0 D.vars) e.0;
       answers = same_numbers (answer_in x.answer) (owned_from (is_answer_of p) 0 D.vars) e.1;
-      outer = not_true (is_class_file D x.module_number) c.1;
     }
 
 record Stands (D : Declarations) (p : ℕ) (o : Option Site) : Type 0 where
   site : Site
   is_site : o ≡ Some site
-  standard : site.source_module.class ≡ false
+  outside : (not site.source_module.class || list_all has_no_static (owns_of D site)) ≡ true
   owns : covers_owns D p (owns_of D site) ≡ true
   different : are_different (map own_name (frame_owns D (slice_get D.procs p) site)) ≡ true
 
@@ -114,9 +110,9 @@ site_parts : (D : Declarations) (p : ℕ) (o : Option Site) → covers_site D p 
 site_parts D p None h = absurd (true≢false (sym h))
 site_parts D p (Some s) h =
     let names = are_different (map own_name (frame_owns D (slice_get D.procs p) s)) in
-    let b = both_true (not s.source_module.class) (covers_owns D p (owns_of D s) && names) h in
+    let b = both_true (not s.source_module.class || list_all has_no_static (owns_of D s)) (covers_owns D p (owns_of D s) && names) h in
     let both = both_true (covers_owns D p (owns_of D s)) names b.1 in
-    record { site = s; is_site = refl; standard = not_true s.source_module.class b.0; owns = both.0; different = both.1 }
+    record { site = s; is_site = refl; outside = b.0; owns = both.0; different = both.1 }
 
 record Body (P : Program) (p : ℕ) (o : Option (List Line)) : Type 0 where
   lines : List Line
@@ -140,10 +136,9 @@ pub record CoveredProcedure (P : Program) (p : ℕ) : Type 0 where
   pub result : has_result P.declarations p procedure procedure.kind ≡ true
   pub parameters : map (λ (v : VarId). v.0) procedure.params ≡ owned_from (is_parameter_of p) 0 P.declarations.vars
   pub answers : answer_in procedure.answer ≡ owned_from (is_answer_of p) 0 P.declarations.vars
-  pub outer : is_class_file P.declarations procedure.module_number ≡ false
   pub site : Site
   pub is_site : site_of P.declarations p ≡ Some site
-  pub standard : site.source_module.class ≡ false
+  pub outside : AreStaticsOutside P.declarations procedure site
   pub locals : local_numbers (owns_of P.declarations site) ≡ owned_from (is_local_of p) 0 P.declarations.vars
   pub statics : static_numbers (owns_of P.declarations site) ≡ owned_from (is_static_of p) 0 P.declarations.vars
   pub owns : list_all (covers_own P.declarations p) (owns_of P.declarations site) ≡ true
@@ -188,9 +183,8 @@ covered_parts P p h =
       result = x.result;
       parameters = x.parameters;
       answers = x.answers;
-      outer = x.outer;
       site = s.site;
-      standard = s.standard;
+      outside = statics_outside D p x.procedure s.site x.is_procedure s.outside m.1;
       is_site = s.is_site;
       locals = same_numbers (local_numbers os) (owned_from (is_local_of p) 0 D.vars) l.0;
       statics = same_numbers (static_numbers os) (owned_from (is_static_of p) 0 D.vars) l.1;

@@ -1,6 +1,6 @@
 -- The entry of a covered procedure makes frames that match.
-use Rattle.std.proofs.Common.{◌≡◌, refl, sym, ap, subst, ◌∙◌, ℕ, ◌+◌, arith, true, false, nat_eq, Option, Some, None, option_map, List, [], ◌∷◌, ◌++◌, map, ◌⊎◌, inl, inr, true≢false, ⊎_elim}
-use Rattle.std.specs.Prelude.{slice_get, ◌&&◌}
+use Rattle.std.proofs.Common.{◌≡◌, refl, sym, ap, subst, ◌∙◌, ℕ, ◌+◌, arith, true, false, not, nat_eq, Option, Some, None, option_map, List, [], ◌∷◌, ◌++◌, map, ◌⊎◌, inl, inr, true≢false, ⊎_elim}
+use Rattle.std.specs.Prelude.{slice_get, ◌&&◌, ◌||◌}
 use Rattle.std.specs.List.{list_any, list_all}
 use Rattle.written_trees.specs.Prologues.{is_static}
 use Rattle.std.specs.Map.{lookup}
@@ -39,6 +39,7 @@ use Rattle.run_matches.specs.Maps.{Below, Mark, World, mark, key_or_none, moved_
 use Rattle.run_matches.specs.Match.{MemoryMatch, StoreMatch}
 use Rattle.run_matches.specs.Pledges.{IsOld, Later, NetGiven, Pledge}
 use Rattle.run_matches.specs.Runs.{IsObject, call_pledge}
+use Rattle.run_matches.specs.Shared.{is_outer, others_differ}
 use Rattle.run_matches.specs.Sites.{Own, own_name, own_variable, owns_of, own_constant, local_numbers, static_number, static_numbers}
 use Rattle.run_matches.specs.Upgrades.{Upgrade, home_of, runnable_of, is_auto}
 use Rattle.run_statements.specs.Frames.{HasRankOf, IsUsable}
@@ -62,17 +63,18 @@ use Rattle.run_laws.proofs.Heads.{HasAnswer, HasNone, Parameter, a_result, answe
 use Rattle.run_laws.proofs.Names.{code_is}
 use Rattle.run_laws.proofs.Pledged.{call_is_weaker, frame_with}
 use Rattle.run_laws.proofs.Owns.{owns_sound}
+use Rattle.run_laws.proofs.Outside.{static_outside}
 use Rattle.run_laws.proofs.Passing.{passing_listed}
 use Rattle.run_laws.proofs.Usable.{result_usable}
-use Rattle.run_laws.proofs.StaticOrder.{each_next, in_order, laid_as_statics, made_in_order}
+use Rattle.run_laws.proofs.StaticOrder.{each_next, in_order, made_in_order, statics_laid}
 use Rattle.run_laws.proofs.StaticKeys.{IsDeclaredOwn, StaticFound, all_keyed, static_found, static_there}
 use Rattle.run_laws.proofs.Locals.{Found, listed_behind, local_found, local_later, local_listed, local_names, local_places, local_there, locals_later}
 use Rattle.run_laws.proofs.LocalsMade.{Locals, locals_agree}
 use Rattle.run_laws.proofs.Parameters.{AreParameters, Parameters, parameters_agree}
 use Rattle.run_laws.proofs.ParametersMade.{Local}
 use Rattle.run_laws.proofs.ResultsMade.{ResultMade, result_made}
-use Rattle.run_laws.proofs.Standing.{different_behind, made_object, module_in_is, nothing_by, nothing_kept, plain_place, ending_owns, static_root_is, no_place_kept, none_kept_from}
-use Rattle.up_base.proofs.Tests.{either}
+use Rattle.run_laws.proofs.Standing.{different_behind, made_object, module_in_is, nothing_by, nothing_kept, plain_place, ending_owns, static_declared, static_root_is, no_place_kept, none_kept_from}
+use Rattle.up_base.proofs.Tests.{both_true, either}
 
 none_before : (j : ℕ) → 0 + j ≡ j
 none_before j = omega arith
@@ -201,23 +203,28 @@ module _ (U : Upgrade) (p : ℕ) (c : CoveredProcedure U.program p) (W : Written
             plain = plain_of v a z.match.standing;
           }
 
-      static_there_is : (v : ℕ) (r : Root) → static_of U p me v ≡ Some r → SameStatic U u v r g
-      static_there_is v r e =
-          let y = static_root_is U p x me v r (slice_get D.vars v) refl c.is_procedure c.outer e in
-          let z = static_there D p v y.0 os c.statics y.1 y.2 in
-          let there = among_right (parameter_owns D x.params) others (own_variable v z.0) (among_right (answer_owns D x.answer) os (own_variable v z.0) z.1) in
-          let t : StaticFound U u v z.0 bs = static_found U K u v z.0 z.2 all ks bs m c.different there in
-          let named : name_of U v ≡ z.0.name = ap (λ o. variable_name_of o) (own_is D c.site (own_variable v z.0) z.1) in
+      static_match : (v : ℕ) (z : Variable) → Among os (own_variable v z) → is_static z.owner ≡ true → SameStatic U u v (shared (v ∷ [])) g
+      static_match v z own static =
+          let there = among_right (parameter_owns D x.params) others (own_variable v z) (among_right (answer_owns D x.answer) os (own_variable v z) own) in
+          let t : StaticFound U u v z bs = static_found U K u v z static all ks bs m c.different there in
+          let named : name_of U v ≡ z.name = ap (λ o. variable_name_of o) (own_is D c.site (own_variable v z) own) in
           let s : StaticMatch U u v t.address = t.match in
           let standing : net.root s.written (moved_at U u.map (whole (shared (v ∷ [])))) ≡ t.address =
           ap (λ o. net.root s.written (whole (shared (key_or_none o)))) s.is_key ∙ sym s.stands in
-          subst (λ q. SameStatic U u v q g) y.3 (record {
+          record {
             written = s.written;
             found = ap (λ n. var_in bs n) named ∙ t.found ∙ ap (λ b. Some b) (sym standing);
             same = s.same;
             is_matched = s.matched;
             ranked = s.ranked;
-          })
+          }
+
+      static_there_is : (v : ℕ) (r : Root) → static_of U p me v ≡ Some r → SameStatic U u v r g
+      static_there_is v r e =
+          let y = static_declared U p me v r (slice_get D.vars v) refl e in
+          let z = static_there D p v y.0 os c.statics y.1 y.2 in
+          subst (λ q. SameStatic U u v q g) (static_root_is U p x me v r c.is_procedure (static_outside D x c.site c.outside v z.0 z.1 z.2).1 y.3)
+          (static_match v z.0 z.1 z.2)
 
       frames_match : FrameMatch U K u p f g
       frames_match = record {
@@ -273,18 +280,21 @@ module _ (U : Upgrade) (p : ℕ) (c : CoveredProcedure U.program p) (W : Written
     sound : AllSound U S os
     sound = owns_sound U p c.site x W kept
 
-    outer_home : is_class U.written W.code.home ≡ false
-    outer_home =
-        ap (is_class U.written) W.home ∙ ap is_class_at (module_in_is U.written.modules c.site.home) ∙ ap is_class_at W.is_module ∙ c.standard
+    outer_home : c.site.source_module.class ≡ false → is_class U.written W.code.home ≡ false
+    outer_home standard =
+        ap (is_class U.written) W.home ∙ ap is_class_at (module_in_is U.written.modules c.site.home) ∙ ap is_class_at W.is_module ∙ standard
 
     declared_own : (o : Own) → Among os o → IsDeclaredOwn U p W.code (code_is U p c.site x W) S o
     declared_own (own_variable v y) m =
         let is : slice_get D.vars v ≡ Some y = own_is D c.site (own_variable v y) m in (
           is,
-          λ static.
-              owned_is (is_static_of p) D.vars v y
-              (subst (λ ns. Among ns v) c.statics (flat_among static_number os (own_variable v y) v m (number_if (is_static y.owner) v static))) is,
-          all_among (covers_own D p) os (own_variable v y) c.owns m,
+          λ static. (
+            owned_is (is_static_of p) D.vars v y
+                (subst (λ ns. Among ns v) c.statics (flat_among static_number os (own_variable v y) v m (number_if (is_static y.owner) v static))) is,
+            outer_home (static_outside D x c.site c.outside v y m static).0,
+          ),
+          (both_true (others_differ (is_static_of p) v y.name 0 D.vars) (not (is_static y.owner) || is_outer D (slice_get D.procs p))
+              (all_among (covers_own D p) os (own_variable v y) c.owns m)).0,
         )
     declared_own (own_constant d y) m = tt
 
@@ -305,7 +315,7 @@ module _ (U : Upgrade) (p : ℕ) (c : CoveredProcedure U.program p) (W : Written
         ≡ then (made_in_order D os w) G
     ordered G w =
         ap (λ f. then (made_each D (local_numbers os) w) f)
-        (λ i more v. then (laid_as_statics D me x.module_number c.outer (static_numbers os) v i) (λ u z. G more z))
+        (λ i more v. then (statics_laid D x c.site c.outside me v i) (λ u z. G more z))
         ∙ in_order D os (ending_owns U S os sound) G w
 
     -- ---- the result variable and what the lines declare
@@ -334,7 +344,7 @@ module _ (U : Upgrade) (p : ℕ) (c : CoveredProcedure U.program p) (W : Written
         (right_alone U K w (Locals U K os) r (then r' (λ dims t. gives [] dims t))
         (subst (λ z. Agrees U K w (Locals U K os) r z) (sym (then_gives r'))
         (subst (λ z. Agrees U K w (Locals U K os) z r') (sym (ordered (λ more w. gives [] more w) w.src ∙ then_gives (made_in_order D os w.src)))
-        (locals_agree U K makes ranked groups S refl refl W.code home to outer_home w 0 os sound keyed low start)))))
+        (locals_agree U K makes ranked groups S refl refl W.code home to w 0 os sound keyed low start)))))
     others_agree w to (inr h) low start =
         let y : Variable = h.variable in
         let M : ResultMade U groups c.site W.code.home home p x h K makes = result_made U groups c.site W.code.home home p x h K makes (answers h) in
@@ -366,7 +376,7 @@ module _ (U : Upgrade) (p : ℕ) (c : CoveredProcedure U.program p) (W : Written
         (then (dims_made U.written W.code to 0 ds u.net) (λ dims t. gives [] ((x.name, b) ∷ dims) t))
         (then_agrees U K u (Locals U K os) R (made_in_order D os u.src) (dims_made U.written W.code to 0 ds u.net)
         (λ more s. gives [] ((h.id.0, a) ∷ more) s) (λ dims t. gives [] ((x.name, b) ∷ dims) t) later.match
-        (locals_agree U K makes ranked groups S refl refl W.code home to outer_home u 0 os sound keyed (below_then base (mark w.src) (mark u.src) low later.grows) later.match)
+        (locals_agree U K makes ranked groups S refl refl W.code home to u 0 os sound keyed (below_then base (mark w.src) (mark u.src) low later.grows) later.match)
         (λ ks bs z ms more.
         agrees_gives U K z R ((h.id.0, a) ∷ ks) ((x.name, b) ∷ bs) more.match
         (next_variable h.id.0 y a (x.name, b) os ks bs (ap is_static h.owner) (sym h.name) (local_later U K u z h.id.0 a b later.match more n) ms))))))))))

@@ -1,3 +1,4 @@
+pub mod Outside
 pub mod Covered
 pub mod Keeping
 pub mod Dims
@@ -20,6 +21,7 @@ pub mod Standing
 pub mod Entries
 pub mod Pledged
 pub mod Reaching
+pub mod Receiving
 pub mod Callees
 pub mod Turns
 pub mod Lines

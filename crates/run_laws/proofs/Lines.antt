@@ -23,7 +23,7 @@ use Rattle.run_matches.specs.Sites.{Site, site_of}
 use Rattle.run_matches.specs.Upgrades.{Upgrade, code_of, runnable_of}
 use Rattle.run_statements.specs.Fitting.{FitsLine, FitsNode}
 use Rattle.run_statements.specs.Frames.{AreReadable, IsOpen}
-use Rattle.run_statements.specs.Kept.{IsUnreplaced, LineStands, LinesAgree, LinesAreWritten, NamesAreOpen, StoresAreOwn, UsesArePlaced, CanCallFrom, SameLineIn}
+use Rattle.run_statements.specs.Kept.{IsUnreplaced, LineStands, LinesAgree, LinesAreWritten, NamesAreOpen, StoresAreOwn, UsesArePlaced, CanCallFrom, SameLineIn, qualified_at, receiver_at}
 use Rattle.run_statements.specs.Written.{SameLines, WrittenLine, WrittenProcedure, Passes, site_scope}
 use Rattle.run_laws.specs.Premises.{LinePremises}
 use Rattle.run_laws.proofs.Covered.{PlainProcedure, bound_line, not_none, plain_parts, some_is}
@@ -59,7 +59,7 @@ module _ (U : Upgrade) (lines_written : LinesAreWritten U) (names_open : NamesAr
   pub line_same : (k : ℕ) (l : SourceLine) → line_at (source.machine_of (runnable_of U)) p (suc k) ≡ Some l → list_all keeps_blocks lines ≡ true
       → IsUnreplaced U p s k → covers_names U.program.declarations ≡ true → covers_line U.program p l.form ≡ true
       → AreReadable U (inside_procedure (site_scope U s) p) (uses_in U.program p l.form.bindings.mentions) → UsesArePlaced U p s W.code l.form → StoresAreOwn U p l.form
-      → ((d : Expr) (q : ℕ) → Contains (line_uses l.form) d → called d ≡ Some q → CanCallFrom U p s W.code q (args_at d))
+      → ((d : Expr) (q : ℕ) → Contains (line_uses l.form) d → called d ≡ Some q → CanCallFrom U p s W.code q (qualified_at d) (receiver_at d) (args_at d))
       → ((d : Expr) → Contains (line_uses l.form) d → FitsNode U d) → FitsLine U p l.form → LineStands U p s W.number W.code (suc k) l
       → LineSame U p W.number (suc k) l
   line_same k l e blocks unreplaced names covers readable placed own can fits resizes there =
@@ -77,11 +77,11 @@ module _ (U : Upgrade) (h : LinePremises U) where
   -- what the line calls passes
   can_call_from : (p k : ℕ) (clean : IsCleanLine U.program U.facts.marks p (suc k)) (c : IsCoveredLine U.program p (suc k))
       (x : PlainProcedure (slice_get U.program.declarations.procs p)) (W : WrittenProcedure U p c.site x.procedure) (d : Expr) (q : ℕ)
-      → Contains (line_uses c.line) d → called d ≡ Some q → CanCallFrom U p c.site W.code q (args_at d)
+      → Contains (line_uses c.line) d → called d ≡ Some q → CanCallFrom U p c.site W.code q (qualified_at d) (receiver_at d) (args_at d)
   can_call_from p k clean c x W d q m e =
       let call : Contains (line_calls U.program.declarations p c.line) (p, q) = use_calls U.program.declarations p q c.line d m e in
-      can_call U h.known h.procedures h.found p q c.site x.procedure c.is_site x.is_procedure x.kind W c.line
-      (record { lines = c.lines; are_lines = c.are_lines; place = k; stands = c.is_line }) call (callee_covered U p q c.line c.calls call)
+      can_call U h.known h.procedures h.found h.methods p q c.site x.procedure c.is_site x.is_procedure x.kind W c.line
+      (record { lines = c.lines; are_lines = c.are_lines; place = k; stands = c.is_line }) call (qualified_at d) (receiver_at d) (callee_covered U p q c.line d c.calls m e)
       (called_clean U p (suc k) c.line clean (ap (λ o. nth_line (or_none o) (suc k)) c.are_lines ∙ c.is_line) q call, c.entered q call)
       (args_at d) (call_suits U p q c.line d c.calls m e) (call_hands U p q c.line d c.calls m e)
       (call_fits U q d (h.fits p k c.line clean (ap (λ o. nth_line (or_none o) (suc k)) c.are_lines ∙ c.is_line) d m) e)

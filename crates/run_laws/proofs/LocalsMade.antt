@@ -10,7 +10,6 @@ use Rattle.vb6_run.specs.Shapes.{Shape, variable_shape}
 use Rattle.vb6_run.specs.Store.{Address, Memory, blank, laid, make, provided, root}
 use Rattle.vb6_run.specs.Values.{is_makeable}
 use Rattle.net_run.specs.Members.{Code}
-use Rattle.net_run.specs.Names.{is_class}
 use Rattle.net_run.specs.Program.{dim_made, dims_made, made_once, static_key}
 use Rattle.net_run.specs.Shapes as shape
 use Rattle.net_run.specs.Store as net
@@ -201,13 +200,13 @@ module _ (U : Upgrade) (K : Pledge) (makes : MakesAlike U K) (ranked : ArraysHav
       then_gives U K w (λ u a z. StaticMatch U u v b) (NamedStatic v name) (λ u. (name, b)) r r' (λ u a z m. (refl, m))
       (agrees_weaker U K w (Laid v) (λ u a z. StaticMatch U u v b) r r' (λ u a z l m. match u l.match m.1) there)
 
-  static_agrees : is_class U.written c.home ≡ false → (w : World) (i v : ℕ) (x : Variable) → slice_get U.program.declarations.vars v ≡ Some x → IsUsable U v
+  static_agrees : (w : World) (i v : ℕ) (x : Variable) → slice_get U.program.declarations.vars v ≡ Some x → IsUsable U v
       → is_static x.owner ≡ true → KeyAt U c i v → MemoryMatch U w
       → Agrees U K w (NamedStatic v x.name) (laid_once U.program.declarations v w.src)
       (dim_made U.written c me i (own_dim S (own_variable v x)) w.net)
-  static_agrees outer w i v x is (inl r) static key h =
+  static_agrees w i v x is (inl r) static key h =
       let same : r.variable ≡ x = some_is (sym r.is_variable ∙ is) in
-      let m : StaticMade U S c v r = static_made U S facts c outer v r (ap (λ (y : Variable). is_static y.owner) same ∙ static) in
+      let m : StaticMade U S c v r = static_made U S facts c key.2 v r (ap (λ (y : Variable). is_static y.owner) same ∙ static) in
       let k = static_key c i in
       let b : net.Address = net.root (shape.scalar m.word) (whole (shared k)) in
       subst (λ (y : Variable). Agrees U K w (NamedStatic v y.name) (laid_once U.program.declarations v w.src)
@@ -217,11 +216,11 @@ module _ (U : Upgrade) (K : Pledge) (makes : MakesAlike U K) (ranked : ArraysHav
       (made_once U.written c.home (shared k) m.made (w.net.cell (whole (shared k))) w.net)
       (λ u n there. scalar_static U u n.stores v r.variable r.is_variable r.sound there k key.0 r m.word m.is_word b refl)
       (static_is_laid U K w v r m.word m.is_word h k key.0 key.1 U.written c.home m.made m.plain m.shaped)))
-  static_agrees outer w i v x is (inr (inr a)) static key h =
+  static_agrees w i v x is (inr (inr a)) static key h =
       let r : IsGroup U v a.0 = a.1 in
       let same : r.known.variable ≡ x = some_is (sym r.known.is_variable ∙ is) in
       let m : GroupStatic U S c v a.0 r =
-      group_static_made U written S facts declared c here v a.0 r outer (ap (λ (y : Variable). is_static y.owner) same ∙ static) in
+      group_static_made U written S facts declared c here v a.0 r key.2 (ap (λ (y : Variable). is_static y.owner) same ∙ static) in
       let k = static_key c i in
       let d : shape.Shape = shape.shape_of U.written c.home m.made.ty in
       let b : net.Address = net.root d (whole (shared k)) in
@@ -232,10 +231,10 @@ module _ (U : Upgrade) (K : Pledge) (makes : MakesAlike U K) (ranked : ArraysHav
       (made_once U.written c.home (shared k) m.made (w.net.cell (whole (shared k))) w.net)
       (λ u n there. group_static U u n.stores v r.known.variable r.known.is_variable r.known.sound there k key.0 a.0 r d m.same b refl)
       (makes.static_groups w v a.0 r c.home k m.made h key.0 key.1 m.plain m.same)))
-  static_agrees outer w i v x is (inr (inl a)) static key h =
+  static_agrees w i v x is (inr (inl a)) static key h =
       let r : IsArray U v a.0 = a.1 in
       let same : r.known.variable ≡ x = some_is (sym r.known.is_variable ∙ is) in
-      let m : ArrayStatic U S c v a.0 r = array_static_made U S facts c outer v a.0 r (ap (λ (y : Variable). is_static y.owner) same ∙ static) in
+      let m : ArrayStatic U S c v a.0 r = array_static_made U S facts c key.2 v a.0 r (ap (λ (y : Variable). is_static y.owner) same ∙ static) in
       let k = static_key c i in
       let b : net.Address = net.root (array_shape U v m.word) (whole (shared k)) in
       subst (λ (y : Variable). Agrees U K w (NamedStatic v y.name) (laid_once U.program.declarations v w.src)
@@ -248,56 +247,55 @@ module _ (U : Upgrade) (K : Pledge) (makes : MakesAlike U K) (ranked : ArraysHav
 
   -- ---- all of them
 
-  module _ (outer : is_class U.written c.home ≡ false) where
-    abbrev Ends : List Own → World → ℕ → (Memory → Outcome Memory (List (ℕ × Address))) → Type 0
-    Ends os w i does = Agrees U K w (Locals U K os) (does w.src) (dims_made U.written c me i (map (own_dim S) os) w.net)
+  abbrev Ends : List Own → World → ℕ → (Memory → Outcome Memory (List (ℕ × Address))) → Type 0
+  Ends os w i does = Agrees U K w (Locals U K os) (does w.src) (dims_made U.written c me i (map (own_dim S) os) w.net)
 
-    variable_by : (v : ℕ) (x : Variable) (os : List Own) (b : Bool) → is_static x.owner ≡ b → IsUsable U v → slice_get U.program.declarations.vars v ≡ Some x
-        → (w : World) (i : ℕ) → (is_static x.owner ≡ true → KeyAt U c i v)
-        → ((u : World) → Below K.base (mark u.src) → MemoryMatch U u → Ends os u (suc i) (made_in_order U.program.declarations os))
-        → Below K.base (mark w.src) → MemoryMatch U w
-        → Ends (own_variable v x ∷ os) w i (made_own U.program.declarations b v (made_in_order U.program.declarations os))
-    variable_by v x os true static r is w i key more low h =
-        let D : Declarations = U.program.declarations in
-        let ds = map (own_dim S) os in
-        then_agrees U K w (NamedStatic v x.name) (Locals U K (own_variable v x ∷ os)) (laid_once D v w.src)
-        (dim_made U.written c me i (own_dim S (own_variable v x)) w.net)
-        (λ a s. made_in_order D os s)
-        (λ b t. then (dims_made U.written c me (suc i) ds t) (λ rest t. gives [] (b ∷ rest) t)) h
-        (static_agrees outer w i v x is r static (key static) h)
-        (λ a b u m lat. then_gives_later U K u (Locals U K os) (Locals U K (own_variable v x ∷ os)) (λ rest. b ∷ rest) (made_in_order D os u.src)
-        (dims_made U.written c me (suc i) ds u.net)
-        (λ z xs ys l rest. next_static v x b os xs ys static m.0 (static_later U K u z v b.1 l m.1) rest)
-        (more u (below_then K.base (mark w.src) (mark u.src) low lat.grows) lat.match))
-    variable_by v x os false local r is w i key more low h =
-        let D : Declarations = U.program.declarations in
-        let ds = map (own_dim S) os in
-        then_agrees U K w (Named v x.name) (Locals U K (own_variable v x ∷ os)) (make (variable_shape D v) w.src)
-        (dim_made U.written c me i (own_dim S (own_variable v x)) w.net)
-        (λ a s. then (made_in_order D os s) (λ rest s. gives [] ((v, a) ∷ rest) s))
-        (λ b t. then (dims_made U.written c me (suc i) ds t) (λ rest t. gives [] (b ∷ rest) t)) h
-        (local_agrees w i v x is r local low h)
-        (λ a b u m lat. then_agrees U K u (Locals U K os) (Locals U K (own_variable v x ∷ os)) (made_in_order D os u.src)
-        (dims_made U.written c me (suc i) ds u.net) (λ rest s. gives [] ((v, a) ∷ rest) s) (λ rest t. gives [] (b ∷ rest) t) lat.match
-        (more u (below_then K.base (mark w.src) (mark u.src) low lat.grows) lat.match)
-        (λ xs ys z rest later. agrees_gives U K z (Locals U K (own_variable v x ∷ os)) ((v, a) ∷ xs) (b ∷ ys) later.match
-        (next_variable v x a b os xs ys local m.0 (local_later U K u z v a b.1 lat.match later m.1) rest)))
+  variable_by : (v : ℕ) (x : Variable) (os : List Own) (b : Bool) → is_static x.owner ≡ b → IsUsable U v → slice_get U.program.declarations.vars v ≡ Some x
+      → (w : World) (i : ℕ) → (is_static x.owner ≡ true → KeyAt U c i v)
+      → ((u : World) → Below K.base (mark u.src) → MemoryMatch U u → Ends os u (suc i) (made_in_order U.program.declarations os))
+      → Below K.base (mark w.src) → MemoryMatch U w
+      → Ends (own_variable v x ∷ os) w i (made_own U.program.declarations b v (made_in_order U.program.declarations os))
+  variable_by v x os true static r is w i key more low h =
+      let D : Declarations = U.program.declarations in
+      let ds = map (own_dim S) os in
+      then_agrees U K w (NamedStatic v x.name) (Locals U K (own_variable v x ∷ os)) (laid_once D v w.src)
+      (dim_made U.written c me i (own_dim S (own_variable v x)) w.net)
+      (λ a s. made_in_order D os s)
+      (λ b t. then (dims_made U.written c me (suc i) ds t) (λ rest t. gives [] (b ∷ rest) t)) h
+      (static_agrees w i v x is r static (key static) h)
+      (λ a b u m lat. then_gives_later U K u (Locals U K os) (Locals U K (own_variable v x ∷ os)) (λ rest. b ∷ rest) (made_in_order D os u.src)
+      (dims_made U.written c me (suc i) ds u.net)
+      (λ z xs ys l rest. next_static v x b os xs ys static m.0 (static_later U K u z v b.1 l m.1) rest)
+      (more u (below_then K.base (mark w.src) (mark u.src) low lat.grows) lat.match))
+  variable_by v x os false local r is w i key more low h =
+      let D : Declarations = U.program.declarations in
+      let ds = map (own_dim S) os in
+      then_agrees U K w (Named v x.name) (Locals U K (own_variable v x ∷ os)) (make (variable_shape D v) w.src)
+      (dim_made U.written c me i (own_dim S (own_variable v x)) w.net)
+      (λ a s. then (made_in_order D os s) (λ rest s. gives [] ((v, a) ∷ rest) s))
+      (λ b t. then (dims_made U.written c me (suc i) ds t) (λ rest t. gives [] (b ∷ rest) t)) h
+      (local_agrees w i v x is r local low h)
+      (λ a b u m lat. then_agrees U K u (Locals U K os) (Locals U K (own_variable v x ∷ os)) (made_in_order D os u.src)
+      (dims_made U.written c me (suc i) ds u.net) (λ rest s. gives [] ((v, a) ∷ rest) s) (λ rest t. gives [] (b ∷ rest) t) lat.match
+      (more u (below_then K.base (mark w.src) (mark u.src) low lat.grows) lat.match)
+      (λ xs ys z rest later. agrees_gives U K z (Locals U K (own_variable v x ∷ os)) ((v, a) ∷ xs) (b ∷ ys) later.match
+      (next_variable v x a b os xs ys local m.0 (local_later U K u z v a b.1 lat.match later m.1) rest)))
 
-    pub locals_agree : (w : World) (i : ℕ) (os : List Own) → AllSound U S os → AllKeyed U c i os → Below K.base (mark w.src) → MemoryMatch U w
-        → Ends os w i (made_in_order U.program.declarations os)
-    locals_agree w i [] sound keyed low h = agrees_gives U K w (Locals U K []) [] [] h no_locals
-    locals_agree w i (own_variable v x ∷ os) sound keyed low h =
-        variable_by v x os (is_static x.owner) refl sound.0.0 sound.0.1 w i keyed.0
-        (λ u l m. locals_agree u (suc i) os sound.1 keyed.1 l m) low h
-    locals_agree w i (own_constant d x ∷ os) sound keyed low h =
-        let m : ConstantMade U S c d x = constant_made U S c d x sound.0 in
-        let ds = map (own_dim S) os in
-        let D : Declarations = U.program.declarations in
-        subst (λ r. Agrees U K w (Locals U K (own_constant d x ∷ os)) (made_in_order D os w.src)
-        (then r (λ b t. then (dims_made U.written c me (suc i) ds t) (λ rest t. gives [] (b ∷ rest) t)))) (sym (m.is_made me i w.net))
-        (right_alone U K w (Locals U K (own_constant d x ∷ os)) (made_in_order D os w.src)
-        (then (dims_made U.written c me (suc i) ds w.net) (λ rest t. gives [] ((x.name, m.address) ∷ rest) t))
-        (then_gives U K w (Locals U K os) (Locals U K (own_constant d x ∷ os)) (λ rest. (x.name, m.address) ∷ rest)
-        (made_in_order D os w.src) (dims_made U.written c me (suc i) ds w.net)
-        (λ u xs ys rest. next_constant d x (x.name, m.address) os xs ys refl rest)
-        (locals_agree w (suc i) os sound.1 keyed low h)))
+  pub locals_agree : (w : World) (i : ℕ) (os : List Own) → AllSound U S os → AllKeyed U c i os → Below K.base (mark w.src) → MemoryMatch U w
+      → Ends os w i (made_in_order U.program.declarations os)
+  locals_agree w i [] sound keyed low h = agrees_gives U K w (Locals U K []) [] [] h no_locals
+  locals_agree w i (own_variable v x ∷ os) sound keyed low h =
+      variable_by v x os (is_static x.owner) refl sound.0.0 sound.0.1 w i keyed.0
+      (λ u l m. locals_agree u (suc i) os sound.1 keyed.1 l m) low h
+  locals_agree w i (own_constant d x ∷ os) sound keyed low h =
+      let m : ConstantMade U S c d x = constant_made U S c d x sound.0 in
+      let ds = map (own_dim S) os in
+      let D : Declarations = U.program.declarations in
+      subst (λ r. Agrees U K w (Locals U K (own_constant d x ∷ os)) (made_in_order D os w.src)
+      (then r (λ b t. then (dims_made U.written c me (suc i) ds t) (λ rest t. gives [] (b ∷ rest) t)))) (sym (m.is_made me i w.net))
+      (right_alone U K w (Locals U K (own_constant d x ∷ os)) (made_in_order D os w.src)
+      (then (dims_made U.written c me (suc i) ds w.net) (λ rest t. gives [] ((x.name, m.address) ∷ rest) t))
+      (then_gives U K w (Locals U K os) (Locals U K (own_constant d x ∷ os)) (λ rest. (x.name, m.address) ∷ rest)
+      (made_in_order D os w.src) (dims_made U.written c me (suc i) ds w.net)
+      (λ u xs ys rest. next_constant d x (x.name, m.address) os xs ys refl rest)
+      (locals_agree w (suc i) os sound.1 keyed low h)))

@@ -34,11 +34,12 @@ use Rattle.run_matches.specs.Maps.{World, mark, Below, Mark}
 use Rattle.run_matches.specs.Match.{MemoryMatch, StoreMatch}
 use Rattle.run_matches.specs.Pledges.{Later, NetGiven, Pledge}
 use Rattle.run_matches.specs.Runs.{CallsAgree, IsObject, SameRun, call_pledge}
+use Rattle.run_matches.specs.Sites.{site_of}
 use Rattle.run_matches.specs.Upgrades.{Upgrade, runnable_of}
 use Rattle.run_statements.specs.Arrays.{ArraysAreMade, StaticArraysAreLaid}
 use Rattle.run_statements.specs.Frames.{IsUsable, LocalsAreMade, ValuesAreMade}
 use Rattle.run_statements.specs.Groups.{GroupsAreGiven, GroupsAreMade, StaticGroupsAreLaid}
-use Rattle.run_statements.specs.Kept.{CanCallFrom, OwnsAreKept, SameWays}
+use Rattle.run_statements.specs.Kept.{CanCallFrom, OwnsAreKept, SameWays, qualified_at, receiver_at}
 use Rattle.run_statements.specs.Written.{Passes, SameRuns, WrittenLine, WrittenProcedure}
 use Rattle.agreeing_laws.specs.Beside.{beside, with_steps}
 use Rattle.agreeing_laws.proofs.Agreeing.{agrees_from, agrees_spent, then_agrees}
@@ -53,12 +54,13 @@ use Rattle.run_laws.specs.Premises.{ArraysHaveRanks, CallsMakeAlike, RunPremises
 use Rattle.run_laws.proofs.Covered.{CoveredProcedure, all_at, blocks_are_kept, covered_parts, form_at, form_covered, jumps_soundly, labels_are_sound, no_property, not_none, some_is, extents_given, own_covered_at}
 use Rattle.run_laws.proofs.Entries.{all_names, entries_agree}
 use Rattle.line_laws.proofs.Called.{use_calls}
-use Rattle.run_laws.proofs.Callees.{call_fits, call_suits, callee_covered, callee_within, can_call, call_hands}
+use Rattle.run_laws.proofs.Callees.{call_fits, call_suits, callee_covered, can_call, call_hands}
 use Rattle.run_laws.proofs.Names.{is_below}
 use Rattle.run_laws.proofs.Heads.{HasAnswer, answer_sound}
 use Rattle.run_laws.proofs.Keeping.{line_keeps}
 use Rattle.run_laws.proofs.Lines.{LineSame, body_is, line_is, line_same}
 use Rattle.run_laws.proofs.Reaching.{IsLineOf, clean_called, covered_called}
+use Rattle.run_laws.proofs.Receiving.{called_within}
 use Rattle.run_laws.proofs.Results.{results_agree}
 use Rattle.run_laws.proofs.Usable.{result_is}
 use Rattle.run_laws.proofs.Turns.{BodyRuns, LineRuns, Rest, body_agrees}
@@ -117,14 +119,16 @@ module _ (U : Upgrade) (h : RunPremises U) where
 
     -- what it calls passes too
     can_call_from : (k : ℕ) (l : Line) → slice_get c.lines k ≡ Some l → (d : Expr) (q : ℕ) → Contains (line_uses l) d → called d ≡ Some q
-        → CanCallFrom U p (parts p pass).site (written p pass).code q (args_at d)
+        → CanCallFrom U p (parts p pass).site (written p pass).code q (qualified_at d) (receiver_at d) (args_at d)
     can_call_from k l at d q m e =
         let call : Contains (line_calls U.program.declarations p l) (p, q) = use_calls U.program.declarations p q l d m e in
         let calls : covers_calls U.program p l ≡ true = all_at (covers_calls U.program p) c.lines k l c.calls at in
         let stands : IsLineOf U.program p l = record { lines = c.lines; are_lines = c.are_lines; place = k; stands = at } in
-        let test = callee_covered U p q l calls call in
-        let within : nat_lt q (count_procedures U.program) ≡ true = callee_within U p q c.site c.is_site test in
-        can_call U h.known h.procedures h.found p q c.site c.procedure c.is_site c.is_procedure (no_property c.procedure.kind c.kind) W l stands call test (
+        let test = callee_covered U p q l d calls m e in
+        let within : nat_lt q (count_procedures U.program) ≡ true =
+        called_within U.program p q (site_of U.program.declarations p) (qualified_at d) (receiver_at d) test in
+        can_call U h.known h.procedures h.found h.methods p q c.site c.procedure c.is_site c.is_procedure (no_property c.procedure.kind c.kind) W l stands call
+        (qualified_at d) (receiver_at d) test (
           clean_called U.program p q c.procedure c.is_procedure within l stands call U.facts.marks pass.0,
           covered_called U.program p q c.procedure c.is_procedure within l stands call pass.1,
         ) (args_at d) (call_suits U p q l d calls m e) (call_hands U p q l d calls m e) (call_fits U q d (h.fits p k l pass.0 (ap (λ (ls : List Line). slice_get ls k) lines_are ∙ at) d m) e)

@@ -63,28 +63,31 @@ module_in_is [] k = refl
 module_in_is (m ∷ ms) zero = refl
 module_in_is (m ∷ ms) (suc k) = module_in_is ms k
 
--- the root of a Static of a standard module
-pub static_root_is : (U : Upgrade) (p : ℕ) (x : Procedure) (me : Option ℕ) (v : ℕ) (r : Root) (o : Option Variable) → slice_get U.program.declarations.vars v ≡ o
-    → slice_get U.program.declarations.procs p ≡ Some x → is_class_file U.program.declarations x.module_number ≡ false → static_of U p me v ≡ Some r
-    → (y : Variable) × (slice_get U.program.declarations.vars v ≡ Some y) × (is_static_of p y.owner ≡ true) × (shared (v ∷ []) ≡ r)
-static_root_is U p x me v r None e is outer h =
+-- a Static with its root
+pub static_declared : (U : Upgrade) (p : ℕ) (me : Option ℕ) (v : ℕ) (r : Root) (o : Option Variable) → slice_get U.program.declarations.vars v ≡ o
+    → static_of U p me v ≡ Some r
+    → (y : Variable) × (slice_get U.program.declarations.vars v ≡ Some y) × (is_static_of p y.owner ≡ true)
+    × (static_root U.program.declarations me v (module_of (slice_get U.program.declarations.procs p)) ≡ Some r)
+static_declared U p me v r None e h =
     absurd (not_none (sym (ap (λ o. cond (is_static_in p o) (static_root U.program.declarations me v (module_of (slice_get U.program.declarations.procs p))) None) e) ∙ h))
-static_root_is U p x me v r (Some y) e is outer h =
+static_declared U p me v r (Some y) e h =
     by (is_static_of p y.owner) refl
     (sym (ap (λ o. cond (is_static_in p o) (static_root U.program.declarations me v (module_of (slice_get U.program.declarations.procs p))) None) e) ∙ h)
   where
     by : (b : Bool) → is_static_of p y.owner ≡ b
         → cond b (static_root U.program.declarations me v (module_of (slice_get U.program.declarations.procs p))) None ≡ Some r
-        → (z : Variable) × (slice_get U.program.declarations.vars v ≡ Some z) × (is_static_of p z.owner ≡ true) × (shared (v ∷ []) ≡ r)
-    by true static k = (
-      y,
-      e,
-      static,
-      some_is
-          (sym (ap (λ q. static_root U.program.declarations me v (module_of q)) is
-          ∙ ap (λ c. cond c (object_root me v) (Some (shared (v ∷ [])))) outer) ∙ k),
-    )
+        → (z : Variable) × (slice_get U.program.declarations.vars v ≡ Some z) × (is_static_of p z.owner ≡ true)
+        × (static_root U.program.declarations me v (module_of (slice_get U.program.declarations.procs p)) ≡ Some r)
+    by true static k = (y, e, static, k)
     by false static k = absurd (not_none k)
+
+-- the root of one of a standard module
+pub static_root_is : (U : Upgrade) (p : ℕ) (x : Procedure) (me : Option ℕ) (v : ℕ) (r : Root) → slice_get U.program.declarations.procs p ≡ Some x
+    → is_class_file U.program.declarations x.module_number ≡ false
+    → static_root U.program.declarations me v (module_of (slice_get U.program.declarations.procs p)) ≡ Some r → shared (v ∷ []) ≡ r
+static_root_is U p x me v r is outer h =
+    some_is
+    (sym (ap (λ q. static_root U.program.declarations me v (module_of q)) is ∙ ap (λ c. cond c (object_root me v) (Some (shared (v ∷ [])))) outer) ∙ h)
 
 -- names that differ still do behind others
 pub different_behind : (ns ms : List (List ℕ)) → are_different (ns ++ ms) ≡ true → are_different ms ≡ true

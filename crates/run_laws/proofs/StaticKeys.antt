@@ -11,7 +11,7 @@ use Rattle.net_tree.specs.Tree as net_tree
 use Rattle.vb6_run.specs.Programs.{is_static_of, owned_from}
 use Rattle.vb6_run.specs.Store.{Address}
 use Rattle.net_run.specs.Members.{Code}
-use Rattle.net_run.specs.Names.{var_in}
+use Rattle.net_run.specs.Names.{is_class, var_in}
 use Rattle.net_run.specs.Program.{static_key}
 use Rattle.net_run.specs.Store as net
 use Rattle.vb_tree.specs.declared.declared.Owner.{Owner}
@@ -108,7 +108,8 @@ module _ (U : Upgrade) (p : ℕ) (c : Code) (is_code : code_of U p ≡ Some c) (
   -- what is known of each declaration
   abbrev pub IsDeclaredOwn : Own → Type 0
   IsDeclaredOwn (own_variable v x) =
-      (slice_get vars v ≡ Some x) × (is_static x.owner ≡ true → is_static_of p x.owner ≡ true) × (others_differ (is_static_of p) v x.name 0 vars ≡ true)
+      (slice_get vars v ≡ Some x) × (is_static x.owner ≡ true → (is_static_of p x.owner ≡ true) × (is_class U.written c.home ≡ false))
+      × (others_differ (is_static_of p) v x.name 0 vars ≡ true)
   IsDeclaredOwn (own_constant d x) = Unit {0}
 
   abbrev AllBefore : List net_tree.Dim → List Own → Type 0
@@ -127,7 +128,7 @@ module _ (U : Upgrade) (p : ℕ) (c : Code) (is_code : code_of U p ≡ Some c) (
   key_here : (ds : List net_tree.Dim) (v : ℕ) (x : Variable) (os : List Own) → c.procedure.prologue ≡ ds ++ map (own_dim S) (own_variable v x ∷ os)
       → AllFail (is_dim_named x.name) ds → IsDeclaredOwn (own_variable v x) → is_static x.owner ≡ true → KeyAt U c (length ds) v
   key_here ds v x os e h is static =
-      let of : is_static_of p x.owner ≡ true = is.1 static in
+      let of : is_static_of p x.owner ≡ true = (is.1 static).0 in
       let o = static_belongs x.owner static in
       let number : p ≡ o.0 = eqb-true p o.0 (sym (o.1 p) ∙ of) in
       let place : position (is_dim_named x.name) c.procedure.prologue ≡ Some (length ds) =
@@ -141,6 +142,7 @@ module _ (U : Upgrade) (p : ℕ) (c : Code) (is_code : code_of U p ≡ Some c) (
         λ u f.
             let z = key_of_static U p x.name (static_key c (length ds)) (static_parts U p x.name (static_key c (length ds)) there) u f in
             differing (is_static_of p) v x.name 0 u vars z.0 is.2 z.1 z.2 z.3 ∙ plus_none u,
+        (is.1 static).1,
       )
 
   pub all_keyed : (ds : List net_tree.Dim) (os : List Own) → c.procedure.prologue ≡ ds ++ map (own_dim S) os → AllBefore ds os

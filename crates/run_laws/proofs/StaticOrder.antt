@@ -1,6 +1,6 @@
 -- In the source the Statics of an entry are laid behind its local variables; they could as well be laid where they stand among them.
-use Rattle.std.proofs.Common.{◌≡◌, refl, sym, ap, ◌∙◌, ℕ, suc, Bool, true, false, cond, List, [], ◌∷◌, ◌++◌, Option, Some}
-use Rattle.bound_tree.specs.Tree.{Declarations}
+use Rattle.std.proofs.Common.{◌≡◌, inl, inr, refl, sym, ap, ◌∙◌, ℕ, suc, Bool, true, false, cond, List, [], ◌∷◌, ◌++◌, Option, Some}
+use Rattle.bound_tree.specs.Tree.{Declarations, Procedure}
 use Rattle.run_base.specs.Outcomes.{Outcome, gives, outside, after, then, some_of}
 use Rattle.run_base.specs.Positions.{Key, shared, made, Position, whole}
 use Rattle.vb6_run.specs.Programs.{Bindings, made_each, lay_if_blank, lay_statics}
@@ -9,11 +9,12 @@ use Rattle.vb6_run.specs.Shapes.{Shape, variable_shape}
 use Rattle.vb6_run.specs.Store.{Address, Held, blank, single, table, parts, Memory, provided, root, make}
 use Rattle.vb6_run.specs.Values.{Value, first_value, is_makeable}
 use Rattle.written_trees.specs.Prologues.{is_static}
-use Rattle.run_matches.specs.Sites.{Own, own_variable, own_constant, local_numbers, static_numbers}
+use Rattle.run_matches.specs.Sites.{Own, Site, own_variable, own_constant, owns_of, local_numbers, static_numbers}
 use Rattle.agreeing_laws.proofs.Outputs.{after_nothing, then_then}
 use Rattle.memory_laws.specs.Laying.{HasEnd, held_with}
 use Rattle.memory_laws.proofs.LaidValues.{laid_is, roots_swapped}
 use Rattle.memory_laws.proofs.Parts.{held_apart, root_apart}
+use Rattle.run_laws.proofs.Outside.{AreStaticsOutside, none_numbered}
 
 -- ---- what is laid at a key and in a place
 
@@ -204,10 +205,18 @@ module _ (D : Declarations) {A : Type 0} where
 
 -- ---- the Statics of a standard module
 
-pub laid_as_statics : (D : Declarations) (me : Option ℕ) (file : ℕ) → is_class_file D file ≡ false → (ss : List ℕ) (w : Memory)
+laid_as_statics : (D : Declarations) (me : Option ℕ) (file : ℕ) → is_class_file D file ≡ false → (ss : List ℕ) (w : Memory)
     → lay_statics D me (Some file) ss w ≡ laid_all D ss w
 laid_as_statics D me file outer [] w = refl
 laid_as_statics D me file outer (k ∷ ss) w =
     ap (λ b. then (some_of (cond b (object_root me k) (Some (shared (k ∷ []))))
     (λ r z. lay_if_blank (variable_shape D k) r (z.held (whole r)) z) w) (λ u z. lay_statics D me (Some file) ss z)) outer
     ∙ ap (λ f. then (laid_once D k w) f) (λ i u z. laid_as_statics D me file outer ss z i)
+
+-- those of a procedure, which has none in a class
+pub statics_laid : (D : Declarations) (x : Procedure) (s : Site) → AreStaticsOutside D x s → (me : Option ℕ) (w : Memory)
+    → lay_statics D me (Some x.module_number) (static_numbers (owns_of D s)) w ≡ laid_all D (static_numbers (owns_of D s)) w
+statics_laid D x s (inr outer) me w = laid_as_statics D me x.module_number outer.1 (static_numbers (owns_of D s)) w
+statics_laid D x s (inl none) me w =
+    let are : static_numbers (owns_of D s) ≡ [] = none_numbered (owns_of D s) none in
+    ap (λ ss. lay_statics D me (Some x.module_number) ss w) are ∙ sym (ap (λ ss. laid_all D ss w) are)

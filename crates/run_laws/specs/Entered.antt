@@ -9,6 +9,7 @@ use Rattle.vb6_run.specs.Shapes.{variable_shape}
 use Rattle.vb6_run.specs.Store.{Address, SourceFrame}
 use Rattle.net_run.specs.Lines.{NetFrame}
 use Rattle.net_run.specs.Members.{Code}
+use Rattle.net_run.specs.Names.{is_class}
 use Rattle.net_run.specs.Program.{static_key}
 use Rattle.net_run.specs.Shapes as shape
 use Rattle.net_run.specs.Store as net
@@ -78,9 +79,10 @@ AllSound U S (o ∷ os) = IsSound U S o × AllSound U S os
 
 -- ---- Statics
 
--- a Static has the key of its place among the declarations, and no other variable has it
+-- a Static has the key of its place among the declarations of a standard module's procedure, and no other variable has it
 abbrev pub KeyAt : Upgrade → Code → (place variable : ℕ) → Type 0
-KeyAt U c i v = (variable_key U v ≡ Some (static_key c i)) × ((u : ℕ) → variable_key U u ≡ Some (static_key c i) → v ≡ u)
+KeyAt U c i v =
+    (variable_key U v ≡ Some (static_key c i)) × ((u : ℕ) → variable_key U u ≡ Some (static_key c i) → v ≡ u) × (is_class U.written c.home ≡ false)
 
 abbrev pub AllKeyed : Upgrade → Code → (place : ℕ) → List Own → Type 0
 AllKeyed U c i [] = Unit {0}

@@ -43,7 +43,7 @@ use Rattle.run_statements.specs.Fitting.{FitsLine, FitsNode}
 use Rattle.run_statements.specs.Arrays.{ArraysAreMadeBy, StaticArraysAreLaidBy}
 use Rattle.run_statements.specs.Frames.{AnyUnits, AreReadable, IsGroup, IsReadable, IsUsable, MadeMatch}
 use Rattle.run_statements.specs.Groups.{GroupMade, ValueMatch}
-use Rattle.run_statements.specs.Kept.{IsUnreplaced, LabelsAreFound, LinesAgree, LinesAreWritten, NamesAreOpen, OwnsAreKept, NoFurtherLines, StoresAreOwn, UsesArePlaced, CalleesAreFound}
+use Rattle.run_statements.specs.Kept.{IsUnreplaced, LabelsAreFound, LinesAgree, LinesAreWritten, NamesAreOpen, OwnsAreKept, NoFurtherLines, StoresAreOwn, UsesArePlaced, CalleesAreFound, MethodsAreFound}
 use Rattle.run_statements.specs.Written.{ProceduresAreWritten, WrittenProcedure, Passes, site_scope}
 
 -- ---- clean procedures that are covered
@@ -213,6 +213,7 @@ pub record LinePremises (U : Upgrade) : Type 0 where
   pub stores : CoveredStoresAreOwn U
   pub known : AreFacts U.program U.known
   pub found : CalleesAreFound U
+  pub methods : MethodsAreFound U
   pub calls : (n : ℕ) → CallsAgree U (Passes U) (go (source.machine_of (runnable_of U)) n) (go (target.machine_of U.written) n)
 
 -- what runs need
@@ -233,6 +234,7 @@ pub record RunPremises (U : Upgrade) : Type 0 where
   pub owned : OwnedAreUsable U
   pub known : AreFacts U.program U.known
   pub found : CalleesAreFound U
+  pub methods : MethodsAreFound U
   pub makes : CallsMakeAlike U
   pub ranked : has_extents U.program ≡ true → ArraysHaveRanks U
   pub groups : GroupsAreWritten U

@@ -1,9 +1,11 @@
--- A small program over variables of a class: set, compared, given to procedures and by a Function, and asked for variables of objects.
+-- A small program over variables of a class: set, compared, given to procedures and by a Function, and asked for variables and procedures of
+-- objects.
 use Rattle.std.proofs.Common.{◌≡◌, ◌||◌, refl, pos, nat_eq, true, false, ℕ, List, [], ◌∷◌, ◌++◌, codes, None, Some}
 use Rattle.std.specs.Fmt.{digits}
 use Rattle.vb_tree.specs.BoundTree.{class, boolean, long, nothing}
 use Rattle.vb_tree.specs.declared.declared.Owner.TheVariants as owner
 use Rattle.vb_tree.specs.declared.declared.ProcKind.TheVariants as kind
+use Rattle.vb_tree.specs.declared.expression.BinOp.TheVariants as b
 use Rattle.vb_tree.specs.declared.form_parts.VarWord.TheVariants as var_word
 use Rattle.vb_tree.specs.declared.project.ProjectKind.TheVariants.{Exe}
 use Rattle.vb_tree.specs.declared.value.Value6.TheVariants as v
@@ -13,7 +15,7 @@ use Rattle.bound_tree.specs.declared.body.Mention.{Mention}
 use Rattle.bound_tree.specs.declared.body.Mention.TheVariants as mention
 use Rattle.bound_tree.specs.declared.expression.Origin.TheVariants.{Literal}
 use Rattle.bound_tree.specs.RuleSets.{has, none, both}
-use Rattle.bound_tree.specs.Tree.{Expr, typed, constant, variable, call, convert, err_number, field, is_same, no_object, by_reference, by_value, no_passed, next_passed, Line, Program}
+use Rattle.bound_tree.specs.Tree.{Expr, typed, constant, variable, call, binary, convert, err_number, field, is_same, me, no_object, of_object, by_reference, by_value, no_passed, next_passed, Line, Program}
 use Rattle.bound_facts.specs.Facts.{Known}
 use Rattle.written_trees.specs.Projects.{written_project}
 use Rattle.run_base.specs.Outcomes.{outputs, printed}
@@ -23,7 +25,7 @@ use Rattle.run_matches.specs.Covered.{covers_procedure}
 use Rattle.run_matches.specs.Upgrades.{Upgrade, runnable_of}
 use Rattle.run_matches.proofs.Samples.{any, body, declared, facts, known, line, proc_id, procedure, signature, var_id}
 
--- The source of Main1, a standard module, beside the class Counter, which has Public n As Long and Public following As Counter:
+-- The source of Main1, a standard module, and of the class Counter:
 --
 --     Private held As Counter
 --     Sub Main()
@@ -50,8 +52,20 @@ use Rattle.run_matches.proofs.Samples.{any, body, declared, facts, known, line, 
 --     Sub Advance(ByVal o As Counter)
 --         Set o.following = o
 --         o.n = 3
---         Debug.Print o.following.n
+--         Call o.Add(2)
+--         Debug.Print o.following.Total
 --     End Sub
+--
+--     Public n As Long
+--     Public following As Counter
+--     Public Sub Add(ByVal k As Long)
+--         n = n + k
+--         Set following = Me
+--     End Sub
+--     Public Function Total() As Long
+--         Total = Me.n
+--         Call Add(1)
+--     End Function
 
 abbrev object : (variable : ℕ) → Expr
 object k = typed (class 0) (variable (var_id k) false)
@@ -64,10 +78,13 @@ nothing_itself = typed nothing (constant v.Nothing Literal)
 
 abbrev mentions : List Mention
 mentions = mention.Var (var_id 0) ∷ mention.Var (var_id 1) ∷ mention.Var (var_id 2) ∷ mention.Var (var_id 3) ∷ mention.Var (var_id 4) ∷ mention.Var (var_id 5)
-    ∷ mention.Var (var_id 6) ∷ mention.Var (var_id 7) ∷ []
+    ∷ mention.Var (var_id 6) ∷ mention.Var (var_id 7) ∷ mention.Var (var_id 8) ∷ mention.Var (var_id 9) ∷ []
+
+abbrev code_in : (file : ℕ) → Form → List Expr → Line
+code_in file f es = record { source = line file f; bindings = record { exprs = es; rules = none; mentions = mentions } }
 
 abbrev code : Form → List Expr → Line
-code f es = record { source = line 1 f; bindings = record { exprs = es; rules = none; mentions = mentions } }
+code f es = code_in 1 f es
 
 abbrev set : Form
 set = source.set any any
@@ -104,11 +121,30 @@ abbrev advance_lines : List Line
 advance_lines =
     code set (following (object 7) ∷ object 7 ∷ [])
     ∷ code (source.assign any any) (n_of (object 7) ∷ number 3 ∷ [])
-    ∷ code (source.debug_print [] false) (n_of (following (object 7)) ∷ [])
+    ∷ code (source.call any) (typed nothing (call (proc_id 4) false (of_object (object 7)) (next_passed (by_value (number 2)) no_passed)) ∷ [])
+    ∷ code (source.debug_print [] false) (typed long (call (proc_id 5) false (of_object (following (object 7))) no_passed) ∷ [])
     ∷ []
 
+abbrev of : ℕ → Expr
+of k = typed long (variable (var_id k) false)
+
+abbrev self : Expr
+self = typed (class 0) me
+
+abbrev add_lines : List Line
+add_lines = code_in 2 (source.assign any any) (of 5 ∷ typed long (binary b.Add (of 5) (of 8)) ∷ []) ∷ code_in 2 set (object 6 ∷ self ∷ []) ∷ []
+
+abbrev total_lines : List Line
+total_lines =
+    code_in 2 (source.assign any any) (of 9 ∷ n_of self ∷ [])
+    ∷ code_in 2 (source.call any) (typed nothing (call (proc_id 4) false no_object (next_passed (by_value (number 1)) no_passed)) ∷ [])
+    ∷ []
+
+abbrev sub_in : (file : ℕ) → (name : List ℕ) → List Form → Member
+sub_in file name forms = source.proc (line file (source.sub_head (signature name))) (body file forms) (line file source.end_sub)
+
 abbrev sub : (name : List ℕ) → List Form → Member
-sub name forms = source.proc (line 1 (source.sub_head (signature name))) (body 1 forms) (line 1 source.end_sub)
+sub name forms = sub_in 1 name forms
 
 abbrev objects : Program
 objects = record {
@@ -128,7 +164,7 @@ objects = record {
                 ∷ source.debug_print [] false ∷ [])
                 ∷ sub (codes "Clear") (set ∷ [])
                 ∷ source.proc (line 1 (source.function_head (signature (codes "Pick")) None)) (body 1 (set ∷ [])) (line 1 source.end_function)
-                ∷ sub (codes "Advance") (set ∷ source.assign any any ∷ source.debug_print [] false ∷ [])
+                ∷ sub (codes "Advance") (set ∷ source.assign any any ∷ source.call any ∷ source.debug_print [] false ∷ [])
                 ∷ [];
             comments = [];
           }
@@ -136,7 +172,13 @@ objects = record {
             file = 2;
             name = codes "Counter";
             class = true;
-            members = source.alone (line 2 (source.variables var_word.Public [])) ∷ source.alone (line 2 (source.variables var_word.Public [])) ∷ [];
+            members =
+                source.alone (line 2 (source.variables var_word.Public []))
+                ∷ source.alone (line 2 (source.variables var_word.Public []))
+                ∷ sub_in 2 (codes "Add") (source.assign any any ∷ set ∷ [])
+                ∷ source.proc (line 2 (source.function_head (signature (codes "Total")) None)) (body 2 (source.assign any any ∷ source.call any ∷ []))
+                (line 2 source.end_function)
+                ∷ [];
             comments = [];
           }
           ∷ [];
@@ -151,6 +193,8 @@ objects = record {
         ∷ declared (codes "n") 2 0 (owner.Module 2) long
         ∷ declared (codes "following") 2 1 (owner.Module 2) (class 0)
         ∷ declared (codes "o") 1 21 (owner.Value (proc_id 3)) (class 0)
+        ∷ declared (codes "k") 2 2 (owner.Value (proc_id 4)) long
+        ∷ declared (codes "Total") 2 6 (owner.Answer (proc_id 5)) long
         ∷ [];
     consts = [];
     procs =
@@ -158,12 +202,14 @@ objects = record {
         ∷ procedure (codes "Clear") 1 kind.Sub (var_id 2 ∷ []) nothing None 1
         ∷ procedure (codes "Pick") 1 kind.Function (var_id 3 ∷ []) (class 0) (Some (var_id 4)) 2
         ∷ procedure (codes "Advance") 1 kind.Sub (var_id 7 ∷ []) nothing None 3
+        ∷ procedure (codes "Add") 2 kind.Sub (var_id 8 ∷ []) nothing None 4
+        ∷ procedure (codes "Total") 2 kind.Function [] long (Some (var_id 9)) 5
         ∷ [];
     types = [];
     enums = [];
     defaults = [];
   };
-  bodies = main_lines ∷ clear_lines ∷ pick_lines ∷ advance_lines ∷ [];
+  bodies = main_lines ∷ clear_lines ∷ pick_lines ∷ advance_lines ∷ add_lines ∷ total_lines ∷ [];
 }
 
 -- the reference parameter of Clear is touched
@@ -184,6 +230,12 @@ pick_covered = refl
 
 advance_covered : covers_procedure objects 3 ≡ true
 advance_covered = refl
+
+add_covered : covers_procedure objects 4 ≡ true
+add_covered = refl
+
+total_covered : covers_procedure objects 5 ≡ true
+total_covered = refl
 
 abbrev texts : List ℕ → List ℕ
 texts s = s ++ 13 ∷ 10 ∷ []

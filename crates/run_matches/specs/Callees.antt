@@ -7,12 +7,14 @@ use Rattle.vb_tree.specs.declared.declared.VarId.{VarId}
 use Rattle.vb_tree.specs.Tree.{Module, Member, alone, group, proc}
 use Rattle.vb_tree.specs.Tree as source
 use Rattle.bound_tree.specs.Tree.{Variable, Procedure, Declarations}
+use Rattle.bound_facts.specs.SelfMade.{is_number, module_of}
 use Rattle.written_trees.specs.Arguments.{is_property_kind}
 use Rattle.written_trees.specs.Names.{first_name, is_foreign, module_name, procedure_name}
 use Rattle.written_trees.specs.Placing.{Numbers, Placed, behind_members, is_type_head, placed_members}
 use Rattle.written_trees.specs.Projects.{first_numbers, next_module}
 use Rattle.written_trees.specs.Prologues.{constants_of, one_if}
 use Rattle.written_trees.specs.Properties.{separate_name}
+use Rattle.vb6_run.specs.Runnables.{is_class_file}
 use Rattle.net_run.specs.Shapes.{first_from}
 use Rattle.run_matches.specs.Sites.{Own, Site, own_constants, own_name, own_variable, owns_of, statement_owns}
 
@@ -120,12 +122,23 @@ is_found_behind D all s t name =
     && (is_nowhere t.source_module.name (names_in D s.home)
     && (is_first_module D t.source_module.name t.home && (not t.source_module.class && is_once name (names_in D t.home)))))
 
--- it is found so wherever it can be called from a procedure
-abbrev pub is_found : Declarations → (caller : Option Procedure) → (from : Site) → Option Procedure → Option Site → Bool
-is_found D o s None to = false
-is_found D o s (Some y) None = false
-is_found D o s (Some y) (Some t) =
-    pointwise nat_eq (first_name D (Some y)) y.name
-    && (pointwise nat_eq (module_name D y.module_number) t.source_module.name
+-- one of a standard module, from any procedure
+abbrev pub is_found_outside : Declarations → (caller : Option Procedure) → (from : Site) → Procedure → (to : Site) → Bool
+is_found_outside D o s y t =
+    pointwise nat_eq (module_name D y.module_number) t.source_module.name
+    && (not (is_class_file D y.module_number)
     && ((is_foreign D s.source_module.file y.module_number || is_found_here D (other_names D o s) s t y.name)
     && is_found_behind D (result_name o ++ other_names D o s) s t y.name))
+
+-- one of a class, from procedures of the class itself, by its name alone
+abbrev pub is_found_inside : Declarations → (caller : Option Procedure) → (from : Site) → Procedure → (to : Site) → (qualified : Bool) → Bool
+is_found_inside D o s y t qualified =
+    (not qualified && (nat_eq s.source_module.file y.module_number && is_number (module_of o) y.module_number))
+    && is_found_here D (other_names D o s) s t y.name
+
+abbrev pub is_found : Declarations → (caller : Option Procedure) → (from : Site) → Option Procedure → Option Site → (qualified : Bool) → Bool
+is_found D o s None to qualified = false
+is_found D o s (Some y) None qualified = false
+is_found D o s (Some y) (Some t) qualified =
+    pointwise nat_eq (first_name D (Some y)) y.name
+    && cond t.source_module.class (is_found_inside D o s y t qualified) (is_found_outside D o s y t)

@@ -3,6 +3,7 @@ use Rattle.run_matches.specs.Keeping.{keeps_given}
 use Rattle.std.specs.Prelude.{◌≡◌, ℕ, suc, Bool, true, false, cond, not, ◌&&◌, ◌||◌, nat_eq, Option, Some, None, is_some, List, [], ◌∷◌, map, slice_get, nat_lt}
 use Rattle.std.specs.Cmp.Lexicographic.{pointwise}
 use Rattle.std.specs.List.{list_all, list_any, Contains}
+use Rattle.vb_tree.specs.BoundTree as types
 use Rattle.vb_tree.specs.BoundTree.{Ty}
 use Rattle.vb_tree.specs.declared.declared.Owner.{Owner}
 use Rattle.vb_tree.specs.declared.declared.Owner.TheVariants as owner
@@ -13,9 +14,10 @@ use Rattle.vb_tree.specs.ProjectLines.{is_reserved}
 use Rattle.vb_tree.specs.Tree.{Form, Module}
 use Rattle.vb_tree.specs.Tree as source
 use Rattle.bound_tree.specs.declared.body.Mention.{Mention}
-use Rattle.bound_tree.specs.Tree.{Variable, Constant, Procedure, Declarations, Program, Expr, typed, Term, variable, element, Argument, by_value, by_reference, Passed, no_passed, next_passed, field}
+use Rattle.bound_tree.specs.Tree.{Variable, Constant, Procedure, Declarations, Program, Expr, typed, Term, variable, element, Argument, by_value, by_reference, Passed, no_passed, next_passed, field, call, Object, no_object, of_object}
 use Rattle.bound_tree.specs.Tree as tree
 use Rattle.bound_facts.specs.Calls.{Reaches, line_calls, count_procedures}
+use Rattle.bound_facts.specs.Members.{class_files}
 use Rattle.bound_facts.specs.Effects.{params_at}
 use Rattle.bound_facts.specs.Locks.{is_same_type}
 use Rattle.bound_facts.specs.Node.{type_at, called, args_at, is_array_type}
@@ -23,17 +25,17 @@ use Rattle.bound_facts.specs.Parts.{line_uses}
 use Rattle.vb6_meaning.specs.Answers.{Answer}
 use Rattle.run_base.specs.Machines.{nth_line}
 use Rattle.written_trees.specs.Arguments.{is_conversion, takes_reference}
-use Rattle.written_trees.specs.Prologues.{variables_of, constants_of}
+use Rattle.written_trees.specs.Prologues.{variables_of, constants_of, is_static}
 use Rattle.vb6_run.specs.Forms.{SourceLine, body_of}
 use Rattle.vb6_run.specs.Programs.{is_local_of, owned_from, answer_in, is_static_of}
-use Rattle.vb6_run.specs.Runnables.{is_class_file}
-use Rattle.run_matches.specs.Callees.{frame_owns, is_found}
-use Rattle.run_matches.specs.Shared.{others_differ}
+use Rattle.written_trees.specs.Names.{first_name}
+use Rattle.run_matches.specs.Callees.{frame_owns, is_found, is_once, names_in}
+use Rattle.run_matches.specs.Shared.{is_outer, others_differ}
 use Rattle.run_matches.specs.Upgrades.{takes_array}
 use Rattle.run_matches.specs.UserTypes.{is_group_type, is_user}
 use Rattle.run_matches.specs.Sites.{Site, site_of, Own, own_variable, own_constant, own_name, owns_of, local_numbers, static_numbers, statement_of}
-use Rattle.run_matches.specs.CoveredVariables.{covers_type, is_loud_owner, belongs_to, covers_declared, has_extents, are_different, is_mention_of}
-use Rattle.run_matches.specs.CoveredExprs.{is_element_term, is_variable, is_relied_on}
+use Rattle.run_matches.specs.CoveredVariables.{covers_type, is_loud_owner, belongs_to, covers_class, covers_declared, has_extents, are_different, is_mention_of}
+use Rattle.run_matches.specs.CoveredExprs.{is_element_term, is_number, is_variable, is_relied_on}
 use Rattle.run_matches.specs.CoveredLines.{covers_line, covers_in_block, jump_of, resumes}
 
 -- ---- procedures
@@ -114,13 +116,11 @@ covers_result D p x =
     && (pointwise nat_eq (map (λ (v : VarId). v.0) x.params) (owned_from (is_parameter_of p) 0 D.vars)
     && pointwise nat_eq (answer_in x.answer) (owned_from (is_answer_of p) 0 D.vars))
 
--- those whose parameters are covered, of standard modules
+-- those whose parameters are covered
 abbrev pub covers_head : Program → (procedure : ℕ) → Option Procedure → Bool
 covers_head P p None = false
 covers_head P p (Some x) =
-    covers_kind x.kind
-    && (list_all (covers_parameter P p) x.params
-    && (covers_result P.declarations p x && not (is_class_file P.declarations x.module_number)))
+    covers_kind x.kind && (list_all (covers_parameter P p) x.params && covers_result P.declarations p x)
 
 -- each variable of the procedure is covered, and each ReDim of the project gives extents
 abbrev pub covers_variables : Program → (procedure : ℕ) → Bool
@@ -145,30 +145,65 @@ covers_names D =
     && (list_all (λ (c : Constant). is_free_name c.name) D.consts && list_all (λ (q : Procedure). is_free_name q.name) D.procs))
 
 abbrev pub covers_own : Declarations → (procedure : ℕ) → Own → Bool
-covers_own D p (own_variable v x) = others_differ (is_static_of p) v x.name 0 D.vars
+covers_own D p (own_variable v x) =
+    others_differ (is_static_of p) v x.name 0 D.vars && (not (is_static x.owner) || is_outer D (slice_get D.procs p))
 covers_own D p (own_constant c x) = belongs_to p x.owner && is_some x.value
 
--- its lines declare its variables, Statics under names of their own, and constants with values
+-- its lines declare its variables, Statics in standard modules and under names of their own, and constants with values
 abbrev pub covers_owns : Declarations → (procedure : ℕ) → List Own → Bool
 covers_owns D p os =
     (pointwise nat_eq (local_numbers os) (owned_from (is_local_of p) 0 D.vars)
     && pointwise nat_eq (static_numbers os) (owned_from (is_static_of p) 0 D.vars))
     && list_all (covers_own D p) os
 
--- in a standard module, where all that its frame has is named differently
+abbrev pub has_no_static : Own → Bool
+has_no_static (own_variable v x) = not (is_static x.owner)
+has_no_static (own_constant c x) = true
+
+-- all that its frame has is named differently, and a procedure of a class has no Statics
 abbrev pub covers_site : Declarations → (procedure : ℕ) → Option Site → Bool
 covers_site D p None = false
 covers_site D p (Some s) =
-    not s.source_module.class && (covers_owns D p (owns_of D s) && are_different (map own_name (frame_owns D (slice_get D.procs p) s)))
+    (not s.source_module.class || list_all has_no_static (owns_of D s)) && (covers_owns D p (owns_of D s) && are_different (map own_name (frame_owns D (slice_get D.procs p) s)))
 
 -- ---- what is called
 
 -- procedures of the project, which are found by their names where they are called
-abbrev pub covers_callee : Program → (procedure : ℕ) → Option Site → (callee : ℕ) → Bool
-covers_callee P p None q = false
-covers_callee P p (Some s) q =
+abbrev pub covers_callee : Program → (procedure : ℕ) → Option Site → (callee : ℕ) → (qualified : Bool) → Bool
+covers_callee P p None q qualified = false
+covers_callee P p (Some s) q qualified =
     nat_lt q (count_procedures P)
-    && is_found P.declarations (slice_get P.declarations.procs p) s (slice_get P.declarations.procs q) (site_of P.declarations q)
+    && is_found P.declarations (slice_get P.declarations.procs p) s (slice_get P.declarations.procs q) (site_of P.declarations q) qualified
+
+abbrev pub is_method_site : Declarations → (class : ℕ) → Procedure → Option Site → Bool
+is_method_site D c y None = false
+is_method_site D c y (Some t) =
+    (is_number y.module_number (slice_get (class_files D.project) c) && nat_eq t.source_module.file y.module_number)
+    && (t.source_module.class && (pointwise nat_eq (first_name D (Some y)) y.name && is_once y.name (names_in D t.home)))
+
+abbrev pub is_method_in : Declarations → (class callee : ℕ) → Option Procedure → Bool
+is_method_in D c q None = false
+is_method_in D c q (Some y) = covers_kind y.kind && is_method_site D c y (site_of D q)
+
+abbrev pub is_method : Declarations → Ty → (callee : ℕ) → Bool
+is_method D (types.class c) q = covers_class D c && is_method_in D c q (slice_get D.procs q)
+is_method D ty q = false
+
+-- procedures of the class of an object, which are found by their names there
+abbrev pub covers_method : Program → (of : Expr) → (callee : ℕ) → Bool
+covers_method P e q = nat_lt q (count_procedures P) && is_method P.declarations (type_at e) q
+
+abbrev pub covers_called_for : Program → (procedure : ℕ) → Option Site → (callee : ℕ) → (qualified : Bool) → Object → Bool
+covers_called_for P p s q qualified no_object = covers_callee P p s q qualified
+covers_called_for P p s q qualified (of_object e) = covers_method P e q
+
+abbrev pub covers_node_term : Program → (procedure : ℕ) → Option Site → Term → Bool
+covers_node_term P p s (call q qualified of args) = covers_called_for P p s q.0 qualified of
+covers_node_term P p s t = true
+
+-- what a node calls is found by its name
+abbrev pub covers_node : Program → (procedure : ℕ) → Option Site → Expr → Bool
+covers_node P p s (typed ty t) = covers_node_term P p s t
 
 abbrev pub is_item : Expr → Bool
 is_item (typed ty t) = is_element_term t
@@ -248,7 +283,7 @@ hands P e = hands_callee P (called e) (args_at e)
 -- what a line calls, with arguments that suit its parameters
 abbrev pub covers_calls : Program → (procedure : ℕ) → tree.Line → Bool
 covers_calls P p l =
-    list_all (λ (c : ℕ × ℕ). covers_callee P p (site_of P.declarations p) c.1) (line_calls P.declarations p l)
+    list_all (covers_node P p (site_of P.declarations p)) (line_uses l)
     && (list_all (suits P.declarations) (line_uses l) && list_all (hands P) (line_uses l))
 
 abbrev pub covers_all_calls : Program → (procedure : ℕ) → Option (List tree.Line) → Bool

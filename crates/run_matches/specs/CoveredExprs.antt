@@ -1,5 +1,5 @@
 -- Which expressions are covered, and what of them may be stored.
-use Rattle.std.specs.Prelude.{◌≡◌, ◌⊎◌, ℕ, Bool, true, false, cond, not, ◌&&◌, ◌||◌, Option, Some, None, List, [], ◌∷◌, slice_get}
+use Rattle.std.specs.Prelude.{◌≡◌, ◌⊎◌, ℕ, Bool, true, false, cond, not, ◌&&◌, ◌||◌, Option, Some, None, List, [], ◌∷◌, slice_get, position, nat_eq}
 use Rattle.std.specs.List.{list_all, list_any, flat_map}
 use Rattle.vb_tree.specs.BoundTree as types
 use Rattle.vb_tree.specs.BoundTree.{Ty}
@@ -12,7 +12,7 @@ use Rattle.vb_tree.specs.declared.value.Value6.{Value6}
 use Rattle.vb_tree.specs.declared.value.Value6.TheVariants as value
 use Rattle.bound_tree.specs.declared.body.Mention.{Mention}
 use Rattle.bound_tree.specs.declared.body.Mention.TheVariants as mention
-use Rattle.bound_tree.specs.Tree.{Variable, Program, Expr, typed, Term, constant, variable, field, element, call, library, unary, binary, convert, new_object, me, with_object, err_number, err_raise, err_clear, is_same, loose, Exprs, no_exprs, next_expr, Object, no_object, of_object, Argument, by_value, by_reference, Passed, no_passed, next_passed}
+use Rattle.bound_tree.specs.Tree.{Variable, Program, Expr, typed, Term, constant, variable, field, element, call, library, unary, binary, convert, new_object, me, with_object, err_number, err_raise, err_clear, is_same, loose, Exprs, no_exprs, next_expr, Object, no_object, of_object, Argument, by_value, by_reference, Passed, no_passed, next_passed, Declarations}
 use Rattle.bound_tree.specs.Tree as tree
 use Rattle.bound_facts.specs.CanRaise.{raises_by}
 use Rattle.bound_facts.specs.Calls.{count_variables}
@@ -26,9 +26,12 @@ use Rattle.vb6_meaning.specs.Answers.{Answer}
 use Rattle.vb6_meaning.specs.Answers as answer
 use Rattle.vb6_meaning.specs.Values.{coerce}
 use Rattle.vb6_run.specs.Values.{is_typed}
+use Rattle.bound_facts.specs.Members.{class_files}
+use Rattle.bound_facts.specs.SelfMade.{module_of}
+use Rattle.run_matches.specs.Sites.{Site, site_of}
 use Rattle.run_matches.specs.UserTypes.{is_class_type, is_user, is_user_of}
 use Rattle.run_matches.specs.Inward.{grown, is_apart, is_inward_in}
-use Rattle.run_matches.specs.CoveredVariables.{covers_use, covers_array_use, covers_group_use, covers_group_type, field_type_in, member_type_in, is_loud, covers_type}
+use Rattle.run_matches.specs.CoveredVariables.{covers_use, covers_array_use, covers_group_use, covers_group_type, is_named_so, field_type_in, member_type_in, is_loud, covers_type}
 
 -- ---- operators and the library
 
@@ -95,6 +98,10 @@ pub record Uses : Type 0 where
   pub field_type : (user_type field : ℕ) → Option Ty
   -- the types of the variables that objects of a class may be asked for
   pub member_type : (class field : ℕ) → Option Ty
+  -- the class of the procedure
+  pub me : Option ℕ
+  -- how variables may be named
+  pub named : VarId → (qualified : Bool) → Bool
   -- user types that a With may keep, user types and classes that a call may give, and classes of which Nothing is
   pub given : Ty → Bool
   -- variables that are declared with a type
@@ -138,6 +145,19 @@ abbrev pub is_relied_on : Program → (variable : ℕ) → Bool
 is_relied_on P v =
     not (is_apart (within (count_variables P) (passes P)) (grown (count_variables P) (within (count_variables P) (passes P)) (relied P)) v)
 
+abbrev pub class_in_file : Declarations → Option ℕ → Option ℕ
+class_in_file D None = None
+class_in_file D (Some file) = position (nat_eq file) (class_files D.project)
+
+abbrev pub class_at : Declarations → Option Site → Option ℕ → Option ℕ
+class_at D None file = None
+class_at D (Some s) None = None
+class_at D (Some s) (Some file) = cond (nat_eq s.source_module.file file && s.source_module.class) (class_in_file D (Some file)) None
+
+-- the class in which a procedure stands
+abbrev pub class_of : Declarations → (procedure : ℕ) → Option ℕ
+class_of D p = class_at D (site_of D p) (module_of (slice_get D.procs p))
+
 -- those that a line of a procedure uses and mentions
 abbrev pub uses_in : Program → (procedure : ℕ) → List Mention → Uses
 uses_in P p mentions = record {
@@ -146,16 +166,14 @@ uses_in P p mentions = record {
   group = covers_group_use P p mentions;
   field_type = field_type_in P.declarations mentions;
   member_type = member_type_in P.declarations mentions;
+  me = class_of P.declarations p;
+  named = is_named_so P.declarations;
   given = covers_group_type P.declarations;
   is_of = λ v ty. is_declared_as ty (slice_get P.declarations.vars v.0);
   inward = is_inward_in P;
   exact = λ v. is_loud P v.0 (slice_get P.declarations.vars v.0);
   relied = λ v. is_relied_on P v.0;
 }
-
-abbrev pub is_without_object : Object → Bool
-is_without_object no_object = true
-is_without_object (of_object e) = false
 
 abbrev pub is_variable_in : Term → Bool
 is_variable_in (variable v qualified) = true
@@ -185,7 +203,7 @@ abbrev pub is_passable : Uses → Expr → Bool
 is_passable uses (typed ty t) = is_passable_in uses t
 
 abbrev pub covers_array_term : Uses → (element : Ty) → Term → Bool
-covers_array_term uses e (variable v qualified) = uses.array v e
+covers_array_term uses e (variable v qualified) = uses.array v e && uses.named v qualified
 covers_array_term uses e t = false
 
 abbrev pub covers_array_as : Uses → Ty → Term → Bool
@@ -240,7 +258,7 @@ abbrev mutual
   covers_place uses (typed ty t) = covers_place_term uses ty t
 
   pub covers_place_term : Uses → Ty → Term → Bool
-  covers_place_term uses ty (variable v qualified) = uses.group v ty
+  covers_place_term uses ty (variable v qualified) = uses.group v ty && uses.named v qualified
   covers_place_term uses ty (field e k) = has_inner uses (type_at e) k ty && covers_base uses e
   covers_place_term uses ty _ = false
 
@@ -268,15 +286,29 @@ abbrev pub has_member : Uses → (of : Ty) → (field : ℕ) → (Ty → Bool) �
 has_member uses (types.class c) k test = is_passing test (uses.member_type c k)
 has_member uses of k test = false
 
+abbrev pub is_number : ℕ → Option ℕ → Bool
+is_number c None = false
+is_number c (Some d) = nat_eq c d
+
+abbrev pub is_class_of : Option ℕ → Ty → Bool
+is_class_of of (types.class c) = is_number c of
+is_class_of of ty = false
+
 abbrev mutual
-  -- an object that is kept: by a variable, or by a variable of such an object
+  -- an object that is kept: by a variable, or by a variable of such an object; and Me
   pub covers_object : Uses → Expr → Bool
   covers_object uses (typed ty t) = covers_object_term uses ty t
 
   pub covers_object_term : Uses → Ty → Term → Bool
-  covers_object_term uses ty (variable v qualified) = is_class_type ty && uses.group v ty
+  covers_object_term uses ty (variable v qualified) = is_class_type ty && (uses.group v ty && uses.named v qualified)
   covers_object_term uses ty (field e k) = is_class_type ty && (has_member uses (type_at e) k (is_same_type ty) && covers_object uses e)
+  covers_object_term uses ty me = is_class_of uses.me ty
   covers_object_term uses ty _ = false
+
+-- a call is for no object, or for one that is kept
+abbrev pub covers_receiver : Uses → Object → Bool
+covers_receiver uses no_object = true
+covers_receiver uses (of_object e) = covers_object uses e
 
 -- ---- bounds of arrays
 
@@ -303,19 +335,19 @@ abbrev pub covers_bounded : Uses → Exprs → Bool
 covers_bounded uses no_exprs = false
 covers_bounded uses (next_expr a rest) = covers_array uses a && covers_dimension rest
 
--- literals and uses of constants, variables, elements, fields, operators, conversions, calls of the library, bounds of arrays, Err.Number, calls
--- without an object, and comparisons of objects
+-- literals and uses of constants, variables, elements, fields, operators, conversions, calls of the library, bounds of arrays, Err.Number, calls,
+-- and comparisons of objects
 abbrev mutual
   pub covers_expr : Uses → Expr → Bool
   covers_expr uses (typed ty t) = covers_type ty && covers_term uses t
 
   pub covers_term : Uses → Term → Bool
   covers_term uses (constant x origin) = true
-  covers_term uses (variable v qualified) = uses.scalar v
+  covers_term uses (variable v qualified) = uses.scalar v && uses.named v qualified
   covers_term uses (field e k) =
       (has_scalar uses (type_at e) k && covers_base uses e) || (has_member uses (type_at e) k covers_type && covers_object uses e)
   covers_term uses (element e indexes) = covers_array uses e && covers_exprs uses indexes
-  covers_term uses (call p qualified of args) = is_without_object of && covers_passed uses args
+  covers_term uses (call p qualified of args) = covers_receiver uses of && covers_passed uses args
   covers_term uses (library f args) = (covers_library f && covers_exprs uses args) || (is_bound f && covers_bounded uses args)
   covers_term uses (unary op e) = covers_expr uses e
   covers_term uses (binary op d e) = covers_operator op && (covers_expr uses d && covers_expr uses e)
@@ -334,8 +366,9 @@ abbrev mutual
   covers_group uses (typed ty t) = covers_place_term uses ty t || covers_group_term uses ty t
 
   pub covers_group_term : Uses → Ty → Term → Bool
-  covers_group_term uses ty (call p qualified of args) = uses.given ty && (is_without_object of && covers_passed uses args)
+  covers_group_term uses ty (call p qualified of args) = uses.given ty && (covers_receiver uses of && covers_passed uses args)
   covers_group_term uses ty (field e k) = covers_object_term uses ty (field e k)
+  covers_group_term uses ty me = covers_object_term uses ty me
   covers_group_term uses ty (convert to e) = uses.given ty && (is_class_type ty && (is_same_type ty to && is_nothing e))
   covers_group_term uses ty t = false
 
@@ -411,7 +444,7 @@ abbrev mutual
 
   pub is_calm_term : Uses → Ty → Term → Bool
   is_calm_term uses ty (constant x origin) = true
-  is_calm_term uses ty (variable v qualified) = uses.scalar v && (uses.exact v && (uses.is_of v ty && uses.relied v))
+  is_calm_term uses ty (variable v qualified) = (uses.scalar v && uses.named v qualified) && (uses.exact v && (uses.is_of v ty && uses.relied v))
   is_calm_term uses ty (convert to e) = is_same_type to ty && (widens (type_at e) to && is_calm uses e)
   is_calm_term uses ty t = false
 
@@ -436,9 +469,10 @@ keeps_order uses indexes e =
 
 -- ---- the order of an object and the value that one of its variables takes
 
--- an object that is the same, and is there, whatever still expression is evaluated: a variable that isn't quiet
+-- an object that is the same, and is there, whatever still expression is evaluated: Me, or a variable that isn't quiet
 abbrev pub is_calm_object_term : Uses → Term → Bool
 is_calm_object_term uses (variable v qualified) = uses.exact v
+is_calm_object_term uses me = true
 is_calm_object_term uses t = false
 
 abbrev pub is_calm_object : Uses → Expr → Bool

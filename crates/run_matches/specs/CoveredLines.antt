@@ -27,7 +27,7 @@ use Rattle.run_base.specs.Machines.{nth_line}
 use Rattle.vb6_run.specs.Forms.{SourceLine}
 use Rattle.vb6_run.specs.Programs.{is_local_of}
 use Rattle.run_matches.specs.Formed.{is_formed}
-use Rattle.run_matches.specs.CoveredExprs.{Uses, keeps_object, keeps_order, is_changeable, covers_place, covers_expr, is_variable, covers_value, covers_term, is_without_object, covers_passed, covers_array, uses_in, covers_group, covers_object}
+use Rattle.run_matches.specs.CoveredExprs.{Uses, keeps_object, keeps_order, is_changeable, covers_place, covers_expr, is_variable, covers_value, covers_term, covers_receiver, covers_passed, covers_array, uses_in, covers_group, covers_object}
 use Rattle.run_matches.specs.CoveredVariables.{covers_user}
 use Rattle.run_matches.specs.UserTypes.{is_class_type, is_user, is_user_of}
 use Rattle.bound_tree.specs.Targets.{with_round}
@@ -132,9 +132,9 @@ abbrev pub covers_box : Uses → Term → Bool
 covers_box uses (library f args) = is_box f && covers_term uses (library f args)
 covers_box uses t = false
 
--- a call without an object, of MsgBox, or of Err.Raise or Err.Clear
+-- a call, also of MsgBox, and of Err.Raise or Err.Clear
 abbrev pub covers_called_in : Uses → Term → Bool
-covers_called_in uses (call p qualified of args) = is_without_object of && covers_passed uses args
+covers_called_in uses (call p qualified of args) = covers_receiver uses of && covers_passed uses args
 covers_called_in uses (library f args) = covers_box uses (library f args)
 covers_called_in uses (err_raise e) = covers_expr uses e
 covers_called_in uses err_clear = true

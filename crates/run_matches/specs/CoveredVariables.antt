@@ -23,8 +23,9 @@ use Rattle.bound_facts.specs.Members.{field_of, class_files, terminator}
 use Rattle.vb6_meaning.specs.Answers.{Answer}
 use Rattle.written_trees.specs.Types.{element_type}
 use Rattle.written_trees.specs.Names.{is_standard_module, module_at, module_name}
+use Rattle.vb6_run.specs.Runnables.{is_class_file}
 use Rattle.run_matches.specs.Callees.{is_first_module, is_source_name}
-use Rattle.run_matches.specs.Shared.{names_lead, is_alone_field, is_alone_static}
+use Rattle.run_matches.specs.Shared.{names_lead, field_leads, is_alone_field, is_alone_static}
 use Rattle.run_matches.specs.Upgrades.{is_unknown, type_of_some}
 use Rattle.run_matches.specs.UserTypes.{type_leads, field_names, is_user_of}
 
@@ -75,11 +76,23 @@ belongs_to p (owner.Field t) = false
 abbrev pub is_foreign_name : Declarations → (procedure : ℕ) → (name : List ℕ) → Bool
 is_foreign_name D p name = list_all (λ (x : Variable). not (belongs_to p x.owner && is_same_name x.name name)) D.vars
 
--- a variable of the procedure, or one of a standard module to which names lead
+-- a variable of the procedure, or one of a standard module or of its own class to which names lead
 abbrev pub is_reached : Declarations → (procedure variable : ℕ) → (name : List ℕ) → Owner → Bool
-is_reached D p v name (owner.Module file) = names_lead D p v name file && is_foreign_name D p name
+is_reached D p v name (owner.Module file) = (names_lead D p v name file || field_leads D p v name file) && is_foreign_name D p name
 is_reached D p v name (owner.Static q) = nat_eq p q.0 && is_alone_static D p v name
 is_reached D p v name of = belongs_to p of
+
+abbrev pub is_of_class : Declarations → Owner → Bool
+is_of_class D (owner.Module file) = is_class_file D file
+is_of_class D of = false
+
+abbrev pub is_class_member : Declarations → Option Variable → Bool
+is_class_member D None = false
+is_class_member D (Some x) = is_of_class D x.owner
+
+-- a variable of a class is named by itself, and not behind the name of the class
+abbrev pub is_named_so : Declarations → VarId → (qualified : Bool) → Bool
+is_named_so D v qualified = not (qualified && is_class_member D (slice_get D.vars v.0))
 
 abbrev pub covers_some : Declarations → (procedure variable : ℕ) → Option Variable → Bool
 covers_some D p v None = false

@@ -171,6 +171,15 @@ is_alone_field D v name file =
     && (keeps_alone D v name (option_and_then (placed_module D) (position (λ (m : Module). nat_eq m.file file) D.project.modules))
     && others_differ (is_of_module file) v name 0 D.vars)
 
+abbrev pub is_free_from : Declarations → (name : List ℕ) → (file : ℕ) → Option Site → Option Procedure → Bool
+is_free_from D name file None q = false
+is_free_from D name file (Some s) None = false
+is_free_from D name file (Some s) (Some q) = (nat_eq s.source_module.file file && nat_eq q.module_number file) && is_free_in D s q name
+
+-- in a procedure of the class itself, its name leads to the variable
+abbrev pub field_leads : Declarations → (procedure variable : ℕ) → (name : List ℕ) → (file : ℕ) → Bool
+field_leads D p v name file = is_alone_field D v name file && is_free_from D name file (site_of D p) (slice_get D.procs p)
+
 -- ---- Statics
 
 abbrev pub is_outer : Declarations → Option Procedure → Bool

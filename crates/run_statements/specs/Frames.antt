@@ -11,14 +11,14 @@ use Rattle.vb_tree.specs.declared.bound.LibCall.{LibCall}
 use Rattle.vb_tree.specs.declared.declared.ProcId.{ProcId}
 use Rattle.vb_tree.specs.declared.declared.VarId.{VarId}
 use Rattle.vb_tree.specs.declared.value.Value6.{Value6}
-use Rattle.bound_tree.specs.Tree.{Variable, Expr, typed, Term, constant, variable, field, element, call, library, unary, binary, convert, new_object, me, with_object, err_number, err_raise, err_clear, is_same, loose, no_object, Exprs, no_exprs, next_expr, Argument, by_value, by_reference, Passed, no_passed, next_passed, Line}
+use Rattle.bound_tree.specs.Tree.{Variable, Expr, typed, Term, constant, variable, field, element, call, library, unary, binary, convert, new_object, me, with_object, err_number, err_raise, err_clear, is_same, loose, Object, no_object, of_object, Exprs, no_exprs, next_expr, Argument, by_value, by_reference, Passed, no_passed, next_passed, Line}
 use Rattle.bound_facts.specs.Facts.{is_quiet}
 use Rattle.bound_facts.specs.Locks.{Keeps}
-use Rattle.bound_facts.specs.Members.{field_of}
+use Rattle.bound_facts.specs.Members.{class_files, field_of}
 use Rattle.bound_facts.specs.Node.{type_at, called}
 use Rattle.net_tree.specs.declared.declaration.NetPassing.{NetPassing}
 use Rattle.net_tree.specs.declared.declaration.NetPassing.TheVariants as passing
-use Rattle.net_tree.specs.Tree.{call_of, path}
+use Rattle.net_tree.specs.Tree.{call_of}
 use Rattle.net_tree.specs.Types.{TypeName}
 use Rattle.run_base.specs.Positions.{Key, Position, whole, made, shared}
 use Rattle.vb6_run.specs.Expressions as source
@@ -41,14 +41,14 @@ use Rattle.net_run.specs.Shapes as shape
 use Rattle.net_run.specs.Store as net
 use Rattle.net_run.specs.Values as net_value
 use Rattle.net_meaning.specs.declared.value.ValueN.TheVariants as n
-use Rattle.written_trees.specs.Exprs.{exp_of, passed_of}
-use Rattle.written_trees.specs.Names.{Scope, variable_path, procedure_path}
+use Rattle.written_trees.specs.Exprs.{callee_of, exp_of, passed_of}
+use Rattle.written_trees.specs.Names.{Scope, variable_path, procedure_name, procedure_path}
 use Rattle.run_matches.specs.Addresses.{Same, IsPlain, IsScalarAt, IsTarget, SameIndexes}
 use Rattle.written_trees.specs.Arguments.{is_property, takes_reference}
 use Rattle.run_matches.specs.Agreeing.{Agrees}
 use Rattle.run_matches.specs.Formed.{passed_are_formed, is_formed}
-use Rattle.run_matches.specs.CoveredVariables.{covers_type, covers_group_type, covers_variable, is_in_order, covers_user}
-use Rattle.run_matches.specs.CoveredExprs.{Uses, IsUsed, covers_array, covers_expr, covers_exprs, covers_passed, is_declared_as, is_relied_on}
+use Rattle.run_matches.specs.CoveredVariables.{covers_type, covers_group_type, covers_variable, is_in_order, is_named_so, covers_user}
+use Rattle.run_matches.specs.CoveredExprs.{Uses, IsUsed, covers_array, covers_expr, covers_exprs, covers_passed, covers_receiver, is_declared_as, is_relied_on}
 use Rattle.run_matches.specs.Covered.{hands_passed, suits_passed}
 use Rattle.run_matches.specs.SoundShapes.{IsField, IsSoundShape}
 use Rattle.run_matches.specs.Frames.{FrameMatch, GivenAddress, HasPlace, IsOwnAddress, is_own_of, is_reference_of, lines_of}
@@ -187,8 +187,8 @@ pub record IsGiven (U : Upgrade) (p : ℕ) (f : SourceFrame) (v : ℕ) : Type 0 
   pub reference : is_reference_of U p v ≡ true
   pub stands : (a : Address) → lookup (nat_eq v) f.vars ≡ Some a → GivenAddress U v a
 
--- A variable of the procedure's class, of which each object has its own, is written as a member of the class, to which its name leads, and
--- no other variable is written as that member.
+-- A variable of the procedure's class, of which each object has its own, is written as a member of the class, to which its name alone leads,
+-- and no other variable is written as that member.
 pub record IsOwnField (U : Upgrade) (p : ℕ) (S : net_names.Scope) (T : Scope) (v : ℕ) : Type 0 where
   pub variable : Variable
   pub is_variable : slice_get U.program.declarations.vars v ≡ Some variable
@@ -201,8 +201,7 @@ pub record IsOwnField (U : Upgrade) (p : ℕ) (S : net_names.Scope) (T : Scope) 
   pub written : shape.Shape
   pub same : SameShape U (variable_shape U.program.declarations v) written
   pub ranked : HasRankOf U v written
-  pub leads :
-      (qualified : Bool) → net_names.path_start S false (variable_path T qualified v) ≡ net_names.starts (net_names.own_field written key S.me) []
+  pub leads : net_names.path_start S false (variable_path T false v) ≡ net_names.starts (net_names.own_field written key S.me) []
   pub differs : (u : ℕ) → variable_key U u ≡ Some key → v ≡ u
 
 -- the procedure's own, a Static of it, one of a standard module, one that is given by reference, or one of its class
@@ -214,9 +213,25 @@ abbrev pub LeadsBefore : net_names.Scope → Scope → (variable : ℕ) → Type
 LeadsBefore S T v =
     (qualified : Bool) → net_names.path_start S true (variable_path T qualified v) ≡ net_names.path_start S false (variable_path T qualified v)
 
+-- a procedure stands in a class, which is written
+pub record StandsInClass (U : Upgrade) (p class : ℕ) : Type 0 where
+  pub file : ℕ
+  pub is_file : slice_get (class_files U.program.declarations.project) class ≡ Some file
+  pub stands : module_of (slice_get U.program.declarations.procs p) ≡ Some file
+  pub home : ℕ
+  pub is_home : class_home U class ≡ Some home
+
+-- what is written for the class is where something is written
+pub record StandsHere (U : Upgrade) (S : net_names.Scope) (class : ℕ) : Type 0 where
+  pub is_home : class_home U class ≡ Some S.home
+  pub is_class : net_names.is_class S.project S.home ≡ true
+
 pub record ArePlaced (U : Upgrade) (p : ℕ) (f : SourceFrame) (S : net_names.Scope) (T : Scope) (uses : Uses) : Type 0 where
   pub places : (v : VarId) → IsUsed uses v → IsPlaced U p f S T v.0
   pub leads : (v : VarId) (element : Ty) → uses.array v element ≡ true → LeadsBefore S T v.0
+  pub me : (class : ℕ) → uses.me ≡ Some class → StandsInClass U p class
+  pub here : (class : ℕ) → uses.me ≡ Some class → StandsHere U S class
+  pub named : (v : VarId) (qualified : Bool) → uses.named v qualified ≡ true → is_named_so U.program.declarations v qualified ≡ true
 
 -- ---- values
 
@@ -289,7 +304,7 @@ pub record IsOpen (S : net_names.Scope) : Type 0 where
 
 -- what is demanded of calls with their arguments, of elements by their arrays and indexes, and of calls of the library that ask for bounds
 pub record Demands : Type 1 where
-  pub calls : (procedure : ℕ) → Passed → Type 0
+  pub calls : (procedure : ℕ) → (qualified : Bool) → Object → Passed → Type 0
   pub elements : (array : Expr) → (indexes : Exprs) → Type 0
   pub bounds : LibCall → (arguments : Exprs) → Type 0
   pub withs : Ty → Root → Type 0
@@ -304,7 +319,7 @@ abbrev mutual
   AllCalledIn Q ty (variable v qualified) = Unit {0}
   AllCalledIn Q ty (field e k) = AllCalled Q e
   AllCalledIn Q ty (element e indexes) = Q.elements e indexes × AllCalledAll Q indexes
-  AllCalledIn Q ty (call p qualified of args) = Q.calls p.0 args × AllCalledFor Q args
+  AllCalledIn Q ty (call p qualified of args) = Q.calls p.0 qualified of args × AllCalledFor Q args
   AllCalledIn Q ty (library f args) = Q.bounds f args × AllCalledAll Q args
   AllCalledIn Q ty (unary op e) = AllCalled Q e
   AllCalledIn Q ty (binary op d e) = AllCalled Q d × AllCalled Q e
@@ -349,24 +364,40 @@ abbrev pub NodesKeep : Upgrade → List Ty → List Expr → Type 0
 NodesKeep U ts [] = Unit {0}
 NodesKeep U ts (d ∷ ds) = ((q : ℕ) → called d ≡ Some q → KeepsEach U q ts) × NodesKeep U ts ds
 
+-- The object of a call is one of the class in which the procedure stands. A call for no object goes on with that of the caller, which stands
+-- in the same class, where the procedure that is called stands in one.
+abbrev pub Receives : Upgrade → (caller callee : ℕ) → Object → Type 0
+Receives U p q no_object =
+    (stands_in_class U (module_of (slice_get U.program.declarations.procs q)) ≡ false)
+    ⊎ (module_of (slice_get U.program.declarations.procs q) ≡ module_of (slice_get U.program.declarations.procs p))
+Receives U p q (of_object e) = (class : ℕ) × (type_at e ≡ types.class class) × StandsInClass U q class
+
+-- what is written for it is found by its name, behind an object as a member of its class
+abbrev pub IsFound : Upgrade → net_names.Scope → Scope → (callee number : ℕ) → (qualified : Bool) → Object → Type 0
+IsFound U S T q number qualified no_object =
+    net_names.path_start S true (procedure_path T qualified q) ≡ net_names.starts (net_names.named (net_names.to_procedure None number)) []
+IsFound U S T q number qualified (of_object e) =
+    (class home : ℕ) (object : net_value.Value) → type_at e ≡ types.class class → class_home U class ≡ Some home
+    → net_names.named_member S (Some object) home (procedure_name T.declarations q)
+    ≡ net_names.named (net_names.to_procedure (Some object) number)
+
 -- A procedure that can be called with arguments from where something is written: it passes, and promises what is promised there; the
 -- arguments suit its parameters; what is written for it takes them as it does, and is found by its name.
-pub record CanCall (U : Upgrade) (K : Pledge) (S : net_names.Scope) (T : Scope) (q : ℕ) (args : Passed) : Type 0 where
+pub record CanCall (U : Upgrade) (K : Pledge) (S : net_names.Scope) (T : Scope) (p q : ℕ) (qualified : Bool) (of : Object) (args : Passed) : Type 0 where
   pub passes : Passes U q
   pub keeps : (ty : Ty) → K.keeps ty → Keeps U.program q ty
   pub inward : K.steady → is_inward U q ≡ true
   pub number : ℕ
   pub is_number : written_number U q ≡ Some number
   pub plain : is_property U.program.declarations q ≡ false
-  pub standard : stands_in_class U (module_of (slice_get U.program.declarations.procs q)) ≡ false
+  pub receives : Receives U p q of
   pub suits : suits_passed U.program.declarations q 0 args ≡ true
   pub hands : hands_passed U.program q 0 args ≡ true
   pub given : KeepsEach U q (given_types args)
   pub inside : NodesKeep U (given_types args) (nodes_of_passed args)
   pub ranks : FitsPassed U q 0 args
   pub passings : (i : ℕ) → passing_at (passings_at U.written (Some number)) i ≡ passing_by (takes_reference U.program.declarations q i)
-  pub found :
-      (qualified : Bool) → net_names.path_start S true (procedure_path T qualified q) ≡ net_names.starts (net_names.named (net_names.to_procedure None number)) []
+  pub found : IsFound U S T q number qualified of
 
 -- ---- arrays
 
@@ -385,7 +416,7 @@ pub record StandsWithin (U : Upgrade) (p : ℕ) (l : SourceLine) (k : NetLine) (
 
 -- what is demanded where expressions of a line are written
 abbrev pub demands : Upgrade → Pledge → (procedure : ℕ) → SourceLine → NetLine → net_names.Scope → Scope → Demands
-demands U K p l k S T = record { calls = CanCall U K S T; elements = FitsRank U; bounds = FitsBounds U; withs = StandsWithin U p l k }
+demands U K p l k S T = record { calls = CanCall U K S T p; elements = FitsRank U; bounds = FitsBounds U; withs = StandsWithin U p l k }
 
 -- An element of an array of scalars: the array is compared and stands on both sides, and its indexes are the same.
 pub record ElementMatch (U : Upgrade) (ty : Ty) (w : World) (x : source.Parts) (r : net_names.Reached) : Type 0 where
@@ -432,13 +463,13 @@ AnyParts w x a = Unit {0}
 abbrev pub CallsAreMade : Upgrade → Type 1
 CallsAreMade U =
     (K : Pledge) (w : World) (p : ℕ) (f : SourceFrame) (g : NetFrame) (oracle : SourceCalls) (net_oracle : Jobs) (l : SourceLine) (k : NetLine) (c : Code)
-    (T : Scope) (uses : Uses) (ty : Ty) (q : ProcId) (qualified : Bool) (args : Passed) → MemoryMatch U w → FrameMatch U K w p f g
+    (T : Scope) (uses : Uses) (ty : Ty) (q : ProcId) (qualified : Bool) (of : Object) (args : Passed) → MemoryMatch U w → FrameMatch U K w p f g
     → T.declarations ≡ U.program.declarations → IsOpen (scope_of U.written c g k) → AreReadable U T uses → ArePlaced U p f (scope_of U.written c g k) T uses
-    → CallsAgree U (Passes U) oracle net_oracle → AllCalled (demands U K p l k (scope_of U.written c g k) T) (typed ty (call q qualified no_object args))
-    → covers_passed uses args ≡ true → passed_are_formed args ≡ true
+    → CallsAgree U (Passes U) oracle net_oracle → AllCalled (demands U K p l k (scope_of U.written c g k) T) (typed ty (call q qualified of args))
+    → covers_receiver uses of ≡ true → covers_passed uses args ≡ true → passed_are_formed args ≡ true
     → Agrees U K w AnyParts
-    (source.term_parts (context_of U oracle p f l) ty (call q qualified no_object args) w.src)
-    (target.address_of (scope_of U.written c g k) net_oracle (call_of (path (procedure_path T qualified q.0)) (passed_of T q.0 0 args)) w.net)
+    (source.term_parts (context_of U oracle p f l) ty (call q qualified of args) w.src)
+    (target.address_of (scope_of U.written c g k) net_oracle (call_of (callee_of T q.0 qualified of) (passed_of T q.0 0 args)) w.net)
 
 -- the address of a covered array variable
 abbrev pub ArraysAgree : Upgrade → Type 1

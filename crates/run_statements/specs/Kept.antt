@@ -1,20 +1,21 @@
 -- What clean procedures and lines that are covered keep in what is written for them.
-use Rattle.std.specs.Prelude.{◌≡◌, ◌||◌, ℕ, suc, true, false, Option, Some, None, List, map, slice_get, Bool, [], nat_lt}
+use Rattle.std.specs.Prelude.{◌≡◌, ◌||◌, ◌⊎◌, ℕ, suc, true, false, Option, Some, None, List, map, slice_get, Bool, [], nat_lt}
 use Rattle.std.specs.List.{Contains, list_all}
 use Rattle.vb_tree.specs.declared.declared.VarId.{VarId}
 use Rattle.vb_tree.specs.declared.form_parts.Label6.{Label6}
 use Rattle.bound_tree.specs.declared.rule_set.RuleSet.{RuleSet}
 use Rattle.bound_tree.specs.Labels.{label_of, label_at, labels}
-use Rattle.bound_tree.specs.Tree.{Procedure, Constant, Variable, Line, Expr, Passed}
+use Rattle.bound_tree.specs.Tree.{Procedure, Constant, Variable, Line, Expr, typed, Term, call, Object, no_object, Passed}
 use Rattle.bound_facts.specs.Calls.{count_procedures}
 use Rattle.bound_facts.specs.Effects.{is_outside}
 use Rattle.bound_facts.specs.Node.{args_at, called, root}
 use Rattle.bound_facts.specs.Parts.{line_stores, line_uses}
+use Rattle.bound_facts.specs.SelfMade.{is_mine}
 use Rattle.net_tree.specs.Tree as net
 use Rattle.run_base.specs.Machines.{line_at, nth_line, go}
 use Rattle.written_trees.specs.Bodies.{inside_procedure}
 use Rattle.written_trees.specs.Lines.{jump, replaced_by}
-use Rattle.written_trees.specs.Names.{Scope, procedure_path}
+use Rattle.written_trees.specs.Names.{Scope, procedure_name, procedure_path}
 use Rattle.written_trees.specs.Arguments.{is_property_kind}
 use Rattle.written_trees.specs.Prologues.{code_sets, constant_dim, variable_dim}
 use Rattle.vb6_run.specs.Forms.{SourceLine}
@@ -24,15 +25,16 @@ use Rattle.net_run.specs.Lines.{NetFrame, NetLine, scope_of, target_of}
 use Rattle.vb6_run.specs.Store.{SourceFrame}
 use Rattle.net_run.specs.Members.{Code, code_at}
 use Rattle.net_run.specs.Names as net_names
+use Rattle.net_run.specs.Values as net_value
 use Rattle.net_run.specs.Program as net_program
 use Rattle.run_matches.specs.CoveredExprs.{uses_in}
 use Rattle.run_matches.specs.CoveredLines.{covers_in_block, covers_label, covers_line, has_sound_label, jump_of, resumes}
-use Rattle.run_matches.specs.Covered.{covers_names, keeps_blocks}
+use Rattle.run_matches.specs.Covered.{covers_names, is_method_site, keeps_blocks}
 use Rattle.run_matches.specs.Frames.{HasNames, lines_of, FrameMatch, NextMatch, frame_pledge, GivenStand}
 use Rattle.run_matches.specs.Pledges.{is_inward, is_self_made}
 use Rattle.run_matches.specs.Runs.{CallsAgree, line_result}
 use Rattle.run_matches.specs.Sites.{Own, own_variable, own_constant, Site, site_of, site_lines, first_statement, owns_of}
-use Rattle.run_matches.specs.Upgrades.{Upgrade, code_of, runnable_of}
+use Rattle.run_matches.specs.Upgrades.{Upgrade, class_home, code_of, runnable_of}
 use Rattle.run_statements.specs.Fitting.{FitsLine, FitsNode}
 use Rattle.run_statements.specs.Frames.{AreReadable, IsOpen, IsReadable, ArePlaced, CanCall, IsUsable}
 use Rattle.run_statements.specs.Written.{WrittenProcedure, WrittenLine, site_scope, Passes}
@@ -55,9 +57,18 @@ CalleesAreFound U =
     (p q : ℕ) (s t : Site) (x y : Procedure) (W : WrittenProcedure U p s x) (V : WrittenProcedure U q t y) (g : NetFrame) (k : NetLine)
     → site_of U.program.declarations p ≡ Some s → slice_get U.program.declarations.procs p ≡ Some x → is_property_kind x.kind ≡ false
     → site_of U.program.declarations q ≡ Some t → slice_get U.program.declarations.procs q ≡ Some y → is_property_kind y.kind ≡ false
-    → is_found U.program.declarations (Some x) s (Some y) (Some t) ≡ true → HasNames (Some W.code) g → (qualified : Bool)
+    → (qualified : Bool) → is_found U.program.declarations (Some x) s (Some y) (Some t) qualified ≡ true → HasNames (Some W.code) g
     → net_names.path_start (scope_of U.written W.code g k) true (procedure_path (inside_procedure (site_scope U s) p) qualified q)
     ≡ net_names.starts (net_names.named (net_names.to_procedure None V.number)) []
+
+-- and so is one of the class of an object, behind the object
+abbrev pub MethodsAreFound : Upgrade → Type 0
+MethodsAreFound U =
+    (q class home : ℕ) (t : Site) (y : Procedure) (V : WrittenProcedure U q t y) (S : net_names.Scope) (object : net_value.Value)
+    → site_of U.program.declarations q ≡ Some t → slice_get U.program.declarations.procs q ≡ Some y → is_property_kind y.kind ≡ false
+    → is_method_site U.program.declarations class y (Some t) ≡ true → class_home U class ≡ Some home → S.project ≡ U.written
+    → net_names.named_member S (Some object) home (procedure_name U.program.declarations q)
+    ≡ net_names.named (net_names.to_procedure (Some object) V.number)
 
 -- ---- declarations of a procedure
 
@@ -102,10 +113,15 @@ NoFurtherLines U =
     → (W : WrittenProcedure U p s x) (n : ℕ) → line_at (machine_of (runnable_of U)) p n ≡ None
     → line_at (net_program.machine_of U.written) W.number n ≡ None
 
+-- a variable of the procedure's own, or one of its object where it may change that
+abbrev pub IsOwnStore : Upgrade → (procedure : ℕ) → Expr → Type 0
+IsOwnStore U p e =
+    (is_outside U.program.declarations.vars p (root e) ≡ false)
+    ⊎ ((is_inward U p ≡ false) × ((is_self_made U p ≡ true) × (is_mine U.program.declarations p e ≡ true)))
+
 -- where the procedure promises to change nothing but what is its own, the line stores to that alone
 abbrev pub StoresAreOwn : Upgrade → (procedure : ℕ) → Line → Type 0
-StoresAreOwn U p l =
-    (is_inward U p || is_self_made U p) ≡ true → (e : Expr) → Contains (line_stores l) e → is_outside U.program.declarations.vars p (root e) ≡ false
+StoresAreOwn U p l = (is_inward U p || is_self_made U p) ≡ true → (e : Expr) → Contains (line_stores l) e → IsOwnStore U p e
 
 -- the variables that a line uses are found on both sides
 abbrev pub UsesArePlaced : Upgrade → (procedure : ℕ) → Site → Code → Line → Type 0
@@ -165,11 +181,25 @@ SameLineIn U p q number turns l k =
     (line_result (machine_of (runnable_of U)) turns p f l w.src)
     (line_result (net_program.machine_of U.written) turns q g k w.net)
 
+abbrev pub qualified_in : Term → Bool
+qualified_in (call p qualified of args) = qualified
+qualified_in t = false
+
+abbrev pub qualified_at : Expr → Bool
+qualified_at (typed ty t) = qualified_in t
+
+abbrev pub receiver_in : Term → Object
+receiver_in (call p qualified of args) = of
+receiver_in t = no_object
+
+abbrev pub receiver_at : Expr → Object
+receiver_at (typed ty t) = receiver_in t
+
 -- a procedure that can be called from the lines of another
-abbrev pub CanCallFrom : Upgrade → (p : ℕ) → Site → Code → (q : ℕ) → Passed → Type 0
-CanCallFrom U p s c q args =
+abbrev pub CanCallFrom : Upgrade → (p : ℕ) → Site → Code → (q : ℕ) → (qualified : Bool) → Object → Passed → Type 0
+CanCallFrom U p s c q qualified of args =
     (w : World) (f : SourceFrame) (g : NetFrame) (k : NetLine) → HasNames (code_of U p) g
-    → CanCall U (frame_pledge U p w f) (scope_of U.written c g k) (inside_procedure (site_scope U s) p) q args
+    → CanCall U (frame_pledge U p w f) (scope_of U.written c g k) (inside_procedure (site_scope U s) p) p q qualified of args
 
 -- a covered line does the same as what is written for it, where calls of what it calls agree
 abbrev pub LinesAgree : Upgrade → Type 0
@@ -179,7 +209,7 @@ LinesAgree U =
     → AreReadable U (inside_procedure (site_scope U s) p) (uses_in U.program p l.form.bindings.mentions)
     → UsesArePlaced U p s c l.form → StoresAreOwn U p l.form
     → CallsAgree U (Passes U) (go (machine_of (runnable_of U)) turns) (go (net_program.machine_of U.written) turns)
-    → ((d : Expr) (q : ℕ) → Contains (line_uses l.form) d → called d ≡ Some q → CanCallFrom U p s c q (args_at d))
+    → ((d : Expr) (q : ℕ) → Contains (line_uses l.form) d → called d ≡ Some q → CanCallFrom U p s c q (qualified_at d) (receiver_at d) (args_at d))
     → ((d : Expr) → Contains (line_uses l.form) d → FitsNode U d)
     → FitsLine U p l.form
     → covers_line U.program p l.form ≡ true

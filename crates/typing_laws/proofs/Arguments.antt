@@ -20,9 +20,9 @@ use Rattle.vb6_run.specs.Store as store
 use Rattle.vb6_run.specs.Store.{Address, root, Memory, SourceGiven}
 use Rattle.vb6_run.specs.Values.{Value, scalar}
 use Rattle.run_matches.specs.CoveredVariables.{covers_type, is_loud}
-use Rattle.run_matches.specs.CoveredExprs.{Uses, uses_in, covers_expr, is_passable, covers_array, covers_exprs}
+use Rattle.run_matches.specs.CoveredExprs.{Uses, covers_expr, is_passable, covers_array, covers_exprs}
 use Rattle.run_matches.specs.Covered.{is_referred}
-use Rattle.typing_laws.specs.Flat.{flat_uses}
+use Rattle.typing_laws.specs.Flat.{flat_uses, outer_uses}
 use Rattle.typing_laws.specs.Calls.{CallsKeep, SourceJob}
 use Rattle.typing_laws.specs.Frames.{IsGiven}
 use Rattle.typing_laws.specs.Leaving.{Leaves, at_gone}
@@ -39,7 +39,7 @@ use Rattle.typing_laws.specs.Plain.{IsShapeOf, array_shape}
 use Rattle.typing_laws.specs.Typed.{fits_type}
 use Rattle.typing_laws.proofs.Arrays.{HasArray, array_place, array_read, stands_with_rank, table_at}
 use Rattle.typing_laws.proofs.Expressions.{fit_same}
-use Rattle.typing_laws.proofs.Flat.{NamesArray, no_field}
+use Rattle.typing_laws.proofs.Flat.{NamesArray, no_field, variable_used}
 use Rattle.typing_laws.proofs.Found.{IsRight, element_given}
 use Rattle.typing_laws.proofs.Made.{IsArray, flat_kinds, flat_known}
 use Rattle.typing_laws.proofs.Uses.{UsedArray, array_use_is}
@@ -185,7 +185,7 @@ module _ (C : Context) (F : Footprint) (X : SourceJob → Memory → Type 0) (ca
       → type_at e ≡ y.ty → is_reference_owner y.owner ≡ true
       → IsRight C F X e w → Ends K (GoodGiven (Some y)) (Leaves C X e w) w (argument_of C quiet (tree.by_reference e) w)
   reference_ends w fits y (typed ty (variable x qualified)) quiet covers passes typing referred same reference h =
-      variable_given w fits y ty x qualified quiet (both_true (covers_type ty) (uses.scalar x) covers).1 passes typing same reference
+      variable_given w fits y ty x qualified quiet (variable_used uses ty x qualified covers) passes typing same reference
   reference_ends w fits y (typed ty (convert to e)) quiet covers passes typing referred same reference h =
       converted_given w y ty to e quiet (both_true (covers_type ty) (covers_type to && covers_expr uses e) covers).0 same h.0
   reference_ends w fits y (typed ty (constant x origin)) quiet covers passes typing referred same reference h = absurd (no_reference ty (constant x origin) refl referred)
@@ -195,7 +195,7 @@ module _ (C : Context) (F : Footprint) (X : SourceJob → Memory → Type 0) (ca
   reference_ends w fits y (typed ty (unary op e)) quiet covers passes typing referred same reference h = absurd (no_reference ty (unary op e) refl referred)
   reference_ends w fits y (typed ty (binary op d e)) quiet covers passes typing referred same reference h = absurd (no_reference ty (binary op d e) refl referred)
   reference_ends w fits y (typed ty (field e i)) quiet covers passes typing referred same reference h =
-      absurd (no_field (uses_in C.runnable.program C.procedure mentions) ty e i covers)
+      absurd (no_field (outer_uses C.runnable.program C.procedure mentions) ty e i covers)
   reference_ends w fits y (typed ty (element e i)) quiet covers passes typing referred same reference h =
       element_given C F X ty e i w (both_true (covers_type ty) (covers_array uses e && covers_exprs uses i) covers).0 h.1 quiet y same reference
   reference_ends w fits y (typed ty (new_object c)) quiet covers passes typing referred same reference h = absurd (no_reference ty (new_object c) refl referred)

@@ -15,10 +15,10 @@ use Rattle.vb6_run.specs.Runnables.{variable_address}
 use Rattle.vb6_run.specs.Store.{Address, Memory, write}
 use Rattle.vb6_run.specs.Values.{Value, scalar}
 use Rattle.run_matches.specs.CoveredVariables.{covers_type, is_loud}
-use Rattle.run_matches.specs.CoveredExprs.{Uses, is_changeable, uses_in}
+use Rattle.run_matches.specs.CoveredExprs.{Uses, is_changeable}
 use Rattle.run_matches.specs.CoveredLines.{is_ordered}
 use Rattle.typing_laws.specs.Calls.{CallsKeep, SourceJob}
-use Rattle.typing_laws.specs.Flat.{flat_uses}
+use Rattle.typing_laws.specs.Flat.{flat_uses, outer_uses}
 use Rattle.typing_laws.specs.Frames.{Footprint, Ground, Keeps, ground}
 use Rattle.typing_laws.specs.Leaving.{Leaves, at_gone}
 use Rattle.typing_laws.specs.Plain.{IsValue, Plain}
@@ -27,7 +27,7 @@ use Rattle.typing_laws.proofs.Elements.{IsFound}
 use Rattle.typing_laws.proofs.Ends.{Ends, ends_after, ends_weaker, keeps_then, then_ends}
 use Rattle.typing_laws.proofs.Found.{never_gone, seat_found}
 use Rattle.typing_laws.proofs.Expressions.{IsTyped, same_type, variable_is, variable_place}
-use Rattle.typing_laws.proofs.Flat.{no_field}
+use Rattle.typing_laws.proofs.Flat.{no_field, variable_used}
 use Rattle.typing_laws.proofs.Frames.{frame_at, frame_later}
 use Rattle.typing_laws.proofs.Lines.{Good, IsFine, IsIn, fine_address, fine_ends, fine_type, fits_in, in_later}
 use Rattle.typing_laws.proofs.Uses.{PlaceOf, Used, use_is}
@@ -62,7 +62,7 @@ module _ (C : Context) (F : Footprint) (X : SourceJob → Memory → Type 0) (ca
 
     stored_ends : (y : Value) → IsValue ty y → Ends K (Good C F) L v (then (let_to C to y v) (λ (u : Unit {0}) m. goes_on C m))
     stored_ends y m =
-        let u : Used D C.procedure x = use_is C.runnable.program C.procedure mentions x (both_true (covers_type ty) (uses.scalar x) fine.covers).1 in
+        let u : Used D C.procedure x = use_is C.runnable.program C.procedure mentions x (variable_used uses ty x qualified fine.covers) in
         let p : PlaceOf C.runnable.program F C.frame v x.0 u.variable = variable_place C F v (fits_in C F v i) x u in
         let same : ty ≡ u.variable.ty = same_type D C.procedure ty x u fine.typed in
         let seat : IsSeat K v ty p.0 = subst (λ t. IsSeat K v t p.0) (sym same) (seat_of C.runnable.program F v x.0 u.variable p.0 p.2) in
@@ -120,7 +120,7 @@ module _ (C : Context) (F : Footprint) (X : SourceJob → Memory → Type 0) (ca
       changes : (to : Expr) → is_changeable uses to ≡ true → Fine to → (v : Memory) → IsIn C F v → (Leaves C X to v → L) → (y : Value) → IsValue (type_at to) y
           → Ends K (Good C F) L v (then (let_to C to y v) (λ (u : Unit {0}) m. goes_on C m))
       changes (typed ty (variable x qualified)) c target v i leaves y m = stored_ends L v ty x qualified target c i leaves y m
-      changes (typed ty (field d k)) c target v i leaves y m = absurd (no_field (uses_in C.runnable.program C.procedure mentions) ty d k target.covers)
+      changes (typed ty (field d k)) c target v i leaves y m = absurd (no_field (outer_uses C.runnable.program C.procedure mentions) ty d k target.covers)
       changes (typed ty (with_object r)) c target v i leaves y m = absurd (true≢false (sym (both_true (covers_type ty) false target.covers).1))
       changes (typed ty _) c target v i leaves y m = absurd (true≢false (sym c))
 

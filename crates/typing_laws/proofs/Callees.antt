@@ -3,19 +3,19 @@ use Rattle.std.proofs.Common.{◌≡◌, ◌⊎◌, inl, inr, refl, sym, ap, sub
 use Rattle.std.specs.Prelude.{filter, nat_lt, slice_get}
 use Rattle.std.specs.List.{Contains, flat_map, list_all}
 use Rattle.up_base.proofs.Tests.{both_true, and_true}
-use Rattle.bound_tree.specs.Tree.{Declarations, Expr, Line, Procedure, Program}
+use Rattle.bound_tree.specs.Tree.{Declarations, Expr, typed, call, no_object, of_object, Line, Procedure, Program}
 use Rattle.reach_table.specs.Chains.{Chain, empty, longer}
 use Rattle.bound_facts.specs.Calls.{Reaches, calls, count_procedures, initialized, line_calls, node_calls, pair_to}
 use Rattle.bound_facts.specs.Items.{items_from}
 use Rattle.bound_facts.specs.Leading.{is_within, within}
-use Rattle.bound_facts.specs.Node.{called}
+use Rattle.bound_facts.specs.Node.{called, type_at}
 use Rattle.bound_facts.specs.Nodes.{nodes}
 use Rattle.bound_facts.specs.Parts.{line_uses}
 use Rattle.bound_facts.specs.Bounds.{declared_ranks, rank_items, ranks}
 use Rattle.run_base.specs.Machines.{nth_line}
 use Rattle.vb6_run.specs.Runnables.{Runnable}
 use Rattle.run_matches.specs.CoveredVariables.{has_extents, has_rank}
-use Rattle.run_matches.specs.Covered.{covers_callee, covers_calls, suits, hands}
+use Rattle.run_matches.specs.Covered.{covers_callee, covers_calls, covers_node, is_method, suits, hands}
 use Rattle.run_matches.specs.Sites.{Site, site_of}
 use Rattle.typing_laws.specs.Calls.{CallsAreSuited, Each, IsReady, IsSuited}
 use Rattle.typing_laws.proofs.Places.{not_none, some_is}
@@ -145,9 +145,18 @@ first_pair : (p q : ℕ) (o : Option ℕ) (more : List (ℕ × ℕ)) → o ≡ S
 first_pair p q None more e = absurd (not_none e)
 first_pair p q (Some r) more e = inl (ap {B = ℕ × ℕ} (λ (n : ℕ). (p, n)) (some_is e))
 
-callee_known : (P : Program) (p : ℕ) (s : Option Site) (q : ℕ) → covers_callee P p s q ≡ true → nat_lt q (count_procedures P) ≡ true
-callee_known P p None q h = absurd (true≢false (sym h))
-callee_known P p (Some s) q h = (both_true (nat_lt q (count_procedures P)) _ h).0
+callee_known : (P : Program) (p : ℕ) (s : Option Site) (q : ℕ) (qualified : Bool) → covers_callee P p s q qualified ≡ true → nat_lt q (count_procedures P) ≡ true
+callee_known P p None q qualified h = absurd (true≢false (sym h))
+callee_known P p (Some s) q qualified h = (both_true (nat_lt q (count_procedures P)) _ h).0
+
+-- what a node calls is a procedure of the project
+node_known : (P : Program) (p : ℕ) (s : Option Site) (q : ℕ) (e : Expr) → covers_node P p s e ≡ true → called e ≡ Some q → nat_lt q (count_procedures P) ≡ true
+node_known P p s q (typed ty (call f qualified no_object args)) h n =
+    subst (λ k. nat_lt k (count_procedures P) ≡ true) (some_is n) (callee_known P p s f.0 qualified h)
+node_known P p s q (typed ty (call f qualified (of_object e) args)) h n =
+    subst (λ k. nat_lt k (count_procedures P) ≡ true) (some_is n)
+    (both_true (nat_lt f.0 (count_procedures P)) (is_method P.declarations (type_at e) f.0) h).0
+node_known P p s q (typed ty _) h n = absurd (not_none n)
 
 pub line_suited : (R : Runnable) (p k : ℕ) (x : Procedure) (lines : List Line) (l : Line) → slice_get R.program.declarations.procs p ≡ Some x
     → slice_get R.program.bodies p ≡ Some lines → slice_get lines k ≡ Some l → covers_calls R.program p l ≡ true → IsReady R p
@@ -155,14 +164,14 @@ pub line_suited : (R : Runnable) (p k : ℕ) (x : Procedure) (lines : List Line)
 line_suited R p k x lines l is are_lines stands covers ready =
     let D : Declarations = R.program.declarations in
     let P : Program = R.program in
-    let b = both_true (list_all (λ (c : ℕ × ℕ). covers_callee P p (site_of D p) c.1) (line_calls D p l)) (list_all (suits D) (line_uses l) && list_all (hands P) (line_uses l)) covers in
+    let b = both_true (list_all (covers_node P p (site_of D p)) (line_uses l)) (list_all (suits D) (line_uses l) && list_all (hands P) (line_uses l)) covers in
     let c = both_true (list_all (suits D) (line_uses l)) (list_all (hands P) (line_uses l)) b.1 in
     each_of (IsSuited R) (line_uses l) (λ e m. record {
       suits = all_among (suits D) (line_uses l) e c.0 m;
       ready = λ q n.
           let call : Among (line_calls D p l) (p, q) =
           flat_among (node_calls D p) (line_uses l) e (p, q) m (first_pair p q (called e) (pair_to p (initialized D e) []) n) in
-          ready_called R p q k x is (callee_known P p (site_of D p) q (all_among (λ (c : ℕ × ℕ). covers_callee P p (site_of D p) c.1) (line_calls D p l) (p, q) b.0 call))
+          ready_called R p q k x is (node_known P p (site_of D p) q e (all_among (covers_node P p (site_of D p)) (line_uses l) e b.0 m) n)
           lines l are_lines stands call ready;
     })
 

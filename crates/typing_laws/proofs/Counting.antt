@@ -53,6 +53,7 @@ use Rattle.typing_laws.proofs.Lines.{Good, IsFine, IsIn, KeepsAt, branches, fine
 use Rattle.typing_laws.proofs.Places.{keeps_changed, not_none, some_is, stands_changed}
 use Rattle.typing_laws.proofs.Plain.{Plain, a_boolean, a_byte, an_integer, a_long, a_currency, a_text, is_covered, same_as}
 use Rattle.typing_laws.proofs.Rows.{IsAnswer}
+use Rattle.typing_laws.proofs.Flat.{variable_used}
 use Rattle.typing_laws.proofs.Uses.{PlaceOf, Used, use_is}
 use Rattle.typing_laws.specs.Frames.{Footprint, Ground, ground}
 
@@ -140,7 +141,7 @@ module _ (C : Context) (F : Footprint) (X : SourceJob → Memory → Type 0) (ca
       let D : Declarations = declared C in
       let K : Ground = ground (declared C) F in
       let e : Expr = typed ty (variable id qualified) in
-      let u : Used D C.procedure id = use_is C.runnable.program C.procedure mentions id (both_true (covers_type ty) (uses.scalar id) fine.covers).1 in
+      let u : Used D C.procedure id = use_is C.runnable.program C.procedure mentions id (variable_used uses ty id qualified fine.covers) in
       let place : PlaceOf C.runnable.program F C.frame w id.0 u.variable = variable_place C F w (fits_in C F w h) id u in
       let same : ty ≡ u.variable.ty = same_type D C.procedure ty id u fine.typed in
       let at : AtRoot C.runnable.program F w u.variable place.0 = at_root C.runnable.program F w id.0 u.variable place.0 place.2 (local_owner id u local) in

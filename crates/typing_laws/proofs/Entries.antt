@@ -156,7 +156,7 @@ module _ (R : Runnable) (p : ℕ) (parts : Parts R.program p) (me : Option ℕ) 
         ap (λ n. module_of (slice_get Q.procs n)) (sym (eqb-true p q.0 h)) ∙ ap module_of parts.head.is_procedure in (
           root (variable_shape Q v) (shared_place v),
           ap (λ z. declared_address Q frame v z) is ∙ ap (λ z. owned_address Q frame v z) e ∙ ap (λ f. root_address Q v (static_root Q me v f)) file
-              ∙ ap (λ t. root_address Q v (cond t (object_root me v) (Some (shared (v ∷ []))))) (not_true (is_class_file Q x.module_number) parts.head.outer),
+              ∙ ap (λ t. root_address Q v (cond t (object_root me v) (Some (shared (v ∷ []))))) (not_true (is_class_file Q x.module_number) parts.outer),
           (shape_of_variable Q v y is cover, s v y (owned_at (is_static_of p) Q v y is (ap (is_static_of p) e ∙ h)) is cover),
         )
     own_in v y is cover (owner.Module q) e h = absurd (true≢false (sym h))
@@ -202,7 +202,7 @@ entered_ends R p me locked gs w F E ready x is sound given out =
     (made_each_ends R.program F p E out os u (sound_later K w u k sound) (others_covered R p parts me all F E out))
     (λ o2 cs m two l c.
     then_ends K (λ n z. AllStand R.program F p E out n ss) Good E m (lay_statics D me (Some y.module_number) ss m) (λ z n. gives [] (first_frame me all (bs ++ cs)) n)
-    (statics_end R.program F p E out me y.module_number parts.head.outer ss m (sound_later K w m (keeps_then K w u m k l) sound) (statics_are R p parts me all F E out))
+    (statics_end R.program F p E out me y.module_number parts.outer ss m (sound_later K w m (keeps_then K w u m k l) sound) (statics_are R p parts me all F E out))
     (λ o3 z n three r s. (
       keeps_self K n,
       made_frame R p parts me all F E out n bs cs (bound_later R.program F u n ks bs (keeps_then K u m n l r) b) (bound_later R.program F m n os cs r c) s,

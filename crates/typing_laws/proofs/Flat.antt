@@ -1,15 +1,15 @@
 -- Without user types no field is covered, and what is named is a scalar or an array.
-use Rattle.std.proofs.Common.{◌≡◌, ◌⊎◌, inl, inr, ⊎_elim, refl, sym, ℕ, Bool, true, false, ◌&&◌, ◌||◌, true≢false, List, [], ◌∷◌}
+use Rattle.std.proofs.Common.{◌≡◌, ◌⊎◌, inl, inr, ⊎_elim, refl, sym, ℕ, Bool, true, false, ◌&&◌, ◌||◌, true≢false, List, [], ◌∷◌, None}
 use Rattle.up_base.proofs.Tests.{both_true, either}
 use Rattle.vb_tree.specs.BoundTree as types
 use Rattle.vb_tree.specs.BoundTree.{Ty}
 use Rattle.vb_tree.specs.declared.declared.VarId.{VarId}
-use Rattle.bound_tree.specs.Tree.{Expr, typed, Term, variable, field, call, convert}
+use Rattle.bound_tree.specs.Tree.{Expr, typed, Term, variable, field, call, convert, me}
 use Rattle.bound_tree.specs.Tree as tree
 use Rattle.bound_facts.specs.Locks.{is_same_type}
 use Rattle.bound_facts.specs.Node.{type_at}
 use Rattle.run_matches.specs.CoveredVariables.{covers_type}
-use Rattle.run_matches.specs.CoveredExprs.{Uses, covers_argument, covers_array, covers_base, covers_expr, covers_group, covers_group_term, covers_object, covers_operand, covers_place, has_inner, has_member, has_scalar, is_changeable, is_nothing, is_passable}
+use Rattle.run_matches.specs.CoveredExprs.{Uses, covers_argument, covers_array, covers_base, covers_expr, covers_group, covers_group_term, covers_object, covers_operand, covers_place, has_inner, has_member, has_scalar, is_changeable, is_class_of, is_nothing, is_passable}
 use Rattle.run_matches.specs.CoveredLines.{covers_copy, covers_set, covers_set_member, covers_set_variable, covers_store, is_member_ordered, is_ordered}
 use Rattle.run_matches.specs.UserTypes.{is_class_type, is_user}
 use Rattle.typing_laws.specs.Flat.{without_groups}
@@ -30,10 +30,15 @@ array_named u (typed (types.array e rank) (variable v qualified)) h = record {
   variable = v;
   qualified = qualified;
   is = refl;
-  used = h;
+  used = (both_true (u.array v e) (u.named v qualified) h).0;
 }
 array_named u (typed (types.array e rank) _) h = absurd (true≢false (sym h))
 array_named u (typed _ t) h = absurd (true≢false (sym h))
+
+-- a scalar variable
+pub variable_used : (u : Uses) (ty : Ty) (v : VarId) (qualified : Bool) → covers_expr u (typed ty (variable v qualified)) ≡ true → u.scalar v ≡ true
+variable_used u ty v qualified h =
+    (both_true (u.scalar v) (u.named v qualified) (both_true (covers_type ty) (u.scalar v && u.named v qualified) h).1).0
 
 no_inner : (u : Uses) (of ty : Ty) (k : ℕ) → has_inner (without_groups u) of k ty ≡ true → ⊥
 no_inner u (types.user s) (types.user t) k h = true≢false (sym h)
@@ -54,16 +59,22 @@ no_member : (u : Uses) (of : Ty) (k : ℕ) (test : Ty → Bool) → has_member (
 no_member u (types.class c) k test h = true≢false (sym h)
 no_member u _ k test h = true≢false (sym h)
 
-no_object : (u : Uses) (e : Expr) → covers_object (without_groups u) e ≡ true → ⊥
-no_object u (typed ty (variable v qualified)) h = true≢false (sym (both_true (is_class_type ty) false h).1)
-no_object u (typed ty (field e k)) h =
+no_class : (ty : Ty) → is_class_of None ty ≡ true → ⊥
+no_class (types.class c) h = true≢false (sym h)
+no_class _ h = true≢false (sym h)
+
+pub no_object_covered : (u : Uses) (e : Expr) → covers_object (without_groups u) e ≡ true → ⊥
+no_object_covered u (typed ty (variable v qualified)) h = true≢false (sym (both_true (is_class_type ty) false h).1)
+no_object_covered u (typed ty me) h = no_class ty h
+no_object_covered u (typed ty (field e k)) h =
     let a = both_true (is_class_type ty) (has_member (without_groups u) (type_at e) k (is_same_type ty) && covers_object (without_groups u) e) h in
     no_member u (type_at e) k (is_same_type ty)
     (both_true (has_member (without_groups u) (type_at e) k (is_same_type ty)) (covers_object (without_groups u) e) a.1).0
-no_object u (typed ty _) h = true≢false (sym h)
+no_object_covered u (typed ty _) h = true≢false (sym h)
 
 no_group_call : (u : Uses) (ty : Ty) (t : Term) → covers_group_term (without_groups u) ty t ≡ true → ⊥
-no_group_call u ty (field e k) h = no_object u (typed ty (field e k)) h
+no_group_call u ty (field e k) h = no_object_covered u (typed ty (field e k)) h
+no_group_call u ty me h = no_object_covered u (typed ty me) h
 no_group_call u ty (call p qualified of args) h = true≢false (sym h)
 no_group_call u ty (convert to e) h = true≢false (sym h)
 no_group_call u ty _ h = true≢false (sym h)
@@ -186,4 +197,4 @@ no_set u (to ∷ e ∷ []) h =
         let vs : Uses = without_groups u in
         let x = both_true (is_member_ordered vs to e) (is_same_type (type_at to) (type_at e) && (covers_object vs to && covers_group vs e)) c in
         let y = both_true (is_same_type (type_at to) (type_at e)) (covers_object vs to && covers_group vs e) x.1 in
-        no_object u to (both_true (covers_object vs to) (covers_group vs e) y.1).0
+        no_object_covered u to (both_true (covers_object vs to) (covers_group vs e) y.1).0

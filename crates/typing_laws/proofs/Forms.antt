@@ -27,12 +27,12 @@ use Rattle.vb6_run.specs.Forms.{SourceLine, form_does, idle_machine}
 use Rattle.vb6_run.specs.Lines.{condition, goes_on, goes_to, handles_by, line_of_label, redim_does, to_label, when_done}
 use Rattle.vb6_run.specs.Store.{Does, Memory, SourceFrame, set_err}
 use Rattle.run_matches.specs.CoveredVariables.{has_extents, has_rank}
-use Rattle.run_matches.specs.CoveredExprs.{Uses, covers_expr, covers_place, covers_value, is_variable, uses_in}
+use Rattle.run_matches.specs.CoveredExprs.{Uses, covers_expr, covers_place, covers_value, is_variable}
 use Rattle.run_matches.specs.UserTypes.{is_user}
 use Rattle.run_matches.specs.CoveredLines.{covers_called, covers_counter, covers_counting, covers_form, covers_items, covers_part, covers_step, head_line, is_comparison, is_counter}
 use Rattle.bound_facts.specs.Locks.{is_same_type}
 use Rattle.run_matches.specs.Formed.{is_formed}
-use Rattle.typing_laws.specs.Flat.{is_flat_line, flat_uses}
+use Rattle.typing_laws.specs.Flat.{is_flat_line, flat_uses, outer_uses}
 use Rattle.typing_laws.specs.Calls.{CallsAreSuited, CallsKeep, Each, IsAimed, IsSuited, SourceJob}
 use Rattle.typing_laws.specs.Frames.{code_line, numbered}
 use Rattle.typing_laws.specs.Leaving.{Leaves, LineLeaves, ResizesLeave, in_assigned, in_target, in_items, at_print, in_call, in_invoked, in_condition, in_redim, erases_fixed, unopened, exit_outside, no_label, resumes_at_head, has_condition, jumps_to, resumes}
@@ -105,7 +105,7 @@ module _ (C : Context) (F : Footprint) (X : SourceJob → Memory → Type 0) (ca
   uses = flat_uses C.runnable.program C.procedure mentions
 
   abbrev all_uses : Uses
-  all_uses = uses_in C.runnable.program C.procedure mentions
+  all_uses = outer_uses C.runnable.program C.procedure mentions
 
   abbrev Fine : Expr → Type 0
   Fine e = IsFine C F X calls mentions e

@@ -1,5 +1,5 @@
 -- Inert expressions change nothing.
-use Rattle.std.proofs.Common.{◌≡◌, ◌⊎◌, inl, inr, refl, sym, subst, Bool, true, false, ◌&&◌, true≢false, List, [], ◌∷◌, ◌++◌, Option, Some, None}
+use Rattle.std.proofs.Common.{◌≡◌, ◌⊎◌, inl, inr, refl, sym, subst, Bool, true, false, ◌&&◌, true≢false, List, [], ◌∷◌, slice_get, ◌++◌, Option, Some, None}
 use Rattle.std.specs.List.{list_all}
 use Rattle.up_base.proofs.Lists.{all_left, all_right}
 use Rattle.up_base.proofs.Tests.{both_true, either}
@@ -15,7 +15,7 @@ use Rattle.vb6_meaning.specs.Values.{coerce, operate}
 use Rattle.bound_tree.specs.declared.body.Mention.{Mention}
 use Rattle.bound_tree.specs.Tree.{Expr, typed, constant, variable, field, element, call, library, unary, binary, convert, new_object, me, with_object, err_number, err_raise, err_clear, is_same, loose, Exprs, no_exprs, next_expr}
 use Rattle.bound_facts.specs.Folded.{binary_row, unary_row}
-use Rattle.bound_facts.specs.Node.{type_at}
+use Rattle.bound_facts.specs.Node.{auto_class, type_at}
 use Rattle.bound_facts.specs.Nodes.{nodes, nodes_of_all}
 use Rattle.row_laws.proofs.Composing.{after_nil}
 use Rattle.run_base.specs.Outcomes.{Output, Outcome, gives, raises, spent, outside, after, then, answered, found, some_of}
@@ -27,7 +27,8 @@ use Rattle.vb6_run.specs.Values.{Value, scalar, fields, elements}
 use Rattle.run_matches.specs.CoveredVariables.{covers_type}
 use Rattle.run_matches.specs.CoveredExprs.{Uses, covers_bounded, covers_expr, covers_exprs, covers_library, covers_operator, covers_term, is_bound, uses_in}
 use Rattle.typing_laws.specs.Inert.{ChangesNothing, gives_itself, is_inert, is_inert_node}
-use Rattle.typing_laws.proofs.Uses.{Used, use_is}
+use Rattle.typing_laws.proofs.Flat.{variable_used}
+use Rattle.typing_laws.proofs.Uses.{use_plain}
 
 -- ---- computations that change nothing
 
@@ -99,9 +100,9 @@ module _ (C : Context) (mentions : List Mention) (w : Memory) where
   no : {A : Type 0} → false ≡ true → A
   no h = absurd (true≢false (sym h))
 
-  variable_still : (x : VarId) (u : Used (declared C) C.procedure x) (ty : Ty) (qualified : Bool) → Still IsAddress w (parts_of C (typed ty (variable x qualified)) w)
-  variable_still x u ty qualified =
-      subst (λ m. Still IsAddress w (then (some_of (variable_address (declared C) C.frame x.0) (λ a w. gives [] (at_address a) w) w) (λ p w. made_for C m p w))) (sym u.plain)
+  variable_still : (x : VarId) → auto_class (slice_get (declared C).vars x.0) ≡ None → (ty : Ty) (qualified : Bool) → Still IsAddress w (parts_of C (typed ty (variable x qualified)) w)
+  variable_still x plain ty qualified =
+      subst (λ m. Still IsAddress w (then (some_of (variable_address (declared C) C.frame x.0) (λ a w. gives [] (at_address a) w) w) (λ p w. made_for C m p w))) (sym plain)
       (by (variable_address (declared C) C.frame x.0))
     where
       by : (o : Option Address) → Still IsAddress w (then (some_of o (λ a w. gives [] (at_address a) w) w) (λ p w. made_for C None p w))
@@ -175,7 +176,7 @@ module _ (C : Context) (mentions : List Mention) (w : Memory) where
     parts_still : (e : Expr) → covers_expr uses e ≡ true → list_all is_inert_node (nodes e) ≡ true → Still IsAddress w (parts_of C e w)
     parts_still (typed ty (constant x origin)) covers inert = (refl, refl, (store.constant (scalar ty x), refl))
     parts_still (typed ty (variable x qualified)) covers inert =
-        variable_still x (use_is C.runnable.program C.procedure mentions x (both_true (covers_type ty) (uses.scalar x) covers).1) ty qualified
+        variable_still x (use_plain C.runnable.program C.procedure mentions x (variable_used uses ty x qualified covers)) ty qualified
     parts_still (typed ty (unary op e)) covers inert =
         let h = parts_still e (both_true (covers_type ty) (covers_expr uses e) covers).1 inert in
         then_still IsAddress IsAddress w (term_parts C ty (unary op e) w) _

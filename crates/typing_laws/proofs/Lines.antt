@@ -25,10 +25,10 @@ use Rattle.vb6_run.specs.Lines.{behind_print, branch, condition, goes_if, goes_o
 use Rattle.vb6_run.specs.Store.{Address, Memory, SourceFrame, set_err}
 use Rattle.vb6_run.specs.Values.{Value}
 use Rattle.run_matches.specs.CoveredVariables.{covers_type}
-use Rattle.run_matches.specs.CoveredExprs.{Uses, covers_expr, covers_exprs, covers_term}
+use Rattle.run_matches.specs.CoveredExprs.{Uses, covers_expr, covers_exprs, covers_object, covers_passed, covers_term}
 use Rattle.run_matches.specs.CoveredLines.{covers_called, is_box}
 use Rattle.run_matches.specs.Formed.{are_formed, is_formed, is_row_of_call, types_of}
-use Rattle.typing_laws.specs.Flat.{flat_uses}
+use Rattle.typing_laws.specs.Flat.{flat_uses, outer_uses}
 use Rattle.typing_laws.specs.Calls.{CallsAreSuited, CallsKeep, Each, IsAimed, IsSuited, SourceJob}
 use Rattle.typing_laws.specs.Frames.{IsKeptBy, IsSound, IsTypedFrame, Keeps}
 use Rattle.typing_laws.specs.Leaving.{Leaves, ItemsLeave, in_item, behind_item, in_raised, at_raised, is_error_number}
@@ -36,6 +36,7 @@ use Rattle.typing_laws.specs.Typed.{are_typed, are_typed_passed, fits_call, fits
 use Rattle.typing_laws.proofs.Callees.{both_each}
 use Rattle.typing_laws.proofs.Ends.{Ends, ends_after, ends_as, ends_weaker, keeps_self, sound_later, then_ends}
 use Rattle.typing_laws.proofs.Expressions.{Fits, IsScalarOf, IsTyped, fitting, scalar_ends}
+use Rattle.typing_laws.proofs.Flat.{no_object_covered}
 use Rattle.typing_laws.proofs.Frames.{frame_at, frame_later}
 use Rattle.typing_laws.proofs.Places.{keeps_same, not_none}
 use Rattle.typing_laws.proofs.Plain.{Plain, IsPrinted, a_boolean, is_printed, long_value, same_as}
@@ -291,7 +292,8 @@ module _ (C : Context) (F : Footprint) (X : SourceJob → Memory → Type 0) (ca
       (ends_as K (IsCalled C F X calls mentions callee.parts.head.procedure) Any (Leaves C X (typed ty t) w) w (term_parts C ty t w) (λ v p i. tt)
       (call_ends C F X calls mentions w (fits_in C F w h) ty q qualified args callee
       (call_args_end C F X calls mentions ty q args callee covers formed types.0 suited.0.suits suited.1 w (fits_in C F w h))))
-  call_statement w h (typed ty (call q qualified (of_object e) args)) covers formed typing suited = absurd (true≢false (sym covers))
+  call_statement w h (typed ty (call q qualified (of_object e) args)) covers formed typing suited =
+      absurd (no_object_covered (outer_uses C.runnable.program C.procedure mentions) e (both_true (covers_object uses e) (covers_passed uses args) covers).0)
   call_statement w h (typed ty (library f args)) covers formed typing suited =
       let a = both_true (is_box f) (covers_term uses (library f args)) covers in
       let b = both_true (is_row_of_call f (types_of args) ty) (are_formed args) formed in

@@ -18,6 +18,7 @@ use Rattle.vb6_run.specs.Runnables.{Runnable, is_class_file}
 use Rattle.run_matches.specs.CoveredVariables.{belongs_to, covers_declared, has_extents}
 use Rattle.run_matches.specs.CoveredLines.{covers_in_block, covers_line}
 use Rattle.run_matches.specs.Covered.{covers_all_calls, covers_body, covers_calls, covers_head, covers_kind, covers_names, covers_parameter, covers_procedure, covers_result, covers_site, covers_variables, has_answer, has_result, is_answer_of, is_parameter_of, is_plain_kind, is_result_in, is_scalar_or_loud, is_taken_in}
+use Rattle.run_matches.specs.Shared.{is_outer}
 use Rattle.run_matches.specs.Sites.{site_of}
 use Rattle.typing_laws.specs.Flat.{are_flat_lines, has_flat_variables, is_flat, is_flat_line}
 use Rattle.typing_laws.specs.Calls.{IsReady}
@@ -30,16 +31,13 @@ pub record Head (P : Program) (p : ℕ) : Type 0 where
   pub kind : covers_kind procedure.kind ≡ true
   pub params : list_all (covers_parameter P p) procedure.params ≡ true
   pub result : covers_result P.declarations p procedure ≡ true
-  pub outer : not (is_class_file P.declarations procedure.module_number) ≡ true
 
 head_in : (P : Program) (p : ℕ) (o : Option Procedure) → slice_get P.declarations.procs p ≡ o → covers_head P p o ≡ true → Head P p
 head_in P p None is h = absurd (true≢false (sym h))
 head_in P p (Some x) is h =
-    let outer = not (is_class_file P.declarations x.module_number) in
-    let a = both_true (covers_kind x.kind) (list_all (covers_parameter P p) x.params && (covers_result P.declarations p x && outer)) h in
-    let b = both_true (list_all (covers_parameter P p) x.params) (covers_result P.declarations p x && outer) a.1 in
-    let c = both_true (covers_result P.declarations p x) outer b.1 in
-    record { procedure = x; is_procedure = is; kind = a.0; params = b.0; result = c.0; outer = c.1 }
+    let a = both_true (covers_kind x.kind) (list_all (covers_parameter P p) x.params && covers_result P.declarations p x) h in
+    let b = both_true (list_all (covers_parameter P p) x.params) (covers_result P.declarations p x) a.1 in
+    record { procedure = x; is_procedure = is; kind = a.0; params = b.0; result = b.1 }
 
 -- the head of a covered procedure
 pub head_of : (P : Program) (p : ℕ) → covers_procedure P p ≡ true → Head P p
@@ -67,6 +65,8 @@ body_in P p (Some lines) is h c t s =
 
 pub record Parts (P : Program) (p : ℕ) : Type 0 where
   pub head : Head P p
+  -- it stands in a standard module
+  pub outer : not (is_class_file P.declarations head.procedure.module_number) ≡ true
   pub variables : has_flat_variables P p ≡ true
   pub body : Body P p
   -- each ReDim of the project gives its arrays a bound
@@ -88,9 +88,12 @@ parts_of R p ready =
     let b = both_true head (at && (covers_variables P p && body)) a.1 in
     let c = both_true at (covers_variables P p && body) b.1 in
     let d = both_true (covers_variables P p) body c.1 in
-    let s = both_true (are_flat_lines P p (slice_get P.bodies p)) (has_flat_variables P p) (ready.flat p (empty p)) in
+    let f = both_true (is_outer D (slice_get D.procs p)) (are_flat_lines P p (slice_get P.bodies p) && has_flat_variables P p) (ready.flat p (empty p)) in
+    let s = both_true (are_flat_lines P p (slice_get P.bodies p)) (has_flat_variables P p) f.1 in
+    let x : Head P p = head_in P p (slice_get D.procs p) refl b.0 in
     record {
-      head = head_in P p (slice_get D.procs p) refl b.0;
+      head = x;
+      outer = sym (ap (is_outer D) x.is_procedure) ∙ f.0;
       variables = s.1;
       extents = (both_true (list_all (λ (x : Variable). cond (belongs_to p x.owner) (covers_declared D x) true) D.vars) (has_extents P) d.0).1;
       body = body_in P p (slice_get P.bodies p) refl d.1 z.0 (ready.typed p (empty p)) s.0;

@@ -19,10 +19,10 @@ use Rattle.written_trees.specs.Arguments.{is_reference_owner, takes_reference}
 use Rattle.vb6_run.specs.Expressions.{Context, declared, value_of, scalar_value, scalar_in, long_in, whole_number, parts_of, indexes_of, argument_of, library_call, values_of}
 use Rattle.vb6_run.specs.Store.{Memory}
 use Rattle.run_matches.specs.CoveredVariables.{covers_type}
-use Rattle.run_matches.specs.CoveredExprs.{Uses, covers_argument, covers_array, covers_dimension, covers_expr, covers_exprs, covers_library, covers_term, is_bound, uses_in}
+use Rattle.run_matches.specs.CoveredExprs.{Uses, covers_argument, covers_array, covers_dimension, covers_expr, covers_exprs, covers_library, covers_term, is_bound}
 use Rattle.run_matches.specs.Covered.{is_referred, suits_argument, suits_array, suits_group}
 use Rattle.run_matches.specs.Formed.{are_longs, has_elements, is_row_of_call, types_of}
-use Rattle.typing_laws.specs.Flat.{has_flat_variables, flat_uses}
+use Rattle.typing_laws.specs.Flat.{has_flat_variables, flat_uses, outer_uses}
 use Rattle.typing_laws.specs.Calls.{CallsKeep, SourceJob}
 use Rattle.typing_laws.specs.Frames.{IsGiven}
 use Rattle.typing_laws.specs.Leaving.{Leaves, ExprsLeave, passed_value}
@@ -139,7 +139,7 @@ module _ (C : Context) (F : Footprint) (X : SourceJob → Memory → Type 0) (ca
   uses = flat_uses C.runnable.program C.procedure mentions
 
   abbrev all_uses : Uses
-  all_uses = uses_in C.runnable.program C.procedure mentions
+  all_uses = outer_uses C.runnable.program C.procedure mentions
 
   abbrev Right : Expr → Memory → Type 0
   Right e w = IsRight C F X e w

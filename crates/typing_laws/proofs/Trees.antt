@@ -21,10 +21,10 @@ use Rattle.run_base.specs.Outcomes.{gives, then}
 use Rattle.vb6_run.specs.Expressions.{Context, declared, value_of, scalar_value, whole_number, indexes_of, argument_of, args_of, values_of}
 use Rattle.vb6_run.specs.Store.{Memory}
 use Rattle.run_matches.specs.CoveredVariables.{covers_type}
-use Rattle.run_matches.specs.CoveredExprs.{Uses, covers_argument, covers_array, covers_expr, covers_exprs, covers_operand, covers_operator, covers_passed, covers_term, uses_in}
+use Rattle.run_matches.specs.CoveredExprs.{Uses, covers_argument, covers_array, covers_expr, covers_exprs, covers_object, covers_operand, covers_operator, covers_passed, covers_term}
 use Rattle.run_matches.specs.Covered.{covers_parameter, suits_argument, suits_passed}
 use Rattle.run_matches.specs.Formed.{are_formed, are_longs, has_elements, is_formed, is_formed_argument, is_row_of_call, is_row_of_one, is_row_of_two, passed_are_formed, types_of}
-use Rattle.typing_laws.specs.Flat.{flat_uses}
+use Rattle.typing_laws.specs.Flat.{flat_uses, outer_uses}
 use Rattle.typing_laws.specs.Calls.{CallsAreSuited, CallsKeep, Each, IsSuited, SourceJob}
 use Rattle.typing_laws.specs.Frames.{AreGiven, IsGiven}
 use Rattle.typing_laws.specs.Leaving.{Leaves, ExprsLeave, PassedLeave, in_first, in_later, in_argument, behind_argument, passed_value}
@@ -35,7 +35,7 @@ use Rattle.typing_laws.proofs.Expressions.{Fits, IsScalarOf, IsTyped, binary_end
 use Rattle.typing_laws.proofs.Library.{ArePlain}
 use Rattle.typing_laws.proofs.Plain.{Plain, constant_plain, long_value, same_as}
 use Rattle.typing_laws.proofs.Procedures.{Parameter, parameter_of}
-use Rattle.typing_laws.proofs.Flat.{array_named, no_field, operand_nothing}
+use Rattle.typing_laws.proofs.Flat.{array_named, no_field, no_object_covered, operand_nothing, variable_used}
 use Rattle.typing_laws.proofs.Elements.{AreIndexes}
 use Rattle.typing_laws.proofs.Found.{HasAddress, IsRight, element_value}
 use Rattle.typing_laws.proofs.Values.{Callee, call_ends, call_value, callee_of, covered_type, given_later}
@@ -53,7 +53,7 @@ module _ (C : Context) (F : Footprint) (X : SourceJob → Memory → Type 0) (ca
   uses = flat_uses C.runnable.program C.procedure mentions
 
   abbrev all_uses : Uses
-  all_uses = uses_in C.runnable.program C.procedure mentions
+  all_uses = outer_uses C.runnable.program C.procedure mentions
 
   abbrev Right : Expr → Memory → Type 0
   Right e w = IsRight C F X e w
@@ -71,7 +71,7 @@ module _ (C : Context) (F : Footprint) (X : SourceJob → Memory → Type 0) (ca
           tt,
         )
     right_ends (typed ty (variable x qualified)) covers formed typing suited w fits =
-        (variable_ends C F X calls mentions w fits ty x qualified (both_true (covers_type ty) (uses.scalar x) covers).1 typing, tt)
+        (variable_ends C F X calls mentions w fits ty x qualified (variable_used uses ty x qualified covers) typing, tt)
     right_ends (typed ty (unary op e)) covers formed typing suited w fits =
         let both = both_true (covers_type ty) (covers_expr uses e) covers in
         let forms = both_true (is_row_of_one ty (write_unary op (type_at e))) (is_formed e) formed in (
@@ -127,7 +127,7 @@ module _ (C : Context) (F : Footprint) (X : SourceJob → Memory → Type 0) (ca
           tt,
         )
     right_ends (typed ty (call q qualified (of_object e) args)) covers formed typing suited w fits =
-        absurd (true≢false (sym (both_true (covers_type ty) (false && covers_passed uses args) covers).1))
+        absurd (no_object_covered all_uses e (both_true (covers_object uses e) (covers_passed uses args) (both_true (covers_type ty) (covers_object uses e && covers_passed uses args) covers).1).0)
     right_ends (typed ty (field e i)) covers formed typing suited w fits = absurd (no_field all_uses ty e i covers)
     right_ends (typed ty (element a indexes)) covers formed typing suited w fits =
         let both = both_true (covers_type ty) (covers_array uses a && covers_exprs uses indexes) covers in
@@ -141,7 +141,7 @@ module _ (C : Context) (F : Footprint) (X : SourceJob → Memory → Type 0) (ca
         (indexes_end indexes operands.1 inner.1 types.1 parts.1 (longs_all (types_of indexes) inner.0) w fits) in
         (element_value C F X ty a indexes w both.0 found, found)
     right_ends (typed ty (new_object class)) covers formed typing suited w fits = absurd (true≢false (sym formed))
-    right_ends (typed ty me) covers formed typing suited w fits = absurd (true≢false (sym formed))
+    right_ends (typed ty me) covers formed typing suited w fits = absurd (true≢false (sym (both_true (covers_type ty) false covers).1))
     right_ends (typed ty (with_object r)) covers formed typing suited w fits = absurd (true≢false (sym formed))
     right_ends (typed ty err_number) covers formed typing suited w fits =
         (number_ends C F X w ty (same_as types.long ty (both_true (covers_type ty) true covers).0 formed), tt)

@@ -1,6 +1,6 @@
 -- Variables that covered expressions use, each at an address where it stands.
 use Rattle.std.proofs.Common.{◌≡◌, ◌⊎◌, inl, inr, refl, sym, ap, ◌∙◌, ℕ, Bool, true, false, cond, not, ◌&&◌, nat_eq, true≢false, List, [], ◌∷◌, Option, Some, None}
-use Rattle.std.specs.Prelude.{slice_get, position}
+use Rattle.std.specs.Prelude.{slice_get}
 use Rattle.std.specs.List.{list_any}
 use Rattle.up_base.proofs.Tests.{both_true, not_true}
 use Rattle.vb_tree.specs.BoundTree as types
@@ -8,23 +8,19 @@ use Rattle.vb_tree.specs.BoundTree.{Ty}
 use Rattle.vb_tree.specs.declared.declared.Owner.{Owner}
 use Rattle.vb_tree.specs.declared.declared.Owner.TheVariants as owner
 use Rattle.vb_tree.specs.declared.declared.VarId.{VarId}
-use Rattle.vb_tree.specs.ProjectLines.{is_reserved}
-use Rattle.vb_tree.specs.Tree.{Module}
 use Rattle.bound_tree.specs.declared.body.Mention.{Mention}
 use Rattle.bound_tree.specs.Tree.{Variable, Declarations, Program}
 use Rattle.bound_facts.specs.Node.{auto_class, class_in}
-use Rattle.written_trees.specs.Names.{module_at, is_standard_module, module_name}
-use Rattle.written_trees.specs.Placing.{Placed}
 use Rattle.vb6_run.specs.Programs.{is_module_variable}
 use Rattle.vb6_run.specs.Runnables.{declared_address, is_class_file, object_root, root_address, variable_address}
 use Rattle.run_base.specs.Positions.{shared}
 use Rattle.vb6_run.specs.Shapes.{variable_shape}
 use Rattle.vb6_run.specs.Store.{Address, Memory, SourceFrame, root}
-use Rattle.run_matches.specs.CoveredVariables.{belongs_to, covers_array_owner, covers_array_use, covers_array_variable, covers_bounds, covers_owner, covers_some, covers_some_array, covers_type, covers_use, covers_variable, is_array_of, is_foreign_name, is_loud, is_mention_of, is_named_apart, is_reached}
+use Rattle.run_matches.specs.CoveredVariables.{belongs_to, covers_array_owner, covers_array_use, covers_array_variable, covers_bounds, covers_owner, covers_some, covers_some_array, covers_type, covers_use, covers_variable, is_array_of, is_class_member, is_loud, is_mention_of, is_named_apart, is_of_class, is_reached}
 use Rattle.run_matches.specs.Covered.{is_answer_of}
-use Rattle.run_matches.specs.Shared.{is_alone_static, leads_to_home, leads_to_member, names_lead, placed_module}
+use Rattle.run_matches.specs.Shared.{is_alone_static}
 use Rattle.typing_laws.specs.Frames.{Footprint, HasOwn, IsPlace, IsSound, ground, shared_place}
-use Rattle.typing_laws.specs.Flat.{has_flat_variables, is_flat}
+use Rattle.typing_laws.specs.Flat.{has_flat_variables, is_flat, stands_outside}
 use Rattle.typing_laws.proofs.Made.{IsArray, array_flat, array_type, flat_kinds, scalar_flat, shape_of_variable}
 use Rattle.typing_laws.proofs.Places.{all_at}
 
@@ -36,49 +32,56 @@ pub record Used (D : Declarations) (p : ℕ) (v : VarId) : Type 0 where
   pub covers : covers_type variable.ty ≡ true
   pub plain : auto_class (slice_get D.vars v.0) ≡ None
 
--- names lead to a variable of a standard module alone
-outer_member : (D : Declarations) (p v : ℕ) (name : List ℕ) (file home : ℕ) (o : Option (Module × List Placed)) → leads_to_member D p v name file home o ≡ true
-    → not (is_class_file D file) ≡ true
-outer_member D p v name file home None h = absurd (true≢false (sym h))
-outer_member D p v name file home (Some m) h = (both_true (not (is_class_file D file)) _ h).0
-
-outer_home : (D : Declarations) (p v : ℕ) (name : List ℕ) (file : ℕ) (o : Option ℕ) → leads_to_home D p v name file o ≡ true
-    → not (is_class_file D file) ≡ true
-outer_home D p v name file None h = absurd (true≢false (sym h))
-outer_home D p v name file (Some home) h = outer_member D p v name file home (placed_module D home) h
-
-owner_reached : (D : Declarations) (p v : ℕ) (name : List ℕ) (o : Owner) → is_reached D p v name o ≡ true → covers_owner o ≡ true
+-- what is no variable of a class is one of a standard module, where it is one of a module
+owner_reached : (D : Declarations) (p v : ℕ) (name : List ℕ) (o : Owner) → not (is_of_class D o) ≡ true → is_reached D p v name o ≡ true → covers_owner o ≡ true
     → (is_module_variable D o ≡ true) ⊎ (belongs_to p o ≡ true)
-owner_reached D p v name (owner.Module file) h c =
-    let leads = both_true (names_lead D p v name file) (is_foreign_name D p name) h in
-    inl (outer_home D p v name file (position (λ (m : Module). nat_eq m.file file) D.project.modules)
-    (both_true (is_standard_module (module_at D.project file) && not (is_reserved (module_name D file))) _ leads.0).1)
-owner_reached D p v name (owner.Local q) h c = inr h
-owner_reached D p v name (owner.Static q) h c = inr (both_true (nat_eq p q.0) (is_alone_static D p v name) h).0
-owner_reached D p v name (owner.Value q) h c = inr h
-owner_reached D p v name (owner.Reference q) h c = inr h
-owner_reached D p v name (owner.Answer q) h c = inr h
-owner_reached D p v name (owner.Field t) h c = absurd (true≢false (sym c))
+owner_reached D p v name (owner.Module file) out h c = inl out
+owner_reached D p v name (owner.Local q) out h c = inr h
+owner_reached D p v name (owner.Static q) out h c = inr (both_true (nat_eq p q.0) (is_alone_static D p v name) h).0
+owner_reached D p v name (owner.Value q) out h c = inr h
+owner_reached D p v name (owner.Reference q) out h c = inr h
+owner_reached D p v name (owner.Answer q) out h c = inr h
+owner_reached D p v name (owner.Field t) out h c = absurd (true≢false (sym c))
 
-use_in : (D : Declarations) (p : ℕ) (v : VarId) (o : Option Variable) → slice_get D.vars v.0 ≡ o → covers_some D p v.0 o ≡ true → Used D p v
-use_in D p v None is h = absurd (true≢false (sym h))
-use_in D p v (Some x) is h =
+scalar_plain : (D : Declarations) (v : VarId) (x : Variable) → slice_get D.vars v.0 ≡ Some x → covers_variable x ≡ true → auto_class (slice_get D.vars v.0) ≡ None
+scalar_plain D v x is h =
+    let b = both_true (covers_owner x.owner) (covers_type x.ty && not x.auto) h in
+    ap auto_class is ∙ ap (λ t. cond t (class_in x.ty) None) (not_true x.auto (both_true (covers_type x.ty) (not x.auto) b.1).1)
+
+use_in : (D : Declarations) (p : ℕ) (v : VarId) (o : Option Variable) → slice_get D.vars v.0 ≡ o → not (is_class_member D o) ≡ true
+    → covers_some D p v.0 o ≡ true → Used D p v
+use_in D p v None is out h = absurd (true≢false (sym h))
+use_in D p v (Some x) is out h =
     let a = both_true (is_reached D p v.0 x.name x.owner) (covers_variable x) h in
     let b = both_true (covers_owner x.owner) (covers_type x.ty && not x.auto) a.1 in
-    let c = both_true (covers_type x.ty) (not x.auto) b.1 in
     record {
       variable = x;
       is_variable = is;
-      owned = owner_reached D p v.0 x.name x.owner a.0 b.0;
-      covers = c.0;
-      plain = ap auto_class is ∙ ap (λ t. cond t (class_in x.ty) None) (not_true x.auto c.1);
+      owned = owner_reached D p v.0 x.name x.owner out a.0 b.0;
+      covers = (both_true (covers_type x.ty) (not x.auto) b.1).0;
+      plain = scalar_plain D v x is a.1;
     }
 
-pub use_is : (P : Program) (p : ℕ) (mentions : List Mention) (v : VarId) → covers_use P p mentions v ≡ true → Used P.declarations p v
+pub use_is : (P : Program) (p : ℕ) (mentions : List Mention) (v : VarId) → covers_use P p mentions v && stands_outside P.declarations v ≡ true
+    → Used P.declarations p v
 use_is P p mentions v h =
     let D : Declarations = P.declarations in
     let o = slice_get D.vars v.0 in
-    use_in D p v o refl (both_true (list_any (is_mention_of v) mentions) (covers_some D p v.0 o) h).1
+    let a = both_true (covers_use P p mentions v) (stands_outside D v) h in
+    use_in D p v o refl a.1 (both_true (list_any (is_mention_of v) mentions) (covers_some D p v.0 o) a.0).1
+
+-- no As New variable is covered
+pub use_plain : (P : Program) (p : ℕ) (mentions : List Mention) (v : VarId) → covers_use P p mentions v ≡ true
+    → auto_class (slice_get P.declarations.vars v.0) ≡ None
+use_plain P p mentions v h =
+    by (slice_get P.declarations.vars v.0) refl
+    (both_true (list_any (is_mention_of v) mentions) (covers_some P.declarations p v.0 (slice_get P.declarations.vars v.0)) h).1
+  where
+    by : (o : Option Variable) → slice_get P.declarations.vars v.0 ≡ o → covers_some P.declarations p v.0 o ≡ true
+        → auto_class (slice_get P.declarations.vars v.0) ≡ None
+    by None is c = absurd (true≢false (sym c))
+    by (Some x) is c =
+        scalar_plain P.declarations v x is (both_true (is_reached P.declarations p v.0 x.name x.owner) (covers_variable x) c).1
 
 -- an array that a line of a procedure uses
 pub record UsedArray (D : Declarations) (p : ℕ) (v : VarId) (e : Ty) : Type 0 where
@@ -99,9 +102,10 @@ array_owner (owner.Value p) h = refl
 array_owner (owner.Answer p) h = refl
 array_owner (owner.Field t) h = absurd (true≢false (sym h))
 
-array_in : (D : Declarations) (p : ℕ) (v : VarId) (e : Ty) (o : Option Variable) → slice_get D.vars v.0 ≡ o → covers_some_array D p v.0 e o ≡ true → UsedArray D p v e
-array_in D p v e None is h = absurd (true≢false (sym h))
-array_in D p v e (Some x) is h =
+array_in : (D : Declarations) (p : ℕ) (v : VarId) (e : Ty) (o : Option Variable) → slice_get D.vars v.0 ≡ o → not (is_class_member D o) ≡ true
+    → covers_some_array D p v.0 e o ≡ true → UsedArray D p v e
+array_in D p v e None is out h = absurd (true≢false (sym h))
+array_in D p v e (Some x) is out h =
     let named = is_named_apart (slice_get D.procs p) x.name in
     let a = both_true (is_reached D p v.0 x.name x.owner) (covers_array_variable e x && named) h in
     let b = both_true (covers_array_variable e x) named a.1 in
@@ -111,7 +115,7 @@ array_in D p v e (Some x) is h =
     record {
       variable = x;
       is_variable = is;
-      owned = owner_reached D p v.0 x.name x.owner a.0 (array_owner x.owner owner.0);
+      owned = owner_reached D p v.0 x.name x.owner out a.0 (array_owner x.owner owner.0);
       flat = array_flat x e b.0;
       rank = t.0;
       is_type = t.1;
@@ -122,14 +126,15 @@ array_in D p v e (Some x) is h =
     none_of true = refl
     none_of false = refl
 
-pub array_use_is : (P : Program) (p : ℕ) (mentions : List Mention) (v : VarId) (e : Ty) → covers_array_use P p mentions v e ≡ true
-    → UsedArray P.declarations p v e × (is_loud P v.0 (slice_get P.declarations.vars v.0) ≡ true)
+pub array_use_is : (P : Program) (p : ℕ) (mentions : List Mention) (v : VarId) (e : Ty)
+    → covers_array_use P p mentions v e && stands_outside P.declarations v ≡ true → UsedArray P.declarations p v e × (is_loud P v.0 (slice_get P.declarations.vars v.0) ≡ true)
 array_use_is P p mentions v e h =
     let D : Declarations = P.declarations in
     let o = slice_get D.vars v.0 in
-    let a = both_true (list_any (is_mention_of v) mentions) (covers_some_array D p v.0 e o && is_loud P v.0 o) h in
+    let used = both_true (covers_array_use P p mentions v e) (stands_outside D v) h in
+    let a = both_true (list_any (is_mention_of v) mentions) (covers_some_array D p v.0 e o && is_loud P v.0 o) used.0 in
     let b = both_true (covers_some_array D p v.0 e o) (is_loud P v.0 o) a.1 in
-    (array_in D p v e o refl b.0, b.1)
+    (array_in D p v e o refl used.1 b.0, b.1)
 
 -- ---- addresses
 
