@@ -11,7 +11,7 @@ use Rattle.vb_tree.specs.Tree.{CaseItem, Form}
 use Rattle.vb_tree.specs.Tree as source
 use Rattle.bound_tree.specs.declared.body.Mention.{Mention}
 use Rattle.bound_tree.specs.Labels.{Label}
-use Rattle.bound_tree.specs.Tree.{Program, Expr, typed, Term, constant, variable, field, element, library, unary, binary, convert, Line, Exprs, no_exprs, next_expr, call, no_object, of_object, by_value, by_reference, Passed, no_passed, next_passed, err_number, err_raise, err_clear, is_same, me}
+use Rattle.bound_tree.specs.Tree.{Program, Expr, typed, Term, constant, variable, field, element, library, unary, binary, convert, new_object, Line, Exprs, no_exprs, next_expr, call, no_object, of_object, by_value, by_reference, Passed, no_passed, next_passed, err_number, err_raise, err_clear, is_same, me}
 use Rattle.bound_facts.specs.Locks.{is_same_type}
 use Rattle.bound_facts.specs.Node.{declared_at, type_at, is_variant}
 use Rattle.bound_facts.specs.Parts.{Extent, Resize, resizes}
@@ -162,6 +162,7 @@ module _ (P : Program) (S : Scope) (same : S.declarations ≡ P.declarations) (f
         (nothing_known e (is_nothing_converted ((uses_in P p mentions).given ty) ty to e h)),
     not_both (holds_array S.facts ty),
   )
+  given_group ty (new_object c) h other = (tt, not_both (holds_array S.facts ty))
   given_group ty _ h other = absurd (cc h)
 
   -- a value of a user type or a class

@@ -15,7 +15,7 @@ use Rattle.vb_tree.specs.declared.value.Value6.{Value6}
 use Rattle.vb_tree.specs.declared.value.Value6.TheVariants as v6
 use Rattle.bound_tree.specs.declared.body.Mention.{Mention}
 use Rattle.bound_tree.specs.declared.expression.Origin.{Origin}
-use Rattle.bound_tree.specs.Tree.{Program, Expr, typed, Term, constant, variable, field, element, library, unary, binary, convert, Exprs, no_exprs, next_expr, call, no_object, of_object, by_value, by_reference, Passed, no_passed, next_passed, err_number, err_raise, is_same, me}
+use Rattle.bound_tree.specs.Tree.{Program, Expr, typed, Term, constant, variable, field, element, library, unary, binary, convert, new_object, Exprs, no_exprs, next_expr, call, no_object, of_object, by_value, by_reference, Passed, no_passed, next_passed, err_number, err_raise, is_same, me}
 use Rattle.bound_facts.specs.Nodes.{nodes, nodes_in, nodes_of_all, nodes_of_passed}
 use Rattle.bound_facts.specs.Node.{type_at, is_variant}
 use Rattle.net_meaning.specs.WrittenRows.{write_operator, write_unary, write_conversion}
@@ -278,6 +278,7 @@ module _ (P : Program) (S : Scope) (same : S.declarations ≡ P.declarations) (p
   given_group ty (convert to e) h free other =
       nothing_names e (is_nothing_converted ((uses_in P p mentions).given ty) ty to e h)
       ∙ sym (converted_names count right.no_support right.no_strings S to e)
+  given_group ty (new_object c) h free other = refl
   given_group ty _ h free other = absurd (cc h)
 
   -- a value of a user type or a class

@@ -22,7 +22,7 @@ use Rattle.run_matches.specs.Runs.{IsObject, call_pledge, own_in_call}
 use Rattle.run_matches.specs.Upgrades.{Upgrade}
 use Rattle.run_statements.specs.Frames.{CanCall}
 use Rattle.agreeing_laws.specs.Promises.{Weaker}
-use Rattle.agreeing_laws.proofs.Made.{more}
+use Rattle.agreeing_laws.proofs.Made.{below_then, more}
 use Rattle.agreeing_laws.proofs.Moves.{address_promised, locks_later}
 use Rattle.agreeing_laws.proofs.OwnObjects.{own_object_later}
 use Rattle.agreeing_laws.proofs.Scalars.{object_later}
@@ -42,7 +42,7 @@ object_stays U K w0 w1 None l h = tt
 object_stays U K w0 w1 (Some k) l h = more k w0.src.next_object w1.src.next_object l.grows.objects h
 
 pub stands_now : (U : Upgrade) (K : Pledge) (w : World) (p : ℕ) (f : SourceFrame) (g : NetFrame) → FrameMatch U K w p f g → Stands U K w p f g
-stands_now U K w p f g h = record { me = h.me; object = object_at w f.me h.me_made; own_object = h.own_object; locks = h.locks }
+stands_now U K w p f g h = record { me = h.me; object = object_at w f.me h.me_made; own_object = h.own_object; locks = h.locks; low = h.low }
 
 pub stands_later : (U : Upgrade) (K : Pledge) (w0 w1 : World) (p : ℕ) (f : SourceFrame) (g : NetFrame) → Later U K w0 w1 → Stands U K w0 p f g
     → Stands U K w1 p f g
@@ -51,6 +51,7 @@ stands_later U K w0 w1 p f g l h = record {
   object = object_stays U K w0 w1 f.me l h.object;
   own_object = own_object_later U K w0 w1 p f.me l h.own_object;
   locks = locks_later U K w0 w1 f.env l h.locks;
+  low = below_then K.base (mark w0.src) (mark w1.src) h.low l.grows;
 }
 
 -- ---- no array is in a scalar

@@ -46,6 +46,7 @@ use Rattle.run_matches.specs.Runs.{CallsAgree}
 use Rattle.run_statements.specs.Fitting.{FitsPassed}
 use Rattle.run_statements.specs.Frames.{AllCalled, AllCalledAll, AllCalledFor, Demands, demands, ScalarMatch, PlainMatch, IsOpen, context_of, AreReadable, passing_at, passing_by, IsOne, type_shape}
 use Rattle.run_statements.specs.Groups.{ValueMatch}
+use Rattle.run_statements.specs.Objects.{ClassesAreWritten}
 use Rattle.run_statements.specs.Written.{Passes}
 use Rattle.row_laws.proofs.Stated as rows
 use Rattle.run_matches.specs.Formed.{are_formed, are_longs, has_elements, types_of, is_row_of_one, is_row_of_two, passed_are_formed, is_formed}
@@ -62,6 +63,7 @@ use Rattle.expression_laws.proofs.GroupArguments.{group_goes, grouped}
 use Rattle.expression_laws.proofs.FieldReferences.{field_passed}
 use Rattle.expression_laws.proofs.Is.{is_agrees}
 use Rattle.expression_laws.proofs.MemberValues.{field_agrees, group_field_agrees, me_agrees}
+use Rattle.expression_laws.proofs.NewValues.{new_agrees}
 use Rattle.expression_laws.proofs.Nothings.{nothing_agrees, nothing_converted, operand_agrees, operand_reference}
 use Rattle.expression_laws.specs.Statements.{ParametersAreSound}
 use Rattle.expression_laws.proofs.Handed.{scalar_lasts, taken_agrees}
@@ -95,7 +97,7 @@ one_right (x ∷ xs) ys t o = inr (one_right xs ys t o)
 module _ (U : Upgrade) (p : ℕ) (f : SourceFrame) (g : NetFrame) (oracle : SourceCalls) (net_oracle : Jobs)
     (l : SourceLine) (k : NetLine) (c : Code) (T : Scope) (uses : Uses) (same_declarations : T.declarations ≡ U.program.declarations)
     (opened : IsOpen (scope_of U.written c g k)) (readable : AreReadable U T uses) (leads : AllLead (scope_of U.written c g k) T uses)
-    (agree : CallsAgree U (Passes U) oracle net_oracle) (sound : ParametersAreSound U) where
+    (agree : CallsAgree U (Passes U) oracle net_oracle) (sound : ParametersAreSound U) (classes : ClassesAreWritten U) where
   abbrev C : Context
   C = context_of U oracle p f l
 
@@ -232,7 +234,7 @@ module _ (U : Upgrade) (p : ℕ) (f : SourceFrame) (g : NetFrame) (oracle : Sour
           ),
         ))
         (λ bounds. bounded_by U p f g oracle net_oracle l k c T uses same_declarations opened readable K ty function args w start have.variables bounds formed)
-    expression_agrees K (typed ty (new_object class)) w start have stands can covers formed = absurd (cc formed)
+    expression_agrees K (typed ty (new_object class)) w start have stands can covers formed = absurd (cc (both_true (covers_type ty) false covers).1)
     expression_agrees K (typed ty me) w start have stands can covers formed = absurd (cc (both_true (covers_type ty) false covers).1)
     expression_agrees K (typed ty (with_object root)) w start have stands can covers formed = absurd (cc formed)
     expression_agrees K (typed ty err_number) w start have stands can covers formed = err_number_agrees U K C S net_oracle opened.support T w start ty formed
@@ -259,6 +261,8 @@ module _ (U : Upgrade) (p : ℕ) (f : SourceFrame) (g : NetFrame) (oracle : Sour
         (or_false (covers_place uses (typed ty (variable v qualified))) covers)
     group_agrees K (typed ty (field d j)) w start have stands can covers formed =
         group_field_agrees U K p f g oracle net_oracle l k c T uses same_declarations readable w have start ty d j can covers
+    group_agrees K (typed ty (new_object class)) w start have stands can covers formed =
+        new_agrees U K p f g oracle net_oracle l k c T agree w start stands uses readable classes ty class can covers
     group_agrees K (typed ty me) w start have stands can covers formed =
         me_agrees U K p f g oracle net_oracle l k c T uses same_declarations readable w have start ty covers
     group_agrees K (typed ty (call q qualified of args)) w start have stands can covers formed =

@@ -1,9 +1,10 @@
 -- While a call with elements by reference is evaluated, their arrays are kept.
-use Rattle.std.proofs.Common.{◌⊎◌, inl, inr, refl, ℕ, Bool, not, List, [], ◌∷◌, ◌++◌}
+use Rattle.std.proofs.Common.{◌≡◌, ◌⊎◌, inl, inr, refl, ℕ, Bool, not, Option, Some, None, List, [], ◌∷◌, ◌++◌}
 use Rattle.vb_tree.specs.BoundTree.{Ty}
 use Rattle.bound_tree.specs.Tree.{Expr, typed, constant, variable, field, element, call, library, unary, binary, convert, new_object, me, with_object, err_number, err_raise, err_clear, is_same, loose, Exprs, no_exprs, next_expr, Object, Passed, no_passed, next_passed, by_value, by_reference}
 use Rattle.bound_facts.specs.Facts.{is_quiet}
 use Rattle.bound_facts.specs.Locks.{Keeps}
+use Rattle.bound_facts.specs.Members.{initializer}
 use Rattle.bound_facts.specs.Nodes.{nodes, nodes_of_all, nodes_of_object, nodes_of_passed}
 use Rattle.written_trees.specs.Names.{Scope}
 use Rattle.vb6_run.specs.Store.{Address, SourceFrame}
@@ -17,7 +18,7 @@ use Rattle.run_matches.specs.Maps.{World}
 use Rattle.run_matches.specs.Match.{MemoryMatch}
 use Rattle.run_matches.specs.Pledges.{Pledge}
 use Rattle.run_matches.specs.Upgrades.{Upgrade}
-use Rattle.run_statements.specs.Frames.{AllCalled, AllCalledAll, AllCalledFor, CanCall, Demands, IsOne, KeepsEach, NodesKeep, demands}
+use Rattle.run_statements.specs.Frames.{AllCalled, AllCalledAll, AllCalledFor, CanCall, CanMake, Demands, Initializes, IsOne, KeepsEach, NodesKeep, demands}
 use Rattle.agreeing_laws.specs.Promises.{Weaker}
 use Rattle.agreeing_laws.proofs.Lasting.{later_weaker}
 use Rattle.agreeing_laws.proofs.Moves.{address_promised, locks_promised}
@@ -74,6 +75,7 @@ module _ (U : Upgrade) (K : Pledge) (ts : List Ty) (w : World) (start : MemoryMa
     object = h.object;
     own_object = h.own_object;
     locks = locks_promised U K (giving K ts) w w f.env (giving_more K ts w) h.locks;
+    low = h.low;
   }
 
 -- ---- what is called
@@ -111,6 +113,29 @@ module _ (U : Upgrade) (K : Pledge) (S : net_names.Scope) (T : Scope) (ts : List
     found = c.found;
   }
 
+  -- a new object can be made then, where its Class_Initialize keeps them
+  initializes_giving : (class home : ℕ) (i : Option ℕ) → ((q : ℕ) → i ≡ Some q → KeepsEach U q ts) → Initializes U K class home i
+      → Initializes U (giving K ts) class home i
+  initializes_giving class home None new calls = calls
+  initializes_giving class home (Some q) new calls = (
+    record {
+      passes = calls.0.passes;
+      keeps = keeps_both U K ts q calls.0.keeps (new q refl);
+      steady = calls.0.steady;
+      number = calls.0.number;
+      is_number = calls.0.is_number;
+      stands = calls.0.stands;
+    },
+    calls.1,
+  )
+
+  make_giving : (class : ℕ) → ((q : ℕ) → initializer U.program.declarations class ≡ Some q → KeepsEach U q ts) → CanMake U K S T class
+      → CanMake U (giving K ts) S T class
+  make_giving class new can = record {
+    initializes = λ home is. initializes_giving class home (initializer U.program.declarations class) new (can.initializes home is);
+    leads = can.leads;
+  }
+
   module _ (p : ℕ) (l : SourceLine) (k : NetLine) where
     abbrev Q : Demands
     Q = demands U K p l k S T
@@ -128,13 +153,13 @@ module _ (U : Upgrade) (K : Pledge) (S : net_names.Scope) (T : Scope) (ts : List
       called_giving (typed ty (field e k)) s h = called_giving e s.1 h
       called_giving (typed ty (element e indexes)) s h = (h.0, called_giving_all indexes (nodes_right U ts (nodes e) (nodes_of_all indexes) s.1) h.1)
       called_giving (typed ty (call q qualified of args)) s h =
-          (can_giving p q.0 qualified of args (s.0 q.0 refl) h.0, called_giving_for args (nodes_right U ts (nodes_of_object of) (nodes_of_passed args) s.1) h.1)
+          (can_giving p q.0 qualified of args (s.0.0 q.0 refl) h.0, called_giving_for args (nodes_right U ts (nodes_of_object of) (nodes_of_passed args) s.1) h.1)
       called_giving (typed ty (library f args)) s h = (h.0, called_giving_all args s.1 h.1)
       called_giving (typed ty (unary op e)) s h = called_giving e s.1 h
       called_giving (typed ty (binary op d e)) s h =
           (called_giving d (nodes_left U ts (nodes d) (nodes e) s.1) h.0, called_giving e (nodes_right U ts (nodes d) (nodes e) s.1) h.1)
       called_giving (typed ty (convert to e)) s h = called_giving e s.1 h
-      called_giving (typed ty (new_object c)) s h = tt
+      called_giving (typed ty (new_object c)) s h = λ made. make_giving c.0 s.0.1 (h made)
       called_giving (typed ty me) s h = tt
       called_giving (typed ty (with_object root)) s h = h
       called_giving (typed ty err_number) s h = tt

@@ -1,8 +1,8 @@
 -- User types and objects that are given by value.
-use Rattle.std.proofs.Common.{◌≡◌, refl, sym, ap, subst, ◌∙◌, ℕ, suc, Bool, true, false, ◌&&◌, List, [], ◌∷◌, ◌++◌, true≢false}
+use Rattle.std.proofs.Common.{◌≡◌, refl, sym, ap, subst, ◌∙◌, ℕ, suc, Bool, true, false, ◌&&◌, List, [], ◌∷◌, ◌++◌, Some, true≢false}
 use Rattle.vb_tree.specs.BoundTree as types
 use Rattle.vb_tree.specs.BoundTree.{Ty}
-use Rattle.bound_tree.specs.Tree.{Expr, typed, variable, field, call, convert, me}
+use Rattle.bound_tree.specs.Tree.{Expr, typed, variable, field, call, convert, me, new_object}
 use Rattle.bound_tree.specs.Tree as tree
 use Rattle.bound_facts.specs.Node.{type_at}
 use Rattle.net_tree.specs.declared.declaration.NetPassing.{NetPassing}
@@ -26,7 +26,7 @@ use Rattle.written_trees.specs.Facts.{Facts, holds_array}
 use Rattle.written_trees.specs.Names.{Scope}
 use Rattle.run_matches.specs.Addresses.{IsDeclaredShape, IsGivable}
 use Rattle.run_matches.specs.Agreeing.{Agrees}
-use Rattle.run_matches.specs.CoveredExprs.{Uses, covers_group, covers_passed, covers_receiver}
+use Rattle.run_matches.specs.CoveredExprs.{Uses, covers_group, covers_passed, covers_receiver, is_class_of}
 use Rattle.run_matches.specs.CoveredVariables.{covers_group_type}
 use Rattle.run_matches.specs.Kinds.{AreValuesOf, IsValueOf}
 use Rattle.run_matches.specs.Likeness.{FieldsLike, LikeV, like_elements, like_field, like_fields, like_flagged, like_none, like_scalar, numbers_of}
@@ -119,6 +119,8 @@ grouped U T uses readable (typed _ (field e j)) h = absurd (true≢false (sym h)
 grouped U T uses readable (typed ty (call q qualified of args)) h =
     is_group U.program.declarations ty (readable.given ty (both_true (uses.given ty) (covers_receiver uses of && covers_passed uses args) h).0)
 grouped U T uses readable (typed ty me) h = ap is_group_type (me_class uses.me ty h).1
+grouped U T uses readable (typed ty (new_object c)) h =
+    ap is_group_type (me_class (Some c.0) ty (both_true (is_class_of (Some c.0) ty) (uses.made c.0) h).0).1
 grouped U T uses readable (typed ty (convert to e)) h = ap is_group_type (nothing_converted (uses.given ty) ty to e h).is_type
 grouped U T uses readable (typed ty _) h = absurd (true≢false (sym h))
 

@@ -4,6 +4,7 @@ use Rattle.vb6_meaning.specs.Answers.{Answer}
 use Rattle.vb6_meaning.specs.Answers as value
 use Rattle.net_tree.specs.Tree.{Exp, Exps, call_of, paren, path}
 use Rattle.net_tree.specs.Tree as tree
+use Rattle.net_tree.specs.Types.{TypeName}
 use Rattle.net_tree.specs.declared.declaration.NetPassing.{NetPassing}
 use Rattle.net_tree.specs.declared.declaration.NetPassing.TheVariants as passing
 use Rattle.net_tree.specs.declared.expression.OpN.TheVariants.{Bin, Un}
@@ -14,8 +15,9 @@ use Rattle.net_meaning.specs.WrittenRows.{cast_type}
 use Rattle.run_base.specs.Outcomes.{Outcome, Output, after, gives, outside, raises, spent, then}
 use Rattle.net_run.specs.Calls.{Arguments, passings_of, performed, value_answered}
 use Rattle.net_run.specs.Expressions as target
-use Rattle.net_run.specs.Making.{Jobs}
+use Rattle.net_run.specs.Making.{Jobs, created}
 use Rattle.net_run.specs.Names.{Callee, Reached, Scope, at_address, at_element, at_field, called, found_at, named, path_start, starts, to_clone, to_library, to_procedure, to_property, to_support}
+use Rattle.net_run.specs.Shapes as shape
 use Rattle.net_run.specs.Store as net
 use Rattle.net_run.specs.Values as net_value
 use Rattle.run_matches.specs.Pledges.{NetGiven}
@@ -31,6 +33,7 @@ is_valued tree.nothing = true
 is_valued (tree.cast word e) = true
 is_valued (tree.unary op e) = true
 is_valued (tree.binary op e f) = true
+is_valued (tree.new_object ty args) = true
 is_valued e = false
 
 abbrev pub IsNoProperty : Callee → Type 0
@@ -99,6 +102,22 @@ abbrev pub Handed : Outcome net.Memory net.Address → Outcome net.Memory NetGiv
 Handed z = then z (λ a w. gives [] (target.given_by a) w)
 
 module _ (S : Scope) (oracle : Jobs) where
+  -- a new object is a value
+  value_made : (s : shape.Shape) (r : Outcome net.Memory net_value.Value)
+      → Yields IsHandled (target.as_reached (then r (λ y w. gives [] (net.constant s y) w)))
+  value_made s (gives o y w) = tt
+  value_made s (raises o e w) = tt
+  value_made s (spent o w) = tt
+  value_made s (outside o) = tt
+
+  object_made : (s : shape.Shape) (w : net.Memory) → Yields IsHandled (target.as_reached (target.object_new S oracle s w))
+  object_made (shape.class home) w = value_made (shape.class home) (created S.project oracle home w)
+  object_made _ w = tt
+
+  object_with : (ty : TypeName) (args : Exps) (w : net.Memory) → Yields IsHandled (target.as_reached (target.object_with S oracle ty args w))
+  object_with ty tree.no_exps w = object_made (shape.shape_of S.project S.home ty) w
+  object_with ty (tree.next_exp e args) w = tt
+
   pub paren_handled : (e : Exp) (w : net.Memory) → Yields IsHandled (target.reach S oracle false (paren e) w)
   paren_handled e w =
       yields_then (target.address_from S oracle (target.reach S oracle false e w))
@@ -123,6 +142,7 @@ module _ (S : Scope) (oracle : Jobs) where
       yields_then (target.value_from S oracle (target.reach S oracle false f w))
       (λ y w. target.as_reached (target.on_single u (λ x w. target.on_single y (λ z w. value_answered (operate_net (Bin op) x z) w) w) w))
       (λ y w. two_values (λ x z. operate_net (Bin op) x z) u y w))
+  valued (tree.new_object ty args) h w = object_with ty args w
   valued _ h w = absurd (true≢false (sym h))
 
   call_handled : (c : Callee) (names : List (List ℕ)) (args : Exps) → path_start S true names ≡ starts (named c) [] → IsNoProperty c → (w : net.Memory)

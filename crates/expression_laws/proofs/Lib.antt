@@ -29,6 +29,7 @@ pub mod BeforeArguments
 pub mod Objects
 pub mod Receivers
 pub mod MemberValues
+pub mod NewValues
 pub mod Is
 pub mod GroupArguments
 pub mod GroupCalls

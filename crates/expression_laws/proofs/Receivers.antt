@@ -71,16 +71,20 @@ class_is c (Some d) h = ap (λ k. Some k) (sym (eqb-true c d h))
 same_number : (c d : ℕ) → types.class c ≡ types.class d → c ≡ d
 same_number c d e = cc e
 
--- an object is one of the class in which the procedure stands
+-- an object of the class in which the procedure stands
+pub object_stands : (U : Upgrade) (w : World) (q class o : ℕ) → StandsInClass U q class → o < w.src.next_object → w.src.class_of o ≡ Some class
+    → HasOwnObject U w q (Some o)
+object_stands U w q class o x is_made is_class file of standing = record {
+  object = o;
+  is_me = refl;
+  is_made = is_made;
+  class = class;
+  is_class = is_class;
+  is_file = x.is_file ∙ sym x.stands ∙ of;
+}
+
+-- so it is with the object of a call
 pub object_received : (U : Upgrade) (w : World) (p q c : ℕ) (t : Term) (o : ℕ) → Receives U p q (of_object (typed (types.class c) t))
     → o < w.src.next_object → w.src.class_of o ≡ Some c → HasOwnObject U w q (Some o)
-object_received U w p q c t o receives is_made is_class file of class =
-    let x : StandsInClass U q receives.0 = receives.2 in
-    record {
-      object = o;
-      is_me = refl;
-      is_made = is_made;
-      class = receives.0;
-      is_class = is_class ∙ ap (λ n. Some n) (same_number c receives.0 receives.1);
-      is_file = x.is_file ∙ sym x.stands ∙ of;
-    }
+object_received U w p q c t o receives is_made is_class =
+    object_stands U w q receives.0 o receives.2 is_made (is_class ∙ ap (λ n. Some n) (same_number c receives.0 receives.1))

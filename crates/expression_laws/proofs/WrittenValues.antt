@@ -277,6 +277,7 @@ module _ (U : Upgrade) (K : Pledge) (p : ℕ) (f : SourceFrame) (g : NetFrame) (
   group_handles (typed ty (convert to e)) can covers none =
       subst (λ a. Handles S (Seen (typed ty (convert to e))) a) (sym (nothing_exp T ty to e (nothing_converted (uses.given ty) ty to e covers)))
       (as_value tree.nothing refl)
+  group_handles (typed ty (new_object c)) can covers none = as_value (exp_of T (typed ty (new_object c))) refl
   group_handles (typed ty me) can covers none =
       let x = me_class uses.me ty covers in
       as_seen tree.me (me_seen U C S net_oracle w f ty x.0 (have.me x.0 x.2))
@@ -326,7 +327,7 @@ module _ (U : Upgrade) (K : Pledge) (p : ℕ) (f : SourceFrame) (g : NetFrame) (
       (seen_within C S net_oracle w e whole (λ o left.
       ap (λ z. then (then (then z (source.scalar_in C e)) (λ x s. source.answer_as to (coerce x to) s)) (source.as_new C (convert to e))) left)) (exp_of T e)
       (exp_handles e can inner.1 forms.1 (behind (writes_nothing (type_at e) to) whole e nothing none)))
-  exp_handles (typed ty (new_object c)) can covers formed none = absurd (true≢false (sym formed))
+  exp_handles (typed ty (new_object c)) can covers formed none = absurd (true≢false (sym (both_true (covers_type ty) false covers).1))
   exp_handles (typed ty me) can covers formed none = absurd (true≢false (sym (both_true (covers_type ty) false covers).1))
   exp_handles (typed ty (with_object root)) can covers formed none = absurd (true≢false (sym formed))
   exp_handles (typed ty err_number) can covers formed none =

@@ -13,17 +13,19 @@ use Rattle.run_matches.specs.Addresses.{AllLocked, IsGivable, IsPlain, IsTarget,
 use Rattle.run_matches.specs.Agreeing.{ResultMatch}
 use Rattle.run_matches.specs.Frames.{HasOwnObject}
 use Rattle.run_matches.specs.Likeness.{LikeV}
-use Rattle.run_matches.specs.Maps.{World}
+use Rattle.run_matches.specs.Maps.{Below, World, mark}
 use Rattle.run_matches.specs.Pledges.{NetGiven, Pledge, arrays_in}
 use Rattle.run_matches.specs.Runs.{IsObject}
 use Rattle.run_matches.specs.Upgrades.{Upgrade}
 
--- the object of the frames of a procedure is the same, one of its class, and what is handed down is kept
+-- The object of the frames of a procedure is the same, one of its class, and what is handed down is kept; what is promised is so from a mark
+-- that lies back.
 pub record Stands (U : Upgrade) (K : Pledge) (w : World) (p : ℕ) (f : SourceFrame) (g : NetFrame) : Type 0 where
   pub me : g.me ≡ option_map w.map.objects f.me
   pub object : IsObject w f.me
   pub own_object : HasOwnObject U w p f.me
   pub locks : AllLocked U K w f.env
+  pub low : Below K.base (mark w.src)
 
 -- values without arrays that are given by value, and variables by reference, to a procedure from a place of its parameters on
 pub data ArgumentsMatch (U : Upgrade) (K : Pledge) (q : ℕ) : (place : ℕ) → World → List SourceGiven → List NetGiven → Type 0 where

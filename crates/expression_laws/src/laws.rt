@@ -4,27 +4,32 @@ ghost use Rattle.vb6_run.specs.Store.{SourceFrame};
 ghost use Rattle.run_matches.specs.Frames.{frame_pledge};
 ghost use Rattle.run_matches.specs.Maps.{World};
 ghost use Rattle.run_matches.specs.Upgrades.{Upgrade};
+ghost use Rattle.run_statements.specs.Objects.{ClassesAreWritten};
 ghost use Rattle.expression_laws.specs.Statements.{ArraysAgreeBy, ElementsAgreeBy, FormedExpressionsAgreeBy, FormedScalarsAgreeBy, GroupsAgreeBy, IndexesAgreeBy, MembersAgreeBy, ParametersAreSound, PlacesAgreeBy};
 
 /// A law: under the pledge of a frame, an expression that is covered and well formed gives a value that matches what is written
 /// for it.
 pub fn expressions_agree()
-    ensures { (U : Upgrade) (sound : ParametersAreSound U) (p : ℕ) (w : World) (f : SourceFrame) → FormedExpressionsAgreeBy U (frame_pledge U p w f) }
+    ensures { (U : Upgrade) (sound : ParametersAreSound U) (classes : ClassesAreWritten U) (p : ℕ) (w : World) (f : SourceFrame)
+        → FormedExpressionsAgreeBy U (frame_pledge U p w f) }
 {}
 
 /// A law: so it does as a scalar.
 pub fn scalars_agree()
-    ensures { (U : Upgrade) (sound : ParametersAreSound U) (p : ℕ) (w : World) (f : SourceFrame) → FormedScalarsAgreeBy U (frame_pledge U p w f) }
+    ensures { (U : Upgrade) (sound : ParametersAreSound U) (classes : ClassesAreWritten U) (p : ℕ) (w : World) (f : SourceFrame)
+        → FormedScalarsAgreeBy U (frame_pledge U p w f) }
 {}
 
 /// A law: an array and the indexes of an element are the same on both sides, and the indexes count from the lower bounds of the array.
 pub fn indexes_agree()
-    ensures { (U : Upgrade) (sound : ParametersAreSound U) (p : ℕ) (w : World) (f : SourceFrame) → IndexesAgreeBy U (frame_pledge U p w f) }
+    ensures { (U : Upgrade) (sound : ParametersAreSound U) (classes : ClassesAreWritten U) (p : ℕ) (w : World) (f : SourceFrame)
+        → IndexesAgreeBy U (frame_pledge U p w f) }
 {}
 
 /// A law: so it is with the element, before the last check of its index.
 pub fn elements_agree()
-    ensures { (U : Upgrade) (sound : ParametersAreSound U) (p : ℕ) (w : World) (f : SourceFrame) → ElementsAgreeBy U (frame_pledge U p w f) }
+    ensures { (U : Upgrade) (sound : ParametersAreSound U) (classes : ClassesAreWritten U) (p : ℕ) (w : World) (f : SourceFrame)
+        → ElementsAgreeBy U (frame_pledge U p w f) }
 {}
 
 /// A law: a covered array variable has an address that is the image of the source's.
@@ -44,8 +49,9 @@ pub fn members_agree()
     ensures { (U : Upgrade) (p : ℕ) (w : World) (f : SourceFrame) → MembersAgreeBy U (frame_pledge U p w f) }
 {}
 
-/// A law: a user type or an object as a value, of a place, of a variable of an object, Me, what a Function gives or Nothing, matches what
-/// is written for it.
+/// A law: a user type or an object as a value, of a place, of a variable of an object, Me, a new object, what a Function gives or Nothing,
+/// matches what is written for it.
 pub fn groups_agree()
-    ensures { (U : Upgrade) (sound : ParametersAreSound U) (p : ℕ) (w : World) (f : SourceFrame) → GroupsAgreeBy U (frame_pledge U p w f) }
+    ensures { (U : Upgrade) (sound : ParametersAreSound U) (classes : ClassesAreWritten U) (p : ℕ) (w : World) (f : SourceFrame)
+        → GroupsAgreeBy U (frame_pledge U p w f) }
 {}

@@ -12,6 +12,7 @@ use Rattle.bound_tree.specs.Tree.{Declarations, Expr, typed, Term, constant, var
 use Rattle.bound_facts.proofs.Chains.{both_true}
 use Rattle.bound_facts.specs.Calls.{initialized, line_calls, node_calls, pair_to}
 use Rattle.bound_facts.specs.Locks.{is_same_type}
+use Rattle.bound_facts.specs.Members.{initializer}
 use Rattle.bound_facts.specs.Node.{called, type_at}
 use Rattle.bound_facts.specs.Nodes.{nodes, nodes_in, nodes_of_all, nodes_of_object, nodes_of_passed}
 use Rattle.bound_facts.specs.Parts.{line_uses, target_nodes, used_nodes}
@@ -19,6 +20,7 @@ use Rattle.run_matches.specs.CoveredExprs.{Uses, covers_group, covers_object, co
 use Rattle.run_matches.specs.CoveredLines.{covers_form, covers_set, covers_set_member, covers_set_variable, is_member_ordered}
 use Rattle.run_matches.specs.UserTypes.{is_class_type}
 use Rattle.run_statements.specs.Frames.{Demands, AllCalled, AllCalledAll, AllCalledFor}
+use Rattle.run_statements.specs.Kept.{made_at}
 
 abbrev pub AllIn : {A : Type 0} → (A → Type 0) → List A → Type 0
 AllIn P [] = Unit {0}
@@ -46,6 +48,7 @@ module _ (Q : Demands) where
   NodeHas (typed ty (call p qualified of args)) = Q.calls p.0 qualified of args
   NodeHas (typed ty (element e indexes)) = Q.elements e indexes
   NodeHas (typed ty (library f args)) = Q.bounds f args
+  NodeHas (typed ty (new_object c)) = Q.news c.0
   NodeHas (typed ty (with_object root)) = Q.withs ty root
   NodeHas (typed ty t) = Unit {0}
 
@@ -84,7 +87,7 @@ module _ (Q : Demands) where
         let more = of_rest (typed ty (binary op d e)) (nodes d ++ nodes e) h in
         (nodes_called d (of_left (nodes d) (nodes e) more), nodes_called e (of_right (nodes d) (nodes e) more))
     nodes_called (typed ty (convert to e)) h = nodes_called e (of_rest (typed ty (convert to e)) (nodes e) h)
-    nodes_called (typed ty (new_object c)) h = tt
+    nodes_called (typed ty (new_object c)) h = h (typed ty (new_object c)) (contains_first (typed ty (new_object c)) [])
     nodes_called (typed ty me) h = tt
     nodes_called (typed ty (with_object root)) h = h (typed ty (with_object root)) (contains_first (typed ty (with_object root)) [])
     nodes_called (typed ty err_number) h = tt
@@ -121,6 +124,20 @@ called_first D p q o more e = subst (λ o. Contains (pair_to p o more) (p, q)) (
 pub use_calls : (D : Declarations) (p q : ℕ) (l : Line) (d : Expr) → Contains (line_uses l) d → called d ≡ Some q → Contains (line_calls D p l) (p, q)
 use_calls D p q l d m e =
     contains_flat (node_calls D p) (line_uses l) d (p, q) m.0 m.1 m.2 (called_first D p q (called d) (pair_to p (initialized D d) []) e)
+
+-- so is the Class_Initialize of a new object
+same_made : (a b : ℕ) → ◌≡◌ {A = Option ℕ} (Some a) (Some b) → a ≡ b
+same_made a b e = cc e
+
+makes_first : (D : Declarations) (p q class : ℕ) (d : Expr) → made_at d ≡ Some class → initializer D class ≡ Some q → Contains (node_calls D p d) (p, q)
+makes_first D p q class (typed ty (new_object c)) is e =
+    called_first D p q (initializer D c.0) [] (subst (λ n. initializer D n ≡ Some q) (sym (same_made c.0 class is)) e)
+makes_first D p q class (typed ty _) is e = absurd (cc is)
+
+pub use_makes : (D : Declarations) (p q class : ℕ) (l : Line) (d : Expr) → Contains (line_uses l) d → made_at d ≡ Some class
+    → initializer D class ≡ Some q → Contains (line_calls D p l) (p, q)
+use_makes D p q class l d m is e =
+    contains_flat (node_calls D p) (line_uses l) d (p, q) m.0 m.1 m.2 (makes_first D p q class d is e)
 
 -- a Set stores to a variable, or to one of an object that a variable keeps, of which nothing is demanded
 target_called : (Q : Demands) (uses : Uses) (ty : Ty) (t : Term) → is_class_type ty ≡ true → covers_place uses (typed ty t) ≡ true → AllCalled Q (typed ty t)

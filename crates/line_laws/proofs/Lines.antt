@@ -8,7 +8,7 @@ use Rattle.vb_tree.specs.declared.form_parts.Label6.{Label6}
 use Rattle.vb_tree.specs.Tree.{Form}
 use Rattle.vb_tree.specs.Tree as source_form
 use Rattle.bound_tree.specs.Labels.{Label, labels}
-use Rattle.bound_tree.specs.Tree.{Expr, Line, typed, element, call, library, with_object, err_raise, err_clear, Object, Passed}
+use Rattle.bound_tree.specs.Tree.{Expr, Line, typed, element, call, library, new_object, with_object, err_raise, err_clear, Object, Passed}
 use Rattle.bound_facts.proofs.Chains.{both_true}
 use Rattle.bound_facts.specs.Node.{args_at, called, declared_at, type_at}
 use Rattle.bound_facts.specs.Parts.{line_uses, resizes}
@@ -50,16 +50,17 @@ use Rattle.run_matches.specs.Pledges.{Pledge, Later}
 use Rattle.run_matches.specs.Agreeing.{Agrees}
 use Rattle.run_matches.specs.Formed.{is_formed}
 use Rattle.run_matches.specs.CoveredExprs.{Uses, covers_passed, covers_receiver, uses_in}
+use Rattle.run_matches.specs.CoveredVariables.{covers_made}
 use Rattle.run_matches.specs.CoveredLines.{covers_condition, covers_store, covers_form, covers_part, covers_within, head_line, is_within_with, jump_of, resumes, covers_call, covers_called}
 use Rattle.run_matches.specs.Frames.{FrameMatch, NextMatch, OwnsAll, frame_pledge, lines_of}
 use Rattle.run_matches.specs.Runs.{line_result, CallsAgree}
 use Rattle.run_matches.specs.Sites.{site_lines}
 use Rattle.run_statements.specs.Elements.{IndexesAgree}
 use Rattle.run_statements.specs.Memory.{ArraysAreErased, ArraysAreResized, ElementsAreWritten}
-use Rattle.run_statements.specs.Frames.{ArraysAgree, ElementsAgree, ExpressionsAgree, ScalarsAreRead, ScalarsAreWritten, IsOpen, AnyUnits, context_of, ArePlaced, AllCalled, AnyParts, CallsAreMade, CanCall, demands, AreReadable}
+use Rattle.run_statements.specs.Frames.{ArraysAgree, ElementsAgree, ExpressionsAgree, ScalarsAreRead, ScalarsAreWritten, IsOpen, AnyUnits, context_of, ArePlaced, AllCalled, AnyParts, CallsAreMade, CanCall, CanMake, demands, AreReadable}
 use Rattle.run_statements.specs.Fitting.{FitsNode}
 use Rattle.run_statements.specs.Groups.{GroupsAgree, GroupsAreWritten}
-use Rattle.run_statements.specs.Kept.{AllSameWays, LinesAgree, qualified_at, receiver_at}
+use Rattle.run_statements.specs.Kept.{AllSameWays, LinesAgree, made_at, qualified_at, receiver_at}
 use Rattle.run_statements.specs.Members.{MembersAgree, MembersAreFound}
 use Rattle.run_statements.specs.Written.{Passes, site_scope}
 use Rattle.agreeing_laws.specs.Beside.{with_steps}
@@ -334,18 +335,20 @@ module _ (U : Upgrade) (expressions : ExpressionsAgree U) (calls : CallsAreMade 
 
 -- what is demanded of a node by itself
 node_has : (U : Upgrade) (K : Pledge) (p : ℕ) (l : SourceLine) (k : NetLine) (S : net_names.Scope) (T : Scope) (d : Expr)
-    → ((q : ℕ) → called d ≡ Some q → CanCall U K S T p q (qualified_at d) (receiver_at d) (args_at d)) → FitsNode U d → k.aims ≡ l.aims
+    → ((q : ℕ) → called d ≡ Some q → CanCall U K S T p q (qualified_at d) (receiver_at d) (args_at d))
+    → ((class : ℕ) → made_at d ≡ Some class → covers_made U.program class ≡ true → CanMake U K S T class) → FitsNode U d → k.aims ≡ l.aims
     → is_within_with U.program p (head_line (lines_of U p) (with_round l.aims)) d ≡ true → NodeHas (demands U K p l k S T) d
-node_has U K p l k S T (typed ty (call q qualified of args)) can fits aims within = can q.0 refl
-node_has U K p l k S T (typed ty (element a indexes)) can fits aims within = fits
-node_has U K p l k S T (typed ty (library f args)) can fits aims within = fits
-node_has U K p l k S T (typed ty (with_object r)) can fits aims within = stands_within U p l k ty r aims within
-node_has U K p l k S T (typed ty t) can fits aims within = tt
+node_has U K p l k S T (typed ty (call q qualified of args)) can makes fits aims within = can q.0 refl
+node_has U K p l k S T (typed ty (element a indexes)) can makes fits aims within = fits
+node_has U K p l k S T (typed ty (library f args)) can makes fits aims within = fits
+node_has U K p l k S T (typed ty (new_object c)) can makes fits aims within = makes c.0 refl
+node_has U K p l k S T (typed ty (with_object r)) can makes fits aims within = stands_within U p l k ty r aims within
+node_has U K p l k S T (typed ty t) can makes fits aims within = tt
 
 -- A covered line does the same as what is written for it, in frames that go on to match.
 pub steady_lines_agree : (U : Upgrade) → ExpressionsAgree U → CallsAreMade U → ScalarsAreRead U → ScalarsAreWritten U → ElementsAgree U → IndexesAgree U → ElementsAreWritten U
     → GroupsAgree U → GroupsAreWritten U → MembersAgree U → MembersAreFound U → ArraysAgree U → ArraysAreResized U → ArraysAreErased U → SteadyLinesAgree U
-steady_lines_agree U expressions calls reads scalars elements indexed writes groups writes_groups members finds arrays resizing erasing p s written number turns l c L code opens readable placed own agree can fits remade covers stands w f g at h F given =
+steady_lines_agree U expressions calls reads scalars elements indexed writes groups writes_groups members finds arrays resizing erasing p s written number turns l c L code opens readable placed own agree can makes fits remade covers stands w f g at h F given =
     let K : Pledge = frame_pledge U p w f in
     let owns : OwnsAll U K p f = owns_now U p f K w w g (F w (later_now U K w h)) in
     let R : World → SourceFrame → NetFrame → Type 0 = SteadyNext U K p f.me in
@@ -389,7 +392,8 @@ steady_lines_agree U expressions calls reads scalars elements indexed writes gro
     (λ n m i j t u d e c w2 more. placed_at U K p f g w1 later.match F1 owns w2 more n m i j t u d e c)
     (labels (site_lines s)) l.form.source.form l.form.bindings.exprs
     (line_called (demands U K p l L.line (scope_of U.written c g L.line) T) (uses_in U.program p l.form.bindings.mentions) l.form both.0
-    (λ d m. node_has U K p l L.line (scope_of U.written c g L.line) T d (λ q e. can d q m e w f g L.line now.names) (fits d m) L.aims (all_within d m)))
+    (λ d m. node_has U K p l L.line (scope_of U.written c g L.line) T d (λ q e. can d q m e w f g L.line now.names)
+    (λ class e covered. makes d class m e covered w f g L.line now.names) (fits d m) L.aims (all_within d m)))
     both.0 both.1 stands.label
     (record {
       own = λ e m steady. own_target U p w f e (own steady e m);
@@ -405,12 +409,12 @@ steady_now U K w p f g h F w1 l = frame_later U K w w1 p f g h l F
 
 pub lines_agree : (U : Upgrade) → ExpressionsAgree U → CallsAreMade U → ScalarsAreRead U → ScalarsAreWritten U → ElementsAgree U → IndexesAgree U → ElementsAreWritten U
     → GroupsAgree U → GroupsAreWritten U → MembersAgree U → MembersAreFound U → ArraysAgree U → ArraysAreResized U → ArraysAreErased U → LinesAgree U
-lines_agree U expressions calls reads scalars elements indexed writes groups writes_groups members finds arrays resizing erasing p s written number turns l c L code opens readable placed own agree can fits remade covers stands w f g at h F given =
+lines_agree U expressions calls reads scalars elements indexed writes groups writes_groups members finds arrays resizing erasing p s written number turns l c L code opens readable placed own agree can makes fits remade covers stands w f g at h F given =
     let K : Pledge = frame_pledge U p w f in
     agrees_weaker U K w (SteadyNext U K p f.me) (NextMatch U K p f.me)
     (line_result (source_program.machine_of (runnable_of U)) turns p f l w.src)
     (line_result (target_program.machine_of U.written) turns written g L.line w.net)
     (λ w1 f1 g1 later x.
     record { same_object = x.same_object; frames = x.frames w1 (later_now U K w1 later.match); owns = x.owns })
-    (steady_lines_agree U expressions calls reads scalars elements indexed writes groups writes_groups members finds arrays resizing erasing p s written number turns l c L code opens readable placed own agree can fits remade covers stands w f g at h
+    (steady_lines_agree U expressions calls reads scalars elements indexed writes groups writes_groups members finds arrays resizing erasing p s written number turns l c L code opens readable placed own agree can makes fits remade covers stands w f g at h
     (steady_now U K w p f g h F) given)

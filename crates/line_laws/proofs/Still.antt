@@ -1,5 +1,5 @@
 -- What is still changes nothing that was there: the promise of it, in frames and calls.
-use Rattle.std.proofs.Common.{◌≡◌, ◌∙◌, refl, ap, ℕ, Bool, true, false, not, ◌&&◌, List, [], ◌∷◌, ◌++◌, None}
+use Rattle.std.proofs.Common.{◌≡◌, ◌∙◌, refl, sym, ap, ℕ, Bool, true, false, true≢false, not, ◌&&◌, List, [], ◌∷◌, ◌++◌, None}
 use Rattle.std.specs.List.{list_all}
 use Rattle.bound_tree.specs.Tree.{Expr, typed, constant, variable, field, element, call, library, unary, binary, convert, new_object, me, with_object, err_number, err_raise, err_clear, is_same, loose, Object, Exprs, no_exprs, next_expr, by_value, by_reference, Passed, no_passed, next_passed}
 use Rattle.vb_tree.specs.BoundTree.{Ty}
@@ -21,7 +21,7 @@ use Rattle.net_run.specs.Names as net_names
 use Rattle.net_run.specs.Store as net
 use Rattle.net_run.specs.Values as net_value
 use Rattle.run_matches.specs.Addresses.{Bound, images, mirrored, KeptMatch, both_nothing, both_limits, both_choices, both_objects, both_arrays, both_addresses}
-use Rattle.run_matches.specs.CoveredExprs.{Uses, are_still, is_seen_inward}
+use Rattle.run_matches.specs.CoveredExprs.{Uses, are_still, is_new, is_seen_inward}
 use Rattle.run_matches.specs.Frames.{FrameMatch, is_exact_head, lines_of}
 use Rattle.run_matches.specs.Maps.{World, IsMade, is_auto_root, mark}
 use Rattle.run_matches.specs.Match.{MemoryMatch}
@@ -121,7 +121,7 @@ module _ (uses : Uses) (Q R : Demands) (elements : (a : Expr) (indexes : Exprs) 
   IsStill es = are_still uses es ≡ true
 
   abbrev seen : Expr → Bool
-  seen d = is_seen_inward uses (called d)
+  seen d = not (is_new d) && is_seen_inward uses (called d)
 
   behind_node : (d : Expr) (es : List Expr) → IsStill (d ∷ es) → IsStill es
   behind_node d es h = (both_true (seen d) (are_still uses es) h).1
@@ -143,7 +143,7 @@ module _ (uses : Uses) (Q R : Demands) (elements : (a : Expr) (indexes : Exprs) 
         let more = behind_node (typed ty (binary op d e)) (nodes d ++ nodes e) s in
         (still_called d (all_left seen (nodes d) (nodes e) more) h.0, still_called e (all_right seen (nodes d) (nodes e) more) h.1)
     still_called (typed ty (convert to e)) s h = still_called e (behind_node (typed ty (convert to e)) (nodes e) s) h
-    still_called (typed ty (new_object c)) s h = tt
+    still_called (typed ty (new_object c)) s h = absurd (true≢false (sym s))
     still_called (typed ty me) s h = tt
     still_called (typed ty (with_object root)) s h = withs ty root h
     still_called (typed ty err_number) s h = tt

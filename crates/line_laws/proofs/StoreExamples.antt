@@ -18,6 +18,7 @@ uses = record {
   field_type = λ t k. None;
   member_type = λ k i. None;
   me = Some 0;
+  made = λ c. false;
   named = λ w qualified. true;
   given = λ ty. false;
   is_of = λ w ty. is_same_type ty types.long;

@@ -1,5 +1,5 @@
 -- Arrays of scalars are made on both sides: in places, and where a Static is not there yet.
-use Rattle.std.proofs.Common.{◌≡◌, refl, sym, ap, subst, ◌∙◌, ℕ, suc, ℤ, Bool, true, not, cond, true≢false, Some, List, [], ◌∷◌, length, map, replicate}
+use Rattle.std.proofs.Common.{◌≡◌, inl, inr, refl, sym, ap, subst, ◌∙◌, ℕ, suc, ℤ, Bool, true, not, cond, true≢false, Option, None, Some, List, [], ◌∷◌, length, map, replicate}
 use Rattle.std.specs.Prelude.{is_some, slice_get}
 use Rattle.up_base.proofs.Tests.{by_test}
 use Rattle.vb_tree.specs.BoundTree.{Ty}
@@ -7,12 +7,12 @@ use Rattle.net_tree.specs.Tree as net_tree
 use Rattle.net_tree.specs.Types.{TypeName}
 use Rattle.net_meaning.specs.declared.value.ValueN.TheVariants as n
 use Rattle.run_base.specs.Outcomes.{Outcome, gives, outside, after, answered, then}
-use Rattle.run_base.specs.Positions.{Key, Position, made, shared, whole, updated, updated_at}
+use Rattle.run_base.specs.Positions.{Key, Position, field, made, shared, whole, updated, updated_at}
 use Rattle.vb6_run.specs.Programs.{lay_if_blank}
 use Rattle.vb6_run.specs.Shapes.{Shape, simple, array, declared_shape, shape_by, user_shapes, variable_shape}
-use Rattle.vb6_run.specs.Store.{root, Held, Memory, blank, table, provided, laid, make}
+use Rattle.vb6_run.specs.Store.{root, Held, Memory, blank, table, provided, laid, lay, make}
 use Rattle.vb6_run.specs.Values.{Dimension, Values, dimension_of, first_scalar, is_within_limits, repeated, scalar, size}
-use Rattle.net_run.specs.Making.{laid_as}
+use Rattle.net_run.specs.Making.{laid_as, variable_made}
 use Rattle.net_run.specs.Program.{made_once}
 use Rattle.net_run.specs.Shapes as shape
 use Rattle.net_run.specs.Store as net
@@ -22,7 +22,7 @@ use Rattle.run_matches.specs.Addresses.{same_root}
 use Rattle.run_matches.specs.Agreeing.{Agrees}
 use Rattle.run_matches.specs.Kinds.{AreKinds}
 use Rattle.run_matches.specs.Likeness.{are_same, numbers_of, same_array, same_scalar, scalar_word}
-use Rattle.run_matches.specs.Maps.{World, IsMatched, is_fixed_position, is_fixed_variable, key_or_none, moved_at}
+use Rattle.run_matches.specs.Maps.{World, IsMatched, is_fixed_position, is_fixed_variable, key_or_none, moved_at, moved_key}
 use Rattle.run_matches.specs.Match.{Holds, holds_blank, holds_single, holds_table, holds_parts, MemoryMatch}
 use Rattle.run_matches.specs.Pledges.{Later, Pledge}
 use Rattle.run_matches.specs.Upgrades.{Upgrade, has_bounds, is_fixed, part_variable, variable_key}
@@ -31,15 +31,19 @@ use Rattle.run_statements.specs.Frames.{AnyUnits, IsArray}
 use Rattle.agreeing_laws.proofs.Agreeing.{agrees_gives, agrees_outside}
 use Rattle.agreeing_laws.proofs.Lasting.{later_then}
 use Rattle.memory_laws.specs.Changes.{IsSuited, with_place}
+use Rattle.memory_laws.specs.Objects.{AreLaid, Lays, own_root, refilled, unclassed, with_objects}
+use Rattle.memory_laws.proofs.Filling.{cell_blank}
 use Rattle.memory_laws.proofs.FirstArrays.{counted_first, first_counts, first_fits, first_like, first_short, written_counts}
 use Rattle.memory_laws.proofs.Laid.{laid_later}
 use Rattle.memory_laws.proofs.Making.{blank_keeps, covered_shape, place_suits}
-use Rattle.memory_laws.proofs.Moved.{key_goes_alone, place_goes_alone}
-use Rattle.memory_laws.proofs.Places.{declared_here, net_place_is_blank, place_here, place_is_blank, place_is_matched, place_later}
-use Rattle.memory_laws.proofs.Positions.{updated_here}
+use Rattle.memory_laws.proofs.Moved.{field_goes_alone, key_goes_alone, place_goes_alone}
+use Rattle.memory_laws.proofs.NewObjects.{object_here}
+use Rattle.memory_laws.proofs.ObjectFields.{laid_alone}
+use Rattle.memory_laws.proofs.Places.{declared_here, here_more, net_place_is_blank, place_here, place_is_blank, place_is_matched, place_later}
+use Rattle.memory_laws.proofs.Positions.{updated_here, updated_other}
 use Rattle.memory_laws.proofs.Renewed.{array_here, cell_here, renewed}
 use Rattle.memory_laws.proofs.Scalars.{FirstMatch, first_match}
-use Rattle.memory_laws.proofs.Suited.{key_laid}
+use Rattle.memory_laws.proofs.Suited.{key_laid, root_laid}
 
 from_some : (a b : ℕ) → Some a ≡ Some b → a ≡ b
 from_some a b e = cc
@@ -259,6 +263,94 @@ module _ (U : Upgrade) (v : ℕ) (ty : Ty) (r : IsArray U v ty) (t : TypeName) (
           (λ k. Agrees U K w AnyUnits (lay_if_blank there (shared (v ∷ [])) (w.src.held at) w.src)
           (made_once U.written home (shared k) d (w.net.cell (whole (shared k))) w.net)) (ap key_or_none is)
           (laid_by (w.src.held at) (w.net.cell (moved_at U w.map at)) refl refl (h.stores.values at known)))
+
+  -- ---- in a new object
+
+  module _ (K : Pledge) (w : World) (start : MemoryMatch U w) (c d : Option ℕ) (key : Key) (h : Position → Held) (cells : Position → net.Cell)
+      (a : ℕ → net.Array) (next : ℕ) (l : Later U K w (unclassed w h cells a next)) (is : variable_key U v ≡ Some key)
+      (differs : (u : ℕ) → variable_key U u ≡ Some key → v ≡ u) (none : h (whole (own_root w v)) ≡ blank) where
+    abbrev now : World
+    now = unclassed w h cells a next
+
+    abbrev in_object : Position
+    in_object = whole (own_root w v)
+
+    abbrev with_array : World
+    with_array = renewed U now in_object (simple ty) dims values (new (are_same now))
+
+    compared : IsMatched U now in_object
+    compared = record { is_made = here_more w.src.next_object; counterpart = ap is_some is; sound = ap not r.known.sound }
+
+    array_kinds : AreKinds (variable_shape U.program.declarations v) in_object (updated h in_object (table (simple ty) dims values))
+    array_kinds =
+        subst (λ s. AreKinds s in_object (updated h in_object (table (simple ty) dims values))) (sym shape_is)
+        (dims, values, updated_here h in_object (table (simple ty) dims values))
+
+    suits_object : IsSuited U now in_object (table (simple ty) dims values)
+    suits_object = record {
+      kept = blank_keeps (h in_object) (table (simple ty) dims values) none;
+      laid = λ root u of f b. root_laid U v (own_root w v) refl (updated h in_object (table (simple ty) dims values)) array_kinds root u of f;
+    }
+
+    with_array_later : is_within_limits dims ≡ true → Later U K w with_array
+    with_array_later small =
+        later_then U K w now with_array start l
+        (laid_later U now in_object (simple ty) dims values (new (are_same now)) l.match compared
+        (field_goes_alone U now l.match.stores w.src.next_object v key is differs compared.is_made []) none
+        (cell_blank U now (h in_object) (cells (moved_at U now.map in_object)) (l.match.stores.values in_object compared) none)
+        (first_like U (numbers_of now) ty (first (are_same now)).value (first (are_same now)).like t word rank bounds r.bounds some small)
+        (first_short U (numbers_of now) ty (first (are_same now)).value (first (are_same now)).like t word rank bounds r.bounds some small)
+        suits_object (λ x u e f. counted_first rank bounds r.bounds ∙ ap U.facts.rank (from_some v x e ∙ from_some x u f)) K)
+
+    goes : moved_at U now.map in_object ≡ whole (field w.net.next_object key)
+    goes =
+        ap (λ i. whole (field i (moved_key U (v ∷ [])))) (object_here w None None) ∙ ap (λ k. whole (field w.net.next_object (key_or_none k))) is
+
+    module _ (x : net_tree.Variable) (value : x.value ≡ Some (array_initial U v t bounds)) (declared : shape.shape_of U.written home x.ty ≡ array_shape U v t) where
+      abbrev source : Memory
+      source = (refilled (with_objects w c d) h cells a next).src
+
+      abbrev target : net.Memory
+      target = (refilled (with_objects w c d) h cells a next).net
+
+      abbrev begins : Outcome net.Memory (Unit {0})
+      begins = variable_made U.written home (field w.net.next_object key) x target
+
+      begins_is : is_within_limits dims ≡ true → begins
+          ≡ gives [] tt (net.with_cell (whole (field w.net.next_object key)) (net.holds (n.Array target.next_array)) (record target {
+            arrays = updated_at a next (new (are_same now));
+            next_array = suc next;
+          }))
+      begins_is small =
+          ap (λ o. then (initial_value U.written home (shape.shape_of U.written home x.ty) o target)
+          (laid_as (shape.shape_of U.written home x.ty) (field w.net.next_object key))) value
+          ∙ (ap (λ s. then (initial_value U.written home s (Some (array_initial U v t bounds)) target) (laid_as s (field w.net.next_object key))) declared
+          ∙ ap (λ x. then x (laid_as (array_shape U v t) (field w.net.next_object key))) (initial_is (are_same now) target small))
+
+      array_laid : is_within_limits dims ≡ true
+          → AreLaid U K w c d (v ∷ []) h (lay (variable_shape U.program.declarations v) in_object source) begins
+      array_laid small = record {
+        held = updated h in_object (table (simple ty) dims values);
+        cells = updated cells (whole (field w.net.next_object key)) (net.holds (n.Array next));
+        arrays = updated_at a next (new (are_same now));
+        next = suc next;
+        later =
+            subst
+            (λ q. Later U K w (unclassed w (updated h in_object (table (simple ty) dims values)) (updated cells q (net.holds (n.Array next)))
+            (updated_at a next (new (are_same now))) (suc next))) goes (with_array_later small);
+        others = λ p o. updated_other h in_object (table (simple ty) dims values) p (λ e. o v (inl refl) (ap (λ (z : Position). z.root) e));
+        laid = laid_alone U w v (updated h in_object (table (simple ty) dims values)) (inr array_kinds);
+        source_is =
+            ap (λ s. lay s in_object source) shape_is ∙ ap (λ b. provided b (λ s. gives [] tt (laid there in_object s)) source) small;
+        target_is = begins_is small;
+      }
+
+      pub array_lays : Lays U K w c d (v ∷ []) h (lay (variable_shape U.program.declarations v) in_object source) begins
+      array_lays =
+          by_test (is_within_limits dims)
+          (λ b. is_within_limits dims ≡ b → Lays U K w c d (v ∷ []) h (lay (variable_shape U.program.declarations v) in_object source) begins)
+          (λ small i. inr (array_laid small))
+          (λ large i. inl (ap (λ s. lay s in_object source) shape_is ∙ ap (λ b. provided b (λ s. gives [] tt (laid there in_object s)) source) large)) refl
 
 -- ---- the laws
 

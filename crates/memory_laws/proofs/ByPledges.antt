@@ -7,11 +7,13 @@ use Rattle.run_matches.specs.Pledges.{NetGiven}
 use Rattle.run_matches.specs.Frames.{frame_pledge}
 use Rattle.run_matches.specs.Runs.{call_pledge}
 use Rattle.run_statements.specs.Members.{MembersAreFoundBy}
+use Rattle.run_statements.specs.Objects.{ObjectsAreMadeBy}
 use Rattle.memory_laws.specs.Statements.{VariablesAreReadBy, ScalarsAreWrittenBy, LocalsAreMadeBy}
 use Rattle.memory_laws.proofs.Reading.{variables_are_read}
 use Rattle.memory_laws.proofs.Writing.{scalars_are_written_in_places}
 use Rattle.memory_laws.proofs.Making as making
 use Rattle.memory_laws.proofs.Members.{members_are_found}
+use Rattle.memory_laws.proofs.Objects.{objects_are_made}
 
 pub frame_reads : (U : Upgrade) (p : ℕ) (start : World) (f : SourceFrame) → VariablesAreReadBy U (frame_pledge U p start f)
 frame_reads U p start f = variables_are_read U (frame_pledge U p start f)
@@ -25,3 +27,6 @@ call_makes U p base me xs ys = making.locals_are_made U (call_pledge U p base me
 
 pub frame_finds : (U : Upgrade) (p : ℕ) (start : World) (f : SourceFrame) → MembersAreFoundBy U (frame_pledge U p start f)
 frame_finds U p start f = members_are_found U (frame_pledge U p start f)
+
+pub frame_creates : (U : Upgrade) (p : ℕ) (start : World) (f : SourceFrame) → ObjectsAreMadeBy U (frame_pledge U p start f)
+frame_creates U p start f = objects_are_made U (frame_pledge U p start f)

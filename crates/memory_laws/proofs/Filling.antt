@@ -66,7 +66,7 @@ module _ (U : Upgrade) (w : World) (r : Root) where
 
 -- ---- the whole root
 
-cell_blank : (U : Upgrade) (w : World) (h : Held) (c : net.Cell) → Holds U w h c → h ≡ blank → c ≡ net.blank
+pub cell_blank : (U : Upgrade) (w : World) (h : Held) (c : net.Cell) → Holds U w h c → h ≡ blank → c ≡ net.blank
 cell_blank U w _ _ holds_blank e = refl
 cell_blank U w _ _ _ e = cc
 
@@ -76,7 +76,7 @@ no_table e dims xs h f b = cc
 no_array : (c : net.Cell) (k : ℕ) → c ≡ net.holds (n.Array k) → c ≡ net.blank → ⊥
 no_array c k f b = cc
 
-keeps_blank : (g h : Held) → g ≡ blank → KeepsKind g h
+pub keeps_blank : (g h : Held) → g ≡ blank → KeepsKind g h
 keeps_blank g h e = subst (λ z. KeepsKind z h) (sym e) tt
 
 module _ (U : Upgrade) (w : World) (r : Root) (h : Position → Held) (c : Position → net.Cell) (start : MemoryMatch U w) (is_made : IsMade (mark w.src) r)

@@ -1,9 +1,10 @@
 -- What is laid at a position: the positions in it hold what its shape says, and the order in which they are filled doesn't matter.
-use Rattle.std.proofs.Common.{◌≡◌, refl, sym, ap, subst, ◌∙◌, ℕ, suc, Bool, true, false, cond, List, [], ◌∷◌, ◌++◌, append_assoc}
+use Rattle.std.proofs.Common.{◌≡◌, refl, sym, ap, subst, ◌∙◌, ℕ, suc, Bool, true, false, cond, List, [], ◌∷◌, ◌++◌, append_assoc, true≢false}
+use Rattle.up_base.proofs.Tests.{both_true}
 use Rattle.run_base.specs.Positions.{Position, inner, is_same_position, updated}
 use Rattle.vb6_run.specs.Shapes.{Shape, simple, group, array, endless, Shapes, no_shapes, next_shape}
 use Rattle.vb6_run.specs.Store.{Held, Memory, blank, single, table, parts, laid, all_laid}
-use Rattle.vb6_run.specs.Values.{Value, scalar, fields, elements, Values, no_values, next_value, first_value, first_values}
+use Rattle.vb6_run.specs.Values.{Value, scalar, fields, elements, Values, no_values, next_value, are_makeable, first_value, first_values, is_makeable}
 use Rattle.net_run.specs.Store as net
 use Rattle.net_run.specs.Values as net_value
 use Rattle.run_matches.specs.Kinds.{IsKind, AreKinds, AreFieldKinds, IsValueOf, AreValuesOf}
@@ -25,6 +26,19 @@ mutual
   sound_ends : (U : Upgrade) (t k : ℕ) (fs : Shapes) → AreSoundShapes U t k fs → HaveEnds fs
   sound_ends U t k no_shapes c = tt
   sound_ends U t k (next_shape s rest) c = (sound_end U s c.1, sound_ends U t (suc k) rest c.2)
+
+mutual
+  pub makeable_end : (s : Shape) → is_makeable s ≡ true → HasEnd s
+  makeable_end (simple ty) c = tt
+  makeable_end (group t fs) c = makeable_ends fs c
+  makeable_end (array e bounds) c = tt
+  makeable_end endless c = absurd (true≢false (sym c))
+
+  makeable_ends : (fs : Shapes) → are_makeable fs ≡ true → HaveEnds fs
+  makeable_ends no_shapes c = tt
+  makeable_ends (next_shape s rest) c =
+      let both = both_true (is_makeable s) (are_makeable rest) c in
+      (makeable_end s both.0, makeable_ends rest both.1)
 
 mutual
   -- a variable begins with its first value

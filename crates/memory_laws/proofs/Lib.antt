@@ -36,3 +36,8 @@ pub mod Alone
 pub mod Quiet
 pub mod ArraysMade
 pub mod Members
+pub mod NewObjects
+pub mod Uncompared
+pub mod ObjectFields
+mod ClassVariables
+pub mod Objects

@@ -67,8 +67,8 @@ first_of (v ∷ more) = v
 pub no_variable_place : (n v : ℕ) (r : Root) → root_key r ≡ Some (v ∷ []) → made n ≡ r → ⊥
 no_variable_place n v r of e = absurd (cc (ap root_key e ∙ of))
 
-pub same_variable_place : (v u : ℕ) (r : Root) → root_key r ≡ Some (u ∷ []) → shared (v ∷ []) ≡ r → v ≡ u
-same_variable_place v u r of e = cc (ap root_key e ∙ of)
+pub same_variable_place : (v u : ℕ) (q r : Root) → root_key q ≡ Some (v ∷ []) → root_key r ≡ Some (u ∷ []) → q ≡ r → v ≡ u
+same_variable_place v u q r is of e = cc (sym is ∙ (ap root_key e ∙ of))
 
 -- ---- places
 
@@ -86,7 +86,7 @@ module _ (U : Upgrade) (w : World) (h : StoreMatch U w) where
 
 -- ---- variables of standard modules
 
-key_there : (o : Option Key) → is_some o ≡ true → o ≡ Some (key_or_none o)
+pub key_there : (o : Option Key) → is_some o ≡ true → o ≡ Some (key_or_none o)
 key_there None e = absurd (true≢false (sym e))
 key_there (Some k) e = refl
 
@@ -137,12 +137,27 @@ module _ (U : Upgrade) (w : World) (h : StoreMatch U w) (o v : ℕ) (key : Key) 
   pub field_goes_alone : (path : List ℕ) → GoesAlone U w (at (field o (v ∷ [])) path)
   field_goes_alone path p x e = from_field path p.root p.path x e
 
--- ---- where the keys of variables differ, all positions
-
-sound_root : (U : Upgrade) (v : ℕ) (path : List ℕ) → is_sound U v path ≡ true → is_flagged U v ≡ false
+pub sound_root : (U : Upgrade) (v : ℕ) (path : List ℕ) → is_sound U v path ≡ true → is_flagged U v ≡ false
 sound_root U v [] e = not_true (is_flagged U v) e
 sound_root U v (k ∷ path) e =
     sound_root U v path (both_true (is_sound U v path) (not (is_flagged_some U (part_variable U v (k ∷ path)))) e).0
+
+-- nothing that is compared goes to the key of variables whose declarations carry issues
+module _ (U : Upgrade) (w : World) (j : ℕ) (key : Key) (flagged : (u : ℕ) → variable_key U u ≡ Some key → is_flagged U u ≡ true) where
+  from_flagged : (r : Root) (path : List ℕ) → IsMatched U w (at r path) → at (field j key) path ≡ at (moved U w.map r) path → ⊥
+  from_flagged (field p (u ∷ [])) path m e =
+      absurd
+      (true≢false
+      (sym (flagged u (key_there (variable_key U u) m.counterpart ∙ ap (λ z. Some z) (sym (ap key_of e)))) ∙ sound_root U u path m.sound))
+  from_flagged (field p []) path m e = absurd (true≢false (sym m.counterpart))
+  from_flagged (field p (u ∷ t ∷ more)) path m e = absurd (true≢false (sym m.counterpart))
+  from_flagged (made n) path m e = absurd (true≢false (ap is_field e))
+  from_flagged (shared k) path m e = absurd (true≢false (ap is_field e))
+
+  pub none_goes_there : (p : Position) → IsMatched U w p → field j key ≡ moved U w.map p.root → ⊥
+  none_goes_there p m e = from_flagged p.root p.path m (ap (λ r. at r p.path) e)
+
+-- ---- where the keys of variables differ, all positions
 
 same_keys : (U : Upgrade) → KeysDiffer U → (k l : Key) (path rest : List ℕ) → has_key U (variable_in k) ≡ true → has_key U (variable_in l) ≡ true
     → is_sound_part U (variable_in k) path ≡ true → is_sound_part U (variable_in l) rest ≡ true → moved_key U k ≡ moved_key U l → k ≡ l

@@ -1,11 +1,13 @@
 -- Parts of different fields stand at different positions, so that what is laid in one changes none of the others.
-use Rattle.std.proofs.Common.{◌≡◌, refl, sym, ap, subst, ◌∙◌, ℕ, ◌<◌, ◌≤◌, suc, ◌+◌, List, [], ◌∷◌, ◌++◌, append_assoc, length, arith}
+use Rattle.std.proofs.Common.{◌≡◌, refl, sym, ap, ◌∙◌, ℕ, ◌≤◌, suc, ◌+◌, List, [], ◌∷◌, ◌++◌, append_assoc, length, arith}
 use Rattle.std.proofs.lemmas.List.{length-append}
-use Rattle.run_base.specs.Positions.{Position, inner, is_same_position, updated}
+use Rattle.run_base.specs.Positions.{Position, inner, updated}
 use Rattle.vb6_run.specs.Store.{Held, single, table, parts}
 use Rattle.vb6_run.specs.Values.{Value, scalar, fields, elements, Values, no_values, next_value}
-use Rattle.memory_laws.specs.Laying.{held_with, all_held_with}
-use Rattle.memory_laws.proofs.Positions.{at, other_position, updated_here, updated_other}
+use Rattle.net_run.specs.Store as net
+use Rattle.net_run.specs.Values as net_value
+use Rattle.memory_laws.specs.Laying.{held_with, all_held_with, cells_with, all_cells_with}
+use Rattle.memory_laws.proofs.Positions.{at, updated_other}
 
 -- ---- paths
 
@@ -93,3 +95,17 @@ mutual
   all_held_apart no_values q k h p a = refl
   all_held_apart (next_value x xs) q k h p a =
       all_held_apart xs q (suc k) (held_with x (inner q k) h) p (apart_later q p k a) ∙ held_apart x (inner q k) h p (here q p k a)
+
+-- so it is with cells of another root
+mutual
+  pub cells_apart : (y : net_value.Value) (q : Position) (c : Position → net.Cell) (p : Position) → (q.root ≡ p.root → ⊥) → cells_with y q c p ≡ c p
+  cells_apart net_value.unknown q c p o = refl
+  cells_apart (net_value.single y) q c p o = updated_other c q (net.holds y) p (λ e. o (ap (λ (z : Position). z.root) e))
+  cells_apart (net_value.fields ys) q c p o =
+      all_cells_apart ys q 0 (updated c q net.structure) p o ∙ updated_other c q net.structure p (λ e. o (ap (λ (z : Position). z.root) e))
+
+  all_cells_apart : (ys : net_value.Values) (q : Position) (k : ℕ) (c : Position → net.Cell) (p : Position) → (q.root ≡ p.root → ⊥)
+      → all_cells_with ys q k c p ≡ c p
+  all_cells_apart net_value.no_values q k c p o = refl
+  all_cells_apart (net_value.next_value y ys) q k c p o =
+      all_cells_apart ys q (suc k) (cells_with y (inner q k) c) p o ∙ cells_apart y (inner q k) c p o

@@ -14,27 +14,27 @@ use Rattle.memory_laws.specs.Changes.{with_place}
 use Rattle.memory_laws.proofs.Changes.{none_between, holds_as}
 use Rattle.memory_laws.proofs.Positions.{updated_at_here, updated_at_below}
 
-one_more : (a : ℕ) → a ≤ suc a
+pub one_more : (a : ℕ) → a ≤ suc a
 one_more a = omega arith
 
-below_more : (a b : ℕ) → a < b → a < suc b
+pub below_more : (a b : ℕ) → a < b → a < suc b
 below_more a b lt = omega arith
 
-here_more : (a : ℕ) → a < suc a
+pub here_more : (a : ℕ) → a < suc a
 here_more a = omega arith
 
-the_last : (a b : ℕ) → a ≤ b → b < suc a → a ≡ b
+pub the_last : (a b : ℕ) → a ≤ b → b < suc a → a ≡ b
 the_last a b le lt = omega arith
 
-not_here : (a b : ℕ) → a < b → a ≡ b → ⊥
+pub not_here : (a b : ℕ) → a < b → a ≡ b → ⊥
 not_here a b lt e = omega arith
 
-unmade_before : (a b : Mark) → Below a b → (r : Root) → IsUnmade b r → IsUnmade a r
+pub unmade_before : (a b : Mark) → Below a b → (r : Root) → IsUnmade b r → IsUnmade a r
 unmade_before a b le (shared k) u = u
 unmade_before a b le (made p) u = up a.places b.places p le.places u
 unmade_before a b le (field o k) u = up a.objects b.objects o le.objects u
 
-array_in_blank : (c : net.Cell) (k : ℕ) → c ≡ net.blank → c ≡ net.holds (n.Array k) → ⊥
+pub array_in_blank : (c : net.Cell) (k : ℕ) → c ≡ net.blank → c ≡ net.holds (n.Array k) → ⊥
 array_in_blank c k e f = no_array_in (sym e ∙ f)
   where
     no_array_in : net.blank ≡ net.holds (n.Array k) → ⊥

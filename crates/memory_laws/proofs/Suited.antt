@@ -43,8 +43,13 @@ module _ (U : Upgrade) (w : World) (q : Position) (x : Held) (suits : IsSuited U
       held_suited (field o (v ∷ [])) v refl (is_class_variable U.program.declarations c y.owner) (h.fields o c v y lt of is sound)
 
 -- what is laid at the key of a variable is what it declares, and what no other does
+pub root_laid : (U : Upgrade) (v : ℕ) (q : Root) → root_key q ≡ Some (v ∷ []) → (h : Position → Held)
+    → AreKinds (variable_shape U.program.declarations v) (whole q) h → (r : Root) (u : ℕ) → root_key r ≡ Some (u ∷ []) → q ≡ r
+    → AreKinds (variable_shape U.program.declarations u) (whole r) h
+root_laid U v q is h k r u of e =
+    subst (λ z. AreKinds (variable_shape U.program.declarations u) (whole z) h) e
+    (subst (λ z. AreKinds (variable_shape U.program.declarations z) (whole q) h) (same_variable_place v u q r is of e) k)
+
 pub key_laid : (U : Upgrade) (v : ℕ) (h : Position → Held) → AreKinds (variable_shape U.program.declarations v) (whole (shared (v ∷ []))) h → (r : Root) (u : ℕ)
     → root_key r ≡ Some (u ∷ []) → shared (v ∷ []) ≡ r → AreKinds (variable_shape U.program.declarations u) (whole r) h
-key_laid U v h k r u of e =
-    subst (λ z. AreKinds (variable_shape U.program.declarations u) (whole z) h) e
-    (subst (λ z. AreKinds (variable_shape U.program.declarations z) (whole (shared (v ∷ []))) h) (same_variable_place v u r of e) k)
+key_laid U v h k r u of e = root_laid U v (shared (v ∷ [])) refl h k r u of e

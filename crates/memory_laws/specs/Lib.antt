@@ -2,3 +2,4 @@ pub mod Changes
 pub mod Statements
 pub mod Rearranged
 pub mod Laying
+pub mod Objects

@@ -7,6 +7,7 @@ ghost use Rattle.run_matches.specs.Pledges.{NetGiven};
 ghost use Rattle.run_matches.specs.Frames.{frame_pledge};
 ghost use Rattle.run_matches.specs.Runs.{call_pledge};
 ghost use Rattle.run_statements.specs.Members.{MembersAreFoundBy};
+ghost use Rattle.run_statements.specs.Objects.{ObjectsAreMadeBy};
 ghost use Rattle.memory_laws.specs.Statements.{VariablesAreReadBy, ScalarsAreWrittenBy, LocalsAreMadeBy};
 
 /// A law: in memories that match, a variable of a covered type and what stands for it hold values that match.
@@ -28,4 +29,10 @@ pub fn locals_are_made()
 /// A law: where it is seen whether there is an object, both sides go on with a variable of it that is a scalar or an object, or raise 91.
 pub fn members_are_found()
     ensures { (U : Upgrade) (p : ℕ) (start : World) (f : SourceFrame) → MembersAreFoundBy U (frame_pledge U p start f) }
+{}
+
+/// A law: a new object of a class that is written is made on both sides, with all its variables. Each of the two stands for the other, and the
+/// memories go on to match.
+pub fn objects_are_made()
+    ensures { (U : Upgrade) (p : ℕ) (start : World) (f : SourceFrame) → ObjectsAreMadeBy U (frame_pledge U p start f) }
 {}

@@ -25,10 +25,11 @@ use Rattle.run_matches.specs.CoveredVariables.{covers_class, covers_class_file, 
 use Rattle.run_matches.specs.SoundShapes.{IsClass}
 use Rattle.run_matches.specs.Upgrades.{Upgrade, class_home, home_of}
 use Rattle.run_statements.specs.Written.{IsWritten}
+use Rattle.name_laws.specs.Objects.{ClassesAreFound}
 use Rattle.name_laws.proofs.Counting.{found_stands}
 use Rattle.name_laws.proofs.CoveredTypes.{among_flat}
 use Rattle.name_laws.proofs.Led.{first_written}
-use Rattle.name_laws.proofs.Lists.{Among, all_at, both_true}
+use Rattle.name_laws.proofs.Lists.{Among, all_at, both_true, some_same}
 use Rattle.name_laws.proofs.Looked.{not_true, position_at}
 use Rattle.name_laws.proofs.Structures.{group_of, same_place, structure_named}
 use Rattle.name_laws.proofs.Words.{depth_of}
@@ -119,7 +120,7 @@ class_led D c h = by_file (slice_get (class_files D.project) c) refl h
 
 -- ---- no structure has its name
 
-none_first : {X : Type 0} (test : X → Bool) (k : ℕ) (xs : List X) → ((x : X) → Among xs x → test x ≡ false) → first_from test k xs ≡ None
+pub none_first : {X : Type 0} (test : X → Bool) (k : ℕ) (xs : List X) → ((x : X) → Among xs x → test x ≡ false) → first_from test k xs ≡ None
 none_first test k [] each = refl
 none_first test k (x ∷ xs) each =
     ap (λ b. cond b (Some (k, x)) (first_from test (suc k) xs)) (each x (inl refl)) ∙ none_first test (suc k) xs (λ y a. each y (inr a))
@@ -187,3 +188,9 @@ module _ (U : Upgrade) (c : ℕ) (L : ClassLed U.program.declarations c) where
       ∙ ap class_by found
       ∙ ap (λ b. cond b (shape.class L.first.0) shape.shapeless) (w.2 ∙ L.is_class)
       ∙ ap shape.class L.first_home
+
+-- so it has that of what is written for the class
+pub classes_are_found : (U : Upgrade) → IsWritten U → ClassesAreFound U
+classes_are_found U I c home at h is_home =
+    let L : ClassLed U.program.declarations c = class_led U.program.declarations c h in
+    class_leads U c L I at ∙ ap shape.class (some_same L.home home (sym (class_home_is U c L) ∙ is_home))

@@ -108,7 +108,7 @@ below_two a b h k = omega (arith, h, k)
 none_below : (a b : ℕ) → a ≤ b → b ≡ 0 → a ≡ 0
 none_below a b h k = omega (arith, h, k)
 
-from_start : (n : ℕ) → 0 + n ≡ n
+pub from_start : (n : ℕ) → 0 + n ≡ n
 from_start n = omega arith
 
 module _ (U : Upgrade) (I : IsWritten U) where
@@ -121,12 +121,12 @@ module _ (U : Upgrade) (I : IsWritten U) where
   modules_are : U.written.modules ≡ modules_from U.program U.facts first_numbers U.program.declarations.project.modules
   modules_are = ap (λ (M : net.Project). M.modules) I.is_written
 
-  members_most : (home : ℕ) (w : net.Module) (name : List ℕ) → slice_get U.written.modules home ≡ Some w
+  pub members_most : (home : ℕ) (w : net.Module) (name : List ℕ) → slice_get U.written.modules home ≡ Some w
       → count_of (is_member_named name) w.members ≤ count_named name (names_in U.program.declarations home)
   members_most home w name e =
       modules_most name U.program U.facts first_numbers D.project.modules home w (subst (λ ms. slice_get ms home ≡ Some w) modules_are e)
 
-  members_are : (home : ℕ) (w : net.Module) → slice_get U.written.modules home ≡ Some w → members_of (module_at U.written home) ≡ w.members
+  pub members_are : (home : ℕ) (w : net.Module) → slice_get U.written.modules home ≡ Some w → members_of (module_at U.written home) ≡ w.members
   members_are home w e = ap members_of (module_is U.written.modules home ∙ e)
 
   module _ (q : ℕ) (t : Site) (y : Procedure) (V : WrittenProcedure U q t y) where
@@ -145,7 +145,7 @@ module _ (U : Upgrade) (I : IsWritten U) where
     is_named : is_member_named y.name (net.proc V.code.procedure) ≡ true
     is_named = ap (is_head_named y.name) (code_head U q t y V) ∙ head_named y.name (site_scope U t) y y.name ∙ same_name y.name
 
-    member_found : is_once y.name (names_in D t.home) ≡ true
+    pub member_found : is_once y.name (names_in D t.home) ≡ true
         → member_named y.name (members_of (module_at U.written t.home)) ≡ Some (V.code.member, net.proc V.code.procedure)
     member_found once =
         let most = members_most t.home w y.name V.is_module in
@@ -154,7 +154,7 @@ module _ (U : Upgrade) (I : IsWritten U) where
         (below_two (count_of (is_member_named y.name) w.members) (count_named y.name (names_in D t.home)) most (once_is y.name (names_in D t.home) once))
         ∙ ap (λ n. Some (n, net.proc V.code.procedure)) (from_start V.code.member)
 
-    number_is : code_number U.written t.home V.code.member false ≡ Some V.number
+    pub number_is : code_number U.written t.home V.code.member false ≡ Some V.number
     number_is =
         ap (λ h. code_number U.written h V.code.member false) (sym V.home) ∙ number_found U.written V.number V.code V.is_code member.sets
 

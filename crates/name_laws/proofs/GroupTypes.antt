@@ -97,7 +97,7 @@ group_type U I v x _ file home is covers at = absurd (cc covers)
 
 -- ---- declarations
 
-initial_by : (U : Upgrade) → IsWritten U → (S : Scope) → S.facts ≡ U.facts → (v : ℕ) (x : Variable) (ty : Ty)
+pub initial_by : (U : Upgrade) → IsWritten U → (S : Scope) → S.facts ≡ U.facts → (v : ℕ) (x : Variable) (ty : Ty)
     → covers_group_type U.program.declarations ty ≡ true → initial S v x ty ≡ None
 initial_by U I S same v x (types.user t) covers =
     ap (λ b. made_user b t) (ap (λ (F : Facts). F.is_made t) same ∙ is_unmade U I t covers)

@@ -33,11 +33,17 @@ pub mod Framed
 pub mod Led
 pub mod Reached
 pub mod Words
+pub mod MemberKeys
 pub mod Standing
 pub mod Members
 pub mod Shared
 pub mod Classes
 pub mod Receiving
+pub mod Homes
+pub mod Initializers
+pub mod Laid
+pub mod FieldWords
+pub mod Fields
 pub mod OwnFields
 pub mod Placed
 pub mod Outward

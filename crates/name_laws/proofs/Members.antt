@@ -39,11 +39,11 @@ use Rattle.name_laws.proofs.Words.{VariableType, scalar_type}
 -- ---- variables of a class
 
 -- the variables of a module are those that it owns
-module_owned : (file k : ℕ) (vs : List Variable) → variables_from file k vs ≡ owned_from (is_of_module file) k vs
+pub module_owned : (file k : ℕ) (vs : List Variable) → variables_from file k vs ≡ owned_from (is_of_module file) k vs
 module_owned file k [] = refl
 module_owned file k (x ∷ xs) = ap (λ (ns : List ℕ). cond (is_of_module file x.owner) (k ∷ ns) ns) (module_owned file (suc k) xs)
 
-owner_is : (file : ℕ) (o : Owner) → is_of_module file o ≡ true → o ≡ owner.Module file
+pub owner_is : (file : ℕ) (o : Owner) → is_of_module file o ≡ true → o ≡ owner.Module file
 owner_is file (owner.Module f) h = ap owner.Module (sym (eqb-true file f h))
 owner_is file _ h = absurd (cc h)
 

@@ -143,7 +143,7 @@ module _ (P : Program) (S : Scope) (own : Own → Bool) (named : List ℕ → Bo
       one_passes test (is_separate S q) (plain_member P S p body q name) (property_member P S ps p body q)
       (procedure_passes p body q name (both_true (named name) true a.1).0) (of_property ps p body q a.0)
 
-  procedures_pass : (ps : List Placed) (p : Placed) (head : source.Line) (body : Nodes) (o : Option Procedure)
+  pub procedures_pass : (ps : List Placed) (p : Placed) (head : source.Line) (body : Nodes) (o : Option Procedure)
       → list_all named (procedure_names D p.at.procedure o) ≡ true → list_all test (procedure_members P S ps p head body o) ≡ true
   procedures_pass ps p head body None h = refl
   procedures_pass ps p head body (Some q) h =

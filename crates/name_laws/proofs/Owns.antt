@@ -189,16 +189,11 @@ bounds_are U I v x e rank is array sound h = by x.bounds (sym (ap (λ ty. covers
         let count : length (b ∷ bs) ≡ rank = eqb-true (length (b ∷ bs)) rank t.0 in
         (sym (I.ranks v x e (length bs) is (array ∙ ap (λ n. types.array e n) (sym count)) sound), t.1)
 
--- an array variable whose statement breaks no rule
-pub usable_array : (U : Upgrade) → IsWritten U → (v : ℕ) (x : Variable) (e : Ty) → slice_get U.program.declarations.vars v ≡ Some x
-    → covers_array_variable e x ≡ true → is_loud_owner U.program v x.owner ≡ true
-    → point_broken U.program.declarations U.facts.marks (variable v) ≡ false → IsArray U v e
-usable_array U I v x e is h loud unbroken =
+-- an array variable whose declaration carries no issue
+pub sound_array : (U : Upgrade) → IsWritten U → (v : ℕ) (x : Variable) (e : Ty) → slice_get U.program.declarations.vars v ≡ Some x
+    → covers_array_variable e x ≡ true → is_loud_owner U.program v x.owner ≡ true → is_flagged U v ≡ false → IsArray U v e
+sound_array U I v x e is h loud sound =
     let parts : ArrayParts e x = array_parts e x h in
-    let known : is_unknown (type_of U v) ≡ false =
-    ap (λ (o : Option Variable). is_unknown (type_of_some o)) is ∙ ap (λ ty. is_unknown (Some ty)) parts.is_array ∙ type_known e parts.covers in
-    let sound : is_flagged U v ≡ false =
-    none_of_both (is_flagged_variable U.facts v) (is_unknown (type_of U v)) (variable_unflagged U.program.declarations U.facts v x is unbroken) known in
     record {
       known = record { variable = x; is_variable = is; plain = parts.plain; sound = sound };
       exact = loud_exact U I.known v x is loud;
@@ -207,6 +202,17 @@ usable_array U I v x e is h loud unbroken =
       covers = parts.covers;
       bounds = bounds_are U I v x e parts.rank is parts.is_array sound parts.bounds;
     }
+
+pub array_known : (e : Ty) (x : Variable) → covers_array_variable e x ≡ true → is_unknown (Some x.ty) ≡ false
+array_known e x h =
+    let parts : ArrayParts e x = array_parts e x h in
+    ap (λ ty. is_unknown (Some ty)) parts.is_array ∙ type_known e parts.covers
+
+-- whose statement breaks no rule
+pub usable_array : (U : Upgrade) → IsWritten U → (v : ℕ) (x : Variable) (e : Ty) → slice_get U.program.declarations.vars v ≡ Some x
+    → covers_array_variable e x ≡ true → is_loud_owner U.program v x.owner ≡ true
+    → point_broken U.program.declarations U.facts.marks (variable v) ≡ false → IsArray U v e
+usable_array U I v x e is h loud unbroken = sound_array U I v x e is h loud (is_unflagged U v x is (array_known e x h) unbroken)
 
 array_loud : (P : Program) (v : ℕ) (x : Variable) (e : Ty) → covers_array_variable e x ≡ true → is_scalar_or_loud P v x ≡ true
     → is_loud_owner P v x.owner ≡ true
@@ -342,7 +348,7 @@ number_unless : (b : Bool) (v : ℕ) → b ≡ false → Among (cond b [] (v ∷
 number_unless true v h = absurd (cc h)
 number_unless false v h = inl refl
 
-own_covers : (b c : Bool) → cond b c true ≡ true → b ≡ true → c ≡ true
+pub own_covers : (b c : Bool) → cond b c true ≡ true → b ≡ true → c ≡ true
 own_covers true c h e = h
 own_covers false c h e = absurd (cc e)
 

@@ -59,7 +59,7 @@ pub either : (a b : Bool) → (a || b) ≡ true → {X : Type 0} → (a ≡ true
 either true b h f g = f refl
 either false b h f g = g h
 
-written_name : (S : Scope) (u : ℕ × Variable) → (written_variable S u).name ≡ u.1.name
+pub written_name : (S : Scope) (u : ℕ × Variable) → (written_variable S u).name ≡ u.1.name
 written_name S u = by (is_flagged_variable S.facts u.0)
   where
     by : (b : Bool) → (cond b (object_variable u.1.name) (typed_variable S u.0 u.1)).name ≡ u.1.name

@@ -1,10 +1,9 @@
 -- The member that is written for a variable of a module which declares nothing else of its name.
-use Rattle.std.proofs.Common.{◌≡◌, refl, ap, sym, subst, ◌∙◌, ℕ, suc, ◌+◌, arith, Bool, true, false, cond, nat_eq, List, [], ◌∷◌, ◌++◌, Option, Some, None, option_map, slice_get, true≢false}
-use Rattle.std.specs.Prelude.{find, position, option_and_then}
+use Rattle.std.proofs.Common.{◌≡◌, refl, ap, sym, subst, ◌∙◌, ℕ, suc, ◌+◌, arith, Bool, true, false, cond, nat_eq, List, [], ◌∷◌, ◌++◌, Option, Some, option_map, slice_get}
+use Rattle.std.specs.Prelude.{find, option_and_then}
 use Rattle.std.specs.List.{list_all, list_any}
 use Rattle.std.proofs.lemmas.Bool.{eqb-true}
 use Rattle.up_base.specs.Names.{is_same_name}
-use Rattle.vb_tree.specs.declared.declared.Owner.{Owner}
 use Rattle.vb_tree.specs.declared.declared.Owner.TheVariants as owner
 use Rattle.vb_tree.specs.Tree.{Module}
 use Rattle.bound_tree.specs.Tree.{Variable, Declarations}
@@ -19,23 +18,23 @@ use Rattle.written_trees.specs.Names.{Scope}
 use Rattle.written_trees.specs.Projects.{first_numbers, has_initializer, makers, module_scope, written_module}
 use Rattle.written_trees.specs.Prologues.{object_variable, typed_variable, written_variable}
 use Rattle.written_trees.specs.Types.{type_with}
-use Rattle.net_run.specs.Members.{Code, is_member_named, member_named}
+use Rattle.net_run.specs.Members.{is_member_named, member_named}
 use Rattle.net_run.specs.Names.{key_of}
-use Rattle.net_run.specs.Program.{static_key}
 use Rattle.net_run.specs.Shapes.{first_from, members_of, module_at, module_in}
 use Rattle.run_matches.specs.Shared.{declares_in, is_of_module, is_other_member}
-use Rattle.run_matches.specs.Upgrades.{Upgrade, home_of, member_key, static_key_in, owned_key, declared_key, variable_key, code_of, is_dim_named, is_flagged, is_unknown, type_of}
+use Rattle.run_matches.specs.Upgrades.{Upgrade, home_of, member_key, owned_key, declared_key, variable_key, is_flagged, is_unknown, type_of}
 use Rattle.run_statements.specs.Written.{IsWritten}
 use Rattle.name_laws.proofs.Lists.{all_append, among_right, neither, some_same}
 use Rattle.name_laws.proofs.Looked.{name_joined, position_at}
 use Rattle.name_laws.proofs.Led.{PlacedAt, Stands, differing, placed_at}
+use Rattle.name_laws.proofs.MemberKeys.{KeyParts, key_parts}
 use Rattle.name_laws.proofs.Reached.{is_word_of, is_allowed, members_allowed, members_there, FirstVariable, first_variable}
 use Rattle.name_laws.proofs.Words.{VariableType, is_written_as}
 
 -- ---- items found first
 
 -- what is found first stands at its place and passes
-first_stands : {X : Type 0} (test : X → Bool) (k : ℕ) (xs : List X) (f : ℕ × X) → first_from test k xs ≡ Some f
+pub first_stands : {X : Type 0} (test : X → Bool) (k : ℕ) (xs : List X) (f : ℕ × X) → first_from test k xs ≡ Some f
     → (i : ℕ) × (f.0 ≡ k + i) × (slice_get xs i ≡ Some f.1) × (test f.1 ≡ true)
 first_stands test k [] f e = absurd (cc e)
 first_stands {X} test k (x ∷ xs) f e = by (test x) refl e (λ h. first_stands test (suc k) xs f h)
@@ -58,7 +57,7 @@ same_place : (n i j : ℕ) → n ≡ 0 + i → n ≡ 0 + j → i ≡ j
 same_place n i j e f = omega (arith, e, f)
 
 -- two searches that find something at one place find the same
-found_same : {X : Type 0} (test other : X → Bool) (xs : List X) (n : ℕ) (f : ℕ × X) (x : X) → first_from test 0 xs ≡ Some (n, x) → first_from other 0 xs ≡ Some f
+pub found_same : {X : Type 0} (test other : X → Bool) (xs : List X) (n : ℕ) (f : ℕ × X) (x : X) → first_from test 0 xs ≡ Some (n, x) → first_from other 0 xs ≡ Some f
     → f.0 ≡ n → other x ≡ true
 found_same {X} test other xs n f x e g same =
     let a = first_stands test 0 xs (n, x) e in
@@ -66,38 +65,6 @@ found_same {X} test other xs n f x e g same =
     let at : b.0 ≡ a.0 = same_place n b.0 a.0 (sym same ∙ b.1) a.1 in
     let item : f.1 ≡ x = some_same f.1 x (sym b.2 ∙ ap (slice_get xs) at ∙ a.2) in
     ap other (sym item) ∙ b.3
-
--- ---- keys
-
-abbrev first_of : Option Key → ℕ
-first_of None = 0
-first_of (Some []) = 0
-first_of (Some (a ∷ k)) = a
-
-abbrev second_of : Option Key → ℕ
-second_of None = 0
-second_of (Some []) = 0
-second_of (Some (a ∷ [])) = 0
-second_of (Some (a ∷ b ∷ k)) = b
-
-abbrev has_third : Option Key → Bool
-has_third None = false
-has_third (Some []) = false
-has_third (Some (a ∷ [])) = false
-has_third (Some (a ∷ b ∷ [])) = false
-has_third (Some (a ∷ b ∷ c ∷ k)) = true
-
-no_key : (key : Key) → ◌≡◌ {A = Option Key} None (Some key) → ⊥
-no_key key e = cc e
-
--- the key of a Static is longer
-not_static : (U : Upgrade) (name : List ℕ) (o : Option Code) (a b : ℕ) → option_and_then (static_key_in name) o ≡ Some (a ∷ b ∷ []) → ⊥
-not_static U name None a b e = no_key (a ∷ b ∷ []) e
-not_static U name (Some c) a b e = by (position (is_dim_named name) c.procedure.prologue) e
-  where
-    by : (o : Option ℕ) → option_map (static_key c) o ≡ Some (a ∷ b ∷ []) → ⊥
-    by None h = no_key (a ∷ b ∷ []) h
-    by (Some i) h = true≢false (ap has_third h)
 
 -- ---- the member
 
@@ -211,47 +178,18 @@ module _ (U : Upgrade) (I : IsWritten U) (v : ℕ) (y : Variable) (is_variable :
       let at = position_at (λ (n : Module). nat_eq n.file f) D.project.modules M.home m e A.stands in
       sym (eqb-true m.file f at.0) ∙ file_is
 
-  same_variable : (u : ℕ) (z : Variable) (f h : ℕ) (x : ℕ × net.Member) → slice_get D.vars u ≡ Some z → z.owner ≡ owner.Module f → home_of U f ≡ Some h
-      → member_named z.name (members_of (module_at N h)) ≡ Some x → ◌≡◌ {A = Option Key} (Some (key_of h x.0)) (Some key) → v ≡ u
-  same_variable u z f h x is o e g k =
-      let home : h ≡ M.home = ap first_of k in
-      let place : x.0 ≡ n = ap second_of k in
-      let here : home_of U f ≡ Some M.home = e ∙ ap {B = Option ℕ} Some home in
-      let first : member_named z.name (members_of (module_at N M.home)) ≡ Some x = ap (λ h. member_named z.name (members_of (module_at N h))) (sym home) ∙ g in
-      let named : is_same_name there.made.name z.name ≡ true =
-      found_same (is_member_named name) (is_member_named z.name) (members_of (module_at N M.home)) n x (net.variable there.visibility there.made) first_is first place in
-      let alike : is_same_name z.name name ≡ true = name_joined there.made.name name z.name there.named named in
-      let same : f ≡ file = same_file f here in
-      let of_file : is_of_module file z.owner ≡ true =
-      ap (is_of_module file) o ∙ ap (λ k. nat_eq k file) (same ∙ sym file_is) ∙ at_file.0 in
-      let number : v ≡ 0 + u = differing (is_of_module file) v name 0 u D.vars z M.differs is of_file alike in
-      omega (arith, number)
-
   differs : (u : ℕ) → variable_key U u ≡ Some key → v ≡ u
-  differs u e = by_variable (slice_get D.vars u) refl e
-    where
-      by_member : (z : Variable) (f h : ℕ) → slice_get D.vars u ≡ Some z → z.owner ≡ owner.Module f → home_of U f ≡ Some h → (o : Option (ℕ × net.Member))
-          → member_named z.name (members_of (module_at N h)) ≡ o → option_map (λ (found : ℕ × net.Member). key_of h found.0) o ≡ Some key → v ≡ u
-      by_member z f h is o e None g k = absurd (no_key key k)
-      by_member z f h is o e (Some x) g k = same_variable u z f h x is o e g k
-
-      by_home : (z : Variable) (f : ℕ) → slice_get D.vars u ≡ Some z → z.owner ≡ owner.Module f → (o : Option ℕ) → home_of U f ≡ o
-          → option_and_then (member_key U z.name) o ≡ Some key → v ≡ u
-      by_home z f is o None e k = absurd (no_key key k)
-      by_home z f is o (Some h) e k = by_member z f h is o e (member_named z.name (members_of (module_at N h))) refl k
-
-      by_owner : (z : Variable) → slice_get D.vars u ≡ Some z → (o : Owner) → z.owner ≡ o → owned_key U z.name o ≡ Some key → v ≡ u
-      by_owner z is (owner.Module f) e k = by_home z f is e (home_of U f) refl k
-      by_owner z is (owner.Static q) e k = absurd (not_static U z.name (code_of U q.0) M.home n k)
-      by_owner z is (owner.Local q) e k = absurd (no_key key k)
-      by_owner z is (owner.Value q) e k = absurd (no_key key k)
-      by_owner z is (owner.Reference q) e k = absurd (no_key key k)
-      by_owner z is (owner.Answer q) e k = absurd (no_key key k)
-      by_owner z is (owner.Field t) e k = absurd (no_key key k)
-
-      by_variable : (o : Option Variable) → slice_get D.vars u ≡ o → declared_key U o ≡ Some key → v ≡ u
-      by_variable None e k = absurd (no_key key k)
-      by_variable (Some z) e k = by_owner z e z.owner refl k
+  differs u e =
+      let K : KeyParts U M.home n u = key_parts U M.home n u e in
+      let named : is_same_name there.made.name K.variable.name ≡ true =
+      found_same (is_member_named name) (is_member_named K.variable.name) (members_of (module_at N M.home)) n (n, K.member)
+      (net.variable there.visibility there.made) first_is K.is_first refl in
+      let alike : is_same_name K.variable.name name ≡ true = name_joined there.made.name name K.variable.name there.named named in
+      let same : K.file ≡ file = same_file K.file K.at in
+      let of_file : is_of_module file K.variable.owner ≡ true =
+      ap (is_of_module file) K.is_owner ∙ ap (λ k. nat_eq k file) (same ∙ sym file_is) ∙ at_file.0 in
+      let number : v ≡ 0 + u = differing (is_of_module file) v name 0 u D.vars K.variable M.differs K.is_variable of_file alike in
+      omega (arith, number)
 
   pub variable_member : VariableMember U v y file M
   variable_member = record {

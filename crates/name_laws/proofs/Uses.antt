@@ -237,6 +237,7 @@ module _ (U : Upgrade) (I : IsWritten U) (p : ℕ) (mentions : List Mention)
     arrays = array_readable;
     groups = group_readable;
     fields = field_readable;
+    made = λ c h. h;
     members = member_readable;
     given = λ ty h. h;
     flat = holds_no_array U I;

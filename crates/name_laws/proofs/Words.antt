@@ -1,5 +1,5 @@
 -- The written words of covered types, and the shapes of the variables that are written with them.
-use Rattle.std.proofs.Common.{◌≡◌, refl, ap, sym, subst, ◌∙◌, ℕ, suc, ◌*◌, ℤ, Bool, true, ◌&&◌, nat_eq, List, [], Some, length}
+use Rattle.std.proofs.Common.{◌≡◌, refl, ap, sym, subst, ◌∙◌, ℕ, suc, ◌*◌, ℤ, Bool, true, ◌&&◌, nat_eq, List, [], None, Some, length}
 use Rattle.std.specs.Prelude.{filter, sum_by}
 use Rattle.std.specs.Cmp.Lexicographic.{pointwise}
 use Rattle.std.proofs.lemmas.Bool.{eqb-true}
@@ -12,6 +12,8 @@ use Rattle.net_tree.specs.Types.{TypeName}
 use Rattle.vb6_run.specs.Shapes.{Shape, array, shape_by, simple, user_shapes}
 use Rattle.net_run.specs.Shapes as written_shape
 use Rattle.net_run.specs.Shapes.{is_same_word, is_structure, scalar, shape_of, shape_within}
+use Rattle.written_trees.specs.Names.{Scope}
+use Rattle.written_trees.specs.Prologues.{initial}
 use Rattle.written_trees.specs.Types.{type_with}
 use Rattle.run_matches.specs.CoveredVariables.{covers_type}
 use Rattle.run_matches.specs.Likeness.{SameShape, same_array, same_scalar, scalar_word}
@@ -34,6 +36,11 @@ pub record WordOf (ty : Ty) : Type 0 where
   pub shaped :
       (N : Project) (depth home : ℕ) (t : TypeName) → is_same_word t word ≡ true → shape_within N (suc depth) home t ≡ scalar word
   pub typed : (t : TypeName) → is_written_as t word ≡ true → is_same_word t word ≡ true
+  pub written : (D : Declarations) (file : ℕ) (qualified : Bool) (rank : ℕ) → type_with D file qualified rank ty ≡ word
+  -- a variable of it begins with nothing that has to be written
+  pub plain : (S : Scope) (v : ℕ) (x : Variable) → initial S v x ty ≡ None
+  pub known : (N : Project) (home : ℕ) → shape_of N home word ≡ scalar word
+  pub listed : (N : Project) (home rank : ℕ) → shape_of N home (words.array_of word rank) ≡ written_shape.array (scalar word) rank
 
 boolean_shaped : (N : Project) (depth home : ℕ) (t : TypeName) → is_same_word t words.boolean ≡ true → shape_within N (suc depth) home t ≡ scalar words.boolean
 boolean_shaped N depth home words.boolean h = refl
@@ -84,12 +91,78 @@ text_typed words.str h = refl
 text_typed _ h = absurd (cc h)
 
 pub word_of : (ty : Ty) → covers_type ty ≡ true → WordOf ty
-word_of types.boolean h = record { word = words.boolean; is_word = refl; is_written = λ D f q r. refl; is_type = λ D f q r. refl; shaped = boolean_shaped; typed = boolean_typed }
-word_of types.byte h = record { word = words.byte; is_word = refl; is_written = λ D f q r. refl; is_type = λ D f q r. refl; shaped = byte_shaped; typed = byte_typed }
-word_of types.integer h = record { word = words.short; is_word = refl; is_written = λ D f q r. refl; is_type = λ D f q r. refl; shaped = short_shaped; typed = short_typed }
-word_of types.long h = record { word = words.integer; is_word = refl; is_written = λ D f q r. refl; is_type = λ D f q r. refl; shaped = integer_shaped; typed = integer_typed }
-word_of types.currency h = record { word = words.decimal; is_word = refl; is_written = λ D f q r. refl; is_type = λ D f q r. refl; shaped = decimal_shaped; typed = decimal_typed }
-word_of types.str h = record { word = words.str; is_word = refl; is_written = λ D f q r. refl; is_type = λ D f q r. refl; shaped = text_shaped; typed = text_typed }
+word_of types.boolean h = record {
+  word = words.boolean;
+  is_word = refl;
+  is_written = λ D f q r. refl;
+  is_type = λ D f q r. refl;
+  shaped = boolean_shaped;
+  typed = boolean_typed;
+  written = λ D f q r. refl;
+  plain = λ S v x. refl;
+  known = λ N h. refl;
+  listed = λ N h r. refl;
+}
+word_of types.byte h = record {
+  word = words.byte;
+  is_word = refl;
+  is_written = λ D f q r. refl;
+  is_type = λ D f q r. refl;
+  shaped = byte_shaped;
+  typed = byte_typed;
+  written = λ D f q r. refl;
+  plain = λ S v x. refl;
+  known = λ N h. refl;
+  listed = λ N h r. refl;
+}
+word_of types.integer h = record {
+  word = words.short;
+  is_word = refl;
+  is_written = λ D f q r. refl;
+  is_type = λ D f q r. refl;
+  shaped = short_shaped;
+  typed = short_typed;
+  written = λ D f q r. refl;
+  plain = λ S v x. refl;
+  known = λ N h. refl;
+  listed = λ N h r. refl;
+}
+word_of types.long h = record {
+  word = words.integer;
+  is_word = refl;
+  is_written = λ D f q r. refl;
+  is_type = λ D f q r. refl;
+  shaped = integer_shaped;
+  typed = integer_typed;
+  written = λ D f q r. refl;
+  plain = λ S v x. refl;
+  known = λ N h. refl;
+  listed = λ N h r. refl;
+}
+word_of types.currency h = record {
+  word = words.decimal;
+  is_word = refl;
+  is_written = λ D f q r. refl;
+  is_type = λ D f q r. refl;
+  shaped = decimal_shaped;
+  typed = decimal_typed;
+  written = λ D f q r. refl;
+  plain = λ S v x. refl;
+  known = λ N h. refl;
+  listed = λ N h r. refl;
+}
+word_of types.str h = record {
+  word = words.str;
+  is_word = refl;
+  is_written = λ D f q r. refl;
+  is_type = λ D f q r. refl;
+  shaped = text_shaped;
+  typed = text_typed;
+  written = λ D f q r. refl;
+  plain = λ S v x. refl;
+  known = λ N h. refl;
+  listed = λ N h r. refl;
+}
 word_of _ h = absurd (cc h)
 
 pub simple_type : (users : ℕ → Shape) (bounds : List (ℤ × ℤ)) (ty : Ty) → covers_type ty ≡ true → shape_by users bounds ty ≡ simple ty

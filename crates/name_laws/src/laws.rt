@@ -13,7 +13,9 @@ ghost use Rattle.run_matches.specs.Sites.{Site, site_of};
 ghost use Rattle.run_matches.specs.Upgrades.{Upgrade};
 ghost use Rattle.run_statements.specs.Frames.{AreReadable};
 ghost use Rattle.run_statements.specs.Kept.{IsUnreplaced, NamesAreOpen, OwnsAreKept, StoresAreOwn, UsesArePlaced};
+ghost use Rattle.run_statements.specs.Objects.{ClassesAreWritten};
 ghost use Rattle.run_statements.specs.Written.{IsWritten, WrittenProcedure, site_scope};
+ghost use Rattle.name_laws.specs.Objects.{ClassesAreFound, InitializersAreFound, NothingInitializes};
 
 /// A law: where nothing is named as the support module or the library is, their names lead to them.
 pub fn names_are_open()
@@ -64,4 +66,24 @@ pub fn uses_are_placed()
 pub fn stores_are_own()
     ensures { (U : Upgrade) → IsWritten U → (p : ℕ) (x : Procedure) → slice_get U.program.declarations.procs p ≡ Some x → (k : ℕ) (l : Line)
         → nth_line (lines_at U.program p) (suc k) ≡ Some l → covers_line U.program p l ≡ true → StoresAreOwn U p l }
+{}
+
+/// A law: a class of which objects may be made is written with each of its variables, in their order.
+pub fn fields_are_written()
+    ensures { (U : Upgrade) → IsWritten U → ClassesAreWritten U }
+{}
+
+/// A law: what is written for the name of a covered class leads from every module to what is written for the class.
+pub fn classes_are_found()
+    ensures { (U : Upgrade) → IsWritten U → ClassesAreFound U }
+{}
+
+/// A law: what is written for a class begins its objects by a call of what is written for its Class_Initialize.
+pub fn initializers_are_found()
+    ensures { (U : Upgrade) → IsWritten U → InitializersAreFound U }
+{}
+
+/// A law: what is written for a class that has none calls nothing.
+pub fn nothing_initializes()
+    ensures { (U : Upgrade) → IsWritten U → NothingInitializes U }
 {}

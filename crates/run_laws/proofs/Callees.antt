@@ -2,7 +2,7 @@
 use Rattle.vb_tree.specs.BoundTree.{Ty}
 use Rattle.name_laws.proofs.Keeping.{seen_to_keep}
 use Rattle.bound_facts.specs.Nodes.{nodes_of_passed}
-use Rattle.run_matches.specs.Keeping.{given_types, keeps_callee, keeps_each, keeps_given, keeps_seen}
+use Rattle.run_matches.specs.Keeping.{given_types, keeps_callee, keeps_each, keeps_entered, keeps_given, keeps_seen}
 use Rattle.std.proofs.Common.{◌≡◌, sym, ap, subst, ◌∙◌, ℕ, Bool, true, false, Option, Some, ◌++◌, map, ◌&&◌, None, List, [], ◌∷◌, inl, inr}
 use Rattle.std.specs.Prelude.{nat_lt, slice_get}
 use Rattle.std.specs.List.{Contains, list_all}
@@ -10,7 +10,7 @@ use Rattle.up_base.proofs.Tests.{both_true}
 use Rattle.bound_tree.specs.Tree.{Declarations, Line, Procedure, Expr, Object, Passed, typed}
 use Rattle.bound_tree.specs.Tree as tree
 use Rattle.reach_table.specs.Chains.{empty}
-use Rattle.bound_facts.specs.Calls.{count_procedures, line_calls}
+use Rattle.bound_facts.specs.Calls.{count_procedures, initialized, line_calls}
 use Rattle.bound_facts.specs.Clean.{Arrow, IsClean, line_arrows, procedure}
 use Rattle.bound_facts.specs.Facts.{AreFacts}
 use Rattle.bound_facts.specs.Node.{args_at, called}
@@ -38,7 +38,7 @@ use Rattle.run_laws.proofs.Reaching.{IsLineOf, inward_called, keeps_called}
 -- ---- the callee
 
 -- the parts of the test on the calls of a line
-call_parts : (U : Upgrade) (p : ℕ) (l : Line) → covers_calls U.program p l ≡ true
+pub call_parts : (U : Upgrade) (p : ℕ) (l : Line) → covers_calls U.program p l ≡ true
     → (list_all (covers_node U.program p (site_of U.program.declarations p)) (line_uses l) ≡ true)
     × ((list_all (suits U.program.declarations) (line_uses l) ≡ true) × (list_all (hands U.program) (line_uses l) ≡ true))
 call_parts U p l h =
@@ -85,11 +85,14 @@ seen_called : (U : Upgrade) (ts : List Ty) (o : Option ℕ) (q : ℕ) → keeps_
 seen_called U ts None q h e = absurd (cc e)
 seen_called U ts (Some p) q h e = seen_each U q ts (subst (λ z. keeps_each U.program z ts ≡ true) (some_is e) h)
 
-seen_inside : (U : Upgrade) (ts : List Ty) (ds : List Expr) → list_all (λ d. keeps_callee U.program ts (called d)) ds ≡ true → NodesKeep U ts ds
+seen_inside : (U : Upgrade) (ts : List Ty) (ds : List Expr) → list_all (keeps_entered U.program ts) ds ≡ true → NodesKeep U ts ds
 seen_inside U ts [] h = tt
 seen_inside U ts (d ∷ ds) h =
-    let both = both_true (keeps_callee U.program ts (called d)) (list_all (λ d. keeps_callee U.program ts (called d)) ds) h in
-    ((λ q e. seen_called U ts (called d) q both.0 e), seen_inside U ts ds both.1)
+    let both = both_true (keeps_entered U.program ts d) (list_all (keeps_entered U.program ts) ds) h in
+    let first = both_true (keeps_callee U.program ts (called d)) (keeps_callee U.program ts (initialized U.program.declarations d)) both.0 in (
+      ((λ q e. seen_called U ts (called d) q first.0 e), (λ q e. seen_called U ts (initialized U.program.declarations d) q first.1 e)),
+      seen_inside U ts ds both.1,
+    )
 
 module _ (U : Upgrade) (known : AreFacts U.program U.known) (procedures : ProceduresAreWritten U) (found : CalleesAreFound U) (methods : MethodsAreFound U)
     (p q : ℕ) (s : Site) (x : Procedure)
@@ -119,7 +122,7 @@ module _ (U : Upgrade) (known : AreFacts U.program U.known) (procedures : Proced
   can_call args fit hand ranks w f g k names =
       let both = both_true (hands_passed U.program q 0 args) (keeps_given U.program q args) hand in
       let ts = given_types args in
-      let keeping = both_true (keeps_each U.program q ts) (list_all (λ d. keeps_callee U.program ts (called d)) (nodes_of_passed args)) both.1 in
+      let keeping = both_true (keeps_each U.program q ts) (list_all (keeps_entered U.program ts) (nodes_of_passed args)) both.1 in
       record {
         passes = pass;
         keeps = λ ty h. keeps_called U.program p q x is_procedure within l stands call ty h;

@@ -10,6 +10,7 @@ use Rattle.target_laws.proofs.Tests.{same_tests}
 use Rattle.run_matches.specs.Upgrades.{Upgrade, home_of}
 use Rattle.run_statements.specs.Frames.{ScalarsAreRead, type_shape}
 use Rattle.run_statements.specs.Kept.{LinesAgree}
+use Rattle.run_statements.specs.Objects.{ClassesAreWritten}
 use Rattle.run_statements.specs.Written.{IsWritten, SameLines, SameRuns, site_scope}
 use Rattle.placing_laws.proofs.Placing.{procedures_are_written}
 use Rattle.placing_laws.proofs.Labels.{labels_are_found}
@@ -32,7 +33,9 @@ use Rattle.memory_laws.proofs.GroupWriting.{groups_are_written}
 use Rattle.memory_laws.proofs.Members.{members_are_found}
 use Rattle.memory_laws.proofs.GroupsMade.{group_shape_is, groups_are_given, groups_are_made}
 use Rattle.memory_laws.proofs.StaticGroups.{static_groups_are_laid}
-use Rattle.name_laws.proofs.ClassTypes.{ClassLed, class_home_is, class_leads, class_led}
+use Rattle.name_laws.proofs.ClassTypes.{ClassLed, class_home_is, class_leads, class_led, classes_are_found}
+use Rattle.name_laws.proofs.Fields.{fields_are_written}
+use Rattle.name_laws.proofs.Initializers.{initializers_are_found, nothing_initializes}
 use Rattle.name_laws.proofs.CoveredTypes.{is_unmade}
 use Rattle.name_laws.proofs.SoundPoints.{owned_sound}
 use Rattle.name_laws.proofs.TypeShapes.{user_type_same}
@@ -49,7 +52,7 @@ use Rattle.expression_laws.proofs.Agreements.{arrays_agree, calls_are_made, elem
 use Rattle.expression_laws.specs.Statements.{ParametersAreSound}
 use Rattle.run_laws.proofs.SoundParameters.{parameters_are_sound}
 use Rattle.line_laws.proofs.Lines.{lines_agree}
-use Rattle.run_laws.specs.Premises.{GroupsAreWritten, LinePremises, OwnedAreUsable, RunPremises}
+use Rattle.run_laws.specs.Premises.{GroupsAreWritten, LinePremises, ObjectsBegin, OwnedAreUsable, RunPremises}
 use Rattle.run_laws.proofs.Lines as by_itself
 use Rattle.run_matches.specs.Runs.{call_pledge}
 use Rattle.run_laws.proofs.Runs.{makes_in_calls}
@@ -61,11 +64,16 @@ scalars_are_read U K w a b ty covers h same at = variables_are_read U K w true a
 owned_usable : (U : Upgrade) → IsWritten U → OwnedAreUsable U
 owned_usable U w p v x clean e owned covers loud = usable U w v x e covers loud (owned_sound U.program U.facts.marks p v x clean e owned)
 
+objects_begin : (U : Upgrade) → IsWritten U → ObjectsBegin U
+objects_begin U w = record { found = classes_are_found U w; begins = initializers_are_found U w; nothing = nothing_initializes U w }
+
 lines_do : (U : Upgrade) → IsWritten U → LinesAgree U
 lines_do U w =
     let sound : ParametersAreSound U = parameters_are_sound U (owned_usable U w) in
-    lines_agree U (expressions_agree U sound) (calls_are_made U sound) (scalars_are_read U) (scalars_are_written U) (elements_agree U sound)
-    (indexes_agree_all U sound) (elements_are_written U) (groups_agree U sound) (groups_are_written U) (members_agree U) (members_are_found U)
+    let classes : ClassesAreWritten U = fields_are_written U w in
+    lines_agree U (expressions_agree U sound classes) (calls_are_made U sound classes) (scalars_are_read U) (scalars_are_written U)
+    (elements_agree U sound classes) (indexes_agree_all U sound classes) (elements_are_written U) (groups_agree U sound classes) (groups_are_written U)
+    (members_agree U) (members_are_found U)
     (arrays_agree U) (arrays_are_resized U) (arrays_are_erased U)
 
 -- the name of a user type leads to its structure, and that of a class to the class
@@ -106,6 +114,7 @@ run_premises U w = record {
   known = w.known;
   found = callees_are_found U w;
   methods = methods_are_found U w;
+  objects = objects_begin U w;
   makes =
       makes_in_calls U (locals_are_made U) (arrays_are_made U) (groups_are_made U) (static_arrays_are_laid U) (static_groups_are_laid U)
       (values_are_made U) (groups_are_given U);
@@ -131,6 +140,7 @@ line_premises U w = record {
   stores = stores_are_own U w;
   found = callees_are_found U w;
   methods = methods_are_found U w;
+  objects = objects_begin U w;
   calls = whole.calls_agree U (run_premises U w);
 }
 

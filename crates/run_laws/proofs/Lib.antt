@@ -23,6 +23,7 @@ pub mod Pledged
 pub mod Reaching
 pub mod Receiving
 pub mod Callees
+pub mod Making
 pub mod Turns
 pub mod Lines
 pub mod Results

@@ -23,12 +23,13 @@ use Rattle.run_matches.specs.Sites.{Site, site_of}
 use Rattle.run_matches.specs.Upgrades.{Upgrade, code_of, runnable_of}
 use Rattle.run_statements.specs.Fitting.{FitsLine, FitsNode}
 use Rattle.run_statements.specs.Frames.{AreReadable, IsOpen}
-use Rattle.run_statements.specs.Kept.{IsUnreplaced, LineStands, LinesAgree, LinesAreWritten, NamesAreOpen, StoresAreOwn, UsesArePlaced, CanCallFrom, SameLineIn, qualified_at, receiver_at}
+use Rattle.run_statements.specs.Kept.{IsUnreplaced, LineStands, LinesAgree, LinesAreWritten, NamesAreOpen, StoresAreOwn, UsesArePlaced, CanCallFrom, CanMakeFrom, SameLineIn, made_at, qualified_at, receiver_at}
 use Rattle.run_statements.specs.Written.{SameLines, WrittenLine, WrittenProcedure, Passes, site_scope}
 use Rattle.run_laws.specs.Premises.{LinePremises}
 use Rattle.run_laws.proofs.Covered.{PlainProcedure, bound_line, not_none, plain_parts, some_is}
-use Rattle.line_laws.proofs.Called.{use_calls}
+use Rattle.line_laws.proofs.Called.{use_calls, use_makes}
 use Rattle.run_laws.proofs.Callees.{call_fits, call_suits, callee_covered, called_clean, can_call, call_hands}
+use Rattle.run_laws.proofs.Making.{can_make, made_covered}
 use Rattle.run_laws.proofs.Names.{code_is, is_below}
 
 -- the bound lines of a procedure, as its lines
@@ -60,15 +61,16 @@ module _ (U : Upgrade) (lines_written : LinesAreWritten U) (names_open : NamesAr
       → IsUnreplaced U p s k → covers_names U.program.declarations ≡ true → covers_line U.program p l.form ≡ true
       → AreReadable U (inside_procedure (site_scope U s) p) (uses_in U.program p l.form.bindings.mentions) → UsesArePlaced U p s W.code l.form → StoresAreOwn U p l.form
       → ((d : Expr) (q : ℕ) → Contains (line_uses l.form) d → called d ≡ Some q → CanCallFrom U p s W.code q (qualified_at d) (receiver_at d) (args_at d))
+      → ((d : Expr) (class : ℕ) → Contains (line_uses l.form) d → made_at d ≡ Some class → CanMakeFrom U p s W.code class)
       → ((d : Expr) → Contains (line_uses l.form) d → FitsNode U d) → FitsLine U p l.form → LineStands U p s W.number W.code (suc k) l
       → LineSame U p W.number (suc k) l
-  line_same k l e blocks unreplaced names covers readable placed own can fits resizes there =
+  line_same k l e blocks unreplaced names covers readable placed own can makes fits resizes there =
       let L : WrittenLine U p s W.number (suc k) l = lines_written p s x stands W k l e (blocks_in blocks) unreplaced in
       record {
         line = L.line;
         is_line = L.is_line;
         same = λ turns calls.
-            lines_agree p s W.number (suc k) turns l W.code L W.is_code (names_in names) readable placed own calls can fits resizes covers there;
+            lines_agree p s W.number (suc k) turns l W.code L W.is_code (names_in names) readable placed own calls can makes fits resizes covers there;
       }
 
 -- ---- lines by themselves
@@ -85,6 +87,19 @@ module _ (U : Upgrade) (h : LinePremises U) where
       (called_clean U p (suc k) c.line clean (ap (λ o. nth_line (or_none o) (suc k)) c.are_lines ∙ c.is_line) q call, c.entered q call)
       (args_at d) (call_suits U p q c.line d c.calls m e) (call_hands U p q c.line d c.calls m e)
       (call_fits U q d (h.fits p k c.line clean (ap (λ o. nth_line (or_none o) (suc k)) c.are_lines ∙ c.is_line) d m) e)
+
+  -- and new objects can be made
+  can_make_from : (p k : ℕ) (clean : IsCleanLine U.program U.facts.marks p (suc k)) (c : IsCoveredLine U.program p (suc k))
+      (x : PlainProcedure (slice_get U.program.declarations.procs p)) (W : WrittenProcedure U p c.site x.procedure) (d : Expr) (class : ℕ)
+      → Contains (line_uses c.line) d → made_at d ≡ Some class → CanMakeFrom U p c.site W.code class
+  can_make_from p k clean c x W d class m is =
+      can_make U h.known h.procedures h.objects p c.site x.procedure x.is_procedure W c.line
+      (record { lines = c.lines; are_lines = c.are_lines; place = k; stands = c.is_line }) class (made_covered U p class c.line d c.calls m is)
+      (λ q e. use_makes U.program.declarations p q class c.line d m is e)
+      (λ q within call. (
+        called_clean U p (suc k) c.line clean (ap (λ o. nth_line (or_none o) (suc k)) c.are_lines ∙ c.is_line) q call,
+        c.entered q call,
+      ))
 
   one_line : (p k : ℕ) → IsCleanLine U.program U.facts.marks p (suc k) → IsCoveredLine U.program p (suc k) → LineDoesTheSame U p (suc k)
   one_line p k clean c =
@@ -105,7 +120,8 @@ module _ (U : Upgrade) (h : LinePremises U) where
       line_same U h.lines h.names h.agree p c.site x.procedure c.is_site W c.lines c.are_lines k l is c.blocks
       (h.unreplaced p k c.site c.is_site clean c) c.names covers readable
       (h.placed p c.site x.procedure c.is_site x.is_procedure W l.form readable) (h.stores p x.procedure x.is_procedure k l.form here covers)
-      (λ d q m e. can_call_from p k clean c x W d q (subst (λ (n : Line). Contains (line_uses n) d) form m) e) (h.fits p k l.form clean here)
+      (λ d q m e. can_call_from p k clean c x W d q (subst (λ (n : Line). Contains (line_uses n) d) form m) e)
+      (λ d class m e. can_make_from p k clean c x W d class (subst (λ (n : Line). Contains (line_uses n) d) form m) e) (h.fits p k l.form clean here)
       (h.resizes p k l.form clean here)
       (record {
         is_procedure = is_below U.program.declarations.procs p x.procedure x.is_procedure;

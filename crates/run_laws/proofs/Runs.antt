@@ -39,7 +39,7 @@ use Rattle.run_matches.specs.Upgrades.{Upgrade, runnable_of}
 use Rattle.run_statements.specs.Arrays.{ArraysAreMade, StaticArraysAreLaid}
 use Rattle.run_statements.specs.Frames.{IsUsable, LocalsAreMade, ValuesAreMade}
 use Rattle.run_statements.specs.Groups.{GroupsAreGiven, GroupsAreMade, StaticGroupsAreLaid}
-use Rattle.run_statements.specs.Kept.{CanCallFrom, OwnsAreKept, SameWays, qualified_at, receiver_at}
+use Rattle.run_statements.specs.Kept.{CanCallFrom, CanMakeFrom, OwnsAreKept, SameWays, made_at, qualified_at, receiver_at}
 use Rattle.run_statements.specs.Written.{Passes, SameRuns, WrittenLine, WrittenProcedure}
 use Rattle.agreeing_laws.specs.Beside.{beside, with_steps}
 use Rattle.agreeing_laws.proofs.Agreeing.{agrees_from, agrees_spent, then_agrees}
@@ -53,8 +53,9 @@ use Rattle.run_laws.specs.Entered.{IsResult, RunMatch}
 use Rattle.run_laws.specs.Premises.{ArraysHaveRanks, CallsMakeAlike, RunPremises}
 use Rattle.run_laws.proofs.Covered.{CoveredProcedure, all_at, blocks_are_kept, covered_parts, form_at, form_covered, jumps_soundly, labels_are_sound, no_property, not_none, some_is, extents_given, own_covered_at}
 use Rattle.run_laws.proofs.Entries.{all_names, entries_agree}
-use Rattle.line_laws.proofs.Called.{use_calls}
+use Rattle.line_laws.proofs.Called.{use_calls, use_makes}
 use Rattle.run_laws.proofs.Callees.{call_fits, call_suits, callee_covered, can_call, call_hands}
+use Rattle.run_laws.proofs.Making.{can_make, made_covered}
 use Rattle.run_laws.proofs.Names.{is_below}
 use Rattle.run_laws.proofs.Heads.{HasAnswer, answer_sound}
 use Rattle.run_laws.proofs.Keeping.{line_keeps}
@@ -133,6 +134,19 @@ module _ (U : Upgrade) (h : RunPremises U) where
           covered_called U.program p q c.procedure c.is_procedure within l stands call pass.1,
         ) (args_at d) (call_suits U p q l d calls m e) (call_hands U p q l d calls m e) (call_fits U q d (h.fits p k l pass.0 (ap (λ (ls : List Line). slice_get ls k) lines_are ∙ at) d m) e)
 
+    -- and new objects can be made
+    can_make_from : (k : ℕ) (l : Line) → slice_get c.lines k ≡ Some l → (d : Expr) (class : ℕ) → Contains (line_uses l) d → made_at d ≡ Some class
+        → CanMakeFrom U p (parts p pass).site (written p pass).code class
+    can_make_from k l at d class m is =
+        let stands : IsLineOf U.program p l = record { lines = c.lines; are_lines = c.are_lines; place = k; stands = at } in
+        can_make U h.known h.procedures h.objects p c.site c.procedure c.is_procedure W l stands class
+        (made_covered U p class l d (all_at (covers_calls U.program p) c.lines k l c.calls at) m is)
+        (λ q e. use_makes U.program.declarations p q class l d m is e)
+        (λ q within call. (
+          clean_called U.program p q c.procedure c.is_procedure within l stands call U.facts.marks pass.0,
+          covered_called U.program p q c.procedure c.is_procedure within l stands call pass.1,
+        ))
+
     -- no line is replaced, so each line and the written one of its number go the same ways
     same_ways : (n : ℕ) (o : Option SourceLine) → line_at (source.machine_of R) p n ≡ o → SameWays o (line_at (target.machine_of N) (written p pass).number n)
     same_ways n None e =
@@ -157,7 +171,7 @@ module _ (U : Upgrade) (h : RunPremises U) where
         line_same U h.lines h.names h.agree p c.site c.procedure c.is_site W c.lines c.are_lines k l e (blocks_are_kept U.program p c.lines c.covers)
         (h.unreplaced p c.site c.procedure c.is_site c.is_procedure W pass.0 covered k) c.names covers used
         (h.placed p c.site c.procedure c.is_site c.is_procedure W l.form used) (h.stores p c.procedure c.is_procedure k l.form here covers)
-        (can_call_from k l.form at) (h.fits p k l.form pass.0 here) (h.resizes p k l.form pass.0 here)
+        (can_call_from k l.form at) (can_make_from k l.form at) (h.fits p k l.form pass.0 here) (h.resizes p k l.form pass.0 here)
         (record {
           is_procedure = is_below U.program.declarations.procs p c.procedure c.is_procedure;
           is_there = here;

@@ -45,6 +45,7 @@ use Rattle.run_statements.specs.Frames.{AnyUnits, AreReadable, IsGroup, IsReadab
 use Rattle.run_statements.specs.Groups.{GroupMade, ValueMatch}
 use Rattle.run_statements.specs.Kept.{IsUnreplaced, LabelsAreFound, LinesAgree, LinesAreWritten, NamesAreOpen, OwnsAreKept, NoFurtherLines, StoresAreOwn, UsesArePlaced, CalleesAreFound, MethodsAreFound}
 use Rattle.run_statements.specs.Written.{ProceduresAreWritten, WrittenProcedure, Passes, site_scope}
+use Rattle.name_laws.specs.Objects.{ClassesAreFound, InitializersAreFound, NothingInitializes}
 
 -- ---- clean procedures that are covered
 
@@ -197,6 +198,14 @@ abbrev pub LineResizesFit : Upgrade → Type 0
 LineResizesFit U =
     (p k : ℕ) (l : Line) → IsCleanLine U.program U.facts.marks p (suc k) → nth_line (lines_at U.program p) (suc k) ≡ Some l → FitsLine U p l
 
+-- ---- new objects
+
+-- classes are found by their names, and what is written for one begins its objects by what is written for its Class_Initialize
+pub record ObjectsBegin (U : Upgrade) : Type 0 where
+  pub found : ClassesAreFound U
+  pub begins : InitializersAreFound U
+  pub nothing : NothingInitializes U
+
 -- ---- the whole
 
 -- what lines by themselves need
@@ -214,6 +223,7 @@ pub record LinePremises (U : Upgrade) : Type 0 where
   pub known : AreFacts U.program U.known
   pub found : CalleesAreFound U
   pub methods : MethodsAreFound U
+  pub objects : ObjectsBegin U
   pub calls : (n : ℕ) → CallsAgree U (Passes U) (go (source.machine_of (runnable_of U)) n) (go (target.machine_of U.written) n)
 
 -- what runs need
@@ -235,6 +245,7 @@ pub record RunPremises (U : Upgrade) : Type 0 where
   pub known : AreFacts U.program U.known
   pub found : CalleesAreFound U
   pub methods : MethodsAreFound U
+  pub objects : ObjectsBegin U
   pub makes : CallsMakeAlike U
   pub ranked : has_extents U.program ≡ true → ArraysHaveRanks U
   pub groups : GroupsAreWritten U

@@ -1,5 +1,5 @@
 -- A small program over variables of a class: set, compared, given to procedures and by a Function, and asked for variables and procedures of
--- objects.
+-- objects, one of them new.
 use Rattle.std.proofs.Common.{◌≡◌, ◌||◌, refl, pos, nat_eq, true, false, ℕ, List, [], ◌∷◌, ◌++◌, codes, None, Some}
 use Rattle.std.specs.Fmt.{digits}
 use Rattle.vb_tree.specs.BoundTree.{class, boolean, long, nothing}
@@ -15,7 +15,7 @@ use Rattle.bound_tree.specs.declared.body.Mention.{Mention}
 use Rattle.bound_tree.specs.declared.body.Mention.TheVariants as mention
 use Rattle.bound_tree.specs.declared.expression.Origin.TheVariants.{Literal}
 use Rattle.bound_tree.specs.RuleSets.{has, none, both}
-use Rattle.bound_tree.specs.Tree.{Expr, typed, constant, variable, call, binary, convert, err_number, field, is_same, me, no_object, of_object, by_reference, by_value, no_passed, next_passed, Line, Program}
+use Rattle.bound_tree.specs.Tree.{Expr, typed, constant, variable, call, binary, convert, err_number, field, is_same, me, new_object, no_object, of_object, by_reference, by_value, no_passed, next_passed, Line, Program}
 use Rattle.bound_facts.specs.Facts.{Known}
 use Rattle.written_trees.specs.Projects.{written_project}
 use Rattle.run_base.specs.Outcomes.{outputs, printed}
@@ -42,6 +42,9 @@ use Rattle.run_matches.proofs.Samples.{any, body, declared, facts, known, line, 
 --         On Error Resume Next
 --         Call Advance(c)
 --         Debug.Print Err.Number
+--         Set c = New Counter
+--         Call Advance(c)
+--         Debug.Print c.n
 --     End Sub
 --     Sub Clear(o As Counter)
 --         Set o = Nothing
@@ -66,6 +69,9 @@ use Rattle.run_matches.proofs.Samples.{any, body, declared, facts, known, line, 
 --         Total = Me.n
 --         Call Add(1)
 --     End Function
+--     Private Sub Class_Initialize()
+--         n = 7
+--     End Sub
 
 abbrev object : (variable : ℕ) → Expr
 object k = typed (class 0) (variable (var_id k) false)
@@ -89,6 +95,9 @@ code f es = code_in 1 f es
 abbrev set : Form
 set = source.set any any
 
+abbrev n_of : Expr → Expr
+n_of e = typed long (field e 0)
+
 abbrev main_lines : List Line
 main_lines =
     code set (object 1 ∷ typed (class 0) (call (proc_id 2) false no_object (next_passed (by_value (object 0)) no_passed)) ∷ [])
@@ -103,6 +112,9 @@ main_lines =
     ∷ code source.on_error_resume_next []
     ∷ code (source.call any) (typed nothing (call (proc_id 3) false no_object (next_passed (by_value (object 1)) no_passed)) ∷ [])
     ∷ code (source.debug_print [] false) (typed long err_number ∷ [])
+    ∷ code set (object 1 ∷ typed (class 0) (new_object (record { 0 = 0 })) ∷ [])
+    ∷ code (source.call any) (typed nothing (call (proc_id 3) false no_object (next_passed (by_value (object 1)) no_passed)) ∷ [])
+    ∷ code (source.debug_print [] false) (n_of (object 1) ∷ [])
     ∷ []
 
 abbrev clear_lines : List Line
@@ -113,9 +125,6 @@ pick_lines = code set (object 4 ∷ object 3 ∷ []) ∷ []
 
 abbrev following : Expr → Expr
 following e = typed (class 0) (field e 1)
-
-abbrev n_of : Expr → Expr
-n_of e = typed long (field e 0)
 
 abbrev advance_lines : List Line
 advance_lines =
@@ -140,6 +149,9 @@ total_lines =
     ∷ code_in 2 (source.call any) (typed nothing (call (proc_id 4) false no_object (next_passed (by_value (number 1)) no_passed)) ∷ [])
     ∷ []
 
+abbrev initialize_lines : List Line
+initialize_lines = code_in 2 (source.assign any any) (of 5 ∷ number 7 ∷ []) ∷ []
+
 abbrev sub_in : (file : ℕ) → (name : List ℕ) → List Form → Member
 sub_in file name forms = source.proc (line file (source.sub_head (signature name))) (body file forms) (line file source.end_sub)
 
@@ -161,7 +173,7 @@ objects = record {
                 ∷ sub (codes "Main")
                 (source.variables var_word.Dim [] ∷ set ∷ source.call any ∷ source.if_head any ∷ source.debug_print [] false ∷ source.end_if ∷ set
                 ∷ source.if_head any ∷ source.debug_print [] false ∷ source.end_if ∷ source.on_error_resume_next ∷ source.call any
-                ∷ source.debug_print [] false ∷ [])
+                ∷ source.debug_print [] false ∷ set ∷ source.call any ∷ source.debug_print [] false ∷ [])
                 ∷ sub (codes "Clear") (set ∷ [])
                 ∷ source.proc (line 1 (source.function_head (signature (codes "Pick")) None)) (body 1 (set ∷ [])) (line 1 source.end_function)
                 ∷ sub (codes "Advance") (set ∷ source.assign any any ∷ source.call any ∷ source.debug_print [] false ∷ [])
@@ -178,6 +190,7 @@ objects = record {
                 ∷ sub_in 2 (codes "Add") (source.assign any any ∷ set ∷ [])
                 ∷ source.proc (line 2 (source.function_head (signature (codes "Total")) None)) (body 2 (source.assign any any ∷ source.call any ∷ []))
                 (line 2 source.end_function)
+                ∷ sub_in 2 (codes "Class_Initialize") (source.assign any any ∷ [])
                 ∷ [];
             comments = [];
           }
@@ -187,12 +200,12 @@ objects = record {
     vars =
         declared (codes "held") 1 0 (owner.Module 1) (class 0)
         ∷ declared (codes "c") 1 2 (owner.Local (proc_id 0)) (class 0)
-        ∷ declared (codes "o") 1 15 (owner.Reference (proc_id 1)) (class 0)
-        ∷ declared (codes "o") 1 18 (owner.Value (proc_id 2)) (class 0)
-        ∷ declared (codes "Pick") 1 18 (owner.Answer (proc_id 2)) (class 0)
+        ∷ declared (codes "o") 1 18 (owner.Reference (proc_id 1)) (class 0)
+        ∷ declared (codes "o") 1 21 (owner.Value (proc_id 2)) (class 0)
+        ∷ declared (codes "Pick") 1 21 (owner.Answer (proc_id 2)) (class 0)
         ∷ declared (codes "n") 2 0 (owner.Module 2) long
         ∷ declared (codes "following") 2 1 (owner.Module 2) (class 0)
-        ∷ declared (codes "o") 1 21 (owner.Value (proc_id 3)) (class 0)
+        ∷ declared (codes "o") 1 24 (owner.Value (proc_id 3)) (class 0)
         ∷ declared (codes "k") 2 2 (owner.Value (proc_id 4)) long
         ∷ declared (codes "Total") 2 6 (owner.Answer (proc_id 5)) long
         ∷ [];
@@ -204,12 +217,13 @@ objects = record {
         ∷ procedure (codes "Advance") 1 kind.Sub (var_id 7 ∷ []) nothing None 3
         ∷ procedure (codes "Add") 2 kind.Sub (var_id 8 ∷ []) nothing None 4
         ∷ procedure (codes "Total") 2 kind.Function [] long (Some (var_id 9)) 5
+        ∷ procedure (codes "Class_Initialize") 2 kind.Sub [] nothing None 6
         ∷ [];
     types = [];
     enums = [];
     defaults = [];
   };
-  bodies = main_lines ∷ clear_lines ∷ pick_lines ∷ advance_lines ∷ add_lines ∷ total_lines ∷ [];
+  bodies = main_lines ∷ clear_lines ∷ pick_lines ∷ advance_lines ∷ add_lines ∷ total_lines ∷ initialize_lines ∷ [];
 }
 
 -- the reference parameter of Clear is touched
@@ -237,13 +251,16 @@ add_covered = refl
 total_covered : covers_procedure objects 5 ≡ true
 total_covered = refl
 
+initialize_covered : covers_procedure objects 6 ≡ true
+initialize_covered = refl
+
 abbrev texts : List ℕ → List ℕ
 texts s = s ++ 13 ∷ 10 ∷ []
 
-says_objects : outputs (run_program (runnable_of object_upgrade) 0 [] 40) ≡ printed (texts (codes " 1 ")) ∷ printed (texts (codes " 2 ")) ∷ printed (texts (codes " 91 ")) ∷ []
+says_objects : outputs (run_program (runnable_of object_upgrade) 0 [] 60) ≡ printed (texts (codes " 1 ")) ∷ printed (texts (codes " 2 ")) ∷ printed (texts (codes " 91 ")) ∷ printed (texts (codes " 5 ")) ∷ printed (texts (codes " 6 ")) ∷ []
 unfolding digits
 says_objects = refl
 
-says_objects_net : outputs (program_runs object_upgrade.written 40 0 []) ≡ printed (texts (codes " 1 ")) ∷ printed (texts (codes " 2 ")) ∷ printed (texts (codes " 91 ")) ∷ []
+says_objects_net : outputs (program_runs object_upgrade.written 60 0 []) ≡ printed (texts (codes " 1 ")) ∷ printed (texts (codes " 2 ")) ∷ printed (texts (codes " 91 ")) ∷ printed (texts (codes " 5 ")) ∷ printed (texts (codes " 6 ")) ∷ []
 unfolding digits has none both
 says_objects_net = refl

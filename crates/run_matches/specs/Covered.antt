@@ -14,10 +14,10 @@ use Rattle.vb_tree.specs.ProjectLines.{is_reserved}
 use Rattle.vb_tree.specs.Tree.{Form, Module}
 use Rattle.vb_tree.specs.Tree as source
 use Rattle.bound_tree.specs.declared.body.Mention.{Mention}
-use Rattle.bound_tree.specs.Tree.{Variable, Constant, Procedure, Declarations, Program, Expr, typed, Term, variable, element, Argument, by_value, by_reference, Passed, no_passed, next_passed, field, call, Object, no_object, of_object}
+use Rattle.bound_tree.specs.Tree.{Variable, Constant, Procedure, Declarations, Program, Expr, typed, Term, variable, element, Argument, by_value, by_reference, Passed, no_passed, next_passed, field, call, new_object, Object, no_object, of_object}
 use Rattle.bound_tree.specs.Tree as tree
 use Rattle.bound_facts.specs.Calls.{Reaches, line_calls, count_procedures}
-use Rattle.bound_facts.specs.Members.{class_files}
+use Rattle.bound_facts.specs.Members.{class_files, initializer}
 use Rattle.bound_facts.specs.Effects.{params_at}
 use Rattle.bound_facts.specs.Locks.{is_same_type}
 use Rattle.bound_facts.specs.Node.{type_at, called, args_at, is_array_type}
@@ -197,11 +197,16 @@ abbrev pub covers_called_for : Program → (procedure : ℕ) → Option Site →
 covers_called_for P p s q qualified no_object = covers_callee P p s q qualified
 covers_called_for P p s q qualified (of_object e) = covers_method P e q
 
+abbrev pub covers_initializer : Program → (class : ℕ) → Option ℕ → Bool
+covers_initializer P c None = true
+covers_initializer P c (Some q) = nat_lt q (count_procedures P) && is_method P.declarations (types.class c) q
+
 abbrev pub covers_node_term : Program → (procedure : ℕ) → Option Site → Term → Bool
 covers_node_term P p s (call q qualified of args) = covers_called_for P p s q.0 qualified of
+covers_node_term P p s (new_object c) = covers_initializer P c.0 (initializer P.declarations c.0)
 covers_node_term P p s t = true
 
--- what a node calls is found by its name
+-- what a node calls is found by its name; so is the Class_Initialize of a new object
 abbrev pub covers_node : Program → (procedure : ℕ) → Option Site → Expr → Bool
 covers_node P p s (typed ty t) = covers_node_term P p s t
 

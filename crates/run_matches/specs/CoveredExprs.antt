@@ -31,7 +31,7 @@ use Rattle.bound_facts.specs.SelfMade.{module_of}
 use Rattle.run_matches.specs.Sites.{Site, site_of}
 use Rattle.run_matches.specs.UserTypes.{is_class_type, is_user, is_user_of}
 use Rattle.run_matches.specs.Inward.{grown, is_apart, is_inward_in}
-use Rattle.run_matches.specs.CoveredVariables.{covers_use, covers_array_use, covers_group_use, covers_group_type, is_named_so, field_type_in, member_type_in, is_loud, covers_type}
+use Rattle.run_matches.specs.CoveredVariables.{covers_use, covers_array_use, covers_group_use, covers_group_type, covers_made, is_named_so, field_type_in, member_type_in, is_loud, covers_type}
 
 -- ---- operators and the library
 
@@ -98,8 +98,9 @@ pub record Uses : Type 0 where
   pub field_type : (user_type field : ℕ) → Option Ty
   -- the types of the variables that objects of a class may be asked for
   pub member_type : (class field : ℕ) → Option Ty
-  -- the class of the procedure
+  -- the class of the procedure, and classes of which objects may be made
   pub me : Option ℕ
+  pub made : (class : ℕ) → Bool
   -- how variables may be named
   pub named : VarId → (qualified : Bool) → Bool
   -- user types that a With may keep, user types and classes that a call may give, and classes of which Nothing is
@@ -167,6 +168,7 @@ uses_in P p mentions = record {
   field_type = field_type_in P.declarations mentions;
   member_type = member_type_in P.declarations mentions;
   me = class_of P.declarations p;
+  made = covers_made P;
   named = is_named_so P.declarations;
   given = covers_group_type P.declarations;
   is_of = λ v ty. is_declared_as ty (slice_get P.declarations.vars v.0);
@@ -361,7 +363,7 @@ abbrev mutual
   covers_term uses (is_same d e) = covers_operand uses d && covers_operand uses e
   covers_term uses (loose e rules) = false
 
-  -- a user type or an object as a value: a place, an object that an object has, what a Function gives, or Nothing
+  -- a user type or an object as a value: a place, an object that an object has, what a Function gives, Me, a new object, or Nothing
   pub covers_group : Uses → Expr → Bool
   covers_group uses (typed ty t) = covers_place_term uses ty t || covers_group_term uses ty t
 
@@ -369,6 +371,7 @@ abbrev mutual
   covers_group_term uses ty (call p qualified of args) = uses.given ty && (covers_receiver uses of && covers_passed uses args)
   covers_group_term uses ty (field e k) = covers_object_term uses ty (field e k)
   covers_group_term uses ty me = covers_object_term uses ty me
+  covers_group_term uses ty (new_object c) = is_class_of (Some c.0) ty && uses.made c.0
   covers_group_term uses ty (convert to e) = uses.given ty && (is_class_type ty && (is_same_type ty to && is_nothing e))
   covers_group_term uses ty t = false
 
@@ -456,9 +459,16 @@ abbrev pub is_seen_inward : Uses → Option ℕ → Bool
 is_seen_inward uses None = true
 is_seen_inward uses (Some q) = uses.inward q
 
--- calls of inward procedures alone
+abbrev pub is_new_term : Term → Bool
+is_new_term (new_object c) = true
+is_new_term t = false
+
+abbrev pub is_new : Expr → Bool
+is_new (typed ty t) = is_new_term t
+
+-- calls of inward procedures alone, and no new objects, whose Class_Initialize is called
 abbrev pub are_still : Uses → List Expr → Bool
-are_still uses es = list_all (λ d. is_seen_inward uses (called d)) es
+are_still uses es = list_all (λ d. not (is_new d) && is_seen_inward uses (called d)) es
 
 -- Both can raise, or the value is constant, or one is calm and the other still. What breaks no rule on the order of effects is mostly so;
 -- what reads an element, or has an operator, isn't calm, and a fixed array isn't told from others.

@@ -1,6 +1,7 @@
 -- Which types and variables are covered.
 use Rattle.std.specs.Prelude.{ℕ, ℤ, suc, Bool, true, false, cond, not, ◌&&◌, ◌||◌, int_le, nat_eq, Option, Some, None, List, [], ◌∷◌, length, slice_get, nat_lt, zero, position, is_some}
-use Rattle.std.specs.List.{list_all, list_any}
+use Rattle.std.specs.Cmp.Lexicographic.{pointwise}
+use Rattle.std.specs.List.{flat_map, list_all, list_any}
 use Rattle.up_base.specs.Names.{is_same_name}
 use Rattle.vb_tree.specs.BoundTree as types
 use Rattle.vb_tree.specs.BoundTree.{Ty}
@@ -19,15 +20,17 @@ use Rattle.bound_facts.specs.Effects.{touched}
 use Rattle.bound_facts.specs.Facts.{acts}
 use Rattle.bound_facts.specs.Leading.{is_in}
 use Rattle.bound_facts.specs.Locks.{is_same_type}
-use Rattle.bound_facts.specs.Members.{field_of, class_files, terminator}
+use Rattle.bound_facts.specs.Members.{field_of, class_files, terminator, variables_from}
 use Rattle.vb6_meaning.specs.Answers.{Answer}
+use Rattle.written_trees.specs.Placing.{Placed}
 use Rattle.written_trees.specs.Types.{element_type}
 use Rattle.written_trees.specs.Names.{is_standard_module, module_at, module_name}
 use Rattle.vb6_run.specs.Runnables.{is_class_file}
-use Rattle.run_matches.specs.Callees.{is_first_module, is_source_name}
-use Rattle.run_matches.specs.Shared.{names_lead, field_leads, is_alone_field, is_alone_static}
+use Rattle.run_matches.specs.Callees.{is_first_module, is_once, is_source_name, names_in}
+use Rattle.run_matches.specs.Shared.{names_lead, field_leads, is_alone_field, is_alone_static, is_of_module, member_owns, others_differ, placed_module}
+use Rattle.run_matches.specs.Sites.{variable_numbers}
 use Rattle.run_matches.specs.Upgrades.{is_unknown, type_of_some}
-use Rattle.run_matches.specs.UserTypes.{type_leads, field_names, is_user_of}
+use Rattle.run_matches.specs.UserTypes.{type_leads, field_names, is_user, is_user_of}
 
 -- ---- types
 
@@ -276,3 +279,44 @@ member_type_in D mentions c k = member_type_of D mentions (slice_get (class_file
 -- a scalar, an array of scalars, a user type of scalars and such user types, or an object
 abbrev pub covers_declared : Declarations → Variable → Bool
 covers_declared D x = covers_variable x || (covers_array_variable (element_type x.ty) x || covers_group_variable D x)
+
+-- no user types: a field of one may carry an issue
+abbrev pub covers_made_variable : Declarations → Variable → Bool
+covers_made_variable D x = covers_declared D x && not (is_user x.ty)
+
+abbrev pub covers_made_file : Declarations → Option ℕ → Bool
+covers_made_file D None = false
+covers_made_file D (Some file) = list_all (λ (x : Variable). cond (is_of_module file x.owner) (covers_made_variable D x) true) D.vars
+
+-- the variables that the lines of a module declare, in order
+abbrev pub declared_numbers : Declarations → Module × List Placed → List ℕ
+declared_numbers D m = flat_map (λ (p : Placed). variable_numbers (member_owns D m.0.file p p.member)) m.1
+
+abbrev pub declares_in_order : Declarations → (file : ℕ) → Option (Module × List Placed) → Bool
+declares_in_order D file None = false
+declares_in_order D file (Some m) = pointwise nat_eq (declared_numbers D m) (variables_from file 0 D.vars)
+
+-- nothing else that the module declares has the name of the variable
+abbrev pub has_own_name : Declarations → (file home variable : ℕ) → Option Variable → Bool
+has_own_name D file home v None = false
+has_own_name D file home v (Some x) = is_once x.name (names_in D home) && others_differ (is_of_module file) v x.name 0 D.vars
+
+abbrev pub declares_variables_at : Declarations → (file : ℕ) → Option ℕ → Bool
+declares_variables_at D file None = false
+declares_variables_at D file (Some home) =
+    declares_in_order D file (placed_module D home)
+    && list_all (λ (v : ℕ). has_own_name D file home v (slice_get D.vars v)) (variables_from file 0 D.vars)
+
+abbrev pub declares_variables_in : Declarations → Option ℕ → Bool
+declares_variables_in D None = false
+declares_variables_in D (Some file) = declares_variables_at D file (position (λ (m : Module). nat_eq m.file file) D.project.modules)
+
+-- the lines of a class declare its variables in their order, each under a name of its own
+abbrev pub declares_variables : Declarations → (class : ℕ) → Bool
+declares_variables D c = declares_variables_in D (slice_get (class_files D.project) c)
+
+-- a class of which objects may be made: each of its variables is covered, and its lines declare them
+abbrev pub covers_made : Program → (class : ℕ) → Bool
+covers_made P c =
+    covers_class P.declarations c
+    && (covers_made_file P.declarations (slice_get (class_files P.declarations.project) c) && (declares_variables P.declarations c && has_extents P))

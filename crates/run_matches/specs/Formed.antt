@@ -105,7 +105,7 @@ abbrev mutual
   is_formed_term ty (unary o e) = is_row_of_one ty (write_unary o (type_at e)) && is_formed e
   is_formed_term ty (binary o d e) = is_row_of_two o ty (write_operator o (type_at d) (type_at e)) && (is_formed d && is_formed e)
   is_formed_term ty (convert to e) = is_some (write_conversion (type_at e) to) && is_formed e
-  is_formed_term ty (new_object c) = false
+  is_formed_term ty (new_object c) = true
   is_formed_term ty me = true
   is_formed_term ty (with_object root) = false
   is_formed_term ty err_number = is_same_type types.long ty

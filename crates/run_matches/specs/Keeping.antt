@@ -3,8 +3,8 @@
 use Rattle.std.specs.Prelude.{ℕ, Bool, true, ◌&&◌, Option, Some, None, List, [], ◌∷◌, ◌++◌}
 use Rattle.std.specs.List.{list_all}
 use Rattle.vb_tree.specs.BoundTree.{Ty}
-use Rattle.bound_tree.specs.Tree.{Program, typed, Term, element, Argument, by_value, by_reference, Passed, no_passed, next_passed}
-use Rattle.bound_facts.specs.Calls.{calls, count_procedures}
+use Rattle.bound_tree.specs.Tree.{Program, Expr, typed, Term, element, Argument, by_value, by_reference, Passed, no_passed, next_passed}
+use Rattle.bound_facts.specs.Calls.{calls, count_procedures, initialized}
 use Rattle.bound_facts.specs.Leading.{within}
 use Rattle.bound_facts.specs.Locks.{lockers}
 use Rattle.bound_facts.specs.Node.{called}
@@ -40,7 +40,10 @@ abbrev pub keeps_callee : Program → List Ty → Option ℕ → Bool
 keeps_callee P ts None = true
 keeps_callee P ts (Some q) = keeps_each P q ts
 
+-- a node calls what keeps them: a procedure, or the Class_Initialize of a new object
+abbrev pub keeps_entered : Program → List Ty → Expr → Bool
+keeps_entered P ts d = keeps_callee P ts (called d) && keeps_callee P ts (initialized P.declarations d)
+
 -- what is called with elements keeps their arrays, and so does what its arguments call
 abbrev pub keeps_given : Program → (procedure : ℕ) → Passed → Bool
-keeps_given P q args =
-    keeps_each P q (given_types args) && list_all (λ d. keeps_callee P (given_types args) (called d)) (nodes_of_passed args)
+keeps_given P q args = keeps_each P q (given_types args) && list_all (keeps_entered P (given_types args)) (nodes_of_passed args)

@@ -1,8 +1,9 @@
 -- What variables, expressions and assignments do in frames that match.
+use Rattle.bound_facts.specs.Calls.{initialized}
 use Rattle.bound_facts.specs.Nodes.{nodes_of_passed}
 use Rattle.run_matches.specs.Keeping.{given_types}
 use Rattle.std.specs.List.{list_all}
-use Rattle.std.specs.Prelude.{◌≡◌, ◌⊎◌, ℕ, ℤ, Bool, true, false, Some, [], ◌∷◌, slice_get, None, zero, suc, nat_eq, List, length}
+use Rattle.std.specs.Prelude.{◌≡◌, ◌⊎◌, ◌||◌, ℕ, ℤ, Bool, true, false, Some, [], ◌∷◌, slice_get, None, zero, suc, nat_eq, List, length, Option}
 use Rattle.vb_tree.specs.BoundTree as types
 use Rattle.vb_tree.specs.BoundTree.{Ty, array, user}
 use Rattle.vb_tree.specs.declared.declared.Owner.TheVariants as owner
@@ -14,12 +15,12 @@ use Rattle.vb_tree.specs.declared.value.Value6.{Value6}
 use Rattle.bound_tree.specs.Tree.{Variable, Expr, typed, Term, constant, variable, field, element, call, library, unary, binary, convert, new_object, me, with_object, err_number, err_raise, err_clear, is_same, loose, Object, no_object, of_object, Exprs, no_exprs, next_expr, Argument, by_value, by_reference, Passed, no_passed, next_passed, Line}
 use Rattle.bound_facts.specs.Facts.{is_quiet}
 use Rattle.bound_facts.specs.Locks.{Keeps}
-use Rattle.bound_facts.specs.Members.{class_files, field_of}
+use Rattle.bound_facts.specs.Members.{class_files, field_of, initializer}
 use Rattle.bound_facts.specs.Node.{type_at, called}
 use Rattle.net_tree.specs.declared.declaration.NetPassing.{NetPassing}
 use Rattle.net_tree.specs.declared.declaration.NetPassing.TheVariants as passing
 use Rattle.net_tree.specs.Tree.{call_of}
-use Rattle.net_tree.specs.Types.{TypeName}
+use Rattle.net_tree.specs.Types.{TypeName, named}
 use Rattle.run_base.specs.Positions.{Key, Position, whole, made, shared}
 use Rattle.vb6_run.specs.Expressions as source
 use Rattle.vb6_run.specs.Expressions.{Context}
@@ -34,20 +35,21 @@ use Rattle.vb6_run.specs.Values.{Value, scalar}
 use Rattle.net_run.specs.Calls.{passings_at}
 use Rattle.net_run.specs.Expressions as target
 use Rattle.net_run.specs.Lines.{NetFrame, NetLine, scope_of}
+use Rattle.net_run.specs.Making as making
 use Rattle.net_run.specs.Making.{Jobs}
-use Rattle.net_run.specs.Members.{Code}
+use Rattle.net_run.specs.Members.{Code, is_new}
 use Rattle.net_run.specs.Names as net_names
 use Rattle.net_run.specs.Shapes as shape
 use Rattle.net_run.specs.Store as net
 use Rattle.net_run.specs.Values as net_value
 use Rattle.net_meaning.specs.declared.value.ValueN.TheVariants as n
 use Rattle.written_trees.specs.Exprs.{callee_of, exp_of, passed_of}
-use Rattle.written_trees.specs.Names.{Scope, variable_path, procedure_name, procedure_path}
+use Rattle.written_trees.specs.Names.{Scope, class_path, variable_path, procedure_name, procedure_path}
 use Rattle.run_matches.specs.Addresses.{Same, IsPlain, IsScalarAt, IsTarget, SameIndexes}
 use Rattle.written_trees.specs.Arguments.{is_property, takes_reference}
 use Rattle.run_matches.specs.Agreeing.{Agrees}
 use Rattle.run_matches.specs.Formed.{passed_are_formed, is_formed}
-use Rattle.run_matches.specs.CoveredVariables.{covers_type, covers_group_type, covers_variable, is_in_order, is_named_so, covers_user}
+use Rattle.run_matches.specs.CoveredVariables.{covers_type, covers_group_type, covers_made, covers_variable, is_in_order, is_named_so, covers_user}
 use Rattle.run_matches.specs.CoveredExprs.{Uses, IsUsed, covers_array, covers_expr, covers_exprs, covers_passed, covers_receiver, is_declared_as, is_relied_on}
 use Rattle.run_matches.specs.Covered.{hands_passed, suits_passed}
 use Rattle.run_matches.specs.SoundShapes.{IsField, IsSoundShape}
@@ -55,17 +57,18 @@ use Rattle.run_matches.specs.Frames.{FrameMatch, GivenAddress, HasPlace, IsOwnAd
 use Rattle.run_matches.specs.Likeness.{LikeV, SameShape, scalar_word}
 use Rattle.run_matches.specs.Maps.{IsMatched, World, is_auto_root}
 use Rattle.run_matches.specs.Match.{HasArray, MemoryMatch, is_class_variable}
-use Rattle.run_matches.specs.Pledges.{Pledge, Later, is_inward, stands_in_class}
+use Rattle.run_matches.specs.Pledges.{Pledge, Later, is_inward, is_self_made, stands_in_class}
 use Rattle.run_matches.specs.Upgrades.{Upgrade, class_home, runnable_of, is_flagged, variable_key, written_number}
 use Rattle.row_laws.specs.Uncaptured.{IsUncaptured, IsTextUncaptured, IsMathUncaptured}
 use Rattle.run_matches.specs.Runs.{CallsAgree}
 use Rattle.run_statements.specs.Fitting.{FitsBounds, FitsRank, rank_of, FitsPassed}
 use Rattle.run_statements.specs.Written.{Passes}
 use Rattle.bound_tree.specs.Targets.{with_round}
-use Rattle.run_base.specs.Machines.{nth_line}
+use Rattle.run_base.specs.Machines.{nth_line, enters}
 use Rattle.run_matches.specs.CoveredLines.{covers_line, is_with, keeps_by}
 use Rattle.run_matches.specs.UserTypes.{is_user_of}
 use Rattle.bound_tree.specs.declared.expression.Root.{Root}
+use Rattle.run_base.specs.Outcomes.{Outcome, gives, then}
 
 -- ---- variables
 
@@ -138,6 +141,7 @@ pub record AreReadable (U : Upgrade) (T : Scope) (uses : Uses) : Type 0 where
   pub arrays : (v : VarId) (element : Ty) → uses.array v element ≡ true → IsArray U v.0 element
   pub groups : (v : VarId) (ty : Ty) → uses.group v ty ≡ true → IsGroup U v.0 ty
   pub fields : (user_type field : ℕ) (ty : Ty) → uses.field_type user_type field ≡ Some ty → IsField U user_type field ty
+  pub made : (class : ℕ) → uses.made class ≡ true → covers_made U.program class ≡ true
   pub members : (class field : ℕ) (ty : Ty) → uses.member_type class field ≡ Some ty → IsMember U class field ty
   -- what a call may give is of a covered user type or class
   pub given : (ty : Ty) → uses.given ty ≡ true → covers_group_type U.program.declarations ty ≡ true
@@ -302,9 +306,10 @@ pub record IsOpen (S : net_names.Scope) : Type 0 where
 
 -- ---- calls
 
--- what is demanded of calls with their arguments, of elements by their arrays and indexes, and of calls of the library that ask for bounds
+-- what is demanded of calls with their arguments, of new objects, of elements by their arrays and indexes, and of calls of the library that ask for bounds
 pub record Demands : Type 1 where
   pub calls : (procedure : ℕ) → (qualified : Bool) → Object → Passed → Type 0
+  pub news : (class : ℕ) → Type 0
   pub elements : (array : Expr) → (indexes : Exprs) → Type 0
   pub bounds : LibCall → (arguments : Exprs) → Type 0
   pub withs : Ty → Root → Type 0
@@ -324,7 +329,7 @@ abbrev mutual
   AllCalledIn Q ty (unary op e) = AllCalled Q e
   AllCalledIn Q ty (binary op d e) = AllCalled Q d × AllCalled Q e
   AllCalledIn Q ty (convert to e) = AllCalled Q e
-  AllCalledIn Q ty (new_object c) = Unit {0}
+  AllCalledIn Q ty (new_object c) = Q.news c.0
   AllCalledIn Q ty me = Unit {0}
   AllCalledIn Q ty (with_object r) = Q.withs ty r
   AllCalledIn Q ty err_number = Unit {0}
@@ -362,7 +367,8 @@ KeepsEach U q ts = (t : Ty) → IsOne ts t → Keeps U.program q t
 
 abbrev pub NodesKeep : Upgrade → List Ty → List Expr → Type 0
 NodesKeep U ts [] = Unit {0}
-NodesKeep U ts (d ∷ ds) = ((q : ℕ) → called d ≡ Some q → KeepsEach U q ts) × NodesKeep U ts ds
+NodesKeep U ts (d ∷ ds) =
+    (((q : ℕ) → called d ≡ Some q → KeepsEach U q ts) × ((q : ℕ) → initialized U.program.declarations d ≡ Some q → KeepsEach U q ts)) × NodesKeep U ts ds
 
 -- The object of a call is one of the class in which the procedure stands. A call for no object goes on with that of the caller, which stands
 -- in the same class, where the procedure that is called stands in one.
@@ -399,6 +405,33 @@ pub record CanCall (U : Upgrade) (K : Pledge) (S : net_names.Scope) (T : Scope) 
   pub passings : (i : ℕ) → passing_at (passings_at U.written (Some number)) i ≡ passing_by (takes_reference U.program.declarations q i)
   pub found : IsFound U S T q number qualified of
 
+-- ---- new objects
+
+-- The Class_Initialize of a class can be called for a new object: it passes, and promises what is promised where the object is made.
+pub record CanInitialize (U : Upgrade) (K : Pledge) (class q : ℕ) : Type 0 where
+  pub passes : Passes U q
+  pub keeps : (ty : Ty) → K.keeps ty → Keeps U.program q ty
+  pub steady : K.steady → (is_inward U q || is_self_made U q) ≡ true
+  pub number : ℕ
+  pub is_number : written_number U q ≡ Some number
+  pub stands : StandsInClass U q class
+
+abbrev pub written_initialized : Upgrade → (home : ℕ) → Jobs → (object : ℕ) → net.Memory → Outcome net.Memory Unit
+written_initialized U home oracle o w = making.initialized U.written oracle home o (shape.first_from is_new 0 (shape.members_of (shape.module_at U.written home))) w
+
+-- What is written for a class calls what is written for its Class_Initialize, where it has one.
+abbrev pub Initializes : Upgrade → Pledge → (class home : ℕ) → Option ℕ → Type 0
+Initializes U K class home None = (oracle : Jobs) (o : ℕ) (w : net.Memory) → written_initialized U home oracle o w ≡ gives [] tt w
+Initializes U K class home (Some q) =
+    (can : CanInitialize U K class q) × ((oracle : Jobs) (o : ℕ) (w : net.Memory)
+    → written_initialized U home oracle o w ≡ then (oracle (enters can.number (Some o) tt []) w) (λ x w. gives [] tt w))
+
+-- A new object of a class can be made from where something is written: its name leads to the class.
+pub record CanMake (U : Upgrade) (K : Pledge) (S : net_names.Scope) (T : Scope) (class : ℕ) : Type 0 where
+  pub initializes : (home : ℕ) → class_home U class ≡ Some home → Initializes U K class home (initializer U.program.declarations class)
+  pub leads :
+      (home : ℕ) → class_home U class ≡ Some home → shape.shape_of S.project S.home (named (class_path T.declarations class)) ≡ shape.class home
+
 -- ---- arrays
 
 -- a line stands in a covered With, which keeps what is of a type, and of this root
@@ -416,7 +449,13 @@ pub record StandsWithin (U : Upgrade) (p : ℕ) (l : SourceLine) (k : NetLine) (
 
 -- what is demanded where expressions of a line are written
 abbrev pub demands : Upgrade → Pledge → (procedure : ℕ) → SourceLine → NetLine → net_names.Scope → Scope → Demands
-demands U K p l k S T = record { calls = CanCall U K S T p; elements = FitsRank U; bounds = FitsBounds U; withs = StandsWithin U p l k }
+demands U K p l k S T = record {
+  calls = CanCall U K S T p;
+  news = λ class. covers_made U.program class ≡ true → CanMake U K S T class;
+  elements = FitsRank U;
+  bounds = FitsBounds U;
+  withs = StandsWithin U p l k;
+}
 
 -- An element of an array of scalars: the array is compared and stands on both sides, and its indexes are the same.
 pub record ElementMatch (U : Upgrade) (ty : Ty) (w : World) (x : source.Parts) (r : net_names.Reached) : Type 0 where

@@ -5,7 +5,7 @@ use Rattle.vb_tree.specs.declared.declared.VarId.{VarId}
 use Rattle.vb_tree.specs.declared.form_parts.Label6.{Label6}
 use Rattle.bound_tree.specs.declared.rule_set.RuleSet.{RuleSet}
 use Rattle.bound_tree.specs.Labels.{label_of, label_at, labels}
-use Rattle.bound_tree.specs.Tree.{Procedure, Constant, Variable, Line, Expr, typed, Term, call, Object, no_object, Passed}
+use Rattle.bound_tree.specs.Tree.{Procedure, Constant, Variable, Line, Expr, typed, Term, call, new_object, Object, no_object, Passed}
 use Rattle.bound_facts.specs.Calls.{count_procedures}
 use Rattle.bound_facts.specs.Effects.{is_outside}
 use Rattle.bound_facts.specs.Node.{args_at, called, root}
@@ -28,6 +28,7 @@ use Rattle.net_run.specs.Names as net_names
 use Rattle.net_run.specs.Values as net_value
 use Rattle.net_run.specs.Program as net_program
 use Rattle.run_matches.specs.CoveredExprs.{uses_in}
+use Rattle.run_matches.specs.CoveredVariables.{covers_made}
 use Rattle.run_matches.specs.CoveredLines.{covers_in_block, covers_label, covers_line, has_sound_label, jump_of, resumes}
 use Rattle.run_matches.specs.Covered.{covers_names, is_method_site, keeps_blocks}
 use Rattle.run_matches.specs.Frames.{HasNames, lines_of, FrameMatch, NextMatch, frame_pledge, GivenStand}
@@ -36,7 +37,7 @@ use Rattle.run_matches.specs.Runs.{CallsAgree, line_result}
 use Rattle.run_matches.specs.Sites.{Own, own_variable, own_constant, Site, site_of, site_lines, first_statement, owns_of}
 use Rattle.run_matches.specs.Upgrades.{Upgrade, class_home, code_of, runnable_of}
 use Rattle.run_statements.specs.Fitting.{FitsLine, FitsNode}
-use Rattle.run_statements.specs.Frames.{AreReadable, IsOpen, IsReadable, ArePlaced, CanCall, IsUsable}
+use Rattle.run_statements.specs.Frames.{AreReadable, IsOpen, IsReadable, ArePlaced, CanCall, CanMake, IsUsable}
 use Rattle.run_statements.specs.Written.{WrittenProcedure, WrittenLine, site_scope, Passes}
 use Rattle.run_matches.specs.Agreeing.{Agrees}
 use Rattle.run_matches.specs.Callees.{is_found}
@@ -201,6 +202,20 @@ CanCallFrom U p s c q qualified of args =
     (w : World) (f : SourceFrame) (g : NetFrame) (k : NetLine) → HasNames (code_of U p) g
     → CanCall U (frame_pledge U p w f) (scope_of U.written c g k) (inside_procedure (site_scope U s) p) p q qualified of args
 
+-- the class of which a node makes an object by New
+abbrev pub made_in : Term → Option ℕ
+made_in (new_object c) = Some c.0
+made_in t = None
+
+abbrev pub made_at : Expr → Option ℕ
+made_at (typed ty t) = made_in t
+
+-- a covered class of which a new object can be made from the lines of a procedure
+abbrev pub CanMakeFrom : Upgrade → (p : ℕ) → Site → Code → (class : ℕ) → Type 0
+CanMakeFrom U p s c class =
+    covers_made U.program class ≡ true → (w : World) (f : SourceFrame) (g : NetFrame) (k : NetLine) → HasNames (code_of U p) g
+    → CanMake U (frame_pledge U p w f) (scope_of U.written c g k) (inside_procedure (site_scope U s) p) class
+
 -- a covered line does the same as what is written for it, where calls of what it calls agree
 abbrev pub LinesAgree : Upgrade → Type 0
 LinesAgree U =
@@ -210,6 +225,7 @@ LinesAgree U =
     → UsesArePlaced U p s c l.form → StoresAreOwn U p l.form
     → CallsAgree U (Passes U) (go (machine_of (runnable_of U)) turns) (go (net_program.machine_of U.written) turns)
     → ((d : Expr) (q : ℕ) → Contains (line_uses l.form) d → called d ≡ Some q → CanCallFrom U p s c q (qualified_at d) (receiver_at d) (args_at d))
+    → ((d : Expr) (class : ℕ) → Contains (line_uses l.form) d → made_at d ≡ Some class → CanMakeFrom U p s c class)
     → ((d : Expr) → Contains (line_uses l.form) d → FitsNode U d)
     → FitsLine U p l.form
     → covers_line U.program p l.form ≡ true

@@ -6,4 +6,5 @@ pub mod Members
 pub mod Kept
 pub mod Memory
 pub mod Arrays
+pub mod Objects
 pub mod Elements

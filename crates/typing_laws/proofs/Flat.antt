@@ -1,10 +1,10 @@
 -- Without user types no field is covered, and what is named is a scalar or an array.
-use Rattle.std.proofs.Common.{◌≡◌, ◌⊎◌, inl, inr, ⊎_elim, refl, sym, ℕ, Bool, true, false, ◌&&◌, ◌||◌, true≢false, List, [], ◌∷◌, None}
+use Rattle.std.proofs.Common.{◌≡◌, ◌⊎◌, inl, inr, ⊎_elim, refl, sym, ℕ, Bool, true, false, ◌&&◌, ◌||◌, true≢false, List, [], ◌∷◌, None, Some}
 use Rattle.up_base.proofs.Tests.{both_true, either}
 use Rattle.vb_tree.specs.BoundTree as types
 use Rattle.vb_tree.specs.BoundTree.{Ty}
 use Rattle.vb_tree.specs.declared.declared.VarId.{VarId}
-use Rattle.bound_tree.specs.Tree.{Expr, typed, Term, variable, field, call, convert, me}
+use Rattle.bound_tree.specs.Tree.{Expr, typed, Term, variable, field, call, convert, me, new_object}
 use Rattle.bound_tree.specs.Tree as tree
 use Rattle.bound_facts.specs.Locks.{is_same_type}
 use Rattle.bound_facts.specs.Node.{type_at}
@@ -77,6 +77,7 @@ no_group_call u ty (field e k) h = no_object_covered u (typed ty (field e k)) h
 no_group_call u ty me h = no_object_covered u (typed ty me) h
 no_group_call u ty (call p qualified of args) h = true≢false (sym h)
 no_group_call u ty (convert to e) h = true≢false (sym h)
+no_group_call u ty (new_object c) h = true≢false (sym (both_true (is_class_of (Some c.0) ty) false h).1)
 no_group_call u ty _ h = true≢false (sym h)
 
 no_group : (u : Uses) (e : Expr) → covers_group (without_groups u) e ≡ true → ⊥

@@ -140,7 +140,7 @@ module _ (C : Context) (F : Footprint) (X : SourceJob → Memory → Type 0) (ca
         element_found C F X calls mentions w fits ty a indexes both.0 (array_named uses a operands.0) forms.0 inner.0
         (indexes_end indexes operands.1 inner.1 types.1 parts.1 (longs_all (types_of indexes) inner.0) w fits) in
         (element_value C F X ty a indexes w both.0 found, found)
-    right_ends (typed ty (new_object class)) covers formed typing suited w fits = absurd (true≢false (sym formed))
+    right_ends (typed ty (new_object class)) covers formed typing suited w fits = absurd (true≢false (sym (both_true (covers_type ty) false covers).1))
     right_ends (typed ty me) covers formed typing suited w fits = absurd (true≢false (sym (both_true (covers_type ty) false covers).1))
     right_ends (typed ty (with_object r)) covers formed typing suited w fits = absurd (true≢false (sym formed))
     right_ends (typed ty err_number) covers formed typing suited w fits =

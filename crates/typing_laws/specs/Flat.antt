@@ -25,6 +25,7 @@ without_groups uses = record {
   field_type = λ t k. None;
   member_type = λ c k. None;
   me = None;
+  made = λ c. false;
   named = uses.named;
   given = λ ty. false;
   is_of = uses.is_of;
