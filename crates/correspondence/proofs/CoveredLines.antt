@@ -9,7 +9,7 @@ use Rattle.vb_tree.specs.Tree.{CaseItem, Form, ReDimItem}
 use Rattle.vb_tree.specs.Tree as source
 use Rattle.bound_tree.specs.declared.body.Mention.{Mention}
 use Rattle.bound_tree.specs.Labels.{Label}
-use Rattle.bound_tree.specs.Tree.{Program, Expr, typed, field, variable, Line, Term, library, Exprs, no_exprs, next_expr, Declarations, Variable, call, no_object, of_object, Passed, err_raise, err_clear, Object, me, with_object}
+use Rattle.bound_tree.specs.Tree.{Program, Expr, typed, Line, Term, library, Exprs, no_exprs, next_expr, Declarations, call, no_object, of_object, Passed, err_raise, err_clear, Object, with_object}
 use Rattle.vb_tree.specs.declared.bound.LibCall.{LibCall}
 use Rattle.vb_tree.specs.declared.bound.LibCall.TheVariants as lib
 use Rattle.bound_facts.specs.Locks.{is_same_type}
@@ -19,15 +19,15 @@ use Rattle.bound_facts.specs.Nodes.{nodes, nodes_in}
 use Rattle.bound_facts.specs.Parts.{resizes}
 use Rattle.net_tree.specs.Tree.{Exp}
 use Rattle.net_tree.specs.Tree as net
-use Rattle.written_trees.specs.Exprs.{called, exp_of, is_bare, passed_of, target_exp, callee_of, member_in, term_exp}
+use Rattle.written_trees.specs.Exprs.{called, exp_of, is_bare, passed_of, callee_of, member_in, term_exp}
 use Rattle.written_trees.specs.Lines.{as_call, case_items, empty_extents, first_exp, items_exp, line_of, resized_array, step_exp, call_line}
-use Rattle.written_trees.specs.Names.{Scope, Path, copy_name, module_name, support, variable_path_of, member, procedure_name}
+use Rattle.written_trees.specs.Names.{Scope, Path, copy_name, module_name, support, member, procedure_name}
 use Rattle.written_trees.specs.Puts.{formed, order_shows, put_type, rank_of, store_by, store_line, stored_value, target_rank, user_copy}
 use Rattle.written_trees.specs.Types.{element_type, written_type}
-use Rattle.run_matches.specs.CoveredVariables.{covers_group_use, covers_type, is_named_so, is_reached}
-use Rattle.run_matches.specs.UserTypes.{is_class_type, is_group_type, is_user}
-use Rattle.run_matches.specs.CoveredExprs.{Uses, covers_base, covers_group, covers_object, covers_place, has_inner, is_changeable, covers_expr, covers_term, covers_value, is_variable, covers_library, covers_exprs, uses_in, is_bound, covers_bounded}
-use Rattle.run_matches.specs.CoveredLines.{covers_copy, covers_set_member, covers_set_variable, is_member_ordered, is_ordered, covers_condition, covers_counter, covers_counting, covers_items, covers_step, covers_store, covers_form, covers_line, is_comparison, is_counter, covers_box, covers_call, covers_called_in, is_box, covers_erased, covers_resizes, covers_set, covers_with}
+use Rattle.run_matches.specs.CoveredVariables.{covers_type, is_reached}
+use Rattle.run_matches.specs.UserTypes.{is_group_type, is_user}
+use Rattle.run_matches.specs.CoveredExprs.{Uses, covers_group, covers_object, covers_place, is_changeable, covers_expr, covers_term, covers_value, is_variable, covers_library, covers_exprs, uses_in, is_bound, covers_bounded}
+use Rattle.run_matches.specs.CoveredLines.{covers_copy, is_member_ordered, is_ordered, covers_condition, covers_counter, covers_counting, covers_items, covers_step, covers_store, covers_form, covers_line, is_comparison, is_counter, covers_box, covers_call, covers_called_in, is_box, covers_erased, covers_resizes, covers_set, covers_with}
 use Rattle.run_matches.specs.Formed.{is_formed, is_row_of_call, are_formed}
 use Rattle.correspondence.specs.Uses.{stands_outside, redim_exps, resize_exprs, FormCorresponds, SameUses, case_exps, names, total, uses, CallCorresponds, IsAlone, IsFirst, IsSharedAlone, is_call_in, is_call_of, is_group_named, path_names, shared_names}
 use Rattle.correspondence.proofs.NamedCalls.{neither, none_of_both}
@@ -35,8 +35,8 @@ use Rattle.correspondence.proofs.Among.{or_cases}
 use Rattle.correspondence.proofs.NamedArrays.{IsRight}
 use Rattle.correspondence.proofs.Resizes.{erased_names, resizes_all, resizes_names}
 use Rattle.correspondence.proofs.Naming.{expr_names, items_names, assigned_names, box_names, copied_names, raised_names, term_names, group_names}
-use Rattle.correspondence.proofs.Places.{member_written, object_of, path_counted, place_names}
-use Rattle.correspondence.proofs.Variables.{group_use_at, variable_exp}
+use Rattle.correspondence.proofs.GroupLines.{copy_parts, set_parts, set_target, with_parts}
+use Rattle.correspondence.proofs.Places.{object_of, path_counted, place_names}
 use Rattle.correspondence.proofs.Rights.{any_either, is_shared_test, own_right, shared_right}
 
 no_bound : (g : LibCall) → is_box g ≡ true → is_bound g ≡ true → ⊥
@@ -84,69 +84,6 @@ object_called _ a name = member_called a name
 callee_called : (S : Scope) (q : ℕ) (qualified : Bool) (of : Object) → as_call (callee_of S q qualified of) ≡ net.call (callee_of S q qualified of) net.no_exps
 callee_called S q qualified no_object = refl
 callee_called S q qualified (of_object (typed ty t)) = object_called t (term_exp S ty t) (procedure_name S.declarations q)
-
--- ---- copies and Set
-
--- a place and the value that it takes
-pub group_parts : (cover : Uses) (to e : Expr)
-    → (is_changeable cover to && (is_same_type (type_at to) (type_at e) && (covers_place cover to && covers_group cover e))) ≡ true
-    → (covers_place cover to ≡ true) × (covers_group cover e ≡ true)
-group_parts cover to e h =
-    let a = both_true (is_changeable cover to) (is_same_type (type_at to) (type_at e) && (covers_place cover to && covers_group cover e)) h in
-    let b = both_true (is_same_type (type_at to) (type_at e)) (covers_place cover to && covers_group cover e) a.1 in
-    both_true (covers_place cover to) (covers_group cover e) b.1
-
-pub copy_parts : (cover : Uses) (to e : Expr) → covers_copy cover to e ≡ true
-    → (is_user (type_at to) ≡ true) × (covers_place cover to ≡ true) × (covers_group cover e ≡ true)
-copy_parts cover to e h =
-    let rest : Bool = is_changeable cover to && (is_same_type (type_at to) (type_at e) && (covers_place cover to && covers_group cover e)) in
-    let a = both_true (is_user (type_at to)) rest h in
-    let b = group_parts cover to e a.1 in
-    (a.0, b.0, b.1)
-
--- a variable of a class, or of an object, and the value that it takes
-pub set_parts : (cover : Uses) (to e : Expr) → covers_set cover (to ∷ e ∷ []) ≡ true
-    → (is_class_type (type_at to) ≡ true) × ((covers_place cover to ≡ true) ⊎ (covers_object cover to ≡ true)) × (covers_group cover e ≡ true)
-set_parts cover to e h =
-    let a = both_true (is_class_type (type_at to)) (covers_set_variable cover to e || covers_set_member cover to e) h in
-    let b = by (or_cases (covers_set_variable cover to e) (covers_set_member cover to e) a.1) in
-    (a.0, b.0, b.1)
-  where
-    by : (covers_set_variable cover to e ≡ true) ⊎ (covers_set_member cover to e ≡ true)
-        → ((covers_place cover to ≡ true) ⊎ (covers_object cover to ≡ true)) × (covers_group cover e ≡ true)
-    by (inl c) = let g = group_parts cover to e c in (inl g.0, g.1)
-    by (inr c) =
-        let a = both_true (is_member_ordered cover to e) (is_same_type (type_at to) (type_at e) && (covers_object cover to && covers_group cover e)) c in
-        let b = both_true (is_same_type (type_at to) (type_at e)) (covers_object cover to && covers_group cover e) a.1 in
-        let g = both_true (covers_object cover to) (covers_group cover e) b.1 in
-        (inr g.0, g.1)
-
--- it is written as it is used
-pub set_target : (P : Program) (S : Scope) → S.declarations ≡ P.declarations → (p : ℕ) (mentions : List Mention) (to : Expr) → is_class_type (type_at to) ≡ true
-    → (covers_place (uses_in P p mentions) to ≡ true) ⊎ (covers_object (uses_in P p mentions) to ≡ true) → target_exp S to ≡ exp_of S to
-set_target P S same p mentions (typed ty (variable k q)) is h =
-    let found = group_use_at P p mentions k ty (use_of h) in
-    ap (λ (o : Option Variable). net.path (variable_path_of S q o))
-    (ap (λ (d : Declarations). slice_get d.vars k.0) same ∙ found.covered.0)
-    ∙ sym (variable_exp P S same p k q ty found.variable found.covered)
-  where
-    use_of : ((covers_group_use P p mentions k ty && is_named_so P.declarations k q) ≡ true)
-        ⊎ ((is_class_type ty && (covers_group_use P p mentions k ty && is_named_so P.declarations k q)) ≡ true)
-        → covers_group_use P p mentions k ty ≡ true
-    use_of (inl c) = (both_true (covers_group_use P p mentions k ty) (is_named_so P.declarations k q) c).0
-    use_of (inr c) =
-        (both_true (covers_group_use P p mentions k ty) (is_named_so P.declarations k q)
-        (both_true (is_class_type ty) (covers_group_use P p mentions k ty && is_named_so P.declarations k q) c).1).0
-set_target P S same p mentions (typed ty (field e k)) is (inl h) =
-    absurd (no_object ty (both_true (has_inner (uses_in P p mentions) (type_at e) k ty) (covers_base (uses_in P p mentions) e) h).0 is)
-  where
-    no_object : (ty : Ty) → has_inner (uses_in P p mentions) (type_at e) k ty ≡ true → is_class_type ty ≡ true → ⊥
-    no_object (types.user t) h is = cc is
-    no_object _ h is = cc h
-set_target P S same p mentions (typed ty (field e k)) is (inr h) = sym (member_written P S same p mentions ty e k h)
-set_target P S same p mentions (typed ty _) is (inl h) = absurd (cc h)
-set_target P S same p mentions (typed ty me) is (inr h) = refl
-set_target P S same p mentions (typed ty _) is (inr h) = absurd (cc h)
 
 module _ (P : Program) (S : Scope) (same : S.declarations ≡ P.declarations) (p : ℕ) (labels : List (Option Label)) (mentions : List Mention) where
   -- what holds of any count that is right
@@ -272,13 +209,21 @@ module _ (P : Program) (S : Scope) (same : S.declarations ≡ P.declarations) (p
       ap {B = ℕ} (λ n. n + 0) (expr_names P S same p v count test mentions right e h (both_true (is_formed e) true f).0 (none_of_both test (nodes e) [] free).0)
   condition_uses (e ∷ d ∷ es) h f v count test right free = absurd (cc h)
 
-  -- the place of a With
-  place_uses : (es : List Expr) → covers_with (uses_in P p mentions) es ≡ true → Counts es (first_exp S es ∷ [])
-  place_uses [] h v count test right free = absurd (cc h)
-  place_uses (e ∷ []) h v count test right free =
-      let place = (both_true (is_user (type_at e)) (covers_place (uses_in P p mentions) e) h).1 in
-      ap {B = ℕ} (λ n. n + 0) (place_names P S same p mentions v count test right e place (none_of_both test (nodes e) [] free).0)
-  place_uses (e ∷ d ∷ es) h v count test right free = absurd (cc h)
+  -- what a With keeps
+  with_uses : (es : List Expr) → covers_with (uses_in P p mentions) es ≡ true → list_all is_formed es ≡ true → Counts es (first_exp S es ∷ [])
+  with_uses [] h f v count test right free = absurd (cc h)
+  with_uses (typed ty t ∷ []) h f v count test right free = ap {B = ℕ} (λ n. n + 0) (by (with_parts (uses_in P p mentions) (typed ty t) h))
+    where
+      none : list_any test (nodes (typed ty t)) ≡ false
+      none = (none_of_both test (nodes (typed ty t)) [] free).0
+
+      by : (covers_place (uses_in P p mentions) (typed ty t) ≡ true)
+          ⊎ ((covers_object (uses_in P p mentions) (typed ty t) ≡ true) ⊎ (covers_group (uses_in P p mentions) (typed ty t) ≡ true))
+          → uses v (typed ty t) ≡ names count (exp_of S (typed ty t))
+      by (inl c) = place_names P S same p mentions v count test right (typed ty t) c none
+      by (inr (inl c)) = path_counted P S same p mentions v count test right ty t (object_of P S same p mentions ty t c) none
+      by (inr (inr c)) = group_names P S same p v count test mentions right (typed ty t) c (both_true (is_formed (typed ty t)) true f).0 none
+  with_uses (e ∷ d ∷ es) h f v count test right free = absurd (cc h)
 
   items_use : (items : List CaseItem) (es : List Expr) → covers_items (uses_in P p mentions) items es ≡ true → list_all is_formed es ≡ true
       → Counts es (flat_map case_exps (case_items S items es))
@@ -462,7 +407,7 @@ module _ (P : Program) (S : Scope) (same : S.declarations ≡ P.declarations) (p
   form_corresponds (source.loop_until condition) es h f = same_uses es (first_exp S es ∷ []) (condition_uses es h f)
   form_corresponds (source.while_head condition) es h f = same_uses es (first_exp S es ∷ []) (condition_uses es h f)
   form_corresponds source.wend es h f = tt
-  form_corresponds (source.with_head object) es h f = same_uses es (first_exp S es ∷ []) (place_uses es h)
+  form_corresponds (source.with_head object) es h f = same_uses es (first_exp S es ∷ []) (with_uses es h f)
   form_corresponds source.end_with es h f = tt
   form_corresponds (source.goto l) es h f = tt
   form_corresponds (source.label l) es h f = tt

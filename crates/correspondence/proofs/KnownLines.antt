@@ -33,7 +33,8 @@ use Rattle.run_matches.specs.Covered.{covers_names}
 use Rattle.run_matches.specs.UserTypes.{is_class_type, is_user}
 use Rattle.run_matches.specs.Formed.{is_formed}
 use Rattle.correspondence.specs.Paths.{paths_of_case, paths_of_exp, paths_of_line, paths_of_option, paths_of_exps, paths_of_redim}
-use Rattle.correspondence.proofs.CoveredLines.{copy_parts, set_parts, set_target, stored_plain, type_covered}
+use Rattle.correspondence.proofs.CoveredLines.{stored_plain, type_covered}
+use Rattle.correspondence.proofs.GroupLines.{copy_parts, set_parts, set_target, with_parts}
 use Rattle.correspondence.proofs.Among.{or_cases}
 use Rattle.correspondence.proofs.Variables.{passed_cases}
 use Rattle.correspondence.proofs.KnownPlaces.{behind_known, field_known, member_known, object_known, place_flat, place_known}
@@ -373,7 +374,16 @@ module _ (P : Program) (S : Scope) (same : S.declarations ≡ P.declarations) (f
 
   with_known : (es : List Expr) → covers_with (uses_in P p mentions) es ≡ true → HasKnown (first_exp S es)
   with_known [] h = absurd (cc h)
-  with_known (e ∷ []) h = place_known P S same p mentions free e (both_true (is_user (type_at e)) (covers_place (uses_in P p mentions) e) h).1
+  with_known (typed ty t ∷ []) h =
+      let cover = uses_in P p mentions in
+      let e : Expr = typed ty t in
+      by (with_parts cover e h)
+    where
+      by : (covers_place (uses_in P p mentions) (typed ty t) ≡ true)
+          ⊎ ((covers_object (uses_in P p mentions) (typed ty t) ≡ true) ⊎ (covers_group (uses_in P p mentions) (typed ty t) ≡ true)) → HasKnown (term_exp S ty t)
+      by (inl c) = place_known P S same p mentions free (typed ty t) c
+      by (inr (inl c)) = object_known P S same p mentions free ty t c
+      by (inr (inr c)) = group_known (typed ty t) c
   with_known (e ∷ d ∷ es) h = absurd (cc h)
 
   items_of_case_known : (items : List CaseItem) (es : List Expr) → covers_items (uses_in P p mentions) items es ≡ true

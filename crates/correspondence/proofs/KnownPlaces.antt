@@ -76,6 +76,7 @@ module _ (P : Program) (S : Scope) (same : S.declarations ≡ P.declarations) (p
   fields_known names k q y rest free (owner.Field t) h c = absurd (cc c)
 
   none_known : (a : Exp) → IsDotted a → HasKnown a
+  none_known net.nothing d = tt
   none_known (net.with_dot name) d = tt
   none_known net.me d = tt
   none_known (net.dot e name) d = none_known e d
@@ -90,7 +91,7 @@ module _ (P : Program) (S : Scope) (same : S.declarations ≡ P.declarations) (p
       by (inl L) =
           subst (λ (a : Exp). HasKnown (member_in t a name)) (sym L.written)
           (subst (λ (a : Exp). HasKnown a)
-          (sym (plain_object_member P S same p mentions ty t h (owner_path S L.qualified L.root_variable.name L.root_variable.owner ++ L.fields) name
+          (sym (plain_object_member P S same p mentions ty t h L (owner_path S L.qualified L.root_variable.name L.root_variable.owner ++ L.fields) name
           ∙ ap net.path (append_assoc (owner_path S L.qualified L.root_variable.name L.root_variable.owner) L.fields (name ∷ [])))) (
             fields_known free L.root.0 L.qualified L.root_variable (L.fields ++ name ∷ [])
                 (variable_free D free L.root.0 L.root_variable L.covered.0) L.root_variable.owner L.covered.1 L.covered.2,

@@ -8,6 +8,7 @@ mod Places
 mod Naming
 mod Resizes
 mod Rights
+mod GroupLines
 mod CoveredLines
 mod Variants
 mod Lines

@@ -1,5 +1,5 @@
 -- What is written for uses of arrays names each variable as often as the source uses it: elements and bounds.
-use Rattle.std.proofs.Common.{◌≡◌, ℕ, zero, suc, ◌+◌, ℤ, Bool, true, false, cond, List, ◌++◌, refl, arith, nat_eq, codes, inl, inr}
+use Rattle.std.proofs.Common.{◌≡◌, ℕ, zero, suc, ℤ, Bool, true, false, cond, List, ◌++◌, refl, arith, nat_eq, codes, inl, inr}
 use Rattle.up_base.proofs.Lists.{both_true}
 use Rattle.vb_tree.specs.BoundTree as types
 use Rattle.vb_tree.specs.BoundTree.{Ty}

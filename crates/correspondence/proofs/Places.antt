@@ -113,14 +113,16 @@ a_group D _ (types.user t) h c = absurd (cc h)
 a_group D _ (types.class k) h c = absurd (cc h)
 a_group D _ _ h c = absurd (cc c)
 
--- what stands behind the dot of a With or behind Me, which names no variable
+-- what stands behind the dot of a With or behind Me, which names no variable; what a With keeps isn't written itself, so Nothing stands for it
 abbrev pub IsDotted : net.Exp → Type 0
+IsDotted net.nothing = Unit {0}
 IsDotted (net.with_dot name) = Unit {0}
 IsDotted (net.dot e name) = IsDotted e
 IsDotted net.me = Unit {0}
 IsDotted _ = ⊥
 
 member_dotted : (a : net.Exp) (name : List ℕ) → IsDotted a → IsDotted (member a name)
+member_dotted net.nothing name d = tt
 member_dotted (net.with_dot m) name d = tt
 member_dotted (net.dot e m) name d = d
 member_dotted net.me name d = tt
@@ -187,11 +189,12 @@ module _ (P : Program) (S : Scope) (same : S.declarations ≡ P.declarations) (p
   plain_member ty (field e k) h names name = refl
   plain_member ty _ h names name = absurd (cc h)
 
-  pub plain_object_member : (ty : Ty) (u : Term) → covers_object_term (uses_in P p mentions) ty u ≡ true → HasPlainMembers u
-  plain_object_member ty (variable k q) h names name = refl
-  plain_object_member ty (field e k) h names name = refl
-  plain_object_member ty me h names name = refl
-  plain_object_member ty _ h names name = absurd (cc h)
+  pub plain_object_member : (ty : Ty) (u : Term) → covers_object_term (uses_in P p mentions) ty u ≡ true → Place ty u → HasPlainMembers u
+  plain_object_member ty (variable k q) h L names name = refl
+  plain_object_member ty (field e k) h L names name = refl
+  plain_object_member ty me h L names name = refl
+  plain_object_member ty (with_object root) h L names name = absurd (cc L.written)
+  plain_object_member ty _ h L names name = absurd (cc h)
 
   -- a field stands behind the path of its place
   behind : (ty of : Ty) (u : Term) (k : ℕ) (names : Path) → HasPlainMembers u → IsPlainField of k → term_exp S of u ≡ net.path names
@@ -221,7 +224,7 @@ module _ (P : Program) (S : Scope) (same : S.declarations ≡ P.declarations) (p
         node = λ test h. L.node test (neither (test (typed ty (field (typed of u) k))) (list_any test (nodes (typed of u))) h).1;
       }
 
-  -- a place that a With keeps, with fields behind it
+  -- a place or an object that a With keeps, with fields behind it
   pub record Kept (ty : Ty) (t : Term) : Type 0 where
     pub dotted : IsDotted (term_exp S ty t)
     pub unused : (v : ℕ) → term_uses v t ≡ 0
@@ -268,6 +271,7 @@ module _ (P : Program) (S : Scope) (same : S.declarations ≡ P.declarations) (p
   dotted_object_member ty (variable k q) a name h d = member_dotted a name d
   dotted_object_member ty (field e k) a name h d = member_dotted a name d
   dotted_object_member ty me a name h d = member_dotted a name d
+  dotted_object_member ty (with_object root) a name h d = tt
   dotted_object_member ty _ a name h d = absurd (cc h)
 
   variable_place : (k : VarId) (q : Bool) (ty : Ty) → covers_group_use P p mentions k ty ≡ true → Place ty (variable k q)
@@ -316,7 +320,7 @@ module _ (P : Program) (S : Scope) (same : S.declarations ≡ P.declarations) (p
   -- a variable of it
   behind_object : (ty of : Ty) (u : Term) (k : ℕ) → covers_object_term (uses_in P p mentions) of u ≡ true → IsPlainField of k → Based of u
       → Based ty (field (typed of u) k)
-  behind_object ty of u k h none (inl L) = inl (longer ty of u k (plain_object_member of u h) none L)
+  behind_object ty of u k h none (inl L) = inl (longer ty of u k (plain_object_member of u h L) none L)
   behind_object ty of u k h none (inr K) =
       let name : List ℕ = variable_name S.declarations (field_of S.declarations of k) in
       inr (record {
@@ -330,6 +334,7 @@ module _ (P : Program) (S : Scope) (same : S.declarations ≡ P.declarations) (p
       (both_true (covers_group_use P p mentions k ty) (is_named_so P.declarations k q)
       (both_true (is_class_type ty) (covers_group_use P p mentions k ty && is_named_so P.declarations k q) h).1).0)
   object_of ty me h = inr (record { dotted = tt; unused = λ v. refl })
+  object_of ty (with_object root) h = inr (record { dotted = tt; unused = λ v. refl })
   object_of ty (field (typed of u) k) h =
       let a = both_true (is_class_type ty)
       (has_member (uses_in P p mentions) of k (is_same_type ty) && covers_object_term (uses_in P p mentions) of u) h in
@@ -376,6 +381,7 @@ module _ (P : Program) (S : Scope) (same : S.declarations ≡ P.declarations) (p
 
   module _ (v : ℕ) (count : Path → ℕ) (test : Expr → Bool) (right : IsRight P S p mentions v count test) where
     none_named : (a : net.Exp) → IsDotted a → names count a ≡ 0
+    none_named net.nothing d = refl
     none_named (net.with_dot name) d = refl
     none_named (net.dot e name) d = none_named e d
     none_named net.me d = refl
@@ -399,7 +405,7 @@ module _ (P : Program) (S : Scope) (same : S.declarations ≡ P.declarations) (p
             L.used v
             ∙ right.fields L.root L.qualified L.root_type L.root_variable (L.fields ++ name ∷ []) L.covered L.is_group L.of_group (L.node test free)
             ∙ sym (ap (λ a. names count (member_in t a name)) L.written
-            ∙ ap (names count) (plain_object_member ty t h (path ++ L.fields) name ∙ ap net.path (append_assoc path L.fields (name ∷ []))))
+            ∙ ap (names count) (plain_object_member ty t h L (path ++ L.fields) name ∙ ap net.path (append_assoc path L.fields (name ∷ []))))
         by (inr K) =
             K.unused v
             ∙ sym (none_named (member_in t (term_exp S ty t) name) (dotted_object_member ty t (term_exp S ty t) name h K.dotted))

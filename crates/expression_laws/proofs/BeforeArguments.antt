@@ -5,6 +5,7 @@ use Rattle.vb_tree.specs.BoundTree.{Ty}
 use Rattle.vb_tree.specs.declared.declared.Owner.{Owner}
 use Rattle.vb_tree.specs.declared.declared.Owner.TheVariants as owner
 use Rattle.vb_tree.specs.declared.declared.VarId.{VarId}
+use Rattle.bound_tree.specs.declared.expression.Root as expression
 use Rattle.bound_tree.specs.Tree.{Variable, Declarations, Expr, typed, Term, variable, field, me, with_object}
 use Rattle.bound_facts.specs.Node.{auto_class, declared_in, variable_number}
 use Rattle.net_tree.specs.Tree.{Exp, path}
@@ -82,3 +83,6 @@ module _ (S : Scope) (oracle : Jobs) where
 
     pub me_before : (ty : Ty) → IsBefore (typed ty me)
     me_before ty name s = refl
+
+    pub with_before : (ty : Ty) (r : expression.Root) → IsBefore (typed ty (with_object r))
+    with_before ty r name s = refl

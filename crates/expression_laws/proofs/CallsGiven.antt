@@ -35,7 +35,7 @@ use Rattle.agreeing_laws.proofs.Agreeing.{agrees_promised}
 use Rattle.expression_laws.specs.Calls.{ArgumentsMatch, GivenMatch, Stands}
 use Rattle.expression_laws.proofs.Arguments.{stands_later}
 use Rattle.expression_laws.proofs.Calls.{call_agrees}
-use Rattle.expression_laws.proofs.Receivers.{ReceiverIs, receiver_is}
+use Rattle.expression_laws.proofs.Receivers.{ReceiverIs, receiver_called, receiver_is}
 use Rattle.expression_laws.proofs.References.{first}
 use Rattle.expression_laws.proofs.Withs.{HavePlaces, places_giving, places_later}
 
@@ -99,7 +99,7 @@ module _ (U : Upgrade) (p : ℕ) (f : SourceFrame) (g : NetFrame) (oracle : Sour
         let M : Pledge = giving K ts in
         let there : Have M w = places_giving U p f g oracle net_oracle l k c T uses K ts w start have in
         call_made K ty q qualified of args w start stands can.0
-        (receiver_is U M p f g oracle net_oracle l k c T uses same_declarations readable w start there of covers)
+        (receiver_is U M p f g oracle net_oracle l k c T uses same_declarations readable w start there of (receiver_called (Asked K) (Asked M) (λ ty r x. x) uses of covers can.2) covers)
         (λ v later.
         given v later.match (places_later U p f g oracle net_oracle l k c T uses M w v start later there)
         (stands_later U M w v p f g later (stands_giving U K ts w start p f g stands)) (called_giving_for U K S T ts p l k args can.0.inside can.1))

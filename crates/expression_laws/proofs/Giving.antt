@@ -1,7 +1,7 @@
 -- While a call with elements by reference is evaluated, their arrays are kept.
 use Rattle.std.proofs.Common.{◌≡◌, ◌⊎◌, inl, inr, refl, ℕ, Bool, not, Option, Some, None, List, [], ◌∷◌, ◌++◌}
 use Rattle.vb_tree.specs.BoundTree.{Ty}
-use Rattle.bound_tree.specs.Tree.{Expr, typed, constant, variable, field, element, call, library, unary, binary, convert, new_object, me, with_object, err_number, err_raise, err_clear, is_same, loose, Exprs, no_exprs, next_expr, Object, Passed, no_passed, next_passed, by_value, by_reference}
+use Rattle.bound_tree.specs.Tree.{Expr, typed, constant, variable, field, element, call, library, unary, binary, convert, new_object, me, with_object, err_number, err_raise, err_clear, is_same, loose, Exprs, no_exprs, next_expr, Object, no_object, of_object, Passed, no_passed, next_passed, by_value, by_reference}
 use Rattle.bound_facts.specs.Facts.{is_quiet}
 use Rattle.bound_facts.specs.Locks.{Keeps}
 use Rattle.bound_facts.specs.Members.{initializer}
@@ -18,7 +18,7 @@ use Rattle.run_matches.specs.Maps.{World}
 use Rattle.run_matches.specs.Match.{MemoryMatch}
 use Rattle.run_matches.specs.Pledges.{Pledge}
 use Rattle.run_matches.specs.Upgrades.{Upgrade}
-use Rattle.run_statements.specs.Frames.{AllCalled, AllCalledAll, AllCalledFor, CanCall, CanMake, Demands, Initializes, IsOne, KeepsEach, NodesKeep, demands}
+use Rattle.run_statements.specs.Frames.{AllCalled, AllCalledOf, AllCalledAll, AllCalledFor, CanCall, CanMake, Demands, Initializes, IsOne, KeepsEach, NodesKeep, demands}
 use Rattle.agreeing_laws.specs.Promises.{Weaker}
 use Rattle.agreeing_laws.proofs.Lasting.{later_weaker}
 use Rattle.agreeing_laws.proofs.Moves.{address_promised, locks_promised}
@@ -152,8 +152,11 @@ module _ (U : Upgrade) (K : Pledge) (S : net_names.Scope) (T : Scope) (ts : List
       called_giving (typed ty (variable v qualified)) s h = tt
       called_giving (typed ty (field e k)) s h = called_giving e s.1 h
       called_giving (typed ty (element e indexes)) s h = (h.0, called_giving_all indexes (nodes_right U ts (nodes e) (nodes_of_all indexes) s.1) h.1)
-      called_giving (typed ty (call q qualified of args)) s h =
-          (can_giving p q.0 qualified of args (s.0.0 q.0 refl) h.0, called_giving_for args (nodes_right U ts (nodes_of_object of) (nodes_of_passed args) s.1) h.1)
+      called_giving (typed ty (call q qualified of args)) s h = (
+        can_giving p q.0 qualified of args (s.0.0 q.0 refl) h.0,
+        called_giving_for args (nodes_right U ts (nodes_of_object of) (nodes_of_passed args) s.1) h.1,
+        called_giving_of of (nodes_left U ts (nodes_of_object of) (nodes_of_passed args) s.1) h.2,
+      )
       called_giving (typed ty (library f args)) s h = (h.0, called_giving_all args s.1 h.1)
       called_giving (typed ty (unary op e)) s h = called_giving e s.1 h
       called_giving (typed ty (binary op d e)) s h =
@@ -173,6 +176,10 @@ module _ (U : Upgrade) (K : Pledge) (S : net_names.Scope) (T : Scope) (ts : List
       called_giving_all no_exprs s h = tt
       called_giving_all (next_expr e rest) s h =
           (called_giving e (nodes_left U ts (nodes e) (nodes_of_all rest) s) h.0, called_giving_all rest (nodes_right U ts (nodes e) (nodes_of_all rest) s) h.1)
+
+      called_giving_of : (of : Object) → Keep (nodes_of_object of) → AllCalledOf Q of → AllCalledOf R of
+      called_giving_of no_object s h = tt
+      called_giving_of (of_object e) s h = called_giving e s h
 
       pub called_giving_for : (args : Passed) → Keep (nodes_of_passed args) → AllCalledFor Q args → AllCalledFor R args
       called_giving_for no_passed s h = tt

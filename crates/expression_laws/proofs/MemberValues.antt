@@ -51,22 +51,22 @@ module _ (U : Upgrade) (K : Pledge) (p : ℕ) (f : SourceFrame) (g : NetFrame) (
   S = scope_of U.written c g k
 
   -- a scalar that an object has
-  member_scalar_agrees : (ty : Ty) (e : Expr) (j : ℕ) → covers_type ty ≡ true → has_member uses (type_at e) j covers_type ≡ true → covers_object uses e ≡ true
+  member_scalar_agrees : (ty : Ty) (e : Expr) (j : ℕ) → AllCalled (demands U K p l k S T) e → covers_type ty ≡ true → has_member uses (type_at e) j covers_type ≡ true → covers_object uses e ≡ true
       → Agrees U K w (ScalarMatch U ty) (source.value_of C (typed ty (field e j)) w.src) (target.value_of S net_oracle (exp_of T (typed ty (field e j))) w.net)
-  member_scalar_agrees ty (typed (types.class d) t) j covers has object =
+  member_scalar_agrees ty (typed (types.class d) t) j can covers has object =
       let x = member_declared U T uses readable covers_type d j (uses.member_type d j) refl has in
       member_read U K p f g oracle net_oracle l k c T same_declarations w start d j t x.0 x.2 ty (inl x.1)
-      (object_is U K p f g oracle net_oracle l k c T same_declarations w start uses readable have d t object) (ScalarMatch U ty) target.read
+      (object_is U K p f g oracle net_oracle l k c T same_declarations w start uses readable have d t can object) (ScalarMatch U ty) target.read
       (λ a b v found match.
       subst (λ z. Agrees U K v (ScalarMatch U ty) (then z (Checked C ty)) (target.read b v.net)) (after_nil (store.read a v.src))
       (same_agrees U K C ty a b v (inl (ap is_element found.stands)) covers match found.same))
-  member_scalar_agrees ty (typed _ t) j covers has object = absurd (true≢false (sym has))
+  member_scalar_agrees ty (typed _ t) j can covers has object = absurd (true≢false (sym has))
 
   -- an object that is kept, as a value
-  object_value : (d : ℕ) (t : Term) → is_alone (typed (types.class d) t) ≡ true → covers_object uses (typed (types.class d) t) ≡ true
+  object_value : (d : ℕ) (t : Term) → AllCalled (demands U K p l k S T) (typed (types.class d) t) → is_alone (typed (types.class d) t) ≡ true → covers_object uses (typed (types.class d) t) ≡ true
       → Agrees U K w (ValueMatch U (simple (types.class d))) (source.value_of C (typed (types.class d) t) w.src)
       (target.value_of S net_oracle (exp_of T (typed (types.class d) t)) w.net)
-  object_value d t alone covers = by (object_is U K p f g oracle net_oracle l k c T same_declarations w start uses readable have d t covers)
+  object_value d t can alone covers = by (object_is U K p f g oracle net_oracle l k c T same_declarations w start uses readable have d t can covers)
     where
       whole : Expr
       whole = typed (types.class d) t
@@ -87,17 +87,17 @@ module _ (U : Upgrade) (K : Pledge) (p : ℕ) (f : SourceFrame) (g : NetFrame) (
           agrees_gives U K v R x (net.looked_up a v.net) later.match (subst (λ z. R v z (net.looked_up a v.net)) (sym m.like.1) (refl, m.like.2)))))
 
   -- one that an object has
-  member_object_agrees : (ty : Ty) (e : Expr) (j : ℕ) → covers_object uses (typed ty (field e j)) ≡ true
+  member_object_agrees : (ty : Ty) (e : Expr) (j : ℕ) → AllCalled (demands U K p l k S T) e → covers_object uses (typed ty (field e j)) ≡ true
       → Agrees U K w (ValueMatch U (type_shape U ty)) (source.value_of C (typed ty (field e j)) w.src)
       (target.value_of S net_oracle (exp_of T (typed ty (field e j))) w.net)
-  member_object_agrees (types.class d) e j covers = object_value d (field e j) refl covers
-  member_object_agrees _ e j covers = absurd (true≢false (sym covers))
+  member_object_agrees (types.class d) e j can covers = object_value d (field e j) can refl covers
+  member_object_agrees _ e j can covers = absurd (true≢false (sym covers))
 
   -- Me
   pub me_agrees : (ty : Ty) → covers_object uses (typed ty me) ≡ true
       → Agrees U K w (ValueMatch U (type_shape U ty)) (source.value_of (context_of U oracle p f l) (typed ty me) w.src)
       (target.value_of (scope_of U.written c g k) net_oracle (exp_of T (typed ty me)) w.net)
-  me_agrees (types.class d) covers = object_value d me refl covers
+  me_agrees (types.class d) covers = object_value d me tt refl covers
   me_agrees _ covers = absurd (true≢false (sym covers))
 
   -- ---- of either
@@ -118,7 +118,7 @@ module _ (U : Upgrade) (K : Pledge) (p : ℕ) (f : SourceFrame) (g : NetFrame) (
       scalar_field_agrees U K p f g oracle net_oracle l k c T uses same_declarations readable w have start ty e j both.0 x.0 can x.1)
       (λ h.
       let x = both_true (has_member uses (type_at e) j covers_type) (covers_object uses e) h in
-      member_scalar_agrees ty e j both.0 x.0 x.1)
+      member_scalar_agrees ty e j can both.0 x.0 x.1)
 
   -- what is of a user type, or an object
   pub group_field_agrees : (ty : Ty) (e : Expr) (j : ℕ) → AllCalled (demands U K p l k (scope_of U.written c g k) T) e
@@ -128,4 +128,4 @@ module _ (U : Upgrade) (K : Pledge) (p : ℕ) (f : SourceFrame) (g : NetFrame) (
       (target.value_of (scope_of U.written c g k) net_oracle (exp_of T (typed ty (field e j))) w.net)
   group_field_agrees ty e j can covers =
       by_either (covers_place uses (typed ty (field e j))) (covers_object uses (typed ty (field e j))) covers
-      (place_value_agrees U K p f g oracle net_oracle l k c T uses same_declarations readable w have start ty (field e j) can) (member_object_agrees ty e j)
+      (place_value_agrees U K p f g oracle net_oracle l k c T uses same_declarations readable w have start ty (field e j) can) (member_object_agrees ty e j can)

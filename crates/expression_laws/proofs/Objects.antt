@@ -7,7 +7,8 @@ use Rattle.vb_tree.specs.BoundTree as types
 use Rattle.vb_tree.specs.BoundTree.{Ty}
 use Rattle.vb_tree.specs.declared.declared.VarId.{VarId}
 use Rattle.vb_tree.specs.declared.value.Value6.TheVariants as v6
-use Rattle.bound_tree.specs.Tree.{Declarations, Expr, typed, Term, variable, field, me}
+use Rattle.bound_tree.specs.Tree.{Declarations, Expr, typed, Term, variable, field, me, with_object}
+use Rattle.bound_tree.specs.declared.expression.Root as expression
 use Rattle.bound_facts.specs.Locks.{is_same_type}
 use Rattle.bound_facts.specs.Members.{field_of}
 use Rattle.bound_facts.specs.Node.{auto_class, type_at, variable_number}
@@ -46,23 +47,23 @@ use Rattle.run_matches.specs.Pledges.{Pledge}
 use Rattle.run_matches.specs.SoundShapes.{IsSoundShape}
 use Rattle.run_matches.specs.Upgrades.{Upgrade, class_home}
 use Rattle.run_matches.specs.UserTypes.{is_class_type}
-use Rattle.run_statements.specs.Frames.{AreReadable, IsKnown, IsMember, ScalarMatch, context_of}
+use Rattle.run_statements.specs.Frames.{AllCalled, AreReadable, IsKnown, IsMember, ScalarMatch, context_of, demands}
 use Rattle.run_statements.specs.Groups.{ValueMatch}
 use Rattle.run_statements.specs.Members.{MemberFound, ReachedMember}
 use Rattle.row_laws.proofs.Composing.{then_assoc, then_gives}
 use Rattle.agreeing_laws.proofs.Agreeing.{agrees_gives, agrees_outside, left_alone, right_alone, then_agrees}
-use Rattle.agreeing_laws.proofs.Members.{Reaches, me_leads, member_behind, member_reaches}
+use Rattle.agreeing_laws.proofs.Members.{Reaches, me_leads, member_behind, member_reaches, with_leads}
 use Rattle.memory_laws.proofs.Groups.{groups_are_read}
 use Rattle.memory_laws.proofs.Members.{member_shape, member_sound, members_are_found}
 use Rattle.expression_laws.specs.Statements.{MembersAgreeBy}
-use Rattle.expression_laws.proofs.BeforeArguments.{IsBefore, field_before, me_before, variable_before}
+use Rattle.expression_laws.proofs.BeforeArguments.{IsBefore, field_before, me_before, variable_before, with_before}
 use Rattle.expression_laws.proofs.Checks.{provided_agrees, source_then}
 use Rattle.expression_laws.proofs.Me.{IsMe, numbered}
 use Rattle.expression_laws.proofs.Nothings.{as_scalar}
 use Rattle.expression_laws.proofs.Places.{place_is}
 use Rattle.expression_laws.proofs.Types.{both_true, same_class}
 use Rattle.expression_laws.proofs.Variables.{Checked, known_none}
-use Rattle.expression_laws.proofs.Withs.{HavePlaces, PlaceIs, missing, placed, places_now}
+use Rattle.expression_laws.proofs.Withs.{HavePlaces, ObjectKept, PlaceIs, kept, missing, none_kept, placed, places_now}
 
 -- an object, and an address at which what stands for it is looked up
 pub record ObjectMatch (U : Upgrade) (of_class : ℕ) (w : World) (x : Value) (a : net.Address) : Type 0 where
@@ -356,21 +357,53 @@ module _ (U : Upgrade) (K : Pledge) (p : ℕ) (f : SourceFrame) (g : NetFrame) (
             (provided_agrees U K w (ObjectMatch U d) (is_of_shape (source.type_shape (declared C) (types.class d)) z) z (gives [] b w.net)
             (λ ok. agrees_gives U K w (ObjectMatch U d) z b start there)))))
 
-    pub object_is : (d : ℕ) (t : Term) → covers_object uses (typed (types.class d) t) ≡ true
+    -- what a With keeps
+    with_is : (d : ℕ) (r : expression.Root) → ObjectKept U C S w d (typed (types.class d) (with_object r)) → Is d (with_object r)
+    with_is d r (none_kept none) = no_value (ap (λ z. then z (source.value_in C (typed (types.class d) (with_object r)))) (none w.src))
+    with_is d r (kept x) =
+        reached (λ t. gives [] (at_place S.around) t) (with_leads S net_oracle T (types.class d) r) (with_before S net_oracle T (types.class d) r) agrees
+      where
+        z : Value
+        z = scalar (types.class d) x.object
+
+        b : net.Address
+        b = net.constant (shape.class x.home) x.value
+
+        is : Outcome Memory Value
+        is = Checked C (types.class d) z w.src
+
+        value_is : source.value_of C (typed (types.class d) (with_object r)) w.src ≡ after [] (after [] is)
+        value_is = ap (λ o. then o (source.value_in C (typed (types.class d) (with_object r)))) (x.found w.src)
+
+        there : ObjectMatch U d w z b
+        there = record { like = (x.object, refl, x.like); home = x.home; is_home = x.is_home; shaped = refl }
+
+        agrees : Agrees U K w (ObjectMatch U d) (source.value_of C (typed (types.class d) (with_object r)) w.src) (gives [] S.around w.net)
+        agrees =
+            subst (λ y. Agrees U K w (ObjectMatch U d) (source.value_of C (typed (types.class d) (with_object r)) w.src) (gives [] y w.net)) (sym x.around)
+            (subst (λ y. Agrees U K w (ObjectMatch U d) y (gives [] b w.net)) (sym value_is)
+            (left_alone U K w (ObjectMatch U d) (after [] is) (gives [] b w.net)
+            (left_alone U K w (ObjectMatch U d) is (gives [] b w.net)
+            (provided_agrees U K w (ObjectMatch U d) (is_of_shape (source.type_shape (declared C) (types.class d)) z) z (gives [] b w.net)
+            (λ ok. agrees_gives U K w (ObjectMatch U d) z b start there)))))
+
+    pub object_is : (d : ℕ) (t : Term) → AllCalled (demands U K p l k (scope_of U.written c g k) T) (typed (types.class d) t)
+        → covers_object uses (typed (types.class d) t) ≡ true
         → ObjectIs U K (context_of U oracle p f l) (scope_of U.written c g k) net_oracle T w d t
-    object_is d (variable v qualified) covers = variable_is d v qualified covers
-    object_is d (field (typed (types.class of_class) t) i) covers =
+    object_is d (variable v qualified) can covers = variable_is d v qualified covers
+    object_is d (field (typed (types.class of_class) t) i) can covers =
         let both = both_true (has_member uses (types.class of_class) i (is_same_type (types.class d))) (covers_object uses (typed (types.class of_class) t)) covers in
         let x = member_declared U T uses readable (is_same_type (types.class d)) of_class i (uses.member_type of_class i) refl both.0 in
-        member_is of_class i t d (subst (λ z. IsMember U of_class i z) (same_class d x.0 x.1) x.2) (object_is of_class t both.1)
-    object_is d (field (typed _ t) i) covers = absurd (true≢false (sym covers))
-    object_is d me covers = mine_is d (have.me d (numbered d uses.me covers))
-    object_is d _ covers = absurd (true≢false (sym covers))
+        member_is of_class i t d (subst (λ z. IsMember U of_class i z) (same_class d x.0 x.1) x.2) (object_is of_class t can both.1)
+    object_is d (field (typed _ t) i) can covers = absurd (true≢false (sym covers))
+    object_is d me can covers = mine_is d (have.me d (numbered d uses.me covers))
+    object_is d (with_object r) can covers = with_is d r (have.objects d r can)
+    object_is d _ can covers = absurd (true≢false (sym covers))
 
 -- ---- the law
 
 pub members_agree_by : (U : Upgrade) (K : Pledge) → MembersAgreeBy U K
-members_agree_by U K w p f g oracle net_oracle l k c T uses ty of_class i tm member_type m start frames declarations readable stands covers =
+members_agree_by U K w p f g oracle net_oracle l k c T uses ty of_class i tm member_type m start frames declarations readable stands can covers =
     member_parts U K p f g oracle net_oracle l k c T declarations w start of_class i tm member_type m ty
     (object_is U K p f g oracle net_oracle l k c T declarations w start uses readable
-    (places_now U p f g oracle net_oracle l k c T uses K w frames start declarations readable stands) of_class tm covers)
+    (places_now U p f g oracle net_oracle l k c T uses K w frames start declarations readable stands) of_class tm can covers)

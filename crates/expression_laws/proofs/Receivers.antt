@@ -2,7 +2,8 @@
 use Rattle.std.proofs.Common.{◌≡◌, inl, inr, ◌∙◌, refl, sym, ap, subst, ℕ, ◌<◌, true, ◌&&◌, Option, Some, None, eqb-true, true≢false}
 use Rattle.vb_tree.specs.BoundTree as types
 use Rattle.vb_tree.specs.BoundTree.{Ty}
-use Rattle.bound_tree.specs.Tree.{typed, Term, variable, field, me, Object, no_object, of_object}
+use Rattle.bound_tree.specs.Tree.{typed, Term, variable, field, me, with_object, Object, no_object, of_object}
+use Rattle.bound_tree.specs.declared.expression.Root as expression
 use Rattle.bound_facts.specs.Locks.{is_same_type}
 use Rattle.bound_facts.specs.Node.{type_at}
 use Rattle.vb6_run.specs.Expressions.{Context}
@@ -21,7 +22,7 @@ use Rattle.run_matches.specs.Match.{MemoryMatch}
 use Rattle.run_matches.specs.Pledges.{Pledge}
 use Rattle.run_matches.specs.Upgrades.{Upgrade}
 use Rattle.run_matches.specs.UserTypes.{is_class_type}
-use Rattle.run_statements.specs.Frames.{AreReadable, Receives, StandsInClass, context_of}
+use Rattle.run_statements.specs.Frames.{AllCalled, AllCalledOf, AreReadable, Demands, Receives, StandsInClass, context_of, demands}
 use Rattle.agreeing_laws.proofs.OwnObjects.{no_own_object}
 use Rattle.expression_laws.proofs.Me.{me_class}
 use Rattle.expression_laws.proofs.Objects.{ObjectIs, object_is}
@@ -32,6 +33,22 @@ pub data ReceiverIs (U : Upgrade) (K : Pledge) (C : Context) (S : net_names.Scop
   for_none : ReceiverIs U K C S oracle T w no_object
   for_object : (c : ℕ) (t : Term) → ObjectIs U K C S oracle T w c t → ReceiverIs U K C S oracle T w (of_object (typed (types.class c) t))
 
+-- of an object that is kept nothing is demanded but of what a With keeps
+pub object_called : (Q R : Demands) → ((ty : Ty) (r : expression.Root) → Q.withs ty r → R.withs ty r) → (uses : Uses) (ty : Ty) (t : Term)
+    → covers_object uses (typed ty t) ≡ true → AllCalled Q (typed ty t) → AllCalled R (typed ty t)
+object_called Q R withs uses ty (variable v qualified) covers can = tt
+object_called Q R withs uses ty (field (typed of t) k) covers can =
+    let both = both_true (is_class_type ty) (has_member uses of k (is_same_type ty) && covers_object uses (typed of t)) covers in
+    object_called Q R withs uses of t (both_true (has_member uses of k (is_same_type ty)) (covers_object uses (typed of t)) both.1).1 can
+object_called Q R withs uses ty me covers can = tt
+object_called Q R withs uses ty (with_object r) covers can = withs ty r can
+object_called Q R withs uses ty _ covers can = absurd (true≢false (sym covers))
+
+pub receiver_called : (Q R : Demands) → ((ty : Ty) (r : expression.Root) → Q.withs ty r → R.withs ty r) → (uses : Uses) (of : Object)
+    → covers_receiver uses of ≡ true → AllCalledOf Q of → AllCalledOf R of
+receiver_called Q R withs uses no_object covers can = tt
+receiver_called Q R withs uses (of_object (typed ty t)) covers can = object_called Q R withs uses ty t covers can
+
 -- an object that is kept is of a class
 pub object_class : (uses : Uses) (ty : Ty) (t : Term) → covers_object uses (typed ty t) ≡ true → (c : ℕ) × (ty ≡ types.class c)
 object_class uses ty (variable v qualified) h = class_of ty (both_true (is_class_type ty) (uses.group v ty && uses.named v qualified) h).0
@@ -40,6 +57,7 @@ object_class uses ty (field e k) h =
 object_class uses ty me h =
     let x = me_class uses.me ty h in
     (x.0, x.1)
+object_class uses ty (with_object r) h = class_of ty (both_true (is_class_type ty) (uses.given ty) h).0
 object_class uses ty _ h = absurd (true≢false (sym h))
 
 module _ (U : Upgrade) (K : Pledge) (p : ℕ) (f : SourceFrame) (g : NetFrame) (oracle : SourceCalls) (net_oracle : Jobs) (l : SourceLine) (k : NetLine)
@@ -48,14 +66,14 @@ module _ (U : Upgrade) (K : Pledge) (p : ℕ) (f : SourceFrame) (g : NetFrame) (
   abbrev Is : Object → Type 0
   Is of = ReceiverIs U K (context_of U oracle p f l) (scope_of U.written c g k) net_oracle T w of
 
-  pub receiver_is : (of : Object) → covers_receiver uses of ≡ true
+  pub receiver_is : (of : Object) → AllCalledOf (demands U K p l k (scope_of U.written c g k) T) of → covers_receiver uses of ≡ true
       → ReceiverIs U K (context_of U oracle p f l) (scope_of U.written c g k) net_oracle T w of
-  receiver_is no_object covers = for_none
-  receiver_is (of_object (typed ty t)) covers =
+  receiver_is no_object can covers = for_none
+  receiver_is (of_object (typed ty t)) can covers =
       let x = object_class uses ty t covers in
       subst (λ z. Is (of_object (typed z t))) (sym x.1)
       (for_object x.0 t
-      (object_is U K p f g oracle net_oracle l k c T same_declarations w start uses readable have x.0 t (subst (λ z. covers_object uses (typed z t) ≡ true) x.1 covers)))
+      (object_is U K p f g oracle net_oracle l k c T same_declarations w start uses readable have x.0 t (subst (λ z. AllCalled (demands U K p l k (scope_of U.written c g k) T) (typed z t)) x.1 can) (subst (λ z. covers_object uses (typed z t) ≡ true) x.1 covers)))
 
 -- ---- the object of the frame that is entered
 

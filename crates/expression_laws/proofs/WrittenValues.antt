@@ -45,7 +45,7 @@ use Rattle.run_matches.specs.Maps.{World}
 use Rattle.run_matches.specs.Match.{MemoryMatch}
 use Rattle.run_matches.specs.Pledges.{Pledge}
 use Rattle.run_matches.specs.Upgrades.{Upgrade}
-use Rattle.run_statements.specs.Frames.{AllCalled, AreReadable, CanCall, IsOpen, context_of, demands}
+use Rattle.run_statements.specs.Frames.{AllCalled, AllCalledOf, AreReadable, CanCall, IsOpen, context_of, demands}
 use Rattle.expression_laws.proofs.Callees.{callee_is}
 use Rattle.expression_laws.proofs.Handled.{Handles, as_call, as_seen, as_value, handles_map, is_valued}
 use Rattle.expression_laws.proofs.Me.{me_class}
@@ -262,7 +262,7 @@ module _ (U : Upgrade) (K : Pledge) (p : ℕ) (f : SourceFrame) (g : NetFrame) (
       as_seen (exp_of T e)
       (object_call_seen U C S net_oracle w K T p ty q qualified d t args can (ap (λ D. is_property D q.0) same_declarations ∙ can.plain) object)
 
-  receiver : (of : Object) → covers_receiver uses of ≡ true → ReceiverIs U K C S net_oracle T w of
+  receiver : (of : Object) → AllCalledOf (demands U K p l k S T) of → covers_receiver uses of ≡ true → ReceiverIs U K C S net_oracle T w of
   receiver = receiver_is U K p f g oracle net_oracle l k c T uses same_declarations readable w start have
 
   -- what is given as a user type or an object, where it is no place
@@ -273,7 +273,7 @@ module _ (U : Upgrade) (K : Pledge) (p : ℕ) (f : SourceFrame) (g : NetFrame) (
   group_handles (typed ty (field e k)) can covers none = absurd (true≢false none)
   group_handles (typed ty (call q qualified of args)) can covers none =
       called_handles ty q qualified of args can.0
-      (receiver of (both_true (covers_receiver uses of) (covers_passed uses args) (both_true (uses.given ty) (covers_receiver uses of && covers_passed uses args) covers).1).0)
+      (receiver of can.2 (both_true (covers_receiver uses of) (covers_passed uses args) (both_true (uses.given ty) (covers_receiver uses of && covers_passed uses args) covers).1).0)
   group_handles (typed ty (convert to e)) can covers none =
       subst (λ a. Handles S (Seen (typed ty (convert to e))) a) (sym (nothing_exp T ty to e (nothing_converted (uses.given ty) ty to e covers)))
       (as_value tree.nothing refl)
@@ -292,7 +292,7 @@ module _ (U : Upgrade) (K : Pledge) (p : ℕ) (f : SourceFrame) (g : NetFrame) (
   exp_handles (typed ty (element e indexes)) can covers formed none = absurd (true≢false none)
   exp_handles (typed ty (call q qualified of args)) can covers formed none =
       called_handles ty q qualified of args can.0
-      (receiver of (both_true (covers_receiver uses of) (covers_passed uses args) (both_true (covers_type ty) (covers_receiver uses of && covers_passed uses args) covers).1).0)
+      (receiver of can.2 (both_true (covers_receiver uses of) (covers_passed uses args) (both_true (covers_type ty) (covers_receiver uses of && covers_passed uses args) covers).1).0)
   exp_handles (typed ty (library f no_exprs)) can covers formed none = as_value tree.nothing refl
   exp_handles (typed ty (library f (next_expr e no_exprs))) can covers formed none =
       let whole : Expr = typed ty (library f (next_expr e no_exprs)) in

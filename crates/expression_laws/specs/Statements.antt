@@ -124,7 +124,7 @@ MembersAgreeBy U K =
     (w : World) (p : ℕ) (f : SourceFrame) (g : NetFrame) (oracle : SourceCalls) (net_oracle : Jobs) (l : SourceLine) (k : NetLine) (c : Code)
     (T : Scope) (uses : Uses) (ty : Ty) (of_class i : ℕ) (tm : Term) (member_type : Ty) (m : IsMember U of_class i member_type) → MemoryMatch U w
     → FrameMatch U K w p f g → T.declarations ≡ U.program.declarations → AreReadable U T uses → ArePlaced U p f (scope_of U.written c g k) T uses
-    → covers_object uses (typed (class of_class) tm) ≡ true
+    → AllCalled (demands U K p l k (scope_of U.written c g k) T) (typed (class of_class) tm) → covers_object uses (typed (class of_class) tm) ≡ true
     → Agrees U K w (ReachedMember U of_class m.number)
     (source.parts_of (context_of U oracle p f l) (typed ty (field (typed (class of_class) tm) i)) w.src)
     (target.reach (scope_of U.written c g k) net_oracle false (exp_of T (typed ty (field (typed (class of_class) tm) i))) w.net)

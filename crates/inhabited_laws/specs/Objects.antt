@@ -1,20 +1,23 @@
 -- A second program over a class and a user type: an object that a variable of the module holds is given by value and by reference and by a
--- Function, asked for procedures and variables, compared and forgotten; a With; and error 91, which is handled.
+-- Function, asked for procedures and variables, compared and forgotten; Withs on a user type, on an object, which is kept while its variable
+-- forgets it, and on a new one; and error 91, which is handled.
 use Rattle.std.specs.Prelude.{ℕ, pos, nat_lt, ◌&&◌, true, false, Some, None, List, [], ◌∷◌, codes}
 use Rattle.vb_tree.specs.BoundTree.{user, class, boolean, long, nothing}
 use Rattle.vb_tree.specs.declared.declared.Owner.TheVariants as owner
 use Rattle.vb_tree.specs.declared.declared.ProcKind.TheVariants as kind
 use Rattle.vb_tree.specs.declared.declared.TypeId.{TypeId}
 use Rattle.vb_tree.specs.declared.form_parts.VarWord.TheVariants as var_word
+use Rattle.vb_tree.specs.declared.form_parts.ExitKind.TheVariants as leaving
 use Rattle.vb_tree.specs.declared.project.ProjectKind.TheVariants.{Exe}
 use Rattle.vb_tree.specs.declared.token.Suffix.TheVariants.{Absent}
 use Rattle.vb_tree.specs.declared.value.Value6.TheVariants as v
 use Rattle.vb_tree.specs.Tree.{Form, Member}
 use Rattle.vb_tree.specs.Tree as source
 use Rattle.bound_tree.specs.declared.expression.Origin.TheVariants.{Literal}
+use Rattle.bound_tree.specs.declared.expression.Root.{Root}
 use Rattle.bound_tree.specs.declared.expression.Root.TheVariants as at
 use Rattle.bound_tree.specs.RuleSets.{none}
-use Rattle.bound_tree.specs.Tree.{Expr, typed, constant, variable, field, call, convert, is_same, me, with_object, err_number, no_object, of_object, by_reference, by_value, no_passed, next_passed, Line, Program}
+use Rattle.bound_tree.specs.Tree.{Expr, typed, constant, variable, field, call, convert, is_same, me, new_object, with_object, err_number, no_object, of_object, by_reference, by_value, no_passed, next_passed, Line, Program}
 use Rattle.bound_facts.specs.Calls.{count_procedures, count_variables}
 use Rattle.bound_facts.specs.Effects.{outward, touched, resized}
 use Rattle.bound_facts.specs.Facts.{Known}
@@ -23,7 +26,7 @@ use Rattle.bound_facts.specs.SelfMade.{unplain}
 use Rattle.written_trees.specs.Facts.{Facts}
 use Rattle.written_trees.specs.Projects.{written_project}
 use Rattle.run_matches.specs.Upgrades.{Upgrade}
-use Rattle.inhabited_laws.specs.Sample.{any, assign, at_line, body, declared, forms_of, line, mentions_of, number, plus, proc_id, procedure, signature, the, var_id}
+use Rattle.inhabited_laws.specs.Sample.{any, assign, at_line, body, declared, failed, forms_of, line, mentions_of, number, plus, proc_id, procedure, signature, the, var_id}
 
 -- The source of Main1, a standard module, and of the class Counter:
 --
@@ -35,7 +38,7 @@ use Rattle.inhabited_laws.specs.Sample.{any, assign, at_line, body, declared, fo
 --     Private best As Pair
 --     Sub Main()
 --         Dim c As Counter
---         On Error Resume Next
+--         On Error GoTo failed
 --         Set c = Pick(held)
 --         Call Advance(c)
 --         With best
@@ -46,11 +49,21 @@ use Rattle.inhabited_laws.specs.Sample.{any, assign, at_line, body, declared, fo
 --         If held.following Is c Then
 --             Debug.Print 1
 --         End If
---         Call Clear(c)
+--         With c
+--             Call Clear(c)
+--             Call .Add(1)
+--             Debug.Print .Total
+--         End With
 --         If c Is Nothing Then
 --             Debug.Print 2
 --         End If
+--         With New Counter
+--             .n = 8
+--             Debug.Print .n
+--         End With
 --         c.n = 3
+--         Exit Sub
+--     failed:
 --         Debug.Print Err.Number
 --     End Sub
 --     Sub Clear(o As Counter)
@@ -101,6 +114,16 @@ best = typed (user 0) (variable (var_id 3) false)
 abbrev pub kept : Expr
 kept = typed (user 0) (with_object (at.Variable (var_id 3)))
 
+-- what a With on an object keeps, by what the object is a part of
+abbrev pub kept_object : Root → Expr
+kept_object r = typed (class 0) (with_object r)
+
+abbrev pub kept_counter : Expr
+kept_counter = kept_object (at.Variable (var_id 4))
+
+abbrev pub kept_new : Expr
+kept_new = kept_object at.Temporary
+
 abbrev pub x : Expr → Expr
 x e = typed long (field e 0)
 
@@ -124,7 +147,7 @@ print = source.debug_print [] false
 
 abbrev pub main_lines : List Line
 main_lines =
-    code source.on_error_resume_next []
+    code (source.on_error_goto failed) []
     ∷ code set (counter 4 ∷ typed (class 0) (call (proc_id 2) false no_object (next_passed (by_value (counter 2)) no_passed)) ∷ [])
     ∷ code (source.call any) (typed nothing (call (proc_id 3) false no_object (next_passed (by_value (counter 4)) no_passed)) ∷ [])
     ∷ code (source.with_head any) (best ∷ [])
@@ -135,11 +158,21 @@ main_lines =
     ∷ code (source.if_head any) (typed boolean (is_same (following (counter 2)) (counter 4)) ∷ [])
     ∷ code print (number 1 ∷ [])
     ∷ code source.end_if []
+    ∷ code (source.with_head any) (counter 4 ∷ [])
     ∷ code (source.call any) (typed nothing (call (proc_id 1) false no_object (next_passed (by_reference (counter 4)) no_passed)) ∷ [])
+    ∷ code (source.call any) (typed nothing (call (proc_id 4) false (of_object kept_counter) (next_passed (by_value (number 1)) no_passed)) ∷ [])
+    ∷ code print (typed long (call (proc_id 5) false (of_object kept_counter) no_passed) ∷ [])
+    ∷ code source.end_with []
     ∷ code (source.if_head any) (typed boolean (is_same (counter 4) nothing_itself) ∷ [])
     ∷ code print (number 2 ∷ [])
     ∷ code source.end_if []
+    ∷ code (source.with_head any) (typed (class 0) (new_object (record { 0 = 0 })) ∷ [])
+    ∷ code assign (n_of kept_new ∷ number 8 ∷ [])
+    ∷ code print (n_of kept_new ∷ [])
+    ∷ code source.end_with []
     ∷ code assign (n_of (counter 4) ∷ number 3 ∷ [])
+    ∷ code (source.exit leaving.Sub) []
+    ∷ code (source.label failed) []
     ∷ code print (typed long err_number ∷ [])
     ∷ []
 
@@ -214,10 +247,10 @@ objects = record {
         ∷ declared (codes "held") 1 4 (owner.Module 1) (class 0)
         ∷ declared (codes "best") 1 5 (owner.Module 1) (user 0)
         ∷ declared (codes "c") 1 7 (owner.Local (proc_id 0)) (class 0)
-        ∷ declared (codes "o") 1 26 (owner.Reference (proc_id 1)) (class 0)
-        ∷ declared (codes "o") 1 29 (owner.Value (proc_id 2)) (class 0)
-        ∷ declared (codes "Pick") 1 29 (owner.Answer (proc_id 2)) (class 0)
-        ∷ declared (codes "o") 1 32 (owner.Value (proc_id 3)) (class 0)
+        ∷ declared (codes "o") 1 36 (owner.Reference (proc_id 1)) (class 0)
+        ∷ declared (codes "o") 1 39 (owner.Value (proc_id 2)) (class 0)
+        ∷ declared (codes "Pick") 1 39 (owner.Answer (proc_id 2)) (class 0)
+        ∷ declared (codes "o") 1 42 (owner.Value (proc_id 3)) (class 0)
         ∷ declared (codes "n") 2 0 (owner.Module 2) long
         ∷ declared (codes "following") 2 1 (owner.Module 2) (class 0)
         ∷ declared (codes "k") 2 2 (owner.Value (proc_id 4)) long

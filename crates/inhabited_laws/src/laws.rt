@@ -105,7 +105,7 @@ pub fn objects_give()
     ensures { is_given (run6 (runnable_of object_sample) 0 None [] [] 60 object_source) ≡ true }
 {}
 
-/// A law: it prints what is said: 10, then 10 and 11, 1, 2, and the number of the error, 91.
+/// A law: it prints what is said: 10, then 10 and 11, 1, 11, 2, 8, and the number of the error, 91.
 #[tactic(auto, using(crate::proofs::ObjectsStated::source_prints))]
 pub fn objects_print()
     ensures { outputs (run6 (runnable_of object_sample) 0 None [] [] 60 object_source) ≡ said }

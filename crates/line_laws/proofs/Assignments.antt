@@ -106,7 +106,7 @@ module _ (U : Upgrade) (expressions : ExpressionsAgree U) (scalars : ScalarsAreW
         (ap (λ D. order_shows D (typed ty (field d j)) e) declared ∙ member_order_hidden U T uses readable ty s j t e is object) parts.0))
         (assigns
         (member_stored U expressions scalars members finds K p f g l k c T declared oracle net_oracle is_open uses readable placed agree w h G owns e can
-        (good uses e covers formed) ty s j t own is parts.1))
+        (good uses e covers formed) ty s j t can_to own is parts.1))
     part_stored ty _ t j e can_to can is to_covers covers formed own assigns puts = absurd (true≢false (sym is))
 
     -- a scalar

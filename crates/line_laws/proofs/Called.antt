@@ -8,18 +8,19 @@ use Rattle.vb_tree.specs.BoundTree as types
 use Rattle.vb_tree.specs.BoundTree.{Ty}
 use Rattle.vb_tree.specs.Tree.{Exp, Form}
 use Rattle.vb_tree.specs.Tree as source_form
-use Rattle.bound_tree.specs.Tree.{Declarations, Expr, typed, Term, constant, variable, field, element, call, library, unary, binary, convert, new_object, me, with_object, err_number, err_raise, err_clear, is_same, loose, Exprs, no_exprs, next_expr, by_value, by_reference, Passed, no_passed, next_passed, Line}
+use Rattle.bound_tree.specs.Tree.{Declarations, Expr, typed, Term, constant, variable, field, element, call, library, unary, binary, convert, new_object, me, with_object, err_number, err_raise, err_clear, is_same, loose, Object, no_object, of_object, Exprs, no_exprs, next_expr, by_value, by_reference, Passed, no_passed, next_passed, Line}
 use Rattle.bound_facts.proofs.Chains.{both_true}
 use Rattle.bound_facts.specs.Calls.{initialized, line_calls, node_calls, pair_to}
 use Rattle.bound_facts.specs.Locks.{is_same_type}
 use Rattle.bound_facts.specs.Members.{initializer}
 use Rattle.bound_facts.specs.Node.{called, type_at}
+use Rattle.bound_tree.specs.declared.expression.Root.{Root}
 use Rattle.bound_facts.specs.Nodes.{nodes, nodes_in, nodes_of_all, nodes_of_object, nodes_of_passed}
 use Rattle.bound_facts.specs.Parts.{line_uses, target_nodes, used_nodes}
 use Rattle.run_matches.specs.CoveredExprs.{Uses, covers_group, covers_object, covers_place, has_member, is_changeable}
 use Rattle.run_matches.specs.CoveredLines.{covers_form, covers_set, covers_set_member, covers_set_variable, is_member_ordered}
 use Rattle.run_matches.specs.UserTypes.{is_class_type}
-use Rattle.run_statements.specs.Frames.{Demands, AllCalled, AllCalledAll, AllCalledFor}
+use Rattle.run_statements.specs.Frames.{Demands, AllCalled, AllCalledAll, AllCalledFor, AllCalledOf}
 use Rattle.run_statements.specs.Kept.{made_at}
 
 abbrev pub AllIn : {A : Type 0} → (A → Type 0) → List A → Type 0
@@ -77,6 +78,8 @@ module _ (Q : Demands) where
       h (typed ty (call p qualified of args)) (contains_first (typed ty (call p qualified of args)) (nodes_in (call p qualified of args))),
       passed_called args
           (of_right (nodes_of_object of) (nodes_of_passed args) (of_rest (typed ty (call p qualified of args)) (nodes_in (call p qualified of args)) h)),
+      object_called of
+          (of_left (nodes_of_object of) (nodes_of_passed args) (of_rest (typed ty (call p qualified of args)) (nodes_in (call p qualified of args)) h)),
     )
     nodes_called (typed ty (library f args)) h = (
       h (typed ty (library f args)) (contains_first (typed ty (library f args)) (nodes_of_all args)),
@@ -98,6 +101,10 @@ module _ (Q : Demands) where
         (nodes_called d (of_left (nodes d) (nodes e) more), nodes_called e (of_right (nodes d) (nodes e) more))
     nodes_called (typed ty (loose e rules)) h = tt
 
+    object_called : (of : Object) → OfNodes (nodes_of_object of) → AllCalledOf Q of
+    object_called no_object h = tt
+    object_called (of_object e) h = nodes_called e h
+
     exprs_called : (args : Exprs) → OfNodes (nodes_of_all args) → AllCalledAll Q args
     exprs_called no_exprs h = tt
     exprs_called (next_expr e rest) h =
@@ -114,6 +121,17 @@ module _ (Q : Demands) where
   all_called [] h = tt
   all_called (e ∷ es) h =
       (nodes_called e (of_left (nodes e) (flat_map nodes es) h), all_called es (of_right (nodes e) (flat_map nodes es) h))
+
+-- of an object that is kept nothing is demanded but of what a With keeps
+pub kept_called : (Q R : Demands) → ((ty : Ty) (r : Root) → Q.withs ty r → R.withs ty r) → (uses : Uses) (ty : Ty) (t : Term)
+    → covers_object uses (typed ty t) ≡ true → AllCalled Q (typed ty t) → AllCalled R (typed ty t)
+kept_called Q R withs uses ty (variable v qualified) covers can = tt
+kept_called Q R withs uses ty (field (typed of t) k) covers can =
+    let both = both_true (is_class_type ty) (has_member uses of k (is_same_type ty) && covers_object uses (typed of t)) covers in
+    kept_called Q R withs uses of t (both_true (has_member uses of k (is_same_type ty)) (covers_object uses (typed of t)) both.1).1 can
+kept_called Q R withs uses ty me covers can = tt
+kept_called Q R withs uses ty (with_object r) covers can = withs ty r can
+kept_called Q R withs uses ty _ covers can = absurd (true≢false (sym covers))
 
 -- ---- lines
 
@@ -139,23 +157,22 @@ pub use_makes : (D : Declarations) (p q class : ℕ) (l : Line) (d : Expr) → C
 use_makes D p q class l d m is e =
     contains_flat (node_calls D p) (line_uses l) d (p, q) m.0 m.1 m.2 (makes_first D p q class d is e)
 
--- a Set stores to a variable, or to one of an object that a variable keeps, of which nothing is demanded
+-- a Set stores to a variable, of which nothing is demanded
 target_called : (Q : Demands) (uses : Uses) (ty : Ty) (t : Term) → is_class_type ty ≡ true → covers_place uses (typed ty t) ≡ true → AllCalled Q (typed ty t)
 target_called Q uses ty (variable v qualified) of covers = tt
 target_called Q uses (types.user s) (field e k) of covers = absurd (true≢false (sym of))
 target_called Q uses _ (field e k) of covers = absurd (true≢false (sym covers))
 target_called Q uses ty _ of covers = absurd (true≢false (sym covers))
 
-object_called : (Q : Demands) (uses : Uses) (ty : Ty) (t : Term) → covers_object uses (typed ty t) ≡ true → AllCalled Q (typed ty t)
-object_called Q uses ty (variable v qualified) covers = tt
-object_called Q uses ty (field (typed of t) k) covers =
-    let member = both_true (is_class_type ty) (has_member uses of k (is_same_type ty) && covers_object uses (typed of t)) covers in
-    object_called Q uses of t (both_true (has_member uses of k (is_same_type ty)) (covers_object uses (typed of t)) member.1).1
-object_called Q uses ty me covers = tt
-object_called Q uses ty _ covers = absurd (true≢false (sym covers))
+-- or of what stands in its object
+member_called : (Q : Demands) (uses : Uses) (ty : Ty) (t : Term) (e : Expr) → is_member_ordered uses (typed ty t) e ≡ true
+    → OfNodes Q (target_nodes (typed ty t)) → AllCalled Q (typed ty t)
+member_called Q uses ty (field d k) e ordered h = nodes_called Q d h
+member_called Q uses ty _ e ordered h = absurd (true≢false (sym ordered))
 
-set_target_called : (Q : Demands) (uses : Uses) (ty : Ty) (t : Term) (e : Expr) → covers_set uses (typed ty t ∷ e ∷ []) ≡ true → AllCalled Q (typed ty t)
-set_target_called Q uses ty t e covers =
+set_target_called : (Q : Demands) (uses : Uses) (ty : Ty) (t : Term) (e : Expr) → covers_set uses (typed ty t ∷ e ∷ []) ≡ true
+    → OfNodes Q (target_nodes (typed ty t)) → AllCalled Q (typed ty t)
+set_target_called Q uses ty t e covers h =
     let to : Expr = typed ty t in
     let places : Bool = covers_place uses to && covers_group uses e in
     let objects : Bool = covers_object uses to && covers_group uses e in
@@ -166,8 +183,7 @@ set_target_called Q uses ty t e covers =
     target_called Q uses ty t first.0
     (both_true (covers_place uses to) (covers_group uses e) (both_true (is_same_type ty (type_at e)) places second.1).1).0)
     (λ x.
-    let second = both_true (is_member_ordered uses to e) (is_same_type ty (type_at e) && objects) x in
-    object_called Q uses ty t (both_true (covers_object uses to) (covers_group uses e) (both_true (is_same_type ty (type_at e)) objects second.1).1).0)
+    member_called Q uses ty t e (both_true (is_member_ordered uses to e) (is_same_type ty (type_at e) && objects) x).0 h)
     (or_cases (covers_set_variable uses to e) (covers_set_member uses to e) first.1)
 
 set_called : (Q : Demands) (uses : Uses) (target value : Exp) (es : List Expr) → covers_set uses es ≡ true
@@ -175,7 +191,7 @@ set_called : (Q : Demands) (uses : Uses) (target value : Exp) (es : List Expr) �
 set_called Q uses target value [] covers h = tt
 set_called Q uses target value (to ∷ []) covers h = absurd (true≢false (sym covers))
 set_called Q uses target value (typed ty t ∷ e ∷ []) covers h =
-    (set_target_called Q uses ty t e covers, all_called Q (e ∷ []) (of_right Q (target_nodes (typed ty t)) (flat_map nodes (e ∷ [])) h))
+    (set_target_called Q uses ty t e covers (of_left Q (target_nodes (typed ty t)) (flat_map nodes (e ∷ [])) h), all_called Q (e ∷ []) (of_right Q (target_nodes (typed ty t)) (flat_map nodes (e ∷ [])) h))
 set_called Q uses target value (to ∷ e ∷ d ∷ es) covers h = absurd (true≢false (sym covers))
 
 form_called : (Q : Demands) (uses : Uses) (f : Form) (es : List Expr) → covers_form uses f es ≡ true → OfNodes Q (used_nodes f es) → AllIn (AllCalled Q) es

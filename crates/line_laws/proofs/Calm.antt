@@ -52,7 +52,7 @@ use Rattle.line_laws.proofs.Uses.{simple_type}
 abbrev pub IsFit : Ty → Value6 → Type 0
 IsFit ty z = (same : ℕ → ℕ → Bool) × (y : ValueN) × Matches same ty z y
 
-fit_of_like : (U : Upgrade) (w : World) (ty : Ty) (z : Value6) (y : net_value.Value) → LikeV U w (scalar ty z) y → IsFit ty z
+pub fit_of_like : (U : Upgrade) (w : World) (ty : Ty) (z : Value6) (y : net_value.Value) → LikeV U w (scalar ty z) y → IsFit ty z
 fit_of_like U w _ _ _ (like_scalar ty z y m) = (_, y, m)
 
 abbrev pub scalar_part : Value → Value6 → Value6

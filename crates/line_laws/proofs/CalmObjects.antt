@@ -1,20 +1,22 @@
--- The object that a variable keeps, and Me, are the same whatever is evaluated before them, where nothing that was there has changed.
-use Rattle.std.proofs.Common.{◌≡◌, ◌∙◌, refl, sym, ap, subst, ℕ, Bool, true, false, ◌&&◌, Some, [], true≢false}
+-- The object that a variable or a With keeps, and Me, are the same whatever is evaluated before them, where nothing that was there has changed.
+use Rattle.std.proofs.Common.{◌≡◌, ◌∙◌, ◌⊎◌, refl, sym, ap, subst, inl, inr, ℕ, Bool, true, false, ◌&&◌, Some, [], true≢false}
 use Rattle.vb_tree.specs.BoundTree as types
 use Rattle.vb_tree.specs.BoundTree.{Ty}
+use Rattle.vb_tree.specs.declared.declared.VarId.{VarId}
 use Rattle.vb_tree.specs.declared.value.Value6.{Value6}
 use Rattle.vb_tree.specs.declared.value.Value6.TheVariants as v
-use Rattle.bound_tree.specs.Tree.{Expr, typed, Term, variable, me}
+use Rattle.bound_tree.specs.Tree.{Expr, typed, Term, variable, me, with_object}
+use Rattle.bound_tree.specs.declared.expression.Root.{Root}
 use Rattle.net_meaning.specs.declared.value.ValueN.{ValueN}
 use Rattle.net_meaning.specs.ValueMatch.{Matches, no_object_of, objects_of}
-use Rattle.run_base.specs.Outcomes.{after, then}
+use Rattle.run_base.specs.Outcomes.{after, gives, outside, then}
 use Rattle.run_base.specs.Positions.{Position}
 use Rattle.written_trees.specs.Names.{Scope}
 use Rattle.vb6_run.specs.Expressions as source
 use Rattle.vb6_run.specs.Expressions.{at_address, value_in}
 use Rattle.vb6_run.specs.Forms.{SourceLine}
 use Rattle.vb6_run.specs.Shapes.{simple}
-use Rattle.vb6_run.specs.Store.{Address, root, single, Memory, SourceCalls, SourceFrame}
+use Rattle.vb6_run.specs.Store.{Address, root, single, Memory, SourceCalls, SourceFrame, provided}
 use Rattle.vb6_run.specs.Values.{is_of_shape, is_typed, scalar}
 use Rattle.net_run.specs.Lines.{NetFrame, NetLine, scope_of}
 use Rattle.net_run.specs.Making.{Jobs}
@@ -27,8 +29,9 @@ use Rattle.run_matches.specs.Maps.{World, is_auto_root, moved_at}
 use Rattle.run_matches.specs.Match.{MemoryMatch}
 use Rattle.run_matches.specs.Pledges.{Pledge}
 use Rattle.run_matches.specs.Upgrades.{Upgrade}
-use Rattle.run_statements.specs.Frames.{AreReadable, ArePlaced, context_of}
-use Rattle.line_laws.proofs.Calm.{Gives, IsFit, typed_read}
+use Rattle.run_statements.specs.Frames.{AllCalled, AreReadable, ArePlaced, StandsWithin, context_of, demands}
+use Rattle.agreeing_laws.proofs.WithPlaces.{IsWithObject, object_found}
+use Rattle.line_laws.proofs.Calm.{Gives, IsFit, fit_of_like, typed_read}
 use Rattle.line_laws.proofs.Me.{has_object, me_gives, numbered, same_class}
 use Rattle.line_laws.proofs.Places.{Place, variable_place}
 use Rattle.line_laws.proofs.Standing.{Stable, held_fit, not_blank, read_single, same_matched}
@@ -51,9 +54,36 @@ module _ (U : Upgrade) (K : Pledge) (p : ℕ) (f : SourceFrame) (g : NetFrame) (
   abbrev S : net_names.Scope
   S = scope_of U.written c g k
 
-  pub calm_object : (of_class : ℕ) (t : Term) → is_calm_object_term uses t ≡ true → covers_object_term uses (types.class of_class) t ≡ true
-      → (x : Value6) × ((s : Memory) → Stable U w s → Gives C (typed (types.class of_class) t) x s)
-  calm_object of_class (variable v qualified) calm covers =
+  abbrev Kept : (of_class : ℕ) → Term → Type 0
+  Kept of_class t = (x : Value6) × ((s : Memory) → Stable U w s → Gives C (typed (types.class of_class) t) x s)
+
+  -- or a With that keeps none
+  abbrev pub NoneKept : (of_class : ℕ) → Term → Type 0
+  NoneKept of_class t = (r : Root) × (t ≡ with_object r) × ((s : Memory) → source.parts_of C (typed (types.class of_class) t) s ≡ outside [])
+
+  with_kept : (of_class : ℕ) (r : Root) → IsWithObject U K w p f g F oracle l k c net_oracle T of_class r → Kept of_class (with_object r)
+  with_kept of_class r x =
+      let ty : Ty = types.class of_class in
+      let shaped : is_of_shape (simple ty) (scalar ty x.object) ≡ true =
+      ap (λ b. b && is_typed ty x.object) (same_class of_class) ∙ object_typed of_class x.object (fit_of_like U w ty x.object x.value x.like) in (
+        x.object,
+        λ s before.
+            ap (λ r'. then r' (value_in C (typed ty (with_object r)))) (x.found s)
+            ∙ ap (λ b. after [] (after [] (provided b (λ w. gives [] (scalar ty x.object) w) s))) shaped,
+      )
+
+  calm_with : (of_class : ℕ) (r : Root) → StandsWithin U p l k (types.class of_class) r → Kept of_class (with_object r) ⊎ NoneKept of_class (with_object r)
+  calm_with of_class r x =
+      by (object_found U K w p f g F oracle l k c net_oracle T of_class r x.head x.is_round x.line x.is_line x.covers x.is_head x.keeps x.same_aims)
+    where
+      by : IsWithObject U K w p f g F oracle l k c net_oracle T of_class r ⊎ ((s : Memory) → source.parts_of C (typed (types.class of_class) (with_object r)) s ≡ outside [])
+          → Kept of_class (with_object r) ⊎ NoneKept of_class (with_object r)
+      by (inl y) = inl (with_kept of_class r y)
+      by (inr none) = inr (r, refl, none)
+
+  calm_variable : (of_class : ℕ) (v : VarId) (qualified : Bool) → covers_object_term uses (types.class of_class) (variable v qualified) ≡ true
+      → Kept of_class (variable v qualified)
+  calm_variable of_class v qualified covers =
       let ty : Ty = types.class of_class in
       let e : Expr = typed ty (variable v qualified) in
       let x : Place U K p w C S T net_oracle ty e =
@@ -72,7 +102,16 @@ module _ (U : Upgrade) (K : Pledge) (p : ℕ) (f : SourceFrame) (g : NetFrame) (
             ap (λ r. then r (value_in C e)) (x.place.found s)
             ∙ ap (after []) (typed_read C e a s kind.0 refl shaped (read_single ty kind.0 q s (same_class of_class) is)),
       )
-  calm_object of_class me calm covers =
+
+  calm_me : (of_class : ℕ) → covers_object_term uses (types.class of_class) me ≡ true → Kept of_class me
+  calm_me of_class covers =
       let x : (o : ℕ) × (f.me ≡ Some o) = has_object U K w p f g F of_class (placed.me of_class (numbered of_class uses.me covers)) in
       (v.Object x.0, λ s before. me_gives C of_class x.0 x.1 s)
-  calm_object of_class _ calm covers = absurd (true≢false (sym calm))
+
+  pub calm_object : (of_class : ℕ) (t : Term) → is_calm_object_term uses t ≡ true → covers_object_term uses (types.class of_class) t ≡ true
+      → AllCalled (demands U K p l k S T) (typed (types.class of_class) t)
+      → ((x : Value6) × ((s : Memory) → Stable U w s → Gives C (typed (types.class of_class) t) x s)) ⊎ NoneKept of_class t
+  calm_object of_class (variable v qualified) calm covers can = inl (calm_variable of_class v qualified covers)
+  calm_object of_class me calm covers can = inl (calm_me of_class covers)
+  calm_object of_class (with_object r) calm covers can = calm_with of_class r can
+  calm_object of_class _ calm covers can = absurd (true≢false (sym calm))

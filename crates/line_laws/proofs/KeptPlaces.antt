@@ -1,4 +1,4 @@
--- What a covered With keeps goes on to be a place, and what the head of a block may keep.
+-- What a covered With keeps goes on to be a place or an object, and what the head of a block may keep.
 use Rattle.std.proofs.Common.{◌≡◌, ◌∙◌, sym, ℕ, true, false, List, [], ◌∷◌, true≢false}
 use Rattle.vb_tree.specs.Tree.{Form}
 use Rattle.bound_tree.specs.Tree.{Expr}
@@ -27,7 +27,7 @@ keeps_by_places U K L w v go [] x y h = tt
 keeps_by_places U K L w v go (e ∷ []) keeps_nothing y h = tt
 keeps_by_places U K L w v go (e ∷ []) (keeps_limit a i j) y h = tt
 keeps_by_places U K L w v go (e ∷ []) (keeps_value x) y h = h
-keeps_by_places U K L w v go (e ∷ []) (keeps_address a) y h = λ t is. go t a (kept_address y) (h t is)
+keeps_by_places U K L w v go (e ∷ []) (keeps_address a) y h = ((λ t is. go t a (kept_address y) (h.0 t is)), h.1)
 keeps_by_places U K L w v go (e ∷ d ∷ es) x y h = tt
 
 pub place_kept_later : (U : Upgrade) (K : Pledge) (w0 w1 : World) → Later U K w0 w1 → (es : List Expr) (x : Kept Value Address)

@@ -44,6 +44,7 @@ pub mod FieldStores
 pub mod Copies
 pub mod Sets
 pub mod WithLines
+pub mod WithObjects
 pub mod Assignments
 pub mod Constants
 pub mod Extents

@@ -62,6 +62,7 @@ use Rattle.run_statements.specs.Fitting.{FitsNode}
 use Rattle.run_statements.specs.Groups.{GroupsAgree, GroupsAreWritten}
 use Rattle.run_statements.specs.Kept.{AllSameWays, LinesAgree, made_at, qualified_at, receiver_at}
 use Rattle.run_statements.specs.Members.{MembersAgree, MembersAreFound}
+use Rattle.run_statements.specs.Objects.{ClassesAreWritten}
 use Rattle.run_statements.specs.Written.{Passes, site_scope}
 use Rattle.agreeing_laws.specs.Beside.{with_steps}
 use Rattle.agreeing_laws.proofs.Agreeing.{agrees_gives, agrees_weaker, then_agrees}
@@ -106,7 +107,7 @@ call_is U T declared ty q qualified of args h =
     ap (λ b. as_call (written.called (b && (has_none args && not (reads_itself T q.0 qualified of))) (callee_of T q.0 qualified of) (passed_of T q.0 0 args)))
     (ap (λ D. is_property D q.0) declared ∙ h)
 
-module _ (U : Upgrade) (expressions : ExpressionsAgree U) (calls : CallsAreMade U) (reads : ScalarsAreRead U) (scalars : ScalarsAreWritten U) (elements : ElementsAgree U) (indexed : IndexesAgree U)
+module _ (U : Upgrade) (classes : ClassesAreWritten U) (expressions : ExpressionsAgree U) (calls : CallsAreMade U) (reads : ScalarsAreRead U) (scalars : ScalarsAreWritten U) (elements : ElementsAgree U) (indexed : IndexesAgree U)
     (writes : ElementsAreWritten U) (groups : GroupsAgree U) (writes_groups : GroupsAreWritten U) (members : MembersAgree U) (finds : MembersAreFound U) (arrays : ArraysAgree U) (resizing : ArraysAreResized U) (erasing : ArraysAreErased U) (K : Pledge) (p q : ℕ) (f : SourceFrame) (g : NetFrame) (l : SourceLine) (k : NetLine) (c : Code) (T : Scope)
     (declared : T.declarations ≡ U.program.declarations) (oracle : SourceCalls) (net_oracle : Jobs)
     (is_open : IsOpen (scope_of U.written c g k)) (uses : Uses) (readable : AreReadable U T uses)
@@ -242,7 +243,7 @@ module _ (U : Upgrade) (expressions : ExpressionsAgree U) (calls : CallsAreMade 
   form_agrees ls (source_form.set to value) (x ∷ y ∷ []) can covers formed found may keep stands ways =
       goes AnyUnits (then (source.value_of C y w.src) (set_to C x)) (assignment S net_oracle (target_exp T x) (exp_of T y) w.net)
       (set_agrees U groups writes_groups members finds K p f g l k c T declared oracle net_oracle is_open uses readable placed agree w h F owns x y
-      can.1.0 covers (both_true (is_formed y) true (both_true (is_formed x) (list_all is_formed (y ∷ [])) formed).1).0 (may.own x (Contains-push [] x)))
+      can.0 can.1.0 covers (both_true (is_formed y) true (both_true (is_formed x) (list_all is_formed (y ∷ [])) formed).1).0 (may.own x (Contains-push [] x)))
   form_agrees ls (source_form.set to value) (x ∷ y ∷ z ∷ es) can covers formed found may keep stands ways = absurd (true≢false (sym covers))
   form_agrees ls (source_form.debug_print items ended) es can covers formed found may keep stands ways =
       goes AnyUnits (then (items_text C es w.src) (print ended))
@@ -298,7 +299,8 @@ module _ (U : Upgrade) (expressions : ExpressionsAgree U) (calls : CallsAreMade 
   form_agrees ls source_form.wend es can covers formed found may keep stands ways = back w (later_now U K w h)
   form_agrees ls (source_form.with_head head) [] can covers formed found may keep stands ways = absurd (true≢false (sym covers))
   form_agrees ls (source_form.with_head head) (typed ty tm ∷ []) can covers formed found may keep stands ways =
-      with_agrees U K p f g l k c T declared oracle net_oracle uses readable placed R w h (F w (later_now U K w h)) owns aims head ty tm can.0 covers keep
+      with_agrees U classes groups members finds K p f g l k c T declared oracle net_oracle is_open uses readable placed agree R w h (F w (later_now U K w h)) owns aims head
+      ty tm can.0 covers (both_true (is_formed (typed ty tm)) true formed).0 keep
   form_agrees ls (source_form.with_head head) (x ∷ y ∷ es) can covers formed found may keep stands ways = absurd (true≢false (sym covers))
   form_agrees ls source_form.end_with es can covers formed found may keep stands ways = behind_now
   form_agrees ls (source_form.goto a) es can covers formed found may keep stands ways =
@@ -346,9 +348,9 @@ node_has U K p l k S T (typed ty (with_object r)) can makes fits aims within = s
 node_has U K p l k S T (typed ty t) can makes fits aims within = tt
 
 -- A covered line does the same as what is written for it, in frames that go on to match.
-pub steady_lines_agree : (U : Upgrade) → ExpressionsAgree U → CallsAreMade U → ScalarsAreRead U → ScalarsAreWritten U → ElementsAgree U → IndexesAgree U → ElementsAreWritten U
+pub steady_lines_agree : (U : Upgrade) → ClassesAreWritten U → ExpressionsAgree U → CallsAreMade U → ScalarsAreRead U → ScalarsAreWritten U → ElementsAgree U → IndexesAgree U → ElementsAreWritten U
     → GroupsAgree U → GroupsAreWritten U → MembersAgree U → MembersAreFound U → ArraysAgree U → ArraysAreResized U → ArraysAreErased U → SteadyLinesAgree U
-steady_lines_agree U expressions calls reads scalars elements indexed writes groups writes_groups members finds arrays resizing erasing p s written number turns l c L code opens readable placed own agree can makes fits remade covers stands w f g at h F given =
+steady_lines_agree U classes expressions calls reads scalars elements indexed writes groups writes_groups members finds arrays resizing erasing p s written number turns l c L code opens readable placed own agree can makes fits remade covers stands w f g at h F given =
     let K : Pledge = frame_pledge U p w f in
     let owns : OwnsAll U K p f = owns_now U p f K w w g (F w (later_now U K w h)) in
     let R : World → SourceFrame → NetFrame → Type 0 = SteadyNext U K p f.me in
@@ -387,7 +389,7 @@ steady_lines_agree U expressions calls reads scalars elements indexed writes gro
     (target_lines.line_in U.written (target_program.frames_of U.written) net_oracle written g L.line o w1.net)) (sym code)
     (subst (λ x. Agrees U K w1 R (source_program.line_does (runnable_of U) oracle p f l w1.src)
     (target_lines.form_does (target_program.frames_of U.written) net_oracle written c (scope_of U.written c g L.line) g L.line x w1.net)) (sym L.form)
-    (form_agrees U expressions calls reads scalars elements indexed writes groups writes_groups members finds arrays resizing erasing K p written f g l L.line c T refl oracle net_oracle (opens g L.line now.names)
+    (form_agrees U classes expressions calls reads scalars elements indexed writes groups writes_groups members finds arrays resizing erasing K p written f g l L.line c T refl oracle net_oracle (opens g L.line now.names)
     (uses_in U.program p l.form.bindings.mentions) readable (placed f g L.line now.names given) agree R w1 later.match F1 owns L.aims next
     (λ n m i j t u d e c w2 more. placed_at U K p f g w1 later.match F1 owns w2 more n m i j t u d e c)
     (labels (site_lines s)) l.form.source.form l.form.bindings.exprs
@@ -407,14 +409,14 @@ steady_now : (U : Upgrade) (K : Pledge) (w : World) (p : ℕ) (f : SourceFrame) 
     → GoOnMatching U K p f g w
 steady_now U K w p f g h F w1 l = frame_later U K w w1 p f g h l F
 
-pub lines_agree : (U : Upgrade) → ExpressionsAgree U → CallsAreMade U → ScalarsAreRead U → ScalarsAreWritten U → ElementsAgree U → IndexesAgree U → ElementsAreWritten U
+pub lines_agree : (U : Upgrade) → ClassesAreWritten U → ExpressionsAgree U → CallsAreMade U → ScalarsAreRead U → ScalarsAreWritten U → ElementsAgree U → IndexesAgree U → ElementsAreWritten U
     → GroupsAgree U → GroupsAreWritten U → MembersAgree U → MembersAreFound U → ArraysAgree U → ArraysAreResized U → ArraysAreErased U → LinesAgree U
-lines_agree U expressions calls reads scalars elements indexed writes groups writes_groups members finds arrays resizing erasing p s written number turns l c L code opens readable placed own agree can makes fits remade covers stands w f g at h F given =
+lines_agree U classes expressions calls reads scalars elements indexed writes groups writes_groups members finds arrays resizing erasing p s written number turns l c L code opens readable placed own agree can makes fits remade covers stands w f g at h F given =
     let K : Pledge = frame_pledge U p w f in
     agrees_weaker U K w (SteadyNext U K p f.me) (NextMatch U K p f.me)
     (line_result (source_program.machine_of (runnable_of U)) turns p f l w.src)
     (line_result (target_program.machine_of U.written) turns written g L.line w.net)
     (λ w1 f1 g1 later x.
     record { same_object = x.same_object; frames = x.frames w1 (later_now U K w1 later.match); owns = x.owns })
-    (steady_lines_agree U expressions calls reads scalars elements indexed writes groups writes_groups members finds arrays resizing erasing p s written number turns l c L code opens readable placed own agree can makes fits remade covers stands w f g at h
+    (steady_lines_agree U classes expressions calls reads scalars elements indexed writes groups writes_groups members finds arrays resizing erasing p s written number turns l c L code opens readable placed own agree can makes fits remade covers stands w f g at h
     (steady_now U K w p f g h F) given)

@@ -77,7 +77,8 @@ module _ (U : Upgrade) (expressions : ExpressionsAgree U) (scalars : ScalarsAreW
     (oracle : SourceCalls) (net_oracle : Jobs) (is_open : IsOpen (scope_of U.written c g k)) (uses : Uses) (readable : AreReadable U T uses)
     (placed : ArePlaced U p f (scope_of U.written c g k) T uses) (agree : CallsAgree U (Passes U) oracle net_oracle) (w : World) (h : MemoryMatch U w)
     (G : GoOnMatching U K p f g w) (owns : OwnsAll U K p f) (e : Expr) (can : AllCalled (demands U K p l k (scope_of U.written c g k) T) e)
-    (well : is_good uses e ≡ true) (ty : Ty) (of_class i : ℕ) (t : Term) where
+    (well : is_good uses e ≡ true) (ty : Ty) (of_class i : ℕ) (t : Term)
+    (can_object : AllCalled (demands U K p l k (scope_of U.written c g k) T) (typed (types.class of_class) t)) where
   abbrev C : source.Context
   C = context_of U oracle p f l
 
@@ -125,18 +126,18 @@ module _ (U : Upgrade) (expressions : ExpressionsAgree U) (scalars : ScalarsAreW
         ⊎_elim
         (λ x.
         constant_stored U members finds K p f g l k c T declared oracle net_oracle uses readable placed w h G owns ty of_class i t member_type m (inl of_type)
-        covers e writes (literal_is_constant C uses e x parts.0 parts.1) values)
+        covers can_object e writes (literal_is_constant C uses e x parts.0 parts.1) values)
         (λ x.
         ⊎_elim
         (λ y.
         let both = both_true (is_calm_object uses d) (are_still uses (nodes e)) y in
         object_stored U members finds K p f g l k c T declared oracle net_oracle uses readable placed w h G owns ty of_class i t member_type m (inl of_type)
-        covers e writes both.0 values (still_values both.1))
+        covers can_object e writes both.0 values (still_values both.1))
         (λ y.
         let x = calm_known U expressions K p f g l k c T declared oracle net_oracle is_open uses readable placed agree w h (G w (later_now U K w h)) e
         (both_true (is_calm uses e) (are_still uses (nodes d)) y).0 can parts.0 parts.1 in
         calm_stored U members finds K p f g l k c T declared oracle net_oracle uses readable placed w h G owns ty of_class i t member_type m (inl of_type)
-        covers e writes x.value x.gives values)
+        covers can_object e writes x.value x.gives values)
         (or_cases (is_calm_object uses d && are_still uses (nodes e)) (is_calm uses e && are_still uses (nodes d)) x))
         (or_cases (is_literal_value e) ((is_calm_object uses d && are_still uses (nodes e)) || (is_calm uses e && are_still uses (nodes d))) keeps)
 

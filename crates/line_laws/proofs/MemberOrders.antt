@@ -6,7 +6,7 @@ use Rattle.std.specs.Prelude.{is_some}
 use Rattle.std.specs.List.{list_any}
 use Rattle.vb_tree.specs.BoundTree as types
 use Rattle.vb_tree.specs.BoundTree.{Ty}
-use Rattle.bound_tree.specs.Tree.{Declarations, Expr, typed, Term, constant, variable, field, convert, me}
+use Rattle.bound_tree.specs.Tree.{Declarations, Expr, typed, Term, constant, variable, field, convert, me, with_object}
 use Rattle.bound_facts.proofs.Chains.{both_true}
 use Rattle.bound_facts.specs.CanRaise.{can_raise, is_constant_node, is_safe, raises}
 use Rattle.bound_facts.specs.Locks.{is_same_type}
@@ -63,6 +63,7 @@ module _ (U : Upgrade) (T : Scope) (uses : Uses) (readable : AreReadable U T use
       let used = (both_true (uses.group v (types.class of_class)) (uses.named v qualified) covers).0 in
       ap (λ o. is_some o || false) (known_auto U v.0 (readable.groups v (types.class of_class) used).known)
   object_raises of_class me calm covers = refl
+  object_raises of_class (with_object r) calm covers = refl
   object_raises of_class _ calm covers = absurd (true≢false (sym calm))
 
   module _ (ty : Ty) (of_class i : ℕ) (t : Term) (e : Expr) where

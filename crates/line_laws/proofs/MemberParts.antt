@@ -6,7 +6,7 @@ use Rattle.vb_tree.specs.declared.value.Value6.{Value6}
 use Rattle.bound_tree.specs.Tree.{Declarations, Expr, typed, Term, field}
 use Rattle.bound_facts.specs.Members.{field_of}
 use Rattle.bound_facts.specs.Node.{auto_class, variable_number}
-use Rattle.run_base.specs.Outcomes.{Outcome, after, gives, some_of, then}
+use Rattle.run_base.specs.Outcomes.{Outcome, after, gives, outside, some_of, then}
 use Rattle.written_trees.specs.Exprs.{exp_of, field_name, made_if, member_of, target_exp}
 use Rattle.written_trees.specs.Names.{Scope}
 use Rattle.vb6_run.specs.Expressions as source
@@ -69,6 +69,16 @@ module _ (U : Upgrade) (of_class i : ℕ) (member_type : Ty) (m : IsMember U of_
         (λ y w. gives [] (at_field x of_class (variable_shape U.program.declarations y) y) w) w in
         parts_alone s ∙ sym (then_assoc (source.parts_of C object s) (value_in C object) goes) ∙ ap (λ r. then r goes) is
         ∙ ap (λ o. after [] (some_of o (λ y w. gives [] (at_field (scalar (types.class of_class) x) of_class (variable_shape U.program.declarations y) y) w) s)) m.declares
+
+    -- and none where there is no object
+    pub member_none : (s : Memory) → source.parts_of C object s ≡ outside [] → source.address_of C to s ≡ outside []
+    member_none s none =
+        let goes : Value → Memory → Outcome Memory source.Parts =
+        λ x w.
+        some_of (field_of U.program.declarations (types.class of_class) i)
+        (λ y w. gives [] (at_field x of_class (variable_shape U.program.declarations y) y) w) w in
+        ap (λ r. then r source.finished)
+        (parts_alone s ∙ sym (then_assoc (source.parts_of C object s) (value_in C object) goes) ∙ ap (λ r. then (then r (value_in C object)) goes) none)
 
     abbrev pub stored_by : Ty → Value6 → source.Parts → Memory → Outcome Memory Unit
     stored_by of z x s = then (source.finished x s) (write f.env (scalar of z))

@@ -1,5 +1,5 @@
 -- A Set of a variable of an object does the same as what is written for it.
-use Rattle.std.proofs.Common.{◌≡◌, ◌∙◌, refl, sym, ap, subst, inr, ⊎_elim, ℕ, Bool, true, ◌&&◌, ◌||◌, true≢false, eqb-true}
+use Rattle.std.proofs.Common.{◌≡◌, ◌∙◌, refl, sym, ap, subst, inr, ⊎_elim, ℕ, Bool, true, ◌&&◌, ◌||◌, true≢false}
 use Rattle.std.proofs.Math.Bool.{or-false}
 use Rattle.std.proofs.lemmas.Bool.{or_cases}
 use Rattle.vb_tree.specs.BoundTree as types
@@ -49,6 +49,7 @@ use Rattle.run_statements.specs.Members.{MemberFound, MembersAgree, MembersAreFo
 use Rattle.run_statements.specs.Written.{Passes}
 use Rattle.agreeing_laws.proofs.Agreeing.{agrees_weaker}
 use Rattle.agreeing_laws.proofs.UserShapes.{class_written}
+use Rattle.agreeing_laws.proofs.WithPlaces.{class_is}
 use Rattle.line_laws.specs.Lasting.{GoOnMatching}
 use Rattle.line_laws.proofs.Bounds.{some_is}
 use Rattle.line_laws.proofs.Calm.{IsConstant, typed_converted}
@@ -62,14 +63,10 @@ use Rattle.line_laws.proofs.Still.{called_in_still, frame_still, still}
 use Rattle.line_laws.proofs.Targets.{SameStore}
 use Rattle.line_laws.proofs.Uses.{scalar_type}
 
-pub class_is : (k : ℕ) (ty : Ty) → is_same_type (types.class k) ty ≡ true → ty ≡ types.class k
-class_is k (types.class j) e = ap types.class (sym (eqb-true k j e))
-class_is k _ e = absurd (true≢false (sym e))
-
 -- ---- objects as values
 
 -- an object is a scalar
-object_value : (U : Upgrade) (u : World) (of_class : ℕ) (x : Value) (y : net_value.Value) → ValueMatch U (simple (types.class of_class)) u x y
+pub object_value : (U : Upgrade) (u : World) (of_class : ℕ) (x : Value) (y : net_value.Value) → ValueMatch U (simple (types.class of_class)) u x y
     → ScalarMatch U (types.class of_class) u x y
 object_value U u of_class (scalar ty z) y m = (z, ap (λ t. scalar t z) m.0, subst (λ t. LikeV U u (scalar t z) y) m.0 m.1)
 object_value U u of_class (fields t xs) y m = absurd m.0
@@ -142,7 +139,7 @@ module _ (U : Upgrade) (groups : GroupsAgree U) (writes_groups : GroupsAreWritte
 
   -- a variable of the class j, which objects of another class may have, and an object of the class j
   module _ (of_class j i : ℕ) (t from : Term) (can : Can (typed (types.class j) from)) (covers_from : covers_group uses (typed (types.class j) from) ≡ true)
-      (formed : is_formed (typed (types.class j) from) ≡ true) where
+      (formed : is_formed (typed (types.class j) from) ≡ true) (can_object : Can (typed (types.class of_class) t)) where
     abbrev ty : Ty
     ty = types.class j
 
@@ -191,13 +188,13 @@ module _ (U : Upgrade) (groups : GroupsAgree U) (writes_groups : GroupsAreWritte
       kept keeps covers =
           ⊎_elim
           (λ x.
-          constant_stored U members finds K p f g l k c T declared oracle net_oracle uses readable placed w h G owns ty of_class i t ty m (inr refl) covers e writes
+          constant_stored U members finds K p f g l k c T declared oracle net_oracle uses readable placed w h G owns ty of_class i t ty m (inr refl) covers can_object e writes
           (literal_object C uses j from x covers_from) values)
           (λ x.
           ⊎_elim
           (λ y.
           let both = both_true (is_calm_object uses d) (are_still uses (nodes e)) y in
-          object_stored U members finds K p f g l k c T declared oracle net_oracle uses readable placed w h G owns ty of_class i t ty m (inr refl) covers e writes
+          object_stored U members finds K p f g l k c T declared oracle net_oracle uses readable placed w h G owns ty of_class i t ty m (inr refl) covers can_object e writes
           both.0 values (still_values both.1))
           (λ y. absurd (no_calm_object U T uses readable j from (both_true (is_calm uses e) (are_still uses (nodes d)) y).0 covers_from))
           (or_cases (is_calm_object uses d && are_still uses (nodes e)) (is_calm uses e && are_still uses (nodes d)) x))
@@ -210,30 +207,30 @@ module _ (U : Upgrade) (groups : GroupsAgree U) (writes_groups : GroupsAreWritte
           (subst (λ go. Agrees U K w AnyUnits (then (source.value_of C e w.src) go) (assignment S net_oracle (exp_of T to) (exp_of T e) w.net))
           (λ n x s. sym (member_set U of_class i ty m oracle p f l ty t x s) n) (kept keeps covers))
 
-  member_kept : (of_class j i : ℕ) (t from : Term) → Can (typed (types.class j) from)
+  member_kept : (of_class j i : ℕ) (t from : Term) → Can (typed (types.class of_class) t) → Can (typed (types.class j) from)
       → covers_object uses (typed (types.class j) (field (typed (types.class of_class) t) i)) ≡ true
       → covers_group uses (typed (types.class j) from) ≡ true → is_formed (typed (types.class j) from) ≡ true
       → keeps_object uses (typed (types.class of_class) t) (typed (types.class j) from) ≡ true
       → IsOwnTarget U K p f (typed (types.class j) (field (typed (types.class of_class) t) i))
       → SameSet (typed (types.class j) (field (typed (types.class of_class) t) i)) (typed (types.class j) from)
-  member_kept of_class j i t from can covers_to covers_from formed keeps own =
+  member_kept of_class j i t from can_object can covers_to covers_from formed keeps own =
       let d : Expr = typed (types.class of_class) t in
       let both = both_true (has_member uses (types.class of_class) i (is_same_type (types.class j))) (covers_object uses d) covers_to in
       let of = passing_type (is_same_type (types.class j)) (uses.member_type of_class i) both.0 in
       let m : IsMember U of_class i (types.class j) = subst (λ z. IsMember U of_class i z) (class_is j of.0 of.2) (readable.members of_class i of.0 of.1) in
-      kept_set of_class j i t from can covers_from formed own m keeps both.1
+      kept_set of_class j i t from can covers_from formed can_object own m keeps both.1
 
-  to_class : (j : ℕ) (to from : Term) → Can (typed (types.class j) from) → is_member_ordered uses (typed (types.class j) to) (typed (types.class j) from) ≡ true
+  to_class : (j : ℕ) (to from : Term) → Can (typed (types.class j) to) → Can (typed (types.class j) from) → is_member_ordered uses (typed (types.class j) to) (typed (types.class j) from) ≡ true
       → covers_object uses (typed (types.class j) to) ≡ true → covers_group uses (typed (types.class j) from) ≡ true
       → is_formed (typed (types.class j) from) ≡ true → IsOwnTarget U K p f (typed (types.class j) to) → SameSet (typed (types.class j) to) (typed (types.class j) from)
-  to_class j (field (typed (types.class of_class) t) i) from can ordered covers_to covers_from formed own =
-      member_kept of_class j i t from can covers_to covers_from formed ordered own
-  to_class j (field (typed _ t) i) from can ordered covers_to covers_from formed own = absurd (true≢false (sym ordered))
-  to_class j _ from can ordered covers_to covers_from formed own = absurd (true≢false (sym ordered))
+  to_class j (field (typed (types.class of_class) t) i) from can_to can ordered covers_to covers_from formed own =
+      member_kept of_class j i t from can_to can covers_to covers_from formed ordered own
+  to_class j (field (typed _ t) i) from can_to can ordered covers_to covers_from formed own = absurd (true≢false (sym ordered))
+  to_class j _ from can_to can ordered covers_to covers_from formed own = absurd (true≢false (sym ordered))
 
-  pub member_set_agrees : (j : ℕ) (to : Term) (e : Expr) → Can e → covers_set_member uses (typed (types.class j) to) e ≡ true → is_formed e ≡ true
+  pub member_set_agrees : (j : ℕ) (to : Term) (e : Expr) → Can (typed (types.class j) to) → Can e → covers_set_member uses (typed (types.class j) to) e ≡ true → is_formed e ≡ true
       → IsOwnTarget U K p f (typed (types.class j) to) → SameSet (typed (types.class j) to) e
-  member_set_agrees j to (typed of from) can covers formed own =
+  member_set_agrees j to (typed of from) can_to can covers formed own =
       let d : Expr = typed (types.class j) to in
       let e : Expr = typed of from in
       let values : Bool = covers_object uses d && covers_group uses e in
@@ -244,4 +241,4 @@ module _ (U : Upgrade) (groups : GroupsAgree U) (writes_groups : GroupsAreWritte
       (λ z. Can (typed z from) → is_member_ordered uses d (typed z from) ≡ true → covers_group uses (typed z from) ≡ true → is_formed (typed z from) ≡ true
       → SameSet d (typed z from))
       (sym (class_is j of second.0))
-      (λ can_from ordered covers_from is. to_class j to from can_from ordered third.0 covers_from is own) can first.0 third.1 formed
+      (λ can_from ordered covers_from is. to_class j to from can_to can_from ordered third.0 covers_from is own) can first.0 third.1 formed

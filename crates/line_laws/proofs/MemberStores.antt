@@ -1,17 +1,18 @@
 -- A value is stored to a variable of an object on both sides, whichever of the object and the value is evaluated first.
-use Rattle.std.proofs.Common.{◌≡◌, ◌∙◌, ◌⊎◌, refl, sym, ap, subst, ℕ, true, false, []}
+use Rattle.std.proofs.Common.{◌≡◌, ◌∙◌, ◌⊎◌, refl, sym, ap, subst, ⊎_elim, ℕ, true, false, List, []}
 use Rattle.vb_tree.specs.BoundTree as types
 use Rattle.vb_tree.specs.BoundTree.{Ty}
 use Rattle.vb_tree.specs.declared.value.Value6.{Value6}
-use Rattle.bound_tree.specs.Tree.{Expr, typed, Term, field}
+use Rattle.bound_tree.specs.Tree.{Expr, typed, Term, field, with_object}
+use Rattle.bound_tree.specs.declared.expression.Root.{Root}
 use Rattle.bound_facts.specs.Node.{type_at}
-use Rattle.run_base.specs.Outcomes.{Outcome, gives, then}
-use Rattle.written_trees.specs.Exprs.{exp_of}
+use Rattle.run_base.specs.Outcomes.{Outcome, gives, outside, then}
+use Rattle.written_trees.specs.Exprs.{exp_of, field_name, member_in}
 use Rattle.written_trees.specs.Names.{Scope}
 use Rattle.vb6_run.specs.Expressions as source
 use Rattle.vb6_run.specs.Expressions.{at_field}
 use Rattle.vb6_run.specs.Forms.{SourceLine}
-use Rattle.vb6_run.specs.Lines.{let_to}
+use Rattle.vb6_run.specs.Lines.{let_to, store_at}
 use Rattle.vb6_run.specs.Shapes.{variable_shape}
 use Rattle.vb6_run.specs.Store.{Address, Memory, SourceCalls, SourceFrame, write}
 use Rattle.vb6_run.specs.Values.{Value, scalar}
@@ -33,27 +34,30 @@ use Rattle.run_matches.specs.Match.{MemoryMatch}
 use Rattle.run_matches.specs.Pledges.{Later, Pledge}
 use Rattle.run_matches.specs.Upgrades.{Upgrade}
 use Rattle.run_matches.specs.UserTypes.{is_class_type}
-use Rattle.run_statements.specs.Frames.{AnyUnits, AreReadable, ArePlaced, IsMember, ScalarMatch, context_of}
+use Rattle.run_statements.specs.Frames.{AllCalled, AnyUnits, AreReadable, ArePlaced, IsMember, ScalarMatch, context_of, demands}
 use Rattle.run_statements.specs.Members.{MemberFound, MembersAgree, MembersAreFound, ReachedMember}
 use Rattle.agreeing_laws.proofs.Agreeing.{agrees_later, agrees_weaker, agrees_yields, left_alone, then_agrees}
 use Rattle.agreeing_laws.proofs.Lasting.{later_now}
 use Rattle.agreeing_laws.proofs.Scalars.{scalar_later}
 use Rattle.line_laws.specs.Lasting.{GoOnMatching}
 use Rattle.line_laws.proofs.Calm.{Gives, IsConstant}
+use Rattle.line_laws.proofs.Called.{kept_called}
 use Rattle.line_laws.proofs.CalmObjects.{calm_object}
 use Rattle.line_laws.proofs.EitherOrder.{parts_first, value_first}
-use Rattle.line_laws.proofs.MemberParts.{member_later, member_let, member_parts, stored_by}
+use Rattle.line_laws.proofs.MemberParts.{member_later, member_let, member_none, member_parts, member_target, stored_by}
 use Rattle.line_laws.proofs.MyMembers.{HasMyParts, IsMyAddress, my_address, my_parts}
 use Rattle.line_laws.proofs.Orders.{stable_behind, stable_later}
 use Rattle.line_laws.proofs.Standing.{Stable}
 use Rattle.line_laws.proofs.Still.{frame_still, still}
+use Rattle.line_laws.proofs.Targets.{outside_stored}
 
 module _ (U : Upgrade) (members : MembersAgree U) (finds : MembersAreFound U) (K : Pledge) (p : ℕ) (f : SourceFrame) (g : NetFrame) (l : SourceLine)
     (k : NetLine) (c : Code) (T : Scope) (declared : T.declarations ≡ U.program.declarations) (oracle : SourceCalls) (net_oracle : Jobs) (uses : Uses)
     (readable : AreReadable U T uses) (placed : ArePlaced U p f (scope_of U.written c g k) T uses) (w : World) (h : MemoryMatch U w)
     (G : GoOnMatching U K p f g w) (owns : OwnsAll U K p f) (ty : Ty) (of_class i : ℕ) (t : Term) (member_type : Ty)
     (m : IsMember U of_class i member_type) (of_type : (covers_type member_type ≡ true) ⊎ (is_class_type member_type ≡ true))
-    (covers : covers_object_term uses (types.class of_class) t ≡ true) (e : Expr)
+    (covers : covers_object_term uses (types.class of_class) t ≡ true)
+    (can : AllCalled (demands U K p l k (scope_of U.written c g k) T) (typed (types.class of_class) t)) (e : Expr)
     (writes : (u : World) (a : Address) (b : net_store.Address) (z : Value6) (y : net_value.Value) → MemoryMatch U u → MemberFound U K m.number u a b
     → IsMyAddress U f of_class m.number t a → LikeV U u (scalar (type_at e) z) y
     → Agrees U K u AnyUnits (write f.env (scalar (type_at e) z) a u.src) (net_store.written b y u.net)) where
@@ -92,7 +96,8 @@ module _ (U : Upgrade) (members : MembersAgree U) (finds : MembersAreFound U) (K
   reached L now =
       agrees_yields U L w (ReachedMember U of_class m.number) (λ x s. HasMyParts U f of_class m.number t x) (source.parts_of C to w.src)
       (reach S net_oracle false (exp_of T to) w.net) (my_parts U L p f g l k c T oracle uses placed w now of_class i member_type m ty t covers)
-      (members L w p f g oracle net_oracle l k c T uses ty of_class i t member_type m h now declared readable placed covers)
+      (members L w p f g oracle net_oracle l k c T uses ty of_class i t member_type m h now declared readable placed
+      (kept_called (demands U K p l k S T) (demands U L p l k S T) (λ ty r x. x) uses (types.class of_class) t covers can) covers)
 
   -- a value behind the parts, on both sides
   written : (u v : World) → MemoryMatch U v → (x : source.Parts) (r : net_names.Reached) → Reached u x r → Later U K u v
@@ -139,12 +144,23 @@ module _ (U : Upgrade) (members : MembersAgree U) (finds : MembersAreFound U) (K
       (agrees_later U K (still K w) w Reached Reached (source.parts_of C to w.src)
       (reach S net_oracle false (exp_of T to) w.net) (λ i x. x) (reached K F) (reached (still K w) (frame_still U K w h p f g F))) values
 
-  -- a calm object, and a value that changes nothing
-  pub object_stored : is_calm_object_term uses t ≡ true → ((u : World) → Later U K w u → Values K u)
+  abbrev object : Expr
+  object = typed (types.class of_class) t
+
+  -- no object, which a With was to keep
+  none_stored : (r : Root) → t ≡ with_object r → ((s : Memory) → source.parts_of C object s ≡ outside []) → Values K w → Goal
+  none_stored r is none values =
+      let name : List ℕ = field_name T object i in
+      let reached : reach S net_oracle false (exp_of T to) w.net ≡ gives [] (net_names.member_at S S.around name w.net) w.net =
+      ap (λ a. reach S net_oracle false a w.net)
+      (sym (member_target U of_class i member_type m T declared ty t) ∙ ap (λ z. member_in z (exp_of T object) name) is) in
+      outside_stored U K w h C S T net_oracle to e (ScalarMatch U (type_at e)) values (net_names.member_at S S.around name w.net) reached
+      (λ x s. ap (λ q. then q (store_at C to x)) (member_none U of_class i member_type m oracle p f l ty t s (none s)))
+
+  -- an object that is known, and a value that changes nothing
+  known_stored : (x : (x : Value6) × ((s : Memory) → Stable U w s → Gives C object x s)) → ((u : World) → Later U K w u → Values K u)
       → ((u : World) → Later U K w u → Values (still K u) u) → Goal
-  object_stored calm values quiet =
-      let x : (x : Value6) × ((s : Memory) → Stable U w s → Gives C (typed (types.class of_class) t) x s) =
-      calm_object U K p f g l k c T declared oracle net_oracle uses readable placed w h F owns of_class t calm covers in
+  known_stored x values quiet =
       let parts : source.Parts = at_field (scalar (types.class of_class) x.0) of_class (variable_shape U.program.declarations m.number) m.number in
       let parts_are : (s : Memory) → Stable U w s → source.parts_of C to s ≡ gives [] parts s =
       λ s before. member_parts U of_class i member_type m oracle p f l ty t x.0 s (x.1 s before) in
@@ -161,3 +177,10 @@ module _ (U : Upgrade) (members : MembersAgree U) (finds : MembersAreFound U) (K
       ∙ ap (λ i. then i (by match.0.0)) (parts_are v.src (stable_behind U K w q s v lat match.1))))
       (left_alone U K v AnyUnits (by match.0.0 parts v.src) (assigned S net_oracle r z v.net)
       (written (world_of q w.src s) v more.match parts r at more match.0.0 z match.0.2)))
+
+  -- a calm object
+  pub object_stored : is_calm_object_term uses t ≡ true → ((u : World) → Later U K w u → Values K u)
+      → ((u : World) → Later U K w u → Values (still K u) u) → Goal
+  object_stored calm values quiet =
+      ⊎_elim (λ x. known_stored x values quiet) (λ x. none_stored x.0 x.1 x.2 (values w (later_now U K w h)))
+      (calm_object U K p f g l k c T declared oracle net_oracle uses readable placed w h F owns of_class t calm covers can)

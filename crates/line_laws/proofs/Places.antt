@@ -198,8 +198,8 @@ module _ (U : Upgrade) (K : Pledge) (p : ℕ) (f : SourceFrame) (g : NetFrame) (
     abbrev e : Expr
     e = typed (types.user t) (with_object r)
 
-    head : IsHeadOf x.line.bindings.exprs t r
-    head = head_of x.line.bindings.exprs t r x.keeps
+    head : IsHeadOf x.line.bindings.exprs (types.user t) r
+    head = head_of x.line.bindings.exprs (types.user t) r x.keeps
 
     number : (n : ℕ) × (x.head ≡ suc n)
     number = numbered (lines_of U p) x.head x.line x.is_line
@@ -226,7 +226,7 @@ module _ (U : Upgrade) (K : Pledge) (p : ℕ) (f : SourceFrame) (g : NetFrame) (
 
     with_place : At (types.user t) e
     with_place =
-        by (with_found U K w p f g F oracle l k c net_oracle T t r x.head x.is_round x.line x.is_line x.covers x.is_head x.keeps x.user x.same_aims)
+        by (with_found U K w p f g F oracle l k c net_oracle T t r x.head x.is_round x.line x.is_line x.covers x.is_head x.keeps x.kind x.same_aims)
       where
         by : IsWithPlace U K w p f g F oracle l k c net_oracle T x.head t r ⊎ PlaceAbsent U C S net_oracle T (types.user t) e → At (types.user t) e
         by (inl y) = inl (record {

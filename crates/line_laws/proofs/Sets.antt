@@ -36,10 +36,11 @@ use Rattle.run_statements.specs.Groups.{GroupsAgree, GroupsAreWritten}
 use Rattle.run_statements.specs.Members.{MembersAgree, MembersAreFound}
 use Rattle.run_statements.specs.Written.{Passes}
 use Rattle.agreeing_laws.proofs.Lasting.{later_now}
+use Rattle.agreeing_laws.proofs.WithPlaces.{class_is}
 use Rattle.line_laws.specs.Lasting.{GoOnMatching}
 use Rattle.line_laws.proofs.Copies.{whole_stored}
 use Rattle.line_laws.proofs.Elements.{known_found}
-use Rattle.line_laws.proofs.MemberSets.{class_is, member_set_agrees}
+use Rattle.line_laws.proofs.MemberSets.{member_set_agrees}
 use Rattle.line_laws.proofs.OwnTargets.{IsOwnTarget}
 use Rattle.line_laws.proofs.Settled.{known_path}
 
@@ -101,11 +102,11 @@ module _ (U : Upgrade) (groups : GroupsAgree U) (writes : GroupsAreWritten U) (m
       subst (λ z. Can (typed z from) → covers_group uses (typed z from) ≡ true → is_formed (typed z from) ≡ true → SameSet d (typed z from))
       (sym (class_is t of second.0)) (λ can_from covers_from is. object_set t to from can_from third.0 covers_from is own) can third.1 formed
 
-  pub set_agrees : (to e : Expr) → Can e → covers_set uses (to ∷ e ∷ []) ≡ true → is_formed e ≡ true → IsOwnTarget U K p f to → SameSet to e
-  set_agrees (typed (types.class t) to) e can covers formed own =
+  pub set_agrees : (to e : Expr) → Can to → Can e → covers_set uses (to ∷ e ∷ []) ≡ true → is_formed e ≡ true → IsOwnTarget U K p f to → SameSet to e
+  set_agrees (typed (types.class t) to) e can_to can covers formed own =
       let d : Expr = typed (types.class t) to in
       ⊎_elim (λ x. variable_set t to e can x formed own)
       (λ x.
-      member_set_agrees U groups writes members finds K p f g l k c T declared oracle net_oracle is_open uses readable placed agree w h G owns t to e can x formed own)
+      member_set_agrees U groups writes members finds K p f g l k c T declared oracle net_oracle is_open uses readable placed agree w h G owns t to e can_to can x formed own)
       (or_cases (covers_set_variable uses d e) (covers_set_member uses d e) covers)
-  set_agrees (typed _ to) e can covers formed own = absurd (true≢false (sym covers))
+  set_agrees (typed _ to) e can_to can covers formed own = absurd (true≢false (sym covers))

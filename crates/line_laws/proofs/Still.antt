@@ -1,7 +1,7 @@
 -- What is still changes nothing that was there: the promise of it, in frames and calls.
 use Rattle.std.proofs.Common.{◌≡◌, ◌∙◌, refl, sym, ap, ℕ, Bool, true, false, true≢false, not, ◌&&◌, List, [], ◌∷◌, ◌++◌, None}
 use Rattle.std.specs.List.{list_all}
-use Rattle.bound_tree.specs.Tree.{Expr, typed, constant, variable, field, element, call, library, unary, binary, convert, new_object, me, with_object, err_number, err_raise, err_clear, is_same, loose, Object, Exprs, no_exprs, next_expr, by_value, by_reference, Passed, no_passed, next_passed}
+use Rattle.bound_tree.specs.Tree.{Expr, typed, constant, variable, field, element, call, library, unary, binary, convert, new_object, me, with_object, err_number, err_raise, err_clear, is_same, loose, Object, no_object, of_object, Exprs, no_exprs, next_expr, by_value, by_reference, Passed, no_passed, next_passed}
 use Rattle.vb_tree.specs.BoundTree.{Ty}
 use Rattle.vb_tree.specs.declared.bound.LibCall.{LibCall}
 use Rattle.bound_tree.specs.declared.expression.Root as expression
@@ -27,7 +27,7 @@ use Rattle.run_matches.specs.Maps.{World, IsMade, is_auto_root, mark}
 use Rattle.run_matches.specs.Match.{MemoryMatch}
 use Rattle.run_matches.specs.Pledges.{IsLasting, Own, Pledge, is_inward, is_own, no_places}
 use Rattle.run_matches.specs.Upgrades.{Upgrade}
-use Rattle.run_statements.specs.Frames.{AllCalled, AllCalledAll, AllCalledFor, AreReadable, CanCall, Demands, demands}
+use Rattle.run_statements.specs.Frames.{AllCalled, AllCalledOf, AllCalledAll, AllCalledFor, AreReadable, CanCall, Demands, demands}
 use Rattle.agreeing_laws.specs.Promises.{Weaker}
 use Rattle.agreeing_laws.proofs.Lasting.{later_weaker}
 use Rattle.agreeing_laws.proofs.Made.{below_self}
@@ -135,7 +135,7 @@ module _ (uses : Uses) (Q R : Demands) (elements : (a : Expr) (indexes : Exprs) 
         (elements e indexes h.0, still_all indexes (all_right seen (nodes e) (nodes_of_all indexes) (behind_node (typed ty (element e indexes)) (nodes_in (element e indexes)) s)) h.1)
     still_called (typed ty (call p qualified of args)) s h =
         let both = both_true (uses.inward p.0) (are_still uses (nodes_of_object of ++ nodes_of_passed args)) s in
-        (calls p.0 qualified of args both.0 h.0, still_for args (all_right seen (nodes_of_object of) (nodes_of_passed args) both.1) h.1)
+        (calls p.0 qualified of args both.0 h.0, still_for args (all_right seen (nodes_of_object of) (nodes_of_passed args) both.1) h.1, still_of of (all_left seen (nodes_of_object of) (nodes_of_passed args) both.1) h.2)
     still_called (typed ty (library f args)) s h =
         (bounds f args h.0, still_all args (behind_node (typed ty (library f args)) (nodes_of_all args) s) h.1)
     still_called (typed ty (unary op e)) s h = still_called e (behind_node (typed ty (unary op e)) (nodes e) s) h
@@ -153,6 +153,10 @@ module _ (uses : Uses) (Q R : Demands) (elements : (a : Expr) (indexes : Exprs) 
         let more = behind_node (typed ty (is_same d e)) (nodes d ++ nodes e) s in
         (still_called d (all_left seen (nodes d) (nodes e) more) h.0, still_called e (all_right seen (nodes d) (nodes e) more) h.1)
     still_called (typed ty (loose e rules)) s h = tt
+
+    still_of : (of : Object) → IsStill (nodes_of_object of) → AllCalledOf Q of → AllCalledOf R of
+    still_of no_object s h = tt
+    still_of (of_object e) s h = still_called e s h
 
     still_all : (args : Exprs) → IsStill (nodes_of_all args) → AllCalledAll Q args → AllCalledAll R args
     still_all no_exprs s h = tt

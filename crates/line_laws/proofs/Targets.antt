@@ -66,19 +66,25 @@ module _ (U : Upgrade) (K : Pledge) (w : World) (h : MemoryMatch U w) (C : sourc
       (then_agrees U K w R AnyUnits (source.value_of C e w.src) (target.value_of S oracle (exp_of T e) w.net) (let_to C to)
       (λ y t. assigned S oracle (at_place b) y t) h values behind_value))
 
--- what the source finds nowhere, and to which what is written leads whatever it holds
+-- what the source finds nowhere, where what is written is reached
+pub outside_stored : (U : Upgrade) (K : Pledge) (w : World) → MemoryMatch U w → (C : source.Context) (S : net_names.Scope) (T : Scope) (oracle : Jobs)
+    (to e : Expr) (R : World → Value → net_value.Value → Type 0) → Agrees U K w R (source.value_of C e w.src) (target.value_of S oracle (exp_of T e) w.net)
+    → (r : Reached) → target.reach S oracle false (exp_of T to) w.net ≡ gives [] r w.net → ((x : Value) (s : Memory) → let_to C to x s ≡ outside [])
+    → SameStore U K w C S T oracle to e
+outside_stored U K w h C S T oracle to e R values r reached lets =
+    let stores : Outcome Memory Unit = then (source.value_of C e w.src) (let_to C to) in
+    let rest : Reached → net_store.Memory → Outcome net_store.Memory Unit =
+    λ r t. then (target.value_of S oracle (exp_of T e) t) (λ y t. assigned S oracle r y t) in
+    subst (λ z. Agrees U K w AnyUnits stores (then z rest)) (sym reached)
+    (right_alone U K w AnyUnits stores (rest r w.net)
+    (then_agrees U K w R AnyUnits (source.value_of C e w.src) (target.value_of S oracle (exp_of T e) w.net) (let_to C to)
+    (λ y t. assigned S oracle r y t) h values
+    (λ x y w1 m later.
+    subst (λ z. Agrees U K w1 AnyUnits z (assigned S oracle r y w1.net)) (sym (lets x w1.src)) (agrees_outside U K w1 AnyUnits (assigned S oracle r y w1.net)))))
+
+-- and to which it leads whatever it holds
 pub absent_stored : (U : Upgrade) (K : Pledge) (w : World) → MemoryMatch U w → (C : source.Context) (S : net_names.Scope) (T : Scope) (oracle : Jobs)
     (to e : Expr) (R : World → Value → net_value.Value → Type 0) → Agrees U K w R (source.value_of C e w.src) (target.value_of S oracle (exp_of T e) w.net)
     → (b : net_store.Address) → ((t : net_store.Memory) → target.reach S oracle false (exp_of T to) t ≡ gives [] (at_place b) t)
     → ((x : Value) (s : Memory) → let_to C to x s ≡ outside []) → SameStore U K w C S T oracle to e
-absent_stored U K w h C S T oracle to e R values b leads lets =
-    let stores : Outcome Memory Unit = then (source.value_of C e w.src) (let_to C to) in
-    let rest : Reached → net_store.Memory → Outcome net_store.Memory Unit =
-    λ r t. then (target.value_of S oracle (exp_of T e) t) (λ y t. assigned S oracle r y t) in
-    subst (λ z. Agrees U K w AnyUnits stores (then z rest)) (sym (leads w.net))
-    (right_alone U K w AnyUnits stores (rest (at_place b) w.net)
-    (then_agrees U K w R AnyUnits (source.value_of C e w.src) (target.value_of S oracle (exp_of T e) w.net) (let_to C to)
-    (λ y t. assigned S oracle (at_place b) y t) h values
-    (λ x y w1 m later.
-    subst (λ r. Agrees U K w1 AnyUnits r (assigned S oracle (at_place b) y w1.net)) (sym (lets x w1.src))
-    (agrees_outside U K w1 AnyUnits (assigned S oracle (at_place b) y w1.net)))))
+absent_stored U K w h C S T oracle to e R values b leads lets = outside_stored U K w h C S T oracle to e R values (at_place b) (leads w.net) lets

@@ -1,9 +1,11 @@
--- A With on a place of a user type keeps the same place on both sides.
-use Rattle.std.proofs.Common.{◌≡◌, ◌∙◌, refl, sym, ap, subst, inl, inr, ℕ, true, false, [], ◌∷◌, true≢false}
+-- A With on a place of a user type keeps the same place on both sides, one on an object the object.
+use Rattle.std.proofs.Common.{◌≡◌, ◌∙◌, refl, sym, ap, subst, inl, inr, ⊎_elim, ℕ, Bool, true, false, ◌&&◌, ◌||◌, [], ◌∷◌, true≢false, nat_eq, eqb-true}
+use Rattle.std.proofs.Math.Bool.{or-false}
+use Rattle.std.proofs.lemmas.Bool.{or_cases, or_right}
 use Rattle.vb_tree.specs.BoundTree as types
 use Rattle.vb_tree.specs.BoundTree.{Ty}
 use Rattle.vb_tree.specs.Tree as source_form
-use Rattle.bound_tree.specs.Tree.{Expr, typed, Term}
+use Rattle.bound_tree.specs.Tree.{Expr, typed, Term, variable, field, new_object, me, with_object}
 use Rattle.bound_facts.proofs.Chains.{both_true}
 use Rattle.bound_facts.specs.Effects.{is_outside}
 use Rattle.bound_facts.specs.Node.{root}
@@ -11,7 +13,8 @@ use Rattle.run_base.specs.Frames.{Kept, keeping, keeps_address}
 use Rattle.run_base.specs.Outcomes.{Outcome, gives, then}
 use Rattle.run_base.specs.Positions.{Position, Root}
 use Rattle.written_trees.specs.Exprs.{exp_of}
-use Rattle.written_trees.specs.Names.{Scope}
+use Rattle.written_trees.specs.Names.{Scope, class_path}
+use Rattle.net_tree.specs.Types.{named}
 use Rattle.vb6_run.specs.Expressions as source
 use Rattle.vb6_run.specs.Forms.{SourceLine}
 use Rattle.vb6_run.specs.Lines.{with_address, with_does}
@@ -27,27 +30,36 @@ use Rattle.net_run.specs.Names as net_names
 use Rattle.net_run.specs.Store as net
 use Rattle.run_matches.specs.Addresses.{IsInPlace, Same, both_addresses, images}
 use Rattle.run_matches.specs.Agreeing.{Agrees}
-use Rattle.run_matches.specs.CoveredExprs.{Uses, covers_place}
+use Rattle.run_matches.specs.CoveredExprs.{Uses, covers_group, covers_object, covers_place, is_new}
 use Rattle.run_matches.specs.CoveredLines.{covers_with}
-use Rattle.run_matches.specs.CoveredVariables.{covers_type}
+use Rattle.run_matches.specs.CoveredVariables.{covers_made, covers_type}
 use Rattle.run_matches.specs.Frames.{FrameMatch, IsOwnAddress, OwnsAll, WithPlace}
 use Rattle.run_matches.specs.Maps.{World, is_auto_root}
 use Rattle.run_matches.specs.Match.{MemoryMatch}
 use Rattle.run_matches.specs.Pledges.{IsOld, Pledge, type_of_shape}
 use Rattle.run_matches.specs.SoundShapes.{IsSoundShape}
-use Rattle.run_matches.specs.Upgrades.{Upgrade}
-use Rattle.run_matches.specs.UserTypes.{is_user}
-use Rattle.run_statements.specs.Frames.{AllCalled, AreReadable, ArePlaced, context_of, demands}
-use Rattle.agreeing_laws.proofs.Agreeing.{agrees_gives, agrees_outside}
+use Rattle.run_matches.specs.Upgrades.{Upgrade, class_home}
+use Rattle.run_matches.specs.Formed.{is_formed}
+use Rattle.run_matches.specs.UserTypes.{is_class_type}
+use Rattle.run_matches.specs.Runs.{CallsAgree}
+use Rattle.run_statements.specs.Frames.{AllCalled, AreReadable, ArePlaced, CanMake, IsOpen, ScalarMatch, context_of, demands}
+use Rattle.run_statements.specs.Groups.{GroupsAgree, ValueMatch}
+use Rattle.run_statements.specs.Members.{MembersAgree, MembersAreFound}
+use Rattle.run_statements.specs.Objects.{ClassesAreWritten, IsMakeable}
+use Rattle.run_statements.specs.Written.{Passes}
+use Rattle.agreeing_laws.proofs.Agreeing.{agrees_gives, agrees_outside, agrees_weaker}
 use Rattle.agreeing_laws.proofs.FieldPlaces.{group_image}
 use Rattle.agreeing_laws.proofs.Fields.{GroupImage}
 use Rattle.agreeing_laws.proofs.Lasting.{later_now}
+use Rattle.agreeing_laws.proofs.Members.{is_alone}
 use Rattle.agreeing_laws.proofs.UserShapes.{covered_type_of}
 use Rattle.line_laws.proofs.Bounds.{some_is}
 use Rattle.line_laws.proofs.FrameLater.{Keeps}
-use Rattle.line_laws.proofs.Places.{IsOwnRoot, Located, Place, place_alone, place_is, user_type}
+use Rattle.line_laws.proofs.Places.{IsOwnRoot, Located, Place, place_alone, place_is}
 use Rattle.line_laws.proofs.Uses.{not_true}
 use Rattle.line_laws.proofs.KeptPlaces.{CanKeep}
+use Rattle.line_laws.proofs.MemberSets.{object_value}
+use Rattle.line_laws.proofs.WithObjects.{IsShaped, new_shaped, object_shaped, with_object_agrees}
 
 no_class : (t c : ℕ) → types.user t ≡ types.class c → ⊥
 no_class t c e = cc e
@@ -129,7 +141,7 @@ module _ (U : Upgrade) (K : Pledge) (p : ℕ) (f : SourceFrame) (g : NetFrame) (
         by = tt;
         in_place = λ d own is. subst (λ z. IsInPlace z) (kept_is a d is) (in_place (not_true (is_outside U.program.declarations.vars p (root e)) own));
         own = λ d own is. subst (λ z. IsOwnAddress K z) (kept_is a d is) (place_own (not_true (is_outside U.program.declarations.vars p (root e)) own));
-        place = λ with u is. subst (λ n. WithPlace U K w n a x.place.address) (same_number t u is) with_place;
+        place = λ with. ((λ u is. subst (λ n. WithPlace U K w n a x.place.address) (same_number t u is) with_place), (λ n is. no_class t n is));
       }
 
     by_place : Located U K p w C S T net_oracle (types.user t) e → covers_place uses e ≡ true → CanGoOn e
@@ -151,14 +163,84 @@ module _ (U : Upgrade) (K : Pledge) (p : ℕ) (f : SourceFrame) (g : NetFrame) (
         subst (λ r. Agrees U K w R (then (then r source.finished) (with_address C (types.user t))) (keeps e)) (sym (x.missing w.src))
         (agrees_outside U K w R (keeps e))
 
-    with_user : AllCalled (demands U K p l k S T) e → covers_place uses e ≡ true → CanGoOn e → Agrees U K w R (with_does C e (types.user t) w.src) (keeps e)
+    pub with_user : AllCalled (demands U K p l k S T) e → covers_place uses e ≡ true → CanGoOn e → Agrees U K w R (with_does C e (types.user t) w.src) (keeps e)
     with_user can covers keep =
         by_place (place_is U K p f g l k c T declared oracle net_oracle uses readable placed w h F owns (types.user t) tm can covers) covers keep
 
-  pub with_agrees : (ty : Ty) (tm : Term) → AllCalled (demands U K p l k S T) (typed ty tm) → covers_with uses (typed ty tm ∷ []) ≡ true → CanGoOn (typed ty tm)
-      → Agrees U K w R (with_does C (typed ty tm) ty w.src) (keeps (typed ty tm))
-  with_agrees ty tm can covers keep =
-      let both = both_true (is_user ty) (covers_place uses (typed ty tm)) covers in
-      let is : (t : ℕ) × (ty ≡ types.user t) = user_type ty both.0 in
-      subst (λ (z : Ty). AllCalled (demands U K p l k S T) (typed z tm) → covers_place uses (typed z tm) ≡ true → CanGoOn (typed z tm)
-      → Agrees U K w R (with_does C (typed z tm) z w.src) (keeps (typed z tm))) (sym is.1) (with_user is.0 tm) can both.1 keep
+module _ (U : Upgrade) (classes : ClassesAreWritten U) (groups : GroupsAgree U) (members : MembersAgree U) (finds : MembersAreFound U) (K : Pledge) (p : ℕ) (f : SourceFrame) (g : NetFrame)
+    (l : SourceLine) (k : NetLine) (c : Code) (T : Scope) (declared : T.declarations ≡ U.program.declarations) (oracle : SourceCalls) (net_oracle : Jobs)
+    (is_open : IsOpen (scope_of U.written c g k)) (uses : Uses) (readable : AreReadable U T uses) (placed : ArePlaced U p f (scope_of U.written c g k) T uses)
+    (agree : CallsAgree U (Passes U) oracle net_oracle) (R : World → SourceFrame → NetFrame → Type 0) (w : World) (h : MemoryMatch U w)
+    (F : FrameMatch U K w p f g) (owns : OwnsAll U K p f) (aims : k.aims ≡ l.aims) (head : source_form.Exp) where
+  abbrev CH : source.Context
+  CH = context_of U oracle p f l
+
+  abbrev SH : net_names.Scope
+  SH = scope_of U.written c g k
+
+  abbrev Can : Expr → Type 0
+  Can e = AllCalled (demands U K p l k SH T) e
+
+  abbrev KeptOn : Ty → Term → Type 0
+  KeptOn ty tm =
+      Keeps U K p f g R w (source_form.with_head head) (typed ty tm ∷ [])
+      → Agrees U K w R (with_does CH (typed ty tm) ty w.src)
+      (then (target.address_of SH net_oracle (exp_of T (typed ty tm)) w.net)
+      (λ a t. then (with_kept (net.shape_at a) a t) (λ b t. gives [] (keeping (keeps_address b) k.aims.after g) t)))
+
+  abbrev Shaped : (class : ℕ) → Term → Type 0
+  Shaped class tm =
+      IsShaped U class (source.value_of CH (typed (types.class class) tm) w.src) (target.address_of SH net_oracle (exp_of T (typed (types.class class) tm)) w.net)
+
+  made_alone : (class : ℕ) (tm : Term) → Can (typed (types.class class) tm) → is_new (typed (types.class class) tm) ≡ true
+      → covers_group uses (typed (types.class class) tm) ≡ true → Shaped class tm
+  made_alone class (new_object made) can new covers =
+      let both = both_true (nat_eq class made.0) (uses.made made.0) covers in
+      let covered : covers_made U.program made.0 ≡ true = readable.made made.0 both.1 in
+      let x : CanMake U K SH T made.0 = can covered in
+      let m : IsMakeable U made.0 = classes made.0 covered in
+      new_shaped U class m.home (ap (class_home U) (eqb-true class made.0 both.0) ∙ m.is_home) SH net_oracle (named (class_path T.declarations made.0))
+      (x.leads m.home m.is_home) (source.value_of CH (typed (types.class class) (new_object made)) w.src) w.net
+  made_alone class _ can new covers = absurd (true≢false (sym new))
+
+  -- an object that is kept is a value, and stands by itself
+  kept_group : (ty : Ty) (tm : Term) → covers_object uses (typed ty tm) ≡ true → is_formed (typed ty tm) ≡ true → covers_group uses (typed ty tm) ≡ true
+  kept_group ty (variable v qualified) covers formed =
+      let used : Bool = uses.group v ty && uses.named v qualified in
+      or-false used ∙ (both_true (is_class_type ty) used covers).1
+  kept_group ty (field e i) covers formed = or_right (covers_place uses (typed ty (field e i))) (covers_object uses (typed ty (field e i))) covers
+  kept_group ty me covers formed = covers
+  kept_group ty (with_object r) covers formed = absurd (true≢false (sym formed))
+  kept_group ty _ covers formed = absurd (true≢false (sym covers))
+
+  kept_alone : (ty : Ty) (tm : Term) → is_formed (typed ty tm) ≡ true → is_alone (typed ty tm) ≡ true
+  kept_alone ty (with_object r) formed = formed
+  kept_alone ty _ formed = refl
+
+  module _ (class : ℕ) (tm : Term) (can : Can (typed (types.class class) tm)) (formed : is_formed (typed (types.class class) tm) ≡ true) where
+    abbrev d : Expr
+    d = typed (types.class class) tm
+
+    of_group : covers_group uses d ≡ true → Shaped class tm → KeptOn (types.class class) tm
+    of_group covers shaped keep =
+        with_object_agrees U K p f g l k c T oracle net_oracle R w h aims head class tm shaped
+        (agrees_weaker U K w (ValueMatch U (simple (types.class class))) (ScalarMatch U (types.class class)) (source.value_of CH d w.src)
+        (target.value_of SH net_oracle (exp_of T d) w.net) (λ u x y lat m. object_value U u class x y m)
+        (groups K w p f g oracle net_oracle l k c T uses (types.class class) tm h F declared is_open readable placed agree can covers formed)) keep
+
+    with_class : (covers_object uses d || (is_new d && covers_group uses d)) ≡ true → KeptOn (types.class class) tm
+    with_class covers =
+        ⊎_elim
+        (λ x.
+        of_group (kept_group (types.class class) tm x formed)
+        (object_shaped U members finds K p f g l k c T declared oracle net_oracle uses readable placed w h F owns class tm can
+        (kept_alone (types.class class) tm formed) x))
+        (λ x. let both = both_true (is_new d) (covers_group uses d) x in of_group both.1 (made_alone class tm can both.0 both.1))
+        (or_cases (covers_object uses d) (is_new d && covers_group uses d) covers)
+
+  pub with_agrees : (ty : Ty) (tm : Term) → Can (typed ty tm) → covers_with uses (typed ty tm ∷ []) ≡ true → is_formed (typed ty tm) ≡ true → KeptOn ty tm
+  with_agrees (types.user t) tm can covers formed keep =
+      with_user U K p f g l k c T declared oracle net_oracle uses readable placed R w h F owns aims head t tm can
+      (sym (or-false (covers_place uses (typed (types.user t) tm))) ∙ covers) keep
+  with_agrees (types.class n) tm can covers formed keep = with_class n tm can formed covers keep
+  with_agrees _ tm can covers formed keep = absurd (true≢false (sym covers))

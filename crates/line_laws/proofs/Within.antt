@@ -11,10 +11,9 @@ use Rattle.run_base.specs.Machines.{nth_line}
 use Rattle.vb6_run.specs.Forms.{SourceLine}
 use Rattle.net_run.specs.Lines.{NetLine}
 use Rattle.run_matches.specs.CoveredLines.{covers_line, head_line, is_with, is_within_with, keeps_by, keeps_with}
-use Rattle.run_matches.specs.CoveredVariables.{covers_user}
+use Rattle.run_matches.specs.CoveredVariables.{covers_group_type}
 use Rattle.run_matches.specs.Frames.{lines_of}
 use Rattle.run_matches.specs.Upgrades.{Upgrade}
-use Rattle.run_matches.specs.UserTypes.{is_user_of}
 use Rattle.run_statements.specs.Frames.{StandsWithin}
 
 -- what all pass, one of them passes
@@ -33,9 +32,9 @@ module _ (U : Upgrade) (p : ℕ) (l : SourceLine) (k : NetLine) (ty : Ty) (r : R
   by_line head round (Some m) is h =
       let first =
       both_true (covers_line U.program p m)
-      (is_with m.source.form && (keeps_by m.bindings.exprs ty r && is_user_of (covers_user U.program.declarations) ty)) h in
-      let second = both_true (is_with m.source.form) (keeps_by m.bindings.exprs ty r && is_user_of (covers_user U.program.declarations) ty) first.1 in
-      let third = both_true (keeps_by m.bindings.exprs ty r) (is_user_of (covers_user U.program.declarations) ty) second.1 in
+      (is_with m.source.form && (keeps_by m.bindings.exprs ty r && covers_group_type U.program.declarations ty)) h in
+      let second = both_true (is_with m.source.form) (keeps_by m.bindings.exprs ty r && covers_group_type U.program.declarations ty) first.1 in
+      let third = both_true (keeps_by m.bindings.exprs ty r) (covers_group_type U.program.declarations ty) second.1 in
       record {
         head = head;
         is_round = round;
@@ -44,7 +43,7 @@ module _ (U : Upgrade) (p : ℕ) (l : SourceLine) (k : NetLine) (ty : Ty) (r : R
         covers = first.0;
         is_head = second.0;
         keeps = third.0;
-        user = third.1;
+        kind = third.1;
         same_aims = aims;
       }
 

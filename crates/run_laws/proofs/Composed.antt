@@ -71,7 +71,7 @@ lines_do : (U : Upgrade) → IsWritten U → LinesAgree U
 lines_do U w =
     let sound : ParametersAreSound U = parameters_are_sound U (owned_usable U w) in
     let classes : ClassesAreWritten U = fields_are_written U w in
-    lines_agree U (expressions_agree U sound classes) (calls_are_made U sound classes) (scalars_are_read U) (scalars_are_written U)
+    lines_agree U classes (expressions_agree U sound classes) (calls_are_made U sound classes) (scalars_are_read U) (scalars_are_written U)
     (elements_agree U sound classes) (indexes_agree_all U sound classes) (elements_are_written U) (groups_agree U sound classes) (groups_are_written U)
     (members_agree U) (members_are_found U)
     (arrays_agree U) (arrays_are_resized U) (arrays_are_erased U)

@@ -1,5 +1,5 @@
 -- A small program over variables of a class: set, compared, given to procedures and by a Function, and asked for variables and procedures of
--- objects, one of them new.
+-- objects, one of them new and kept by a With.
 use Rattle.std.proofs.Common.{◌≡◌, ◌||◌, refl, pos, nat_eq, true, false, ℕ, List, [], ◌∷◌, ◌++◌, codes, None, Some}
 use Rattle.std.specs.Fmt.{digits}
 use Rattle.vb_tree.specs.BoundTree.{class, boolean, long, nothing}
@@ -14,8 +14,9 @@ use Rattle.vb_tree.specs.Tree as source
 use Rattle.bound_tree.specs.declared.body.Mention.{Mention}
 use Rattle.bound_tree.specs.declared.body.Mention.TheVariants as mention
 use Rattle.bound_tree.specs.declared.expression.Origin.TheVariants.{Literal}
+use Rattle.bound_tree.specs.declared.expression.Root.TheVariants as at
 use Rattle.bound_tree.specs.RuleSets.{has, none, both}
-use Rattle.bound_tree.specs.Tree.{Expr, typed, constant, variable, call, binary, convert, err_number, field, is_same, me, new_object, no_object, of_object, by_reference, by_value, no_passed, next_passed, Line, Program}
+use Rattle.bound_tree.specs.Tree.{Expr, typed, constant, variable, call, binary, convert, err_number, field, is_same, me, with_object, new_object, no_object, of_object, by_reference, by_value, no_passed, next_passed, Line, Program}
 use Rattle.bound_facts.specs.Facts.{Known}
 use Rattle.written_trees.specs.Projects.{written_project}
 use Rattle.run_base.specs.Outcomes.{outputs, printed}
@@ -45,6 +46,11 @@ use Rattle.run_matches.proofs.Samples.{any, body, declared, facts, known, line, 
 --         Set c = New Counter
 --         Call Advance(c)
 --         Debug.Print c.n
+--         With c
+--             .n = 8
+--             Set c = Nothing
+--             Debug.Print .n
+--         End With
 --     End Sub
 --     Sub Clear(o As Counter)
 --         Set o = Nothing
@@ -98,6 +104,9 @@ set = source.set any any
 abbrev n_of : Expr → Expr
 n_of e = typed long (field e 0)
 
+abbrev kept : Expr
+kept = typed (class 0) (with_object (at.Variable (var_id 1)))
+
 abbrev main_lines : List Line
 main_lines =
     code set (object 1 ∷ typed (class 0) (call (proc_id 2) false no_object (next_passed (by_value (object 0)) no_passed)) ∷ [])
@@ -115,6 +124,11 @@ main_lines =
     ∷ code set (object 1 ∷ typed (class 0) (new_object (record { 0 = 0 })) ∷ [])
     ∷ code (source.call any) (typed nothing (call (proc_id 3) false no_object (next_passed (by_value (object 1)) no_passed)) ∷ [])
     ∷ code (source.debug_print [] false) (n_of (object 1) ∷ [])
+    ∷ code (source.with_head any) (object 1 ∷ [])
+    ∷ code (source.assign any any) (n_of kept ∷ number 8 ∷ [])
+    ∷ code set (object 1 ∷ typed (class 0) (convert (class 0) nothing_itself) ∷ [])
+    ∷ code (source.debug_print [] false) (n_of kept ∷ [])
+    ∷ code source.end_with []
     ∷ []
 
 abbrev clear_lines : List Line
@@ -173,7 +187,8 @@ objects = record {
                 ∷ sub (codes "Main")
                 (source.variables var_word.Dim [] ∷ set ∷ source.call any ∷ source.if_head any ∷ source.debug_print [] false ∷ source.end_if ∷ set
                 ∷ source.if_head any ∷ source.debug_print [] false ∷ source.end_if ∷ source.on_error_resume_next ∷ source.call any
-                ∷ source.debug_print [] false ∷ set ∷ source.call any ∷ source.debug_print [] false ∷ [])
+                ∷ source.debug_print [] false ∷ set ∷ source.call any ∷ source.debug_print [] false ∷ source.with_head any ∷ source.assign any any ∷ set
+                ∷ source.debug_print [] false ∷ source.end_with ∷ [])
                 ∷ sub (codes "Clear") (set ∷ [])
                 ∷ source.proc (line 1 (source.function_head (signature (codes "Pick")) None)) (body 1 (set ∷ [])) (line 1 source.end_function)
                 ∷ sub (codes "Advance") (set ∷ source.assign any any ∷ source.call any ∷ source.debug_print [] false ∷ [])
@@ -200,12 +215,12 @@ objects = record {
     vars =
         declared (codes "held") 1 0 (owner.Module 1) (class 0)
         ∷ declared (codes "c") 1 2 (owner.Local (proc_id 0)) (class 0)
-        ∷ declared (codes "o") 1 18 (owner.Reference (proc_id 1)) (class 0)
-        ∷ declared (codes "o") 1 21 (owner.Value (proc_id 2)) (class 0)
-        ∷ declared (codes "Pick") 1 21 (owner.Answer (proc_id 2)) (class 0)
+        ∷ declared (codes "o") 1 23 (owner.Reference (proc_id 1)) (class 0)
+        ∷ declared (codes "o") 1 26 (owner.Value (proc_id 2)) (class 0)
+        ∷ declared (codes "Pick") 1 26 (owner.Answer (proc_id 2)) (class 0)
         ∷ declared (codes "n") 2 0 (owner.Module 2) long
         ∷ declared (codes "following") 2 1 (owner.Module 2) (class 0)
-        ∷ declared (codes "o") 1 24 (owner.Value (proc_id 3)) (class 0)
+        ∷ declared (codes "o") 1 29 (owner.Value (proc_id 3)) (class 0)
         ∷ declared (codes "k") 2 2 (owner.Value (proc_id 4)) long
         ∷ declared (codes "Total") 2 6 (owner.Answer (proc_id 5)) long
         ∷ [];
@@ -257,10 +272,10 @@ initialize_covered = refl
 abbrev texts : List ℕ → List ℕ
 texts s = s ++ 13 ∷ 10 ∷ []
 
-says_objects : outputs (run_program (runnable_of object_upgrade) 0 [] 60) ≡ printed (texts (codes " 1 ")) ∷ printed (texts (codes " 2 ")) ∷ printed (texts (codes " 91 ")) ∷ printed (texts (codes " 5 ")) ∷ printed (texts (codes " 6 ")) ∷ []
+says_objects : outputs (run_program (runnable_of object_upgrade) 0 [] 80) ≡ printed (texts (codes " 1 ")) ∷ printed (texts (codes " 2 ")) ∷ printed (texts (codes " 91 ")) ∷ printed (texts (codes " 5 ")) ∷ printed (texts (codes " 6 ")) ∷ printed (texts (codes " 8 ")) ∷ []
 unfolding digits
 says_objects = refl
 
-says_objects_net : outputs (program_runs object_upgrade.written 60 0 []) ≡ printed (texts (codes " 1 ")) ∷ printed (texts (codes " 2 ")) ∷ printed (texts (codes " 91 ")) ∷ printed (texts (codes " 5 ")) ∷ printed (texts (codes " 6 ")) ∷ []
+says_objects_net : outputs (program_runs object_upgrade.written 80 0 []) ≡ printed (texts (codes " 1 ")) ∷ printed (texts (codes " 2 ")) ∷ printed (texts (codes " 91 ")) ∷ printed (texts (codes " 5 ")) ∷ printed (texts (codes " 6 ")) ∷ printed (texts (codes " 8 ")) ∷ []
 unfolding digits has none both
 says_objects_net = refl

@@ -103,7 +103,7 @@ pub record Uses : Type 0 where
   pub made : (class : ℕ) → Bool
   -- how variables may be named
   pub named : VarId → (qualified : Bool) → Bool
-  -- user types that a With may keep, user types and classes that a call may give, and classes of which Nothing is
+  -- user types and classes that a With may keep and a call may give, and classes of which Nothing is
   pub given : Ty → Bool
   -- variables that are declared with a type
   pub is_of : VarId → Ty → Bool
@@ -297,7 +297,7 @@ is_class_of of (types.class c) = is_number c of
 is_class_of of ty = false
 
 abbrev mutual
-  -- an object that is kept: by a variable, or by a variable of such an object; and Me
+  -- an object that is kept: by a variable, by a variable of such an object, or by a With; and Me
   pub covers_object : Uses → Expr → Bool
   covers_object uses (typed ty t) = covers_object_term uses ty t
 
@@ -305,6 +305,7 @@ abbrev mutual
   covers_object_term uses ty (variable v qualified) = is_class_type ty && (uses.group v ty && uses.named v qualified)
   covers_object_term uses ty (field e k) = is_class_type ty && (has_member uses (type_at e) k (is_same_type ty) && covers_object uses e)
   covers_object_term uses ty me = is_class_of uses.me ty
+  covers_object_term uses ty (with_object root) = is_class_type ty && uses.given ty
   covers_object_term uses ty _ = false
 
 -- a call is for no object, or for one that is kept
@@ -479,10 +480,11 @@ keeps_order uses indexes e =
 
 -- ---- the order of an object and the value that one of its variables takes
 
--- an object that is the same, and is there, whatever still expression is evaluated: Me, or a variable that isn't quiet
+-- an object that is the same, and is there, whatever still expression is evaluated: Me, what a With keeps, or a variable that isn't quiet
 abbrev pub is_calm_object_term : Uses → Term → Bool
 is_calm_object_term uses (variable v qualified) = uses.exact v
 is_calm_object_term uses me = true
+is_calm_object_term uses (with_object root) = true
 is_calm_object_term uses t = false
 
 abbrev pub is_calm_object : Uses → Expr → Bool

@@ -27,9 +27,9 @@ use Rattle.run_base.specs.Machines.{nth_line}
 use Rattle.vb6_run.specs.Forms.{SourceLine}
 use Rattle.vb6_run.specs.Programs.{is_local_of}
 use Rattle.run_matches.specs.Formed.{is_formed}
-use Rattle.run_matches.specs.CoveredExprs.{Uses, keeps_object, keeps_order, is_changeable, covers_place, covers_expr, is_variable, covers_value, covers_term, covers_receiver, covers_passed, covers_array, uses_in, covers_group, covers_object}
-use Rattle.run_matches.specs.CoveredVariables.{covers_user}
-use Rattle.run_matches.specs.UserTypes.{is_class_type, is_user, is_user_of}
+use Rattle.run_matches.specs.CoveredExprs.{Uses, is_new, keeps_object, keeps_order, is_changeable, covers_place, covers_expr, is_variable, covers_value, covers_term, covers_receiver, covers_passed, covers_array, uses_in, covers_group, covers_object}
+use Rattle.run_matches.specs.CoveredVariables.{covers_group_type}
+use Rattle.run_matches.specs.UserTypes.{is_class_type, is_user}
 use Rattle.bound_tree.specs.Targets.{with_round}
 
 -- ---- lines
@@ -170,9 +170,9 @@ abbrev pub covers_erased : Uses → List Expr → Bool
 covers_erased uses (e ∷ []) = covers_array uses e
 covers_erased uses es = false
 
--- a With on a place of a user type
+-- a With on a place of a user type, on an object that is kept, or on a new one
 abbrev pub covers_with : Uses → List Expr → Bool
-covers_with uses (e ∷ []) = is_user (type_at e) && covers_place uses e
+covers_with uses (e ∷ []) = (is_user (type_at e) && covers_place uses e) || (is_class_type (type_at e) && (covers_object uses e || (is_new e && covers_group uses e)))
 covers_with uses es = false
 
 -- assignments to variables, Set, calls, Debug.Print, If, Select Case, For, Do, While, With, labels, GoTo, On Error, Resume, Exit, ReDim and Erase
@@ -306,11 +306,11 @@ abbrev pub keeps_by : List Expr → Ty → Root → Bool
 keeps_by (e ∷ []) ty r = is_same_type ty (type_at e) && is_same_root r (root e)
 keeps_by es ty r = false
 
--- the With is covered, and keeps what the line takes it for, of a covered user type
+-- the With is covered, and keeps what the line takes it for, of a covered user type or class
 abbrev pub keeps_with : Program → (procedure : ℕ) → Option tree.Line → Ty → Root → Bool
 keeps_with P p None ty r = false
 keeps_with P p (Some m) ty r =
-    covers_line P p m && (is_with m.source.form && (keeps_by m.bindings.exprs ty r && is_user_of (covers_user P.declarations) ty))
+    covers_line P p m && (is_with m.source.form && (keeps_by m.bindings.exprs ty r && covers_group_type P.declarations ty))
 
 abbrev pub is_within_with : Program → (procedure : ℕ) → Option tree.Line → Expr → Bool
 is_within_with P p m (typed ty (with_object r)) = keeps_with P p m ty r

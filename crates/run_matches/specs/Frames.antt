@@ -2,6 +2,7 @@
 use Rattle.std.specs.Prelude.{◌≡◌, ◌⊎◌, ℕ, ℤ, suc, ◌<◌, Bool, true, false, not, ◌&&◌, ◌||◌, cond, nat_eq, Option, Some, None, option_map, List, [], ◌∷◌, ◌++◌, map, slice_get}
 use Rattle.std.specs.List.{list_any}
 use Rattle.std.specs.Map.{lookup}
+use Rattle.vb_tree.specs.BoundTree as types
 use Rattle.vb_tree.specs.BoundTree.{Ty, user}
 use Rattle.vb_tree.specs.declared.declared.VarId.{VarId}
 use Rattle.vb_tree.specs.declared.value.Value6.{Value6}
@@ -167,10 +168,19 @@ pub record WithPlace (U : Upgrade) (K : Pledge) (w : World) (user_type : ℕ) (a
   pub target : IsTarget U a
   pub plain : IsPlain U w a
 
--- what a With on a user type keeps is no value
+-- an object, as a value of its class on one side, which stands with its class on the other
+pub record KeepsObject (x : Value) (j : Kept net_value.Value net.Address) (class : ℕ) : Type 0 where
+  pub object : Value6
+  pub is_object : x ≡ scalar (types.class class) object
+  pub address : net.Address
+  pub is_kept : j ≡ keeps_address address
+
+-- what a With on a user type keeps is no value, and what one on an object keeps is one
 abbrev pub KeepsPlace : Upgrade → Pledge → World → List Expr → Kept Value Address → Kept net_value.Value net.Address → Type 0
-KeepsPlace U K w (e ∷ []) (keeps_address a) j = (t : ℕ) → node.type_at e ≡ user t → WithPlace U K w t a (kept_address j)
-KeepsPlace U K w (e ∷ []) (keeps_value x) j = (t : ℕ) → node.type_at e ≡ user t → ⊥
+KeepsPlace U K w (e ∷ []) (keeps_address a) j =
+    ((t : ℕ) → node.type_at e ≡ user t → WithPlace U K w t a (kept_address j)) × ((c : ℕ) → node.type_at e ≡ types.class c → ⊥)
+KeepsPlace U K w (e ∷ []) (keeps_value x) j =
+    ((t : ℕ) → node.type_at e ≡ user t → ⊥) × ((c : ℕ) → node.type_at e ≡ types.class c → KeepsObject x j c)
 KeepsPlace U K w es k j = Unit {0}
 
 -- the counter is a variable of the frame, and limit and step have its type

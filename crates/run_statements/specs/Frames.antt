@@ -66,7 +66,6 @@ use Rattle.run_statements.specs.Written.{Passes}
 use Rattle.bound_tree.specs.Targets.{with_round}
 use Rattle.run_base.specs.Machines.{nth_line, enters}
 use Rattle.run_matches.specs.CoveredLines.{covers_line, is_with, keeps_by}
-use Rattle.run_matches.specs.UserTypes.{is_user_of}
 use Rattle.bound_tree.specs.declared.expression.Root.{Root}
 use Rattle.run_base.specs.Outcomes.{Outcome, gives, then}
 
@@ -324,7 +323,7 @@ abbrev mutual
   AllCalledIn Q ty (variable v qualified) = Unit {0}
   AllCalledIn Q ty (field e k) = AllCalled Q e
   AllCalledIn Q ty (element e indexes) = Q.elements e indexes × AllCalledAll Q indexes
-  AllCalledIn Q ty (call p qualified of args) = Q.calls p.0 qualified of args × AllCalledFor Q args
+  AllCalledIn Q ty (call p qualified of args) = Q.calls p.0 qualified of args × AllCalledFor Q args × AllCalledOf Q of
   AllCalledIn Q ty (library f args) = Q.bounds f args × AllCalledAll Q args
   AllCalledIn Q ty (unary op e) = AllCalled Q e
   AllCalledIn Q ty (binary op d e) = AllCalled Q d × AllCalled Q e
@@ -337,6 +336,10 @@ abbrev mutual
   AllCalledIn Q ty err_clear = Unit {0}
   AllCalledIn Q ty (is_same d e) = AllCalled Q d × AllCalled Q e
   AllCalledIn Q ty (loose e rules) = Unit {0}
+
+  pub AllCalledOf : Demands → Object → Type 0
+  AllCalledOf Q no_object = Unit {0}
+  AllCalledOf Q (of_object e) = AllCalled Q e
 
   pub AllCalledAll : Demands → Exprs → Type 0
   AllCalledAll Q no_exprs = Unit {0}
@@ -443,7 +446,7 @@ pub record StandsWithin (U : Upgrade) (p : ℕ) (l : SourceLine) (k : NetLine) (
   pub covers : covers_line U.program p line ≡ true
   pub is_head : is_with line.source.form ≡ true
   pub keeps : keeps_by line.bindings.exprs ty r ≡ true
-  pub user : is_user_of (covers_user U.program.declarations) ty ≡ true
+  pub kind : covers_group_type U.program.declarations ty ≡ true
   -- and so does what is written for the line
   pub same_aims : k.aims ≡ l.aims
 

@@ -32,7 +32,7 @@ use Rattle.run_matches.specs.Match.{MemoryMatch}
 use Rattle.run_matches.specs.Pledges.{Pledge}
 use Rattle.run_matches.specs.Upgrades.{Upgrade, variable_key}
 use Rattle.run_matches.specs.UserTypes.{is_class_type}
-use Rattle.run_statements.specs.Frames.{AreReadable, ArePlaced, IsMember, context_of}
+use Rattle.run_statements.specs.Frames.{AllCalled, AreReadable, ArePlaced, IsMember, context_of, demands}
 
 -- The variable of an object on both sides, where it isn't seen yet whether there is an object.
 pub record MemberMatch (U : Upgrade) (of_class variable : ℕ) (w : World) (x : source.Parts) (r : net_names.Parts) : Type 0 where
@@ -55,7 +55,7 @@ MembersAgree U =
     (K : Pledge) (w : World) (p : ℕ) (f : SourceFrame) (g : NetFrame) (oracle : SourceCalls) (net_oracle : Jobs) (l : SourceLine) (k : NetLine) (c : Code)
     (T : Scope) (uses : Uses) (ty : Ty) (of_class i : ℕ) (t : Term) (member_type : Ty) (m : IsMember U of_class i member_type) → MemoryMatch U w
     → FrameMatch U K w p f g → T.declarations ≡ U.program.declarations → AreReadable U T uses → ArePlaced U p f (scope_of U.written c g k) T uses
-    → covers_object uses (typed (class of_class) t) ≡ true
+    → AllCalled (demands U K p l k (scope_of U.written c g k) T) (typed (class of_class) t) → covers_object uses (typed (class of_class) t) ≡ true
     → Agrees U K w (ReachedMember U of_class m.number)
     (source.parts_of (context_of U oracle p f l) (typed ty (field (typed (class of_class) t) i)) w.src)
     (target.reach (scope_of U.written c g k) net_oracle false (exp_of T (typed ty (field (typed (class of_class) t) i))) w.net)

@@ -4,13 +4,13 @@ use Rattle.up_base.proofs.Tests.{both_true, either}
 use Rattle.vb_tree.specs.BoundTree as types
 use Rattle.vb_tree.specs.BoundTree.{Ty}
 use Rattle.vb_tree.specs.declared.declared.VarId.{VarId}
-use Rattle.bound_tree.specs.Tree.{Expr, typed, Term, variable, field, call, convert, me, new_object}
+use Rattle.bound_tree.specs.Tree.{Expr, typed, Term, variable, field, call, convert, me, new_object, with_object}
 use Rattle.bound_tree.specs.Tree as tree
 use Rattle.bound_facts.specs.Locks.{is_same_type}
 use Rattle.bound_facts.specs.Node.{type_at}
 use Rattle.run_matches.specs.CoveredVariables.{covers_type}
-use Rattle.run_matches.specs.CoveredExprs.{Uses, covers_argument, covers_array, covers_base, covers_expr, covers_group, covers_group_term, covers_object, covers_operand, covers_place, has_inner, has_member, has_scalar, is_changeable, is_class_of, is_nothing, is_passable}
-use Rattle.run_matches.specs.CoveredLines.{covers_copy, covers_set, covers_set_member, covers_set_variable, covers_store, is_member_ordered, is_ordered}
+use Rattle.run_matches.specs.CoveredExprs.{Uses, covers_argument, covers_array, covers_base, covers_expr, covers_group, covers_group_term, covers_object, covers_operand, covers_place, has_inner, has_member, has_scalar, is_changeable, is_class_of, is_new, is_nothing, is_passable}
+use Rattle.run_matches.specs.CoveredLines.{covers_copy, covers_set, covers_set_member, covers_set_variable, covers_store, covers_with, is_member_ordered, is_ordered}
 use Rattle.run_matches.specs.UserTypes.{is_class_type, is_user}
 use Rattle.typing_laws.specs.Flat.{without_groups}
 
@@ -66,6 +66,7 @@ no_class _ h = true≢false (sym h)
 pub no_object_covered : (u : Uses) (e : Expr) → covers_object (without_groups u) e ≡ true → ⊥
 no_object_covered u (typed ty (variable v qualified)) h = true≢false (sym (both_true (is_class_type ty) false h).1)
 no_object_covered u (typed ty me) h = no_class ty h
+no_object_covered u (typed ty (with_object root)) h = true≢false (sym (both_true (is_class_type ty) false h).1)
 no_object_covered u (typed ty (field e k)) h =
     let a = both_true (is_class_type ty) (has_member (without_groups u) (type_at e) k (is_same_type ty) && covers_object (without_groups u) e) h in
     no_member u (type_at e) k (is_same_type ty)
@@ -121,6 +122,32 @@ reference_covered u e h =
         let b = both_true (is_passable (without_groups u) e) (covers_expr (without_groups u) e) c in
         inl (record { passes = b.0; covers = b.1 })
     by (inr a) = whole (either (covers_array (without_groups u) e) (covers_place (without_groups u) e) a)
+
+-- no With is covered
+pub no_with : (u : Uses) (es : List Expr) → covers_with (without_groups u) es ≡ true → ⊥
+no_with u [] h = true≢false (sym h)
+no_with u (d ∷ e ∷ es) h = true≢false (sym h)
+no_with u (e ∷ []) h = by (either place object h)
+  where
+    vs : Uses
+    vs = without_groups u
+
+    place : Bool
+    place = is_user (type_at e) && covers_place vs e
+
+    kinds : Bool
+    kinds = covers_object vs e || (is_new e && covers_group vs e)
+
+    object : Bool
+    object = is_class_type (type_at e) && kinds
+
+    no_kind : (covers_object vs e ≡ true) ⊎ ((is_new e && covers_group vs e) ≡ true) → ⊥
+    no_kind (inl k) = no_object_covered u e k
+    no_kind (inr n) = no_group u e (both_true (is_new e) (covers_group vs e) n).1
+
+    by : (place ≡ true) ⊎ (object ≡ true) → ⊥
+    by (inl c) = no_place_covered u e (both_true (is_user (type_at e)) (covers_place vs e) c).1
+    by (inr o) = no_kind (either (covers_object vs e) (is_new e && covers_group vs e) (both_true (is_class_type (type_at e)) kinds o).1)
 
 -- no field is covered
 pub no_field : (u : Uses) (ty : Ty) (e : Expr) (k : ℕ) → covers_expr (without_groups u) (typed ty (field e k)) ≡ true → ⊥

@@ -27,8 +27,7 @@ use Rattle.vb6_run.specs.Forms.{SourceLine, form_does, idle_machine}
 use Rattle.vb6_run.specs.Lines.{condition, goes_on, goes_to, handles_by, line_of_label, redim_does, to_label, when_done}
 use Rattle.vb6_run.specs.Store.{Does, Memory, SourceFrame, set_err}
 use Rattle.run_matches.specs.CoveredVariables.{has_extents, has_rank}
-use Rattle.run_matches.specs.CoveredExprs.{Uses, covers_expr, covers_place, covers_value, is_variable}
-use Rattle.run_matches.specs.UserTypes.{is_user}
+use Rattle.run_matches.specs.CoveredExprs.{Uses, covers_expr, covers_value, is_variable}
 use Rattle.run_matches.specs.CoveredLines.{covers_called, covers_counter, covers_counting, covers_form, covers_items, covers_part, covers_step, head_line, is_comparison, is_counter}
 use Rattle.bound_facts.specs.Locks.{is_same_type}
 use Rattle.run_matches.specs.Formed.{is_formed}
@@ -46,7 +45,7 @@ use Rattle.typing_laws.proofs.Frames.{frame_handling, frame_keeping, frame_later
 use Rattle.typing_laws.proofs.Lines.{Good, IsFine, IsIn, KeepsAt, call_statement, condition_ends, goes_by, in_later, leads, never_nowhere, print_ends, taken_same, fine_type}
 use Rattle.typing_laws.proofs.Places.{keeps_same}
 use Rattle.typing_laws.proofs.Extents.{line_resizes}
-use Rattle.typing_laws.proofs.Flat.{Stored, array_named, stored_of, no_place_covered, no_set}
+use Rattle.typing_laws.proofs.Flat.{Stored, array_named, stored_of, no_set, no_with}
 use Rattle.typing_laws.proofs.Resizing.{erase_ends, redim_ends}
 use Rattle.typing_laws.specs.Frames.{Footprint, Ground, ground}
 
@@ -279,10 +278,7 @@ module _ (C : Context) (F : Footprint) (X : SourceJob → Memory → Type 0) (ca
       test_ends (source.while_head x) e (Some C.aims.after) C.aims.otherwise refl c f ty (exprs_suited C.runnable (e ∷ []) s) t (some_line C.aims.after _)
       (λ o. never_nowhere C (source.while_head x) _ g refl o)
   form_ends source.wend es c a t bt rk f ty s p g k = goes_by C F (L source.wend es) w h C.aims.back (λ o. unopened source.wend es w refl o)
-  form_ends (source.with_head x) [] c a t bt rk f ty s p g k = absurd (true≢false (sym c))
-  form_ends (source.with_head x) (e ∷ []) c a t bt rk f ty s p g k =
-      absurd (no_place_covered all_uses e (both_true (is_user (type_at e)) (covers_place uses e) c).1)
-  form_ends (source.with_head x) (d ∷ e ∷ es) c a t bt rk f ty s p g k = absurd (true≢false (sym c))
+  form_ends (source.with_head x) es c a t bt rk f ty s p g k = absurd (no_with all_uses es c)
   form_ends source.end_with es c a t bt rk f ty s p g k = on_ends source.end_with es
   form_ends (source.goto l) es c a t bt rk f ty s p g k =
       label_ends (source.goto l) es l refl (goes_to C) (λ n. leads C F (L (source.goto l) es) w n h)
