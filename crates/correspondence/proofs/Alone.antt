@@ -16,7 +16,7 @@ use Rattle.written_trees.specs.Prologues.{declares, is_statement, variables_from
 use Rattle.vb6_run.specs.Programs.{answer_in, is_local_of, owned_from, is_static_of}
 use Rattle.run_matches.specs.Callees.{answer_owns, frame_owns, own_of_some, parameter_owns}
 use Rattle.run_matches.specs.CoveredVariables.{are_different, belongs_to, covers_declared, covers_owner, has_extents, is_named_in}
-use Rattle.run_matches.specs.Covered.{has_no_static, covers_body, covers_all_calls, covers_head, covers_kind, covers_names, covers_own, covers_owns, covers_parameter, covers_procedure, covers_result, covers_site, covers_variables, has_result, is_answer_of, is_parameter_of}
+use Rattle.run_matches.specs.Covered.{has_no_static, covers_body, covers_all_calls, covers_head, covers_joined, covers_names, covers_own, covers_owns, covers_parameter, covers_procedure, covers_result, covers_site, covers_variables, has_result, is_answer_of, is_parameter_of}
 use Rattle.run_matches.specs.Sites.{Own, own_variable, own_constant, own_name, own_variables, own_constants, statement_owns, owns_from, owns_of, Site, site_of, site_lines, first_statement, local_numbers, static_numbers}
 use Rattle.correspondence.specs.Lists.{In}
 use Rattle.correspondence.specs.Uses.{IsAlone}
@@ -199,7 +199,7 @@ covered_parts P p s e h =
         let D = P.declarations in
         let params = pointwise nat_eq (map (λ (v : VarId). v.0) x.params) (owned_from (is_parameter_of p) 0 D.vars) in
         let answer = pointwise nat_eq (answer_in x.answer) (owned_from (is_answer_of p) 0 D.vars) in
-        let a = both_true (covers_kind x.kind) (list_all (covers_parameter P p) x.params && covers_result D p x) h in
+        let a = both_true (covers_joined D p x) (list_all (covers_parameter P p) x.params && covers_result D p x) h in
         let b = both_true (list_all (covers_parameter P p) x.params) (covers_result D p x) a.1 in
         let d = both_true (has_result D p x x.kind) (params && answer) b.1 in
         let e = both_true params answer d.1 in

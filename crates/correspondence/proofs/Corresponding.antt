@@ -1,8 +1,8 @@
 -- What is written for a program corresponds to it.
-use Rattle.std.proofs.Common.{◌≡◌, ℕ, suc, false, List, [], ◌∷◌, ◌++◌, map, Some, refl, sym, ap, subst}
+use Rattle.std.proofs.Common.{◌≡◌, ℕ, suc, Bool, true, false, cond, List, [], ◌∷◌, ◌++◌, map, Some, refl, sym, ap, subst, ◌∙◌, true≢false}
 use Rattle.std.specs.Prelude.{is_none, zip}
 use Rattle.vb_tree.specs.Tree.{Module}
-use Rattle.bound_tree.specs.Tree.{Procedure}
+use Rattle.bound_tree.specs.Tree.{Declarations, Procedure}
 use Rattle.net_tree.specs.Tree as net
 use Rattle.written_trees.specs.Arguments.{is_property_kind}
 use Rattle.bound_tree.specs.Labels.{labels}
@@ -26,42 +26,75 @@ use Rattle.run_matches.specs.Upgrades.{Upgrade}
 use Rattle.run_statements.specs.Written.{IsWritten, WrittenProcedure, ProceduresAreWritten, site_scope}
 use Rattle.name_laws.proofs.CoveredTypes.{holds_no_array}
 use Rattle.correspondence.specs.Heads.{HeadCorresponds}
-use Rattle.correspondence.specs.Corresponds.{ProcedureCorresponds, ModuleCorresponds, ModulesCorrespond, FilesCorrespond}
-use Rattle.written_trees.specs.Heads.{head_of}
-use Rattle.correspondence.proofs.Heads.{head_corresponds}
+use Rattle.correspondence.specs.Corresponds.{BodyCorresponds, ProcedureCorresponds, PartCorresponds, ModuleCorresponds, ModulesCorrespond, FilesCorrespond}
+use Rattle.run_matches.specs.Covered.{covers_joined}
+use Rattle.run_matches.specs.CoveredExprs.{takes_value}
+use Rattle.run_matches.specs.JoinedProperties.{is_joined}
+use Rattle.correspondence.proofs.Heads.{head_corresponds, part_corresponds}
+use Rattle.correspondence.proofs.PartCodes.{part_of_property}
 use Rattle.correspondence.proofs.Lines.{as_many_lines, code_corresponds, prologue_kept}
 use Rattle.correspondence.proofs.Numbers.{site_procedure}
 
 -- ---- procedures
 
-procedure_corresponds : (U : Upgrade) → SupportCorresponds U.program.declarations U.facts U.written.modules U.written.support → (p : ℕ) (s : Site) (x : Procedure) → IsWritten U → site_of U.program.declarations p ≡ Some s
-    → is_property_kind x.kind ≡ false → WrittenProcedure U p s x → ProcedureCorresponds U p s x
-procedure_corresponds U support p s x is e plain W =
+covered_alone : (D : Declarations) (p : ℕ) (x : Procedure) → is_property_kind x.kind ≡ false → covers_joined D p x ≡ true
+covered_alone D p x plain = ap (λ (b : Bool). cond b (is_joined D p x) true) plain
+
+covered_part : (D : Declarations) (p : ℕ) (x : Procedure) → is_property_kind x.kind ≡ true → is_joined D p x ≡ true → covers_joined D p x ≡ true
+covered_part D p x part joined = ap (λ (b : Bool). cond b (is_joined D p x) true) part ∙ joined
+
+body_corresponds : (U : Upgrade) → SupportCorresponds U.program.declarations U.facts U.written.modules U.written.support → (p : ℕ) (s : Site) (x : Procedure)
+    → IsWritten U → site_of U.program.declarations p ≡ Some s → (W : WrittenProcedure U p s x) → BodyCorresponds U p s W.code
+body_corresponds U support p s x is e W =
     let b = is.bodies p s e in
     let S = site_scope U s in
     let at = site_procedure U.program.declarations p s e in
-    let head = head_of S x x.name in
-    let lines = code_corresponds U.program S refl s p at b W.code.procedure head W.close W.is_written in
+    let lines = code_corresponds U.program S refl s p at b W.code.procedure W.head W.close W.is_written in
     record {
       lines = b.lines;
       are_lines = b.are_lines;
       are_sources = b.sources;
-      as_many = as_many_lines U.program S refl s p at b W.code.procedure head W.close W.is_written;
+      as_many = as_many_lines U.program S refl s p at b W.code.procedure W.head W.close W.is_written;
       written_lines = lines;
       names = λ h. alone_in U.program p s e h;
       supported =
           lines_supported U.program (inside_procedure S p) refl p (labels (site_lines s)) U.facts U.written U.written.support support W.number W.code W.is_code
           (zip (code_sets S p (first_statement s) 0 (site_lines s)) b.lines) (holds_no_array U is) lines;
-      prologue = prologue_kept U.program S refl s p at b W.code.procedure head W.close W.is_written;
+      prologue = prologue_kept U.program S refl s p at b W.code.procedure W.head W.close W.is_written;
+      home = W.home;
+    }
+
+procedure_corresponds : (U : Upgrade) (p : ℕ) (s : Site) (x : Procedure) → is_property_kind x.kind ≡ false → (W : WrittenProcedure U p s x)
+    → BodyCorresponds U p s W.code → ProcedureCorresponds U p s x
+procedure_corresponds U p s x plain W body =
+    let alone = W.alone plain in
+    record {
       number = W.number;
       is_number = W.is_number;
       code = W.code;
       is_code = W.is_code;
-      home = W.home;
-      property = W.property;
+      property = alone.property;
       head =
           subst (λ (w : net.Procedure). HeadCorresponds (site_scope U s) x x.kind w.head) (sym W.is_written)
-          (head_corresponds (site_scope U s) x plain);
+          (subst (λ (w : net.Head). HeadCorresponds (site_scope U s) x x.kind w) (sym alone.is_head) (head_corresponds (site_scope U s) x plain));
+      body = body;
+    }
+
+-- a part of a property
+joined_corresponds : (U : Upgrade) (p : ℕ) (s : Site) (x : Procedure) → is_property_kind x.kind ≡ true → (W : WrittenProcedure U p s x)
+    → BodyCorresponds U p s W.code → PartCorresponds U p s x
+joined_corresponds U p s x part W body =
+    let joined = W.joined part in
+    record {
+      number = W.number;
+      is_number = W.is_number;
+      code = W.code;
+      is_code = W.is_code;
+      property = joined.property;
+      is_property = joined.is_property;
+      part = part_of_property U.written W.number W.code joined.property (takes_value x.kind) W.is_code joined.is_property joined.sets;
+      head = part_corresponds U p s x W part joined;
+      body = body;
     }
 
 -- ---- modules
@@ -110,7 +143,12 @@ corresponds U is written = record {
   modules =
       subst (λ (N : net.Project). ModulesCorrespond U first_numbers U.program.declarations.project.modules N.modules) (sym is.is_written)
       (modules_correspond U 0 first_numbers U.program.declarations.project.modules (has_bodies U is));
-  procedures = λ p s x e f plain. procedure_corresponds U (the_support U is) p s x is e plain (written p s x e f plain);
+  procedures = λ p s x e f plain.
+      let W = written p s x e f (covered_alone U.program.declarations p x plain) (λ part. absurd (true≢false (sym part ∙ plain))) in
+      procedure_corresponds U p s x plain W (body_corresponds U (the_support U is) p s x is e W);
+  parts = λ p s x e f part joined apart.
+      let W = written p s x e f (covered_part U.program.declarations p x part joined) (λ h. apart) in
+      joined_corresponds U p s x part W (body_corresponds U (the_support U is) p s x is e W);
   support = the_support U is;
   main = ap (λ (N : net.Project). N.main) is.is_written;
   library = subst (λ (N : net.Project). N.library ≡ is_none N.main) (sym is.is_written) refl;

@@ -9,7 +9,7 @@ use Rattle.vb_tree.specs.Tree.{CaseItem, Form, ReDimItem}
 use Rattle.vb_tree.specs.Tree as source
 use Rattle.bound_tree.specs.declared.body.Mention.{Mention}
 use Rattle.bound_tree.specs.Labels.{Label}
-use Rattle.bound_tree.specs.Tree.{Program, Expr, typed, Line, Term, library, Exprs, no_exprs, next_expr, Declarations, call, no_object, of_object, Passed, err_raise, err_clear, Object, with_object}
+use Rattle.bound_tree.specs.Tree.{Program, Expr, typed, Line, Term, library, Exprs, no_exprs, next_expr, Declarations, call, Passed, no_passed, err_raise, err_clear, Object}
 use Rattle.vb_tree.specs.declared.bound.LibCall.{LibCall}
 use Rattle.vb_tree.specs.declared.bound.LibCall.TheVariants as lib
 use Rattle.bound_facts.specs.Locks.{is_same_type}
@@ -19,71 +19,37 @@ use Rattle.bound_facts.specs.Nodes.{nodes, nodes_in}
 use Rattle.bound_facts.specs.Parts.{resizes}
 use Rattle.net_tree.specs.Tree.{Exp}
 use Rattle.net_tree.specs.Tree as net
-use Rattle.written_trees.specs.Exprs.{called, exp_of, is_bare, passed_of, callee_of, member_in, term_exp}
+use Rattle.written_trees.specs.Exprs.{called, exp_of, is_bare, passed_of, callee_of, target_exp}
 use Rattle.written_trees.specs.Lines.{as_call, case_items, empty_extents, first_exp, items_exp, line_of, resized_array, step_exp, call_line}
-use Rattle.written_trees.specs.Names.{Scope, Path, copy_name, module_name, support, member, procedure_name}
-use Rattle.written_trees.specs.Puts.{formed, order_shows, put_type, rank_of, store_by, store_line, stored_value, target_rank, user_copy}
+use Rattle.written_trees.specs.Names.{Scope, Path, module_name, support}
+use Rattle.written_trees.specs.Puts.{order_shows, put_type, rank_of, store_by, stored_value, target_rank}
 use Rattle.written_trees.specs.Types.{element_type, written_type}
 use Rattle.run_matches.specs.CoveredVariables.{covers_type, is_reached}
-use Rattle.run_matches.specs.UserTypes.{is_group_type, is_user}
+use Rattle.run_matches.specs.UserTypes.{is_group_type}
 use Rattle.run_matches.specs.CoveredExprs.{Uses, covers_group, covers_object, covers_place, is_changeable, covers_expr, covers_term, covers_value, is_variable, covers_library, covers_exprs, uses_in, is_bound, covers_bounded}
-use Rattle.run_matches.specs.CoveredLines.{covers_copy, is_member_ordered, is_ordered, covers_condition, covers_counter, covers_counting, covers_items, covers_step, covers_store, covers_form, covers_line, is_comparison, is_counter, covers_box, covers_call, covers_called_in, is_box, covers_erased, covers_resizes, covers_set, covers_with}
+use Rattle.run_matches.specs.CoveredLines.{covers_copy, covers_property, covers_stored, is_member_ordered, is_ordered, covers_condition, covers_counter, covers_counting, covers_items, covers_step, covers_store, covers_form, covers_line, is_comparison, is_counter, covers_box, covers_call, covers_called_in, is_box, covers_erased, covers_resizes, covers_set, covers_with}
 use Rattle.run_matches.specs.Formed.{is_formed, is_row_of_call, are_formed}
 use Rattle.correspondence.specs.Uses.{stands_outside, redim_exps, resize_exprs, FormCorresponds, SameUses, case_exps, names, total, uses, CallCorresponds, IsAlone, IsFirst, IsSharedAlone, is_call_in, is_call_of, is_group_named, path_names, shared_names}
-use Rattle.correspondence.proofs.NamedCalls.{neither, none_of_both}
+use Rattle.correspondence.proofs.NamedCalls.{callee_called, neither, none_of_both}
 use Rattle.correspondence.proofs.Among.{or_cases}
 use Rattle.correspondence.proofs.NamedArrays.{IsRight}
 use Rattle.correspondence.proofs.Resizes.{erased_names, resizes_all, resizes_names}
 use Rattle.correspondence.proofs.Naming.{expr_names, items_names, assigned_names, box_names, copied_names, raised_names, term_names, group_names}
-use Rattle.correspondence.proofs.GroupLines.{copy_parts, set_parts, set_target, with_parts}
+use Rattle.correspondence.proofs.GroupLines.{copy_parts, covers_set_of, set_parts, set_target, with_parts}
 use Rattle.correspondence.proofs.Places.{object_of, path_counted, place_names}
+use Rattle.correspondence.proofs.PropertyNames.{taken_names}
+use Rattle.correspondence.proofs.StoredValues.{IsValueType, TakesValue, copied_value, formed_names, property_target, stored_plain, takes_value, target_type}
 use Rattle.correspondence.proofs.Rights.{any_either, is_shared_test, own_right, shared_right}
 
 no_bound : (g : LibCall) → is_box g ≡ true → is_bound g ≡ true → ⊥
 no_bound lib.MsgBox h k = absurd (cc k)
 no_bound _ h k = absurd (cc h)
 
-formed_plain : (S : Scope) (rank : ℕ) (ty : Ty) (a : Exp) → covers_type ty ≡ true → formed S rank ty a ≡ a
-formed_plain S rank (types.array e r) a h = absurd (cc h)
-formed_plain S rank (types.fixed units) a h = absurd (cc h)
-formed_plain S rank (types.user t) a h = absurd (cc h)
-formed_plain S rank _ a h = refl
-
--- a value goes to a variable or an element as it is
-pub stored_plain : (S : Scope) (to e : Expr) → covers_type (type_at to) ≡ true
-    → store_line S to e ≡ store_by (order_shows S.declarations to e) (put_type (type_at to)) (exp_of S to) (exp_of S e)
-stored_plain S to e c =
-    ap (store_by (order_shows S.declarations to e) (put_type (type_at to)) (exp_of S to)) (formed_plain S (target_rank S to) (type_at to) (exp_of S e) c)
-
 pub type_covered : (P : Program) (p : ℕ) (mentions : List Mention) (e : Expr) → covers_expr (uses_in P p mentions) e ≡ true → covers_type (type_at e) ≡ true
 type_covered P p mentions (typed ty t) h = (both_true (covers_type ty) (covers_term (uses_in P p mentions) t) h).0
 
 abbrev is_stored : Uses → (to e : Expr) → Bool
 is_stored cover to e = is_changeable cover to || (is_ordered cover to e || is_member_ordered cover to e)
-
--- a user type that is assigned is copied with what it holds
-copied_value : (S : Scope) (count : Path → ℕ) → ((name : List ℕ) → count (support name) ≡ 0) → (rank : ℕ) (ty : Ty) (a : Exp) → is_user ty ≡ true
-    → names count (formed S rank ty a) ≡ names count a
-copied_value S count no_support rank (types.user t) a h = by (S.facts.holds_array t)
-  where
-    by : (b : Bool) → names count (user_copy b t a) ≡ names count a
-    by true = let none = no_support (copy_name t) in omega (arith, none)
-    by false = refl
-copied_value S count no_support rank _ a h = absurd (cc h)
-
--- ---- callees as lines
-
-member_called : (a : Exp) (name : List ℕ) → as_call (member a name) ≡ net.call (member a name) net.no_exps
-member_called (net.path q) name = refl
-member_called _ name = refl
-
-object_called : (t : Term) (a : Exp) (name : List ℕ) → as_call (member_in t a name) ≡ net.call (member_in t a name) net.no_exps
-object_called (with_object r) a name = refl
-object_called _ a name = member_called a name
-
-callee_called : (S : Scope) (q : ℕ) (qualified : Bool) (of : Object) → as_call (callee_of S q qualified of) ≡ net.call (callee_of S q qualified of) net.no_exps
-callee_called S q qualified no_object = refl
-callee_called S q qualified (of_object (typed ty t)) = object_called t (term_exp S ty t) (procedure_name S.declarations q)
 
 module _ (P : Program) (S : Scope) (same : S.declarations ≡ P.declarations) (p : ℕ) (labels : List (Option Label)) (mentions : List Mention) where
   -- what holds of any count that is right
@@ -123,14 +89,39 @@ module _ (P : Program) (S : Scope) (same : S.declarations ≡ P.declarations) (p
   stored target value es true (Some ty) t a h = (ty, t, a, refl, refl, h)
   stored target value es false (Some ty) t a h = h
 
+  last_formed : (to e : Expr) → list_all is_formed (to ∷ e ∷ []) ≡ true → is_formed e ≡ true
+  last_formed to e f = (both_true (is_formed e) true (both_true (is_formed to) (list_all is_formed (e ∷ [])) f).1).0
+
+  -- a property and what is written for the value that it takes
+  property_uses : (to e : Expr) → (T : TakesValue (uses_in P p mentions) to e) → is_formed e ≡ true → (a : Exp)
+      → ((count : Path → ℕ) → ((name : List ℕ) → count (support name) ≡ 0) → names count a ≡ names count (exp_of S e))
+      → SameUses S p (to ∷ e ∷ []) (exp_of S to ∷ a ∷ [])
+  property_uses to e T f a is =
+      subst (λ (d : Expr). SameUses S p (d ∷ e ∷ []) (exp_of S d ∷ a ∷ [])) (sym T.is_call)
+      (same_uses (typed T.ty (call T.procedure T.qualified T.of no_passed) ∷ e ∷ [])
+      (exp_of S (typed T.ty (call T.procedure T.qualified T.of no_passed)) ∷ a ∷ [])
+      (λ v count test right free. taken_names P S same p v count test mentions right T.ty T.procedure T.qualified T.of e T.receiver T.value f free a
+      (is count right.no_support)))
+
+  -- an assignment to a property
+  property_stored : (target value : source.Exp) (to e : Expr) → covers_property (uses_in P p mentions) to e ≡ true → is_formed e ≡ true
+      → FormCorresponds S p (source.assign target value) (to ∷ e ∷ []) (line_of S labels (source.assign target value) (to ∷ e ∷ []))
+  property_stored target value to e h f =
+      let T : TakesValue (uses_in P p mentions) to e = takes_value (uses_in P p mentions) to e h in
+      let whole = target_type P S same p mentions T.ty e T.same T.value in
+      let whole_at = subst (λ (d : Expr). IsValueType P S same p mentions (type_at d)) (sym T.is_call) whole in
+      stored target value (to ∷ e ∷ []) (order_shows S.declarations to e) (put_type (type_at to)) (exp_of S to) (stored_value S to e)
+      (property_uses to e T f (stored_value S to e)
+      (λ count no_support. formed_names P S same p mentions count no_support (target_rank S to) (type_at to) (exp_of S e) whole_at))
+
   assigned : (target value : source.Exp) (es : List Expr) → covers_store (uses_in P p mentions) es ≡ true → list_all is_formed es ≡ true
       → FormCorresponds S p (source.assign target value) es (line_of S labels (source.assign target value) es)
   assigned target value [] h f = absurd (cc h)
   assigned target value (to ∷ []) h f = absurd (cc h)
   assigned target value (to ∷ e ∷ d ∷ es) h f = absurd (cc h)
   assigned target value (to ∷ e ∷ []) h f =
-      let cover = uses_in P p mentions in
-      by (or_cases (is_stored cover to e && (covers_expr cover to && covers_expr cover e)) (covers_copy cover to e) h)
+      elim (or_cases (covers_stored (uses_in P p mentions) to e) (covers_property (uses_in P p mentions) to e) h)
+      [ inl c ↦ kept c | inr c ↦ property_stored target value to e c (last_formed to e f) ]
     where
       scalar : (covers_expr (uses_in P p mentions) to && covers_expr (uses_in P p mentions) e) ≡ true
           → FormCorresponds S p (source.assign target value) (to ∷ e ∷ []) (line_of S labels (source.assign target value) (to ∷ e ∷ []))
@@ -158,6 +149,12 @@ module _ (P : Program) (S : Scope) (same : S.declarations ≡ P.declarations) (p
           (λ v count test right free. copied_names P S same p v count test mentions right to e places.1 places.2 form.0 free (stored_value S to e)
           (copied_value S count right.no_support (target_rank S to) (type_at to) (exp_of S e) places.0)))
 
+      kept : covers_stored (uses_in P p mentions) to e ≡ true
+          → FormCorresponds S p (source.assign target value) (to ∷ e ∷ []) (line_of S labels (source.assign target value) (to ∷ e ∷ []))
+      kept c =
+          let cover = uses_in P p mentions in
+          by (or_cases (is_stored cover to e && (covers_expr cover to && covers_expr cover e)) (covers_copy cover to e) c)
+
   set_names : (v : ℕ) (count : Path → ℕ) (test : Expr → Bool) (right : IsRight P S p mentions v count test) (to e : Expr)
       → (covers_place (uses_in P p mentions) to ≡ true) ⊎ (covers_object (uses_in P p mentions) to ≡ true) → covers_group (uses_in P p mentions) e ≡ true
       → is_formed e ≡ true → list_any test (flat_map nodes (to ∷ e ∷ [])) ≡ false
@@ -177,12 +174,23 @@ module _ (P : Program) (S : Scope) (same : S.declarations ≡ P.declarations) (p
   set_corresponds target value (to ∷ []) h f = absurd (cc h)
   set_corresponds target value (to ∷ e ∷ d ∷ es) h f = absurd (cc h)
   set_corresponds target value (to ∷ e ∷ []) h f =
-      let parts = set_parts (uses_in P p mentions) to e h in
-      let forms = both_true (is_formed to) (list_all is_formed (e ∷ [])) f in
-      let form = both_true (is_formed e) true forms.1 in
-      subst (λ (t : Exp). SameUses S p (to ∷ e ∷ []) (t ∷ exp_of S e ∷ [])) (sym (set_target P S same p mentions to parts.0 parts.1))
-      (same_uses (to ∷ e ∷ []) (exp_of S to ∷ exp_of S e ∷ [])
-      (λ v count test right free. set_names v count test right to e parts.1 parts.2 form.0 free))
+      elim (or_cases (covers_set_of (uses_in P p mentions) to e) (covers_property (uses_in P p mentions) to e) h)
+      [ inl c ↦ kept c | inr c ↦ property (takes_value (uses_in P p mentions) to e c) ]
+    where
+      form : is_formed e ≡ true
+      form = last_formed to e f
+
+      kept : covers_set_of (uses_in P p mentions) to e ≡ true → SameUses S p (to ∷ e ∷ []) (target_exp S to ∷ exp_of S e ∷ [])
+      kept c =
+          let parts = set_parts (uses_in P p mentions) to e c in
+          subst (λ (t : Exp). SameUses S p (to ∷ e ∷ []) (t ∷ exp_of S e ∷ [])) (sym (set_target P S same p mentions to parts.0 parts.1))
+          (same_uses (to ∷ e ∷ []) (exp_of S to ∷ exp_of S e ∷ [])
+          (λ v count test right free. set_names v count test right to e parts.1 parts.2 form free))
+
+      property : TakesValue (uses_in P p mentions) to e → SameUses S p (to ∷ e ∷ []) (target_exp S to ∷ exp_of S e ∷ [])
+      property T =
+          subst (λ (t : Exp). SameUses S p (to ∷ e ∷ []) (t ∷ exp_of S e ∷ [])) (sym (property_target S (uses_in P p mentions) to e T))
+          (property_uses to e T form (exp_of S e) (λ count no_support. refl))
 
   resized : (preserve : Bool) (items : List ReDimItem) (es : List Expr) → covers_resizes (uses_in P p mentions) preserve (resizes items es) ≡ true
       → list_all is_formed es ≡ true → FormCorresponds S p (source.redim preserve items) es (line_of S labels (source.redim preserve items) es)

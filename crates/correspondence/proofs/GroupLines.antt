@@ -15,7 +15,7 @@ use Rattle.written_trees.specs.Names.{Scope, variable_path_of}
 use Rattle.run_matches.specs.CoveredVariables.{covers_group_use, is_named_so}
 use Rattle.run_matches.specs.UserTypes.{is_class_type, is_user}
 use Rattle.run_matches.specs.CoveredExprs.{Uses, covers_base, covers_group, covers_object, covers_place, has_inner, is_changeable, is_new, uses_in}
-use Rattle.run_matches.specs.CoveredLines.{covers_copy, covers_set_member, covers_set_variable, is_member_ordered, covers_set, covers_with}
+use Rattle.run_matches.specs.CoveredLines.{covers_copy, covers_set_member, covers_set_variable, is_member_ordered, covers_with}
 use Rattle.correspondence.proofs.Among.{or_cases}
 use Rattle.correspondence.proofs.Places.{member_written}
 use Rattle.correspondence.proofs.Variables.{group_use_at, variable_exp}
@@ -37,8 +37,11 @@ copy_parts cover to e h =
     let b = group_parts cover to e a.1 in
     (a.0, b.0, b.1)
 
+abbrev pub covers_set_of : Uses → (target value : Expr) → Bool
+covers_set_of cover to e = is_class_type (type_at to) && (covers_set_variable cover to e || covers_set_member cover to e)
+
 -- a variable of a class, or of an object, and the value that it takes
-pub set_parts : (cover : Uses) (to e : Expr) → covers_set cover (to ∷ e ∷ []) ≡ true
+pub set_parts : (cover : Uses) (to e : Expr) → covers_set_of cover to e ≡ true
     → (is_class_type (type_at to) ≡ true) × ((covers_place cover to ≡ true) ⊎ (covers_object cover to ≡ true)) × (covers_group cover e ≡ true)
 set_parts cover to e h =
     let a = both_true (is_class_type (type_at to)) (covers_set_variable cover to e || covers_set_member cover to e) h in

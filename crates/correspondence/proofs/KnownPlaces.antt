@@ -9,7 +9,7 @@ use Rattle.vb_tree.specs.declared.declared.Owner.{Owner}
 use Rattle.vb_tree.specs.declared.declared.Owner.TheVariants as owner
 use Rattle.vb_tree.specs.Tree.{Module}
 use Rattle.bound_tree.specs.declared.body.Mention.{Mention}
-use Rattle.bound_tree.specs.Tree.{Constant, Declarations, Procedure, Program, Variable, Expr, typed, Term, field, variable, with_object}
+use Rattle.bound_tree.specs.Tree.{Constant, Declarations, Procedure, Program, Variable, Expr, typed, Term, field, variable, with_object, call, convert, me, new_object}
 use Rattle.bound_facts.specs.Locks.{is_same_type}
 use Rattle.bound_facts.specs.Members.{field_of}
 use Rattle.bound_facts.specs.Node.{type_at}
@@ -20,7 +20,7 @@ use Rattle.written_trees.specs.Facts.{holds_array}
 use Rattle.written_trees.specs.Names.{Scope, is_foreign, module_name, owner_path}
 use Rattle.run_matches.specs.Covered.{covers_names, is_free_name}
 use Rattle.run_matches.specs.CoveredVariables.{covers_field_type, covers_group_type, covers_group_use, covers_owner, is_named_so, covers_user, field_type_in, field_type_of, is_reached}
-use Rattle.run_matches.specs.CoveredExprs.{covers_base, covers_object, covers_object_term, covers_place, covers_place_term, has_inner, has_member, has_scalar, is_kept, is_type, uses_in}
+use Rattle.run_matches.specs.CoveredExprs.{covers_base, covers_group, covers_group_term, covers_object, covers_object_term, covers_place, covers_place_term, covers_term, has_inner, has_member, has_scalar, is_class_of, is_kept, is_nothing, is_type, uses_in}
 use Rattle.run_matches.specs.UserTypes.{is_class_type, is_user_of}
 use Rattle.agreeing_laws.proofs.UserShapes.{FieldShape, field_shape_is}
 use Rattle.correspondence.proofs.Among.{or_cases}
@@ -124,11 +124,11 @@ module _ (P : Program) (S : Scope) (same : S.declarations ≡ P.declarations) (p
 
   -- ---- the types of places
 
-  abbrev IsCoveredUser : Ty → Type 0
+  abbrev pub IsCoveredUser : Ty → Type 0
   IsCoveredUser ty = (t : ℕ) × (ty ≡ types.user t) × (covers_user D t ≡ true)
 
   -- no array is in it
-  abbrev IsFlatType : Ty → Type 0
+  abbrev pub IsFlatType : Ty → Type 0
   IsFlatType ty = IsCoveredUser ty ⊎ (is_class_type ty ≡ true)
 
   of_user : (ty : Ty) → is_user_of (covers_user D) ty ≡ true → IsCoveredUser ty
@@ -192,7 +192,33 @@ module _ (P : Program) (S : Scope) (same : S.declarations ≡ P.declarations) (p
       inl (inner_user of ty k both.0 (outer_user of ty k both.0 base))
   place_type ty _ h = absurd (cc h)
 
-  flat_type : ((t : ℕ) → covers_user D t ≡ true → S.facts.holds_array t ≡ false) → (ty : Ty) → IsFlatType ty → holds_array S.facts ty ≡ false
+  class_of_type : (of : Option ℕ) (ty : Ty) → is_class_of of ty ≡ true → is_class_type ty ≡ true
+  class_of_type of (types.class c) h = refl
+  class_of_type of _ h = absurd (cc h)
+
+  given_flat : (ty : Ty) → covers_group_type D ty ≡ true → IsFlatType ty
+  given_flat (types.user t) h = inl (t, refl, h)
+  given_flat (types.class c) h = inr refl
+  given_flat _ h = absurd (cc h)
+
+  group_type : (ty : Ty) (t : Term) → covers_group_term (uses_in P p mentions) ty t ≡ true → IsFlatType ty
+  group_type ty (call q qualified of args) h =
+      given_flat ty (both_true (covers_group_type D ty) (covers_term (uses_in P p mentions) (call q qualified of args)) h).0
+  group_type ty (field e k) h =
+      inr (both_true (is_class_type ty) (has_member (uses_in P p mentions) (type_at e) k (is_same_type ty) && covers_object (uses_in P p mentions) e) h).0
+  group_type ty me h = inr (class_of_type (uses_in P p mentions).me ty h)
+  group_type ty (new_object c) h = inr (class_of_type (Some c.0) ty (both_true (is_class_of (Some c.0) ty) ((uses_in P p mentions).made c.0) h).0)
+  group_type ty (convert to e) h =
+      given_flat ty (both_true (covers_group_type D ty) (is_class_type ty && (is_same_type ty to && is_nothing e)) h).0
+  group_type ty _ h = absurd (cc h)
+
+  -- nor is an array in what a group is as a value
+  pub value_flat : (e : Expr) → covers_group (uses_in P p mentions) e ≡ true → IsFlatType (type_at e)
+  value_flat (typed ty t) h =
+      elim (or_cases (covers_place_term (uses_in P p mentions) ty t) (covers_group_term (uses_in P p mentions) ty t) h)
+      [ inl c ↦ place_type ty t c | inr c ↦ group_type ty t c ]
+
+  pub flat_type : ((t : ℕ) → covers_user D t ≡ true → S.facts.holds_array t ≡ false) → (ty : Ty) → IsFlatType ty → holds_array S.facts ty ≡ false
   flat_type flat ty (inl u) = ap (holds_array S.facts) u.1 ∙ flat u.0 u.2
   flat_type flat (types.class c) (inr h) = refl
   flat_type flat _ (inr h) = absurd (cc h)

@@ -9,6 +9,8 @@ mod Naming
 mod Resizes
 mod Rights
 mod GroupLines
+mod StoredValues
+mod PropertyNames
 mod CoveredLines
 mod Variants
 mod Lines
@@ -28,7 +30,10 @@ mod KnownPaths
 mod KnownArrays
 mod KnownPlaces
 mod KnownLibrary
+mod KnownExprs
+mod KnownStores
 mod KnownLines
 mod UsedPaths
+mod PartCodes
 mod Alone
 pub mod Corresponding

@@ -6,13 +6,15 @@ use Rattle.up_base.specs.Names.{is_same_name, lower_case}
 use Rattle.up_base.proofs.Lists.{both_true, by_test}
 use Rattle.vb_tree.specs.BoundTree as types
 use Rattle.vb_tree.specs.BoundTree.{Ty}
-use Rattle.bound_tree.specs.Tree.{Declarations, Expr, typed, Procedure, by_value, by_reference}
+use Rattle.bound_tree.specs.Tree.{Declarations, Expr, typed, Procedure, Term, Object, no_object, of_object, with_object, by_value, by_reference}
 use Rattle.bound_facts.specs.Node.{type_at}
 use Rattle.net_tree.specs.Tree.{Exp, Exps, no_exps}
+use Rattle.net_tree.specs.Tree as net
 use Rattle.written_trees.specs.Arguments.{argument_exp, copy_by, has_address, in_parentheses, kept, has_reference, needs_copy, temporary_exp}
-use Rattle.written_trees.specs.Exprs.{called, exp_of}
+use Rattle.written_trees.specs.Exprs.{called, callee_of, exp_of, member_in, term_exp}
+use Rattle.written_trees.specs.Lines.{as_call}
 use Rattle.written_trees.specs.Facts.{Facts, holds_array}
-use Rattle.written_trees.specs.Names.{Path, Scope, copy_name, first_name, is_foreign, is_standard_module, module_at, module_name, procedure_name, procedure_path, procedure_path_of, support}
+use Rattle.written_trees.specs.Names.{Path, Scope, copy_name, first_name, is_foreign, member, is_standard_module, module_at, module_name, procedure_name, procedure_path, procedure_path_of, support}
 use Rattle.run_matches.specs.CoveredVariables.{covers_type}
 use Rattle.run_matches.specs.CoveredExprs.{Uses, covers_expr, covers_term}
 use Rattle.correspondence.specs.Uses.{exps_name, is_named_there, names, path_names, shared_names, stands_elsewhere}
@@ -160,3 +162,18 @@ none_before n = omega arith
 pub full_names : (count : Path → ℕ) (b c : Bool) (e : Exp) (es : Exps) → names count e ≡ 0 → names count (called (b && (false && c)) e es) ≡ exps_name count es
 full_names count true c e es h = omega (arith, h)
 full_names count false c e es h = omega (arith, h)
+
+-- ---- callees as lines
+
+member_called : (a : Exp) (name : List ℕ) → as_call (member a name) ≡ net.call (member a name) net.no_exps
+member_called (net.path q) name = refl
+member_called _ name = refl
+
+object_called : (t : Term) (a : Exp) (name : List ℕ) → as_call (member_in t a name) ≡ net.call (member_in t a name) net.no_exps
+object_called (with_object r) a name = refl
+object_called _ a name = member_called a name
+
+pub callee_called : (S : Scope) (q : ℕ) (qualified : Bool) (of : Object)
+    → as_call (callee_of S q qualified of) ≡ net.call (callee_of S q qualified of) net.no_exps
+callee_called S q qualified no_object = refl
+callee_called S q qualified (of_object (typed ty t)) = object_called t (term_exp S ty t) (procedure_name S.declarations q)

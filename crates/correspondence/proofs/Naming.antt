@@ -33,7 +33,7 @@ use Rattle.written_trees.specs.Literals.{Piece, quoted, unit, piece_exp, text, j
 use Rattle.written_trees.specs.Names.{Path, Scope, support, strings, procedure_name, procedure_path}
 use Rattle.written_trees.specs.Operators.{signed, checked, is_text, typed_operator, typed_unary, operand, is_product_in_currency, variant_operator, variant_unary}
 use Rattle.run_matches.specs.CoveredVariables.{covers_type, covers_use, is_named_so}
-use Rattle.run_matches.specs.CoveredExprs.{covers_library, covers_operator, covers_expr, covers_term, covers_exprs, covers_passed, covers_array, covers_base, covers_object, has_member, covers_group, covers_group_term, covers_place, covers_place_term, covers_bounded, has_scalar, is_bound, is_nothing, uses_in, is_passable, covers_operand, covers_receiver}
+use Rattle.run_matches.specs.CoveredExprs.{covers_library, covers_operator, covers_expr, covers_term, covers_exprs, covers_passed, covers_array, covers_base, covers_object, has_member, covers_group, covers_group_term, covers_place, covers_place_term, covers_bounded, has_scalar, is_bound, is_nothing, uses_in, is_passable, covers_operand}
 use Rattle.run_matches.specs.Formed.{are_longs, has_elements, is_formed, is_formed_term, is_row_of_one, is_row_of_two, is_row_of_call, is_conversion_to, types_of, are_formed, passed_are_formed}
 use Rattle.bound_facts.specs.Locks.{is_same_type}
 use Rattle.run_matches.specs.UserTypes.{is_class_type}
@@ -274,7 +274,7 @@ module _ (P : Program) (S : Scope) (same : S.declarations ≡ P.declarations) (p
       path_counted P S same p mentions v count test right ty (field e k) (object_of P S same p mentions ty (field e k) h) free
   given_group ty me h free other = path_counted P S same p mentions v count test right ty me (object_of P S same p mentions ty me h) free
   given_group ty (call q qualified of args) h free other =
-      other (both_true ((uses_in P p mentions).given ty) (covers_receiver (uses_in P p mentions) of && covers_passed (uses_in P p mentions) args) h).1
+      other (both_true ((uses_in P p mentions).given ty) (covers_term (uses_in P p mentions) (call q qualified of args)) h).1
   given_group ty (convert to e) h free other =
       nothing_names e (is_nothing_converted ((uses_in P p mentions).given ty) ty to e h)
       ∙ sym (converted_names count right.no_support right.no_strings S to e)
@@ -306,7 +306,7 @@ module _ (P : Program) (S : Scope) (same : S.declarations ≡ P.declarations) (p
       group_value ty t (or_cases (covers_place_term (uses_in P p mentions) ty t) (covers_group_term (uses_in P p mentions) ty t) c) free other
 
   -- a call for an object
-  called_for : (b c : Bool) (callee : Exp) (q : ℕ) (args : Passed)
+  pub called_for : (b c : Bool) (callee : Exp) (q : ℕ) (args : Passed)
       → names count (called (b && (has_none args && c)) callee (passed_of S q 0 args)) ≡ names count callee + exps_name count (passed_of S q 0 args)
   called_for true true callee q no_passed = omega arith
   called_for true false callee q no_passed = refl
@@ -392,7 +392,8 @@ module _ (P : Program) (S : Scope) (same : S.declarations ≡ P.declarations) (p
         omega (arith, left, other)
     term_names ty (call q qualified (of_object e) args) h f own free =
         let cover = uses_in P p mentions in
-        let both = both_true (covers_object cover e) (covers_passed cover args) h in
+        let gives = both_true (cover.gives q.0) (covers_object cover e && covers_passed cover args) h in
+        let both = both_true (covers_object cover e) (covers_passed cover args) gives.1 in
         let parted = none_of_both test (nodes e) (nodes_of_passed args) free in
         let name : List ℕ = procedure_name S.declarations q.0 in
         let object = behind_names P S same p mentions v count test right e name both.0 parted.0 in
@@ -405,7 +406,8 @@ module _ (P : Program) (S : Scope) (same : S.declarations ≡ P.declarations) (p
         (right.uncalled ty q qualified no_passed own))
     term_names ty (call q qualified no_object (next_passed a rest)) h f own free =
         none_before (passed_uses v (next_passed a rest))
-        ∙ passed_names q.0 0 (next_passed a rest) h f free
+        ∙ passed_names q.0 0 (next_passed a rest)
+        (both_true ((uses_in P p mentions).gives q.0) (covers_passed (uses_in P p mentions) (next_passed a rest)) h).1 f free
         ∙ sym (full_names count (is_property S.declarations q.0) (not (reads_itself S q.0 qualified no_object)) (net.path (procedure_path S qualified q.0))
         (passed_of S q.0 0 (next_passed a rest)) (right.uncalled ty q qualified (next_passed a rest) own))
     term_names ty _ h f own free = absurd (cc h)

@@ -1,7 +1,8 @@
 -- The laws, under any pledge and under that of a frame.
 use Rattle.run_matches.specs.Keeping.{given_types}
 use Rattle.expression_laws.proofs.Giving.{giving}
-use Rattle.std.proofs.Common.{inr, refl, ℕ, false, ◌&&◌, Some, inl}
+use Rattle.std.proofs.Common.{◌≡◌, inr, refl, ℕ, true, false, ◌&&◌, Some, inl}
+use Rattle.std.specs.Prelude.{slice_get}
 use Rattle.bound_tree.specs.Tree.{typed, variable, element, call}
 use Rattle.bound_facts.specs.Node.{type_at}
 use Rattle.net_tree.specs.Tree.{call_of}
@@ -13,6 +14,7 @@ use Rattle.net_run.specs.Expressions as target
 use Rattle.net_run.specs.Lines.{scope_of}
 use Rattle.net_run.specs.Names as net_names
 use Rattle.written_trees.specs.Exprs.{callee_of, exp_of, passed_of}
+use Rattle.run_matches.specs.CoveredExprs.{is_giving}
 use Rattle.run_matches.specs.Frames.{frame_pledge}
 use Rattle.run_matches.specs.Maps.{World}
 use Rattle.run_matches.specs.Pledges.{Pledge}
@@ -33,6 +35,7 @@ use Rattle.expression_laws.proofs.Images.{images_now}
 use Rattle.expression_laws.proofs.Elements.{array_agrees}
 use Rattle.expression_laws.proofs.ElementValues.{element_agrees}
 use Rattle.expression_laws.proofs.ArrayUses.{all_long, from_none, indexed_by}
+use Rattle.expression_laws.proofs.Callees.{called_apart}
 use Rattle.expression_laws.proofs.CallsGiven.{call_placed, from_first}
 use Rattle.expression_laws.proofs.Expressions.{expression_agrees, group_agrees, indexes_agree, passed_agree}
 use Rattle.expression_laws.proofs.Objects.{members_agree_by}
@@ -108,16 +111,18 @@ members_agree U K = members_agree_by U K
 -- a covered call is made on both sides
 pub calls_are_made : (U : Upgrade) → ParametersAreSound U → ClassesAreWritten U → CallsAreMade U
 calls_are_made U sound classes K w p f g oracle net_oracle l k c T uses ty q qualified of args start frames declarations opened readable placed agree can
-    receiver covers formed =
+    gives receiver covers formed =
+    let giving_one : is_giving (slice_get U.program.declarations.procs q.0) ≡ true = readable.gives q.0 gives in
     let C : Context = context_of U oracle p f l in
     let S : net_names.Scope = scope_of U.written c g k in
     agrees_weaker U K w (GivenMatch U) AnyParts (source.term_parts C ty (call q qualified of args) w.src)
     (target.address_of S net_oracle (call_of (callee_of T q.0 qualified of) (passed_of T q.0 0 args)) w.net) (λ v x a l m. tt)
     (call_placed U p f g oracle net_oracle l k c T agree uses declarations readable K ty q qualified of args w start
-    (places_now U p f g oracle net_oracle l k c T uses K w frames start declarations readable placed) (stands_now U K w p f g frames) can receiver
+    (places_now U p f g oracle net_oracle l k c T uses K w frames start declarations readable placed) (stands_now U K w p f g frames) can false
+    (called_apart U S T q.0 qualified of args can.0.way can.0.is_way giving_one) receiver
     (λ v match there now asked.
     passed_agree U p f g oracle net_oracle l k c T uses declarations opened readable placed.leads agree sound classes (giving K (given_types args)) q.0 0
-    can.0.passes args (passings_at U.written (Some can.0.number)) v (from_first U p f g oracle net_oracle l k c T agree K can.0) can.0.suits can.0.hands
+    can.0.passes args (passings_at U.written (Some can.0.number)) v (from_first U p f g oracle net_oracle l k c T agree K can.0 giving_one) can.0.suits can.0.hands
     match there now asked covers formed can.0.ranks (λ t o. inr o)))
 
 -- under the pledge of a frame

@@ -1,9 +1,8 @@
 -- What a call gives, as a value.
-use Rattle.std.proofs.Common.{◌≡◌, ◌∙◌, sym, ap, subst, ℕ, Bool, true, false}
+use Rattle.std.proofs.Common.{◌≡◌, ℕ, Bool, true}
 use Rattle.vb_tree.specs.BoundTree.{Ty}
 use Rattle.vb_tree.specs.declared.declared.ProcId.{ProcId}
 use Rattle.bound_tree.specs.Tree.{Expr, typed, call, Object, Passed}
-use Rattle.net_tree.specs.Tree.{Exp, call_of}
 use Rattle.vb6_run.specs.Expressions as source
 use Rattle.vb6_run.specs.Expressions.{Context}
 use Rattle.vb6_run.specs.Forms.{SourceLine}
@@ -13,8 +12,7 @@ use Rattle.net_run.specs.Lines.{NetFrame, NetLine, scope_of}
 use Rattle.net_run.specs.Making.{Jobs}
 use Rattle.net_run.specs.Members.{Code}
 use Rattle.net_run.specs.Names as net_names
-use Rattle.written_trees.specs.Arguments.{is_property}
-use Rattle.written_trees.specs.Exprs.{callee_of, exp_of, passed_of}
+use Rattle.written_trees.specs.Exprs.{exp_of}
 use Rattle.written_trees.specs.Names.{Scope}
 use Rattle.run_matches.specs.Agreeing.{Agrees}
 use Rattle.run_matches.specs.CoveredVariables.{covers_type}
@@ -28,14 +26,12 @@ use Rattle.run_statements.specs.Frames.{ScalarMatch, context_of, type_shape}
 use Rattle.run_statements.specs.Groups.{ValueMatch}
 use Rattle.run_statements.specs.Written.{Passes}
 use Rattle.expression_laws.specs.Calls.{GivenMatch}
-use Rattle.expression_laws.proofs.Callees.{callee_is}
 use Rattle.expression_laws.proofs.Calls.{call_value_agrees}
 use Rattle.expression_laws.proofs.GroupCalls.{group_value_agrees}
 
 module _ (U : Upgrade) (K : Pledge) (p : ℕ) (f : SourceFrame) (g : NetFrame) (oracle : SourceCalls) (net_oracle : Jobs) (l : SourceLine) (k : NetLine)
-    (c : Code) (T : Scope) (same_declarations : T.declarations ≡ U.program.declarations) (agree : CallsAgree U (Passes U) oracle net_oracle)
-    (ty : Ty) (q : ProcId) (qualified : Bool) (of : Object) (args : Passed) (w : World) (plain : is_property U.program.declarations q.0 ≡ false)
-    (start : MemoryMatch U w) where
+    (c : Code) (T : Scope) (agree : CallsAgree U (Passes U) oracle net_oracle)
+    (ty : Ty) (q : ProcId) (qualified : Bool) (of : Object) (args : Passed) (w : World) (start : MemoryMatch U w) where
   abbrev C : Context
   C = context_of U oracle p f l
 
@@ -45,24 +41,17 @@ module _ (U : Upgrade) (K : Pledge) (p : ℕ) (f : SourceFrame) (g : NetFrame) (
   abbrev e : Expr
   e = typed ty (call q qualified of args)
 
-  abbrev parted : Exp
-  parted = call_of (callee_of T q.0 qualified of) (passed_of T q.0 0 args)
-
-  written_is : exp_of T (typed ty (call q qualified of args)) ≡ parted
-  written_is = callee_is T ty q qualified of args (ap (λ D. is_property D q.0) same_declarations ∙ plain)
-
   abbrev IsGiven : Type 0
-  IsGiven = Agrees U K w (GivenMatch U) (source.term_parts C ty (call q qualified of args) w.src) (target.address_of S net_oracle parted w.net)
+  IsGiven = Agrees U K w (GivenMatch U) (source.term_parts C ty (call q qualified of args) w.src) (target.address_of S net_oracle (exp_of T e) w.net)
 
   pub call_value : covers_type ty ≡ true → IsGiven
       → Agrees U K w (ScalarMatch U ty) (source.value_of C e w.src) (target.value_of S net_oracle (exp_of T e) w.net)
   call_value covers given =
-      subst (λ x. Agrees U K w (ScalarMatch U ty) (source.value_of C e w.src) (target.value_of S net_oracle x w.net)) (sym written_is)
-      (call_value_agrees U K p f g oracle net_oracle l k c T agree ty q qualified of args covers w (target.address_of S net_oracle parted w.net) start given)
+      let r' = target.address_of S net_oracle (exp_of T e) w.net in
+      call_value_agrees U K p f g oracle net_oracle l k c T agree ty q qualified of args covers w r' start given
 
   -- of a user type or a class
   pub call_gives : is_group_type ty ≡ true → IsGiven
       → Agrees U K w (ValueMatch U (type_shape U ty)) (source.value_of C e w.src) (target.value_of S net_oracle (exp_of T e) w.net)
   call_gives grouped given =
-      subst (λ x. Agrees U K w (ValueMatch U (type_shape U ty)) (source.value_of C e w.src) (target.value_of S net_oracle x w.net)) (sym written_is)
-      (group_value_agrees U K p f oracle l ty grouped q qualified of args w (target.address_of S net_oracle parted w.net) start given)
+      group_value_agrees U K p f oracle l ty grouped q qualified of args w (target.address_of S net_oracle (exp_of T e) w.net) start given

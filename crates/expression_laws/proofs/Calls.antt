@@ -10,7 +10,7 @@ use Rattle.bound_tree.specs.Tree as tree
 use Rattle.bound_facts.specs.Node.{type_at}
 use Rattle.net_tree.specs.declared.declaration.NetPassing.{NetPassing}
 use Rattle.net_tree.specs.declared.declaration.NetPassing.TheVariants as passing
-use Rattle.net_tree.specs.Tree.{Exp, call_of}
+use Rattle.net_tree.specs.Tree.{Exp}
 use Rattle.net_meaning.specs.declared.value.ValueN.{ValueN}
 use Rattle.net_meaning.specs.ValueMatch.{Matches, no_object_of, objects_of}
 use Rattle.run_base.specs.Frames.{by_address, by_value}
@@ -35,10 +35,10 @@ use Rattle.net_run.specs.Shapes as shape
 use Rattle.net_run.specs.Store as net
 use Rattle.net_run.specs.Values as net_value
 use Rattle.written_trees.specs.Arguments.{argument_exp, copy_by, needs_copy, temporary_exp, value_exp}
-use Rattle.written_trees.specs.Exprs.{callee_of, exp_of, passed_of}
+use Rattle.written_trees.specs.Exprs.{called, callee_of, exp_of, passed_of}
 use Rattle.written_trees.specs.Facts.{Facts, holds_array}
 use Rattle.written_trees.specs.Names as written_names
-use Rattle.written_trees.specs.Names.{procedure_name, procedure_path}
+use Rattle.written_trees.specs.Names.{procedure_name}
 use Rattle.run_matches.specs.Agreeing.{Agrees, ResultMatch}
 use Rattle.run_matches.specs.CoveredVariables.{covers_type}
 use Rattle.run_matches.specs.Frames.{HasOwnObject}
@@ -60,7 +60,7 @@ use Rattle.agreeing_laws.proofs.Moves.{address_later, locks_promised}
 use Rattle.agreeing_laws.proofs.Scalars.{scalar_later}
 use Rattle.expression_laws.specs.Calls.{ArgumentsMatch, GivenMatch, Stands, next_address}
 use Rattle.expression_laws.proofs.Arguments.{arguments_ok, callee_is_weaker, stands_later}
-use Rattle.expression_laws.proofs.Callees.{back, call_address, enters_with, member_address, named_does, object_parts, takes}
+use Rattle.expression_laws.proofs.Callees.{IsCalled, back, call_address, enters_with, member_address, named_does, object_parts, takes}
 use Rattle.expression_laws.proofs.LastingImages.{plain_later}
 use Rattle.expression_laws.proofs.Checks.{value_checked}
 use Rattle.expression_laws.proofs.Objects.{ObjectMatch, no_value, reached}
@@ -118,7 +118,7 @@ module _ (U : Upgrade) (K : Pledge) (p : ℕ) (f : SourceFrame) (g : NetFrame) (
   S = scope_of U.written c g k
 
   -- a call with values that match, for the object of the frame that is entered
-  entered_agrees : (q : ℕ) (qualified : Bool) (of : Object) (args : Passed) (can : CanCall U K S T p q qualified of args) (w : World) (me me' : Option ℕ)
+  pub entered_agrees : (q : ℕ) (qualified : Bool) (of : Object) (args : Passed) (can : CanCall U K S T p q qualified of args) (w : World) (me me' : Option ℕ)
       (xs : List SourceGiven) (ys : List NetGiven) → me' ≡ option_map w.map.objects me → IsObject w me → HasOwnObject U w q me
       → AllLocked U K w f.env → MemoryMatch U w → ArgumentsMatch U K q 0 w xs ys
       → Agrees U K w (GivenMatch U) (then (oracle (enters q me f.env xs) w.src) back) (net_calls.entered S net_oracle can.number me' ys w.net)
@@ -155,7 +155,7 @@ module _ (U : Upgrade) (K : Pledge) (p : ℕ) (f : SourceFrame) (g : NetFrame) (
         let both = both_true (nat_lt o w.src.next_object) (nat_eq (w.map.objects o) j) e in
         class_entered o j (ltb-true o w.src.next_object both.0) (eqb-true (w.map.objects o) j both.1) (is_class d (w.src.class_of o)) refl
 
-    object_entered : (x : Value6) (y : net_value.Value) → LikeV U w (scalar (types.class d) x) y
+    pub object_entered : (x : Value6) (y : net_value.Value) → LikeV U w (scalar (types.class d) x) y
         → Agrees U K w (GivenMatch U) (then (source.entered C q (receiver (Some d) (scalar (types.class d) x)) xs w.src) back)
         (procedure_does S net_oracle (Some y) can.number ys w.net)
     object_entered _ _ (like_scalar _ x y m) = scalar_entered x y m
@@ -167,40 +167,43 @@ module _ (U : Upgrade) (K : Pledge) (p : ℕ) (f : SourceFrame) (g : NetFrame) (
         (target.args_of (scope_of U.written c g k) net_oracle (passings_at U.written (Some n)) (passed_of T q.0 0 args) v.net)
 
     -- a call whose arguments agree where they are evaluated
-    pub call_agrees : (of : Object) (can : CanCall U K S T p q.0 qualified of args) (w : World) → ReceiverIs U K C S net_oracle T w of
-        → Stands U K w p f g → MemoryMatch U w → ((v : World) → Later U K w v → Takes can.number v)
+    pub call_agrees : (of : Object) (can : CanCall U K S T p q.0 qualified of args) (bare : Bool) → IsCalled S T can.way bare q.0 qualified of args
+        → (w : World) → ReceiverIs U K C S net_oracle T w of → Stands U K w p f g → MemoryMatch U w
+        → ((v : World) → Later U K w v → Takes can.number v)
         → Agrees U K w (GivenMatch U) (source.term_parts C ty (call q qualified of args) w.src)
-        (target.address_of S net_oracle (call_of (callee_of T q.0 qualified of) (passed_of T q.0 0 args)) w.net)
-    call_agrees _ can w for_none stands start given =
+        (target.address_of S net_oracle (called bare (callee_of T q.0 qualified of) (passed_of T q.0 0 args)) w.net)
+    call_agrees _ can bare is w for_none stands start given =
         let r = source.args_of C q.0 0 args w.src in
         let r' = target.args_of S net_oracle (passings_at U.written (Some can.number)) (passed_of T q.0 0 args) w.net in
         let go = λ (gs : List SourceGiven) (w : Memory). then (oracle (enters q.0 f.me f.env gs) w) back in
         let go' = λ (gs : Arguments) (w : net.Memory). procedure_does S net_oracle None can.number gs w in
         subst (λ z. Agrees U K w (GivenMatch U) (after [] (then r go)) z)
-        (sym (call_address S net_oracle (passed_of T q.0 0 args) (procedure_path T qualified q.0) can.number can.found w.net))
+        (sym (call_address S net_oracle T q.0 qualified args can.way bare is can.number can.found w.net))
         (left_alone U K w (GivenMatch U) (then r go) (then r' go')
         (then_agrees U K w (ArgumentsMatch U K q.0 0) (GivenMatch U) r r' go go' start (given w (later_now U K w start))
         (λ xs ys v m later.
         let now : Stands U K v p f g = stands_later U K w v p f g later stands in
         entered_agrees q.0 qualified no_object args can v f.me g.me xs ys now.me now.object (caller_received U v p q.0 f.me can.receives now.own_object)
         now.locks later.match m)))
-    call_agrees _ can w (for_object d t (no_value none)) stands start given =
-        let r' = target.address_of S net_oracle (call_of (callee_of T q.0 qualified (of_object (typed (types.class d) t))) (passed_of T q.0 0 args)) w.net in
+    call_agrees _ can bare is w (for_object d t (no_value none)) stands start given =
+        let r' =
+        target.address_of S net_oracle (called bare (callee_of T q.0 qualified (of_object (typed (types.class d) t))) (passed_of T q.0 0 args)) w.net in
         subst (λ z. Agrees U K w (GivenMatch U) z r')
         (sym (object_parts C ty q qualified (typed (types.class d) t) args w.src
         ∙ ap (λ z. then z (λ x s. enters_with C q.0 args (receiver (Some d) x) s)) none))
         (agrees_outside U K w (GivenMatch U) r')
-    call_agrees _ can w (for_object d t (reached r leads before agrees)) stands start given =
+    call_agrees _ can bare is w (for_object d t (reached r leads before agrees)) stands start given =
         let e : Expr = typed (types.class d) t in
         let name = procedure_name T.declarations q.0 in
+        let callee : Exp = callee_of T q.0 qualified (of_object e) in
         let G = GivenMatch U in
-        let take = takes S net_oracle (passed_of T q.0 0 args) in
+        let take = takes S net_oracle bare (passed_of T q.0 0 args) in
         let r' = λ (v : World). target.args_of S net_oracle (passings_at U.written (Some can.number)) (passed_of T q.0 0 args) v.net in
-        subst (λ z. Agrees U K w G z (target.address_of S net_oracle (call_of (callee_of T q.0 qualified (of_object e)) (passed_of T q.0 0 args)) w.net))
+        subst (λ z. Agrees U K w G z (target.address_of S net_oracle (called bare callee (passed_of T q.0 0 args)) w.net))
         (sym (object_parts C ty q qualified e args w.src))
         (subst (λ z. Agrees U K w G (then (source.value_of C e w.src) (λ x s. enters_with C q.0 args (receiver (Some d) x) s)) z)
-        (sym (member_address S net_oracle (passed_of T q.0 0 args) (callee_of T q.0 qualified (of_object e)) r name w.net
-        (before name w.net ∙ member_reached S net_oracle T e r leads name w.net)))
+        (sym (member_address S net_oracle T q.0 qualified args bare callee r name w.net (before name w.net)
+        (member_reached S net_oracle T e r leads name w.net)))
         (then_agrees U K w (ObjectMatch U d) G (source.value_of C e w.src) (target.address_from S net_oracle (r w.net))
         (λ x s. enters_with C q.0 args (receiver (Some d) x) s) (λ a s. take (net_names.member_at S a name s) s) start agrees
         (λ x a v o later.
@@ -208,7 +211,7 @@ module _ (U : Upgrade) (K : Pledge) (p : ℕ) (f : SourceFrame) (g : NetFrame) (
         let does = λ (gs : Arguments) (s : net.Memory). procedure_does S net_oracle (Some y) can.number gs s in
         subst (λ z. Agrees U K v G (enters_with C q.0 args (receiver (Some d) x) v.src) z)
         (sym (ap (λ b. take (net_names.member_by S a b name v.net) v.net) o.shaped ∙ ap (λ z. take z v.net) (can.found d o.home y refl o.is_home)
-        ∙ named_does S net_oracle (passed_of T q.0 0 args) (Some y) can.number v.net))
+        ∙ named_does S net_oracle T q.0 qualified args (of_object e) can.way bare is (Some y) can.number v.net))
         (subst (λ z. Agrees U K v G (enters_with C q.0 args (receiver (Some d) z) v.src) (then (r' v) does)) (sym o.like.1)
         (then_agrees U K v (ArgumentsMatch U K q.0 0) G (source.args_of C q.0 0 args v.src) (r' v)
         (λ gs s. then (source.entered C q.0 (receiver (Some d) (scalar (types.class d) o.like.0)) gs s) back) does later.match (given v later)

@@ -3,9 +3,9 @@ use Rattle.vb_tree.specs.declared.declared.ProcId.{ProcId}
 use Rattle.run_matches.specs.Keeping.{given_types}
 use Rattle.expression_laws.proofs.Giving.{called_giving_for, can_giving, giving, giving_more, stands_giving}
 use Rattle.std.proofs.Common.{◌≡◌, ◌∙◌, ap, ℕ, ◌+◌, Bool, true, Some}
+use Rattle.std.specs.Prelude.{slice_get}
 use Rattle.vb_tree.specs.BoundTree.{Ty}
 use Rattle.bound_tree.specs.Tree.{Expr, typed, call, Object, Passed}
-use Rattle.net_tree.specs.Tree.{call_of}
 use Rattle.run_base.specs.Outcomes.{Outcome}
 use Rattle.vb6_run.specs.Expressions as source
 use Rattle.vb6_run.specs.Expressions.{Context}
@@ -20,10 +20,10 @@ use Rattle.net_run.specs.Names as net_names
 use Rattle.net_run.specs.Store as net
 use Rattle.net_run.specs.Values as net_value
 use Rattle.written_trees.specs.Arguments.{takes_reference}
-use Rattle.written_trees.specs.Exprs.{callee_of, exp_of, passed_of}
+use Rattle.written_trees.specs.Exprs.{called, callee_of, exp_of, passed_of}
 use Rattle.written_trees.specs.Names.{Scope}
 use Rattle.run_matches.specs.Agreeing.{Agrees}
-use Rattle.run_matches.specs.CoveredExprs.{Uses, covers_receiver}
+use Rattle.run_matches.specs.CoveredExprs.{Uses, covers_receiver, is_giving}
 use Rattle.run_matches.specs.Maps.{World}
 use Rattle.run_matches.specs.Match.{MemoryMatch}
 use Rattle.run_matches.specs.Pledges.{Later, Pledge}
@@ -34,6 +34,7 @@ use Rattle.run_statements.specs.Written.{Passes}
 use Rattle.agreeing_laws.proofs.Agreeing.{agrees_promised}
 use Rattle.expression_laws.specs.Calls.{ArgumentsMatch, GivenMatch, Stands}
 use Rattle.expression_laws.proofs.Arguments.{stands_later}
+use Rattle.expression_laws.proofs.Callees.{IsCalled}
 use Rattle.expression_laws.proofs.Calls.{call_agrees}
 use Rattle.expression_laws.proofs.Receivers.{ReceiverIs, receiver_called, receiver_is}
 use Rattle.expression_laws.proofs.References.{first}
@@ -56,9 +57,10 @@ module _ (U : Upgrade) (p : ℕ) (f : SourceFrame) (g : NetFrame) (oracle : Sour
   abbrev Asked : Pledge → Demands
   Asked K = demands U K p l k (scope_of U.written c g k) T
 
-  pub from_first : (K : Pledge) {q : ℕ} {qualified : Bool} {of : Object} {called_with : Passed} (can : Can K q qualified of called_with) (n : ℕ)
+  pub from_first : (K : Pledge) {q : ℕ} {qualified : Bool} {of : Object} {called_with : Passed} (can : Can K q qualified of called_with)
+      → is_giving (slice_get U.program.declarations.procs q) ≡ true → (n : ℕ)
       → passing_at (passings_at U.written (Some can.number)) n ≡ passing_by (takes_reference U.program.declarations q (0 + n))
-  from_first K {q} can n = can.passings n ∙ ap (λ m. passing_by (takes_reference U.program.declarations q m)) (first n)
+  from_first K {q} can gives n = can.passings gives n ∙ ap (λ m. passing_by (takes_reference U.program.declarations q m)) (first n)
 
   -- a call, which keeps the arrays of the elements that it is given
   abbrev kept_with : Pledge → Passed → Pledge
@@ -72,16 +74,17 @@ module _ (U : Upgrade) (p : ℕ) (f : SourceFrame) (g : NetFrame) (oracle : Sour
       (target.args_of (scope_of U.written c g k) net_oracle (passings_at U.written (Some n)) (passed_of T q.0 0 args) v.net)
 
   pub call_made : (K : Pledge) (ty : Ty) (q : ProcId) (qualified : Bool) (of : Object) (args : Passed) (w : World) → MemoryMatch U w → Stands U K w p f g
-      → (can : Can K q.0 qualified of args) → ReceiverIs U (kept_with K args) C S net_oracle T w of
+      → (can : Can K q.0 qualified of args) → (bare : Bool) → IsCalled S T can.way bare q.0 qualified of args
+      → ReceiverIs U (kept_with K args) C S net_oracle T w of
       → ((v : World) → Later U (kept_with K args) w v → ArgumentsAgree K q args can.number v)
       → Agrees U K w (GivenMatch U) (source.term_parts C ty (call q qualified of args) w.src)
-      (target.address_of S net_oracle (call_of (callee_of T q.0 qualified of) (passed_of T q.0 0 args)) w.net)
-  call_made K ty q qualified of args w start stands can is given =
+      (target.address_of S net_oracle (called bare (callee_of T q.0 qualified of) (passed_of T q.0 0 args)) w.net)
+  call_made K ty q qualified of args w start stands can bare by_way is given =
       let ts = given_types args in
       agrees_promised U K (giving K ts) w (GivenMatch U) (source.term_parts C ty (call q qualified of args) w.src)
-      (target.address_of S net_oracle (call_of (callee_of T q.0 qualified of) (passed_of T q.0 0 args)) w.net) start (giving_more K ts w)
+      (target.address_of S net_oracle (called bare (callee_of T q.0 qualified of) (passed_of T q.0 0 args)) w.net) start (giving_more K ts w)
       (call_agrees U (giving K ts) p f g oracle net_oracle l k c T agree ty q qualified args of
-      (can_giving U K S T ts p q.0 qualified of args can.given can) w is (stands_giving U K ts w start p f g stands) start given)
+      (can_giving U K S T ts p q.0 qualified of args can.given can) bare by_way w is (stands_giving U K ts w start p f g stands) start given)
 
   -- so it is where its uses are placed
   module _ (uses : Uses) (same_declarations : T.declarations ≡ U.program.declarations) (readable : AreReadable U T uses) where
@@ -89,16 +92,17 @@ module _ (U : Upgrade) (p : ℕ) (f : SourceFrame) (g : NetFrame) (oracle : Sour
     Have K w = HavePlaces U p f g oracle net_oracle l k c T uses K w
 
     pub call_placed : (K : Pledge) (ty : Ty) (q : ProcId) (qualified : Bool) (of : Object) (args : Passed) (w : World) → MemoryMatch U w → Have K w
-        → Stands U K w p f g → (can : AllCalled (Asked K) (typed ty (call q qualified of args))) → covers_receiver uses of ≡ true
+        → Stands U K w p f g → (can : AllCalled (Asked K) (typed ty (call q qualified of args))) → (bare : Bool)
+        → IsCalled S T can.0.way bare q.0 qualified of args → covers_receiver uses of ≡ true
         → ((v : World) → MemoryMatch U v → Have (kept_with K args) v → Stands U (kept_with K args) v p f g
         → AllCalledFor (Asked (kept_with K args)) args → ArgumentsAgree K q args can.0.number v)
         → Agrees U K w (GivenMatch U) (source.term_parts C ty (call q qualified of args) w.src)
-        (target.address_of S net_oracle (call_of (callee_of T q.0 qualified of) (passed_of T q.0 0 args)) w.net)
-    call_placed K ty q qualified of args w start have stands can covers given =
+        (target.address_of S net_oracle (called bare (callee_of T q.0 qualified of) (passed_of T q.0 0 args)) w.net)
+    call_placed K ty q qualified of args w start have stands can bare by_way covers given =
         let ts = given_types args in
         let M : Pledge = giving K ts in
         let there : Have M w = places_giving U p f g oracle net_oracle l k c T uses K ts w start have in
-        call_made K ty q qualified of args w start stands can.0
+        call_made K ty q qualified of args w start stands can.0 bare by_way
         (receiver_is U M p f g oracle net_oracle l k c T uses same_declarations readable w start there of (receiver_called (Asked K) (Asked M) (λ ty r x. x) uses of covers can.2) covers)
         (λ v later.
         given v later.match (places_later U p f g oracle net_oracle l k c T uses M w v start later there)

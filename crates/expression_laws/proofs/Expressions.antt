@@ -2,7 +2,7 @@
 use Rattle.run_matches.specs.Keeping.{given_types, given_by}
 use Rattle.expression_laws.proofs.Giving.{giving}
 use Rattle.std.proofs.Common.{◌≡◌, inr, ◌∙◌, refl, sym, ap, subst, ℕ, suc, ◌+◌, ◌≤◌, length, true, false, true≢false, ◌&&◌, ◌||◌, List, [], ◌∷◌, Some, inl, ◌++◌}
-use Rattle.std.specs.Prelude.{is_some, slice_get}
+use Rattle.std.specs.Prelude.{is_some, not, slice_get}
 use Rattle.vb_tree.specs.BoundTree as types
 use Rattle.vb_tree.specs.BoundTree.{Ty}
 use Rattle.vb6_meaning.specs.Values.{operate}
@@ -10,7 +10,7 @@ use Rattle.bound_tree.specs.Tree.{Expr, typed, constant, variable, field, elemen
 use Rattle.bound_facts.specs.Effects.{params_at}
 use Rattle.bound_facts.specs.Locks.{is_same_type}
 use Rattle.bound_facts.specs.Node.{type_at}
-use Rattle.up_base.proofs.Tests.{by_test}
+use Rattle.up_base.proofs.Tests.{by_test, not_true}
 use Rattle.net_tree.specs.declared.declaration.NetPassing.{NetPassing}
 use Rattle.net_tree.specs.declared.declaration.NetPassing.TheVariants as passing
 use Rattle.net_meaning.specs.declared.value.ValueN.TheVariants as net_scalar
@@ -28,14 +28,15 @@ use Rattle.net_run.specs.Members.{Code}
 use Rattle.net_run.specs.Names as net_names
 use Rattle.net_run.specs.Store as net
 use Rattle.net_run.specs.Values as net_value
-use Rattle.written_trees.specs.Arguments.{argument_exp, has_address, is_conversion, is_copied, kept, takes_reference}
-use Rattle.written_trees.specs.Exprs.{exp_of, index_at, indexes_of, passed_of}
+use Rattle.written_trees.specs.Arguments.{argument_exp, has_address, is_conversion, is_copied, is_property, kept, takes_reference}
+use Rattle.written_trees.specs.Exprs.{exp_of, index_at, indexes_of, is_bare, passed_of}
 use Rattle.written_trees.specs.Library.{low_at}
 use Rattle.written_trees.specs.Names.{Scope}
+use Rattle.run_matches.specs.Addresses.{TakesAddresses}
 use Rattle.run_matches.specs.Agreeing.{Agrees}
 use Rattle.run_matches.specs.CoveredVariables.{covers_type}
-use Rattle.run_matches.specs.CoveredExprs.{Uses, covers_array, covers_bounded, covers_exprs, covers_library, is_bound, covers_operand, covers_operator, covers_expr, covers_group, covers_passed, covers_place, covers_receiver, is_passable, is_variable}
-use Rattle.run_matches.specs.Covered.{is_referred, suits_array, suits_group, suits_passed, hands_argument, hands_passed, is_group_field, is_item, is_type_at}
+use Rattle.run_matches.specs.CoveredExprs.{Uses, covers_array, covers_bounded, covers_exprs, covers_library, is_bound, covers_operand, covers_operator, covers_expr, covers_group, covers_passed, covers_place, covers_receiver, is_giving, is_passable, is_variable}
+use Rattle.run_matches.specs.Covered.{is_referred, suits_array, suits_group, takes_address, suits_passed, hands_argument, hands_passed, is_group_field, is_item, is_type_at}
 use Rattle.run_matches.specs.UserTypes.{is_group_type}
 use Rattle.run_matches.specs.Likeness.{are_same}
 use Rattle.run_matches.specs.Maps.{World}
@@ -83,6 +84,7 @@ use Rattle.expression_laws.proofs.RowsAgree.{any_same}
 use Rattle.expression_laws.proofs.Operators.{binary_agrees, formed_held, same_operator, same_unary, typed_binary, typed_unary, unary_agrees}
 use Rattle.expression_laws.proofs.ArrayUses.{AllLead, AllLong, all_long, bounded_by, from_none, in_two, in_two_more, indexed_by}
 use Rattle.expression_laws.proofs.ItemArguments.{ItemAgrees, item_passed}
+use Rattle.expression_laws.proofs.Callees.{called_as_written}
 use Rattle.expression_laws.proofs.CallsGiven.{call_placed, from_first}
 
 one_left : (xs ys : List Ty) (t : Ty) → IsOne xs t → IsOne (xs ++ ys) t
@@ -194,13 +196,16 @@ module _ (U : Upgrade) (p : ℕ) (f : SourceFrame) (g : NetFrame) (oracle : Sour
         (indexed_by U p f g oracle net_oracle l k c T uses same_declarations opened readable leads K ty e indexes w start have.variables inner.0 forms.0 can.0
         (indexes_agree K e 0 indexes w (from_none (types_of indexes) longs.1) longs.0 start have stands can.1 inner.1 rest.1)))
     expression_agrees K (typed ty (call q qualified of args)) w start have stands can covers formed =
-        let both = both_true (covers_type ty) (covers_receiver uses of && covers_passed uses args) covers in
-        let parts = both_true (covers_receiver uses of) (covers_passed uses args) both.1 in
-        call_value U K p f g oracle net_oracle l k c T same_declarations agree ty q qualified of args w can.0.plain start both.0
-        (call_placed U p f g oracle net_oracle l k c T agree uses same_declarations readable K ty q qualified of args w start have stands can parts.0
+        let both = both_true (covers_type ty) (uses.gives q.0 && (covers_receiver uses of && covers_passed uses args)) covers in
+        let called = both_true (uses.gives q.0) (covers_receiver uses of && covers_passed uses args) both.1 in
+        let parts = both_true (covers_receiver uses of) (covers_passed uses args) called.1 in
+        let giving_one : is_giving (slice_get U.program.declarations.procs q.0) ≡ true = readable.gives q.0 called.0 in
+        call_value U K p f g oracle net_oracle l k c T agree ty q qualified of args w start both.0
+        (call_placed U p f g oracle net_oracle l k c T agree uses same_declarations readable K ty q qualified of args w start have stands can
+        (is_bare T q.0 qualified of args) (called_as_written U S T q.0 qualified of args same_declarations can.0.way can.0.is_way giving_one) parts.0
         (λ v start_there there now asked.
         passed_agree (giving K (given_types args)) q.0 0 can.0.passes args (passings_at U.written (Some can.0.number)) v
-        (from_first U p f g oracle net_oracle l k c T agree K can.0) can.0.suits can.0.hands start_there there now asked parts.1 formed can.0.ranks (λ t o. inr o)))
+        (from_first U p f g oracle net_oracle l k c T agree K can.0 giving_one) can.0.suits can.0.hands start_there there now asked parts.1 formed can.0.ranks (λ t o. inr o)))
     expression_agrees K (typed ty (library function no_exprs)) w start have stands can covers formed =
         let args : Exprs = no_exprs in
         let both = both_true (covers_type ty) ((covers_library function && covers_exprs uses args) || (is_bound function && covers_bounded uses args)) covers in
@@ -266,14 +271,17 @@ module _ (U : Upgrade) (p : ℕ) (f : SourceFrame) (g : NetFrame) (oracle : Sour
     group_agrees K (typed ty me) w start have stands can covers formed =
         me_agrees U K p f g oracle net_oracle l k c T uses same_declarations readable w have start ty covers
     group_agrees K (typed ty (call q qualified of args)) w start have stands can covers formed =
-        let both = both_true (uses.given ty) (covers_receiver uses of && covers_passed uses args) covers in
-        let parts = both_true (covers_receiver uses of) (covers_passed uses args) both.1 in
-        call_gives U K p f g oracle net_oracle l k c T same_declarations agree ty q qualified of args w can.0.plain start
+        let both = both_true (uses.given ty) (uses.gives q.0 && (covers_receiver uses of && covers_passed uses args)) covers in
+        let called = both_true (uses.gives q.0) (covers_receiver uses of && covers_passed uses args) both.1 in
+        let parts = both_true (covers_receiver uses of) (covers_passed uses args) called.1 in
+        let giving_one : is_giving (slice_get U.program.declarations.procs q.0) ≡ true = readable.gives q.0 called.0 in
+        call_gives U K p f g oracle net_oracle l k c T agree ty q qualified of args w start
         (grouped U T uses readable (typed ty (call q qualified of args)) covers)
-        (call_placed U p f g oracle net_oracle l k c T agree uses same_declarations readable K ty q qualified of args w start have stands can parts.0
+        (call_placed U p f g oracle net_oracle l k c T agree uses same_declarations readable K ty q qualified of args w start have stands can
+        (is_bare T q.0 qualified of args) (called_as_written U S T q.0 qualified of args same_declarations can.0.way can.0.is_way giving_one) parts.0
         (λ v start_there there now asked.
         passed_agree (giving K (given_types args)) q.0 0 can.0.passes args (passings_at U.written (Some can.0.number)) v
-        (from_first U p f g oracle net_oracle l k c T agree K can.0) can.0.suits can.0.hands start_there there now asked parts.1 formed can.0.ranks (λ t o. inr o)))
+        (from_first U p f g oracle net_oracle l k c T agree K can.0 giving_one) can.0.suits can.0.hands start_there there now asked parts.1 formed can.0.ranks (λ t o. inr o)))
     group_agrees K (typed ty (convert to e)) w start have stands can covers formed =
         nothing_agrees U K C S net_oracle T w start ty to e (nothing_converted (uses.given ty) ty to e covers)
     group_agrees K (typed ty _) w start have stands can covers formed = absurd (true≢false (sym covers))
@@ -322,23 +330,25 @@ module _ (U : Upgrade) (p : ℕ) (f : SourceFrame) (g : NetFrame) (oracle : Sour
         let D = U.program.declarations in
         let both = both_true ((is_passable uses e && covers_expr uses e) || (covers_array uses e || covers_place uses e)) (covers_passed uses rest) covers in
         let passed : IsPassed uses e = passed_by uses e both.0 in
-        let fit = both_true (takes_reference D q i && (is_referred e && (suits_array D q i e && suits_group D q i e))) (suits_passed D q (suc i) rest) suits in
+        let fit = both_true (takes_address D q i && (is_referred e && (suits_array D q i e && suits_group D q i e))) (suits_passed D q (suc i) rest) suits in
         let hand = both_true (hands_argument U.program q i (by_reference e)) (hands_passed U.program q (suc i) rest) hands in
-        let one = both_true (takes_reference D q i) (is_referred e && (suits_array D q i e && suits_group D q i e)) fit.0 in
+        let one = both_true (takes_address D q i) (is_referred e && (suits_array D q i e && suits_group D q i e)) fit.0 in
         let referred = both_true (is_referred e) (suits_array D q i e && suits_group D q i e) one.1 in
         let types = both_true (suits_array D q i e) (suits_group D q i e) referred.1 in
+        let taken = both_true (not (is_property D q)) (takes_reference D q i) one.0 in
+        let addresses : TakesAddresses U q = not_true (is_property D q) taken.0 in
         let forms = both_true (is_formed e) (passed_are_formed rest) formed in
         let next = λ (n : ℕ). takes (suc n) ∙ ap (λ m. passing_by (takes_reference D q m)) (further i n) in
         let keep = λ (t : Ty) (o : IsOne (given_types rest) t). kept t (one_right (given_by (by_reference e)) (given_types rest) t o) in
         let mode : target.first_passing modes ≡ passing.Reference =
-        takes 0 ∙ ap (λ n. passing_by (takes_reference D q n)) (here i) ∙ ap passing_by one.0 in
+        takes 0 ∙ ap (λ n. passing_by (takes_reference D q n)) (here i) ∙ ap passing_by taken.1 in
         by_test (is_variable e) (λ b. is_variable e ≡ b → (b || (is_conversion e || (is_item e || is_group_field e))) ≡ true
         → Agrees U K w (ArgumentsMatch U K q i) (source.args_of C q i (next_passed (by_reference e) rest) w.src)
         (target.args_of S net_oracle modes (passed_of T q i (next_passed (by_reference e) rest)) w.net))
         (λ yes is h.
         reference_agrees U K p f g oracle net_oracle l k c T uses same_declarations readable q i w ((runnable_of U).quiet q i) (target.first_passing modes)
         (takes_reference T.declarations q i) e (source.args_of C q (suc i) rest) (target.args_of S net_oracle (target.rest_passings modes) (passed_of T q (suc i) rest))
-        mode is passed fits.0 types.0 hand.0 start have.variables
+        mode is passed fits.0 types.0 hand.0 addresses start have.variables
         (passed_agree K q (suc i) passes rest (target.rest_passings modes) w next fit.1 hand.1 start have stands can.1 both.1 forms.1 fits.1 keep))
         (λ no is h.
         by_test (is_conversion e) (λ b. is_conversion e ≡ b → (b || (is_item e || is_group_field e)) ≡ true
@@ -368,14 +378,14 @@ module _ (U : Upgrade) (p : ℕ) (f : SourceFrame) (g : NetFrame) (oracle : Sour
         let scalar : covers_expr uses e ≡ true = scalar_passed uses e passed is (ap (λ b. is_conversion e || b) item ∙ or_true (is_conversion e)) in
         item_passed U C S net_oracle T K q i w ((runnable_of U).quiet q i) (target.first_passing modes) (takes_reference T.declarations q i) e
         (source.args_of C q (suc i) rest) (target.args_of S net_oracle (target.rest_passings modes) (passed_of T q (suc i) rest)) mode item (covered_type uses e scalar)
-        (λ t o. kept t (one_left (given_by (by_reference e)) (given_types rest) t o)) hand.0 start (item_agrees K e w start have stands can.0 scalar forms.0)
+        (λ t o. kept t (one_left (given_by (by_reference e)) (given_types rest) t o)) hand.0 addresses start (item_agrees K e w start have stands can.0 scalar forms.0)
         (λ v later.
         passed_agree K q (suc i) passes rest (target.rest_passings modes) v next fit.1 hand.1 later.match (places_later U p f g oracle net_oracle l k c T uses K w v start later have)
         (stands_later U K w v p f g later stands) can.1 both.1 forms.1 fits.1 keep))
         (λ none no_item is_field.
         field_passed U K p f g oracle net_oracle l k c T uses same_declarations readable q i w start have ((runnable_of U).quiet q i) (target.first_passing modes)
         (takes_reference T.declarations q i) (source.args_of C q (suc i) rest)
-        (target.args_of S net_oracle (target.rest_passings modes) (passed_of T q (suc i) rest)) mode
+        (target.args_of S net_oracle (target.rest_passings modes) (passed_of T q (suc i) rest)) mode addresses
         (passed_agree K q (suc i) passes rest (target.rest_passings modes) w next fit.1 hand.1 start have stands can.1 both.1 forms.1 fits.1 keep)
         e is_field passed can.0) refl left) refl h) refl referred.0
     passed_agree K q i passes (next_passed (by_value e) rest) modes w takes suits hands start have stands can covers formed fits kept =

@@ -42,7 +42,7 @@ use Rattle.expression_laws.proofs.Places.{place_is}
 use Rattle.expression_laws.proofs.References.{IsPassed, given_agrees, group_ranked, image_given, or_true, scalar_of_passed}
 use Rattle.expression_laws.proofs.Types.{both_true, or_false}
 use Rattle.expression_laws.proofs.Withs.{HavePlaces, PlaceIs, missing, placed, root_plain}
-use Rattle.run_matches.specs.Addresses.{IsDeclaredShape}
+use Rattle.run_matches.specs.Addresses.{IsDeclaredShape, TakesAddresses}
 use Rattle.agreeing_laws.proofs.UserShapes.{declared_user}
 
 -- ---- no object is in a place
@@ -104,7 +104,7 @@ module _ (U : Upgrade) (K : Pledge) (p : ℕ) (f : SourceFrame) (g : NetFrame) (
 
   module _ (quiet : Bool) (mode : NetPassing) (referred : Bool) (rest : Memory → Outcome Memory (List SourceGiven))
       (rest' : net.Memory → Outcome net.Memory Arguments) (takes : mode ≡ passing.Reference)
-      (more : Agrees U K w (ArgumentsMatch U K q (suc i)) (rest w.src) (rest' w.net)) where
+      (addresses : TakesAddresses U q) (more : Agrees U K w (ArgumentsMatch U K q (suc i)) (rest w.src) (rest' w.net)) where
     at_place : (fty ty : Ty) (s j : ℕ) (tm : Term) → covers_base uses (typed (types.user s) tm) ≡ true
         → PlaceIs U K C S net_oracle T w fty (typed ty (field (typed (types.user s) tm) j))
         → FirstAgrees quiet mode referred (typed ty (field (typed (types.user s) tm) j)) rest rest'
@@ -137,7 +137,7 @@ module _ (U : Upgrade) (K : Pledge) (p : ℕ) (f : SourceFrame) (g : NetFrame) (
         (subst (λ z. Agrees U K w (ArgumentsMatch U K q i) (goes (source.given_address quiet a w.src)) (goes' z)) (sym target_is)
         (given_agrees U K p f g oracle net_oracle l k c T uses same_declarations readable q i w quiet a x.address rest rest' start x.same x.target (λ is. refl)
         (root_plain U w d x.position r x.in_root plain)
-        (group_ranked U K w q i d a x.address x.position x.sound refl x.same, declared_field U fty x.covers) more))
+        (group_ranked U K w q i d a x.address x.position x.sound refl x.same, (declared_field U fty x.covers, addresses)) more))
 
     pub field_passed : (e : Expr) → is_group_field e ≡ true → IsPassed uses e → AllCalled (demands U K p l k (scope_of U.written c g k) T) e
         → FirstAgrees quiet mode referred e rest rest'

@@ -21,7 +21,7 @@ use Rattle.net_run.specs.Names.{Reached}
 use Rattle.net_run.specs.Shapes as shape
 use Rattle.net_run.specs.Store as net
 use Rattle.row_laws.proofs.Composing.{after_nil, then_assoc}
-use Rattle.run_matches.specs.Addresses.{GivesWhole, IsPlain, IsTarget, Same, SuitsParameter, same_item}
+use Rattle.run_matches.specs.Addresses.{GivesWhole, IsPlain, IsTarget, Same, SuitsParameter, TakesAddresses, same_item}
 use Rattle.run_matches.specs.Agreeing.{Agrees}
 use Rattle.run_matches.specs.CoveredVariables.{covers_type}
 use Rattle.run_matches.specs.Maps.{World, is_auto_root}
@@ -51,7 +51,8 @@ record ItemGiven (U : Upgrade) (K : Pledge) (q i : ℕ) (w : World) (g : SourceG
 some_is : (p q : Position) → Some p ≡ Some q → p ≡ q
 some_is p q e = cc e
 
-module _ (U : Upgrade) (K : Pledge) (ty : Ty) (covers : covers_type ty ≡ true) (keeps : K.keeps ty) (q i : ℕ) (quiet : Bool) where
+module _ (U : Upgrade) (K : Pledge) (ty : Ty) (covers : covers_type ty ≡ true) (keeps : K.keeps ty) (q i : ℕ) (quiet : Bool)
+    (addresses : TakesAddresses U q) where
   abbrev R : World → SourceGiven → NetGiven → Type 0
   R w g h = ItemGiven U K q i w g h
 
@@ -71,7 +72,7 @@ module _ (U : Upgrade) (K : Pledge) (ty : Ty) (covers : covers_type ty ≡ true)
     same = same_item (simple ty) (simple ty) m.written m.position m.array j [] keeps m.is_matched m.has refl m.same;
     target = inr (record { ty = ty; covers = covers; array = m.position; index = j; stands = refl });
     plain = λ p e. subst (λ (z : Position). is_auto_root U w.map z.root ≡ false) (some_is m.position p e) m.plain;
-    suits = (plain_shape U q i (simple ty) m.written ty refl m.same, tt);
+    suits = (plain_shape U q i (simple ty) m.written ty refl m.same, (tt, addresses));
   }
 
   -- the source reads what a quiet parameter is given

@@ -102,7 +102,8 @@ module _ (U : Upgrade) (K : Pledge) (S : net_names.Scope) (T : Scope) (ts : List
     inward = c.inward;
     number = c.number;
     is_number = c.is_number;
-    plain = c.plain;
+    way = c.way;
+    is_way = c.is_way;
     receives = c.receives;
     suits = c.suits;
     hands = c.hands;

@@ -89,7 +89,7 @@ givable U q i (group u fs) declared (fields k xs) v =
     subst (λ n. IsValueOf (user_shapes U.program.declarations n) (fields k xs)) (sym v.0) (subst (λ z. IsValueOf z (fields k xs)) (sym declared) v)
 givable U q i _ declared _ v = absurd v
 
-group_lasts : (U : Upgrade) (K : Pledge) (q i : ℕ) (ty : Ty) → IsSoundType U ty → Lasts U K q i (ValueMatch U (type_shape U ty))
+pub group_lasts : (U : Upgrade) (K : Pledge) (q i : ℕ) (ty : Ty) → IsSoundType U ty → Lasts U K q i (ValueMatch U (type_shape U ty))
 group_lasts U K q i ty of = record {
   like = λ w x y m. m.1;
   later = λ w u x y l m. value_later U K w u l (type_shape U ty) x y of.sound m.0 m.1;
@@ -117,7 +117,7 @@ grouped U T uses readable (typed (types.user t) (field e j)) h = refl
 grouped U T uses readable (typed (types.class d) (field e j)) h = refl
 grouped U T uses readable (typed _ (field e j)) h = absurd (true≢false (sym h))
 grouped U T uses readable (typed ty (call q qualified of args)) h =
-    is_group U.program.declarations ty (readable.given ty (both_true (uses.given ty) (covers_receiver uses of && covers_passed uses args) h).0)
+    is_group U.program.declarations ty (readable.given ty (both_true (uses.given ty) (uses.gives q.0 && (covers_receiver uses of && covers_passed uses args)) h).0)
 grouped U T uses readable (typed ty me) h = ap is_group_type (me_class uses.me ty h).1
 grouped U T uses readable (typed ty (new_object c)) h =
     ap is_group_type (me_class (Some c.0) ty (both_true (is_class_of (Some c.0) ty) (uses.made c.0) h).0).1

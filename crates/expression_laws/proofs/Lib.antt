@@ -49,3 +49,5 @@ pub mod CallsGiven
 pub mod Expressions
 pub mod Agreements
 mod Examples
+pub mod SetValues
+pub mod Setters

@@ -33,7 +33,7 @@ use Rattle.net_run.specs.Values as net_value
 use Rattle.written_trees.specs.Arguments.{argument_exp, is_conversion, temporary_exp}
 use Rattle.written_trees.specs.Exprs.{exp_of}
 use Rattle.written_trees.specs.Names.{Scope, variable_path}
-use Rattle.run_matches.specs.Addresses.{HasParameterRank, IsDeclaredAt, IsPlain, IsTarget, Same, SuitsParameter, same_item, same_root, GivesWhole, IsScalarAt}
+use Rattle.run_matches.specs.Addresses.{HasParameterRank, IsDeclaredAt, IsPlain, IsTarget, Same, SuitsParameter, TakesAddresses, same_item, same_root, GivesWhole, IsScalarAt}
 use Rattle.run_matches.specs.Agreeing.{Agrees}
 use Rattle.run_matches.specs.CoveredVariables.{covers_type}
 use Rattle.run_matches.specs.CoveredExprs.{Uses, IsUsed, covers_array, covers_expr, covers_place, is_passable, is_variable, is_relied_on}
@@ -315,10 +315,10 @@ module _ (U : Upgrade) (K : Pledge) (p : ℕ) (f : SourceFrame) (g : NetFrame) (
 
   pub reference_agrees : (w : World) (quiet : Bool) (mode : NetPassing) (referred : Bool) (e : Expr) (rest : Memory → Outcome Memory (List SourceGiven))
       (rest' : net.Memory → Outcome net.Memory Arguments) → mode ≡ passing.Reference → is_variable e ≡ true → IsPassed uses e
-      → FitsArgument U q i (by_reference e) → suits_array U.program.declarations q i e ≡ true → hands_argument U.program q i (by_reference e) ≡ true → MemoryMatch U w
-      → HaveImages U K w f (scope_of U.written c g k) T uses
+      → FitsArgument U q i (by_reference e) → suits_array U.program.declarations q i e ≡ true → hands_argument U.program q i (by_reference e) ≡ true
+      → TakesAddresses U q → MemoryMatch U w → HaveImages U K w f (scope_of U.written c g k) T uses
       → Agrees U K w (ArgumentsMatch U K q (suc i)) (rest w.src) (rest' w.net) → FirstAgrees w quiet mode referred e rest rest'
-  reference_agrees w quiet mode referred (typed ty (variable v qualified)) rest rest' takes is passed fits suits hands start have more =
+  reference_agrees w quiet mode referred (typed ty (variable v qualified)) rest rest' takes is passed fits suits hands addresses start have more =
       let e : Expr = typed ty (variable v qualified) in
       let used : IsUsed uses v = used_by uses ty v qualified passed in
       let r : IsKnown U v.0 = known_used U T uses readable v used in
@@ -356,6 +356,8 @@ module _ (U : Upgrade) (K : Pledge) (p : ℕ) (f : SourceFrame) (g : NetFrame) (
           (then z (λ g w. then (rest' w) (λ gs w. gives [] (g ∷ gs) w))))
           (sym (target_given (scope_of U.written c g k) net_oracle mode (variable_path T qualified v.0) x.address w.net takes (x.found qualified (named_by uses ty v qualified passed))
           (image_given U K w a x.address y.same)))
-          (given_agrees w quiet a x.address rest rest' start y.same y.target (λ e. x.whole (handed_whole U.program q i ty v qualified hands e)) y.plain
-          (parameter_ranked U K w T uses readable q i ty v qualified passed fits suits a x.address y, parameter_declared U K w T uses readable ty v qualified passed a x.address y) more)
-  reference_agrees w quiet mode referred (typed ty _) rest rest' takes is passed fits suits hands start have more = absurd (true≢false (sym is))
+          (given_agrees w quiet a x.address rest rest' start y.same y.target (λ e. x.whole (handed_whole U.program q i ty v qualified hands e)) y.plain (
+            parameter_ranked U K w T uses readable q i ty v qualified passed fits suits a x.address y,
+            (parameter_declared U K w T uses readable ty v qualified passed a x.address y, addresses),
+          ) more)
+  reference_agrees w quiet mode referred (typed ty _) rest rest' takes is passed fits suits hands addresses start have more = absurd (true≢false (sym is))

@@ -27,10 +27,11 @@ use Rattle.run_matches.specs.Maps.{World}
 use Rattle.run_matches.specs.Pledges.{Pledge}
 use Rattle.run_matches.specs.Upgrades.{Upgrade}
 use Rattle.run_statements.specs.Frames.{CanCall}
+use Rattle.run_statements.specs.Ways.{callee_by}
 use Rattle.agreeing_laws.specs.Promises.{Yields}
 use Rattle.agreeing_laws.proofs.Members.{member_reached}
 use Rattle.agreeing_laws.proofs.Outputs.{outputs_then}
-use Rattle.expression_laws.proofs.Callees.{callee_is, enters_with, object_parts}
+use Rattle.expression_laws.proofs.Callees.{callee_is, enters_with, object_parts, way_of_procedure}
 use Rattle.expression_laws.proofs.Handled.{IsHandled, yields_behind, yields_then}
 use Rattle.expression_laws.proofs.Me.{IsMe}
 use Rattle.expression_laws.proofs.Objects.{ObjectIs, ObjectMatch, no_value, reached}
@@ -54,7 +55,7 @@ module _ (U : Upgrade) (C : Context) (S : Scope) (oracle : Jobs) (w : World) whe
   me_seen f ty d x = leads (subst (λ b. Yields IsHandled (gives [] (at_place b) w.net)) (sym x.written) tt)
 
   module _ (K : Pledge) (T : written_names.Scope) (p : ℕ) (ty : Ty) (q : ProcId) (qualified : Bool) (d : ℕ) (t : Term) (args : Passed)
-      (can : CanCall U K S T p q.0 qualified (of_object (typed (types.class d) t)) args) where
+      (can : CanCall U K S T p q.0 qualified (of_object (typed (types.class d) t)) args) (plain : is_property T.declarations q.0 ≡ false) where
     abbrev object : Expr
     object = typed (types.class d) t
 
@@ -86,6 +87,8 @@ module _ (U : Upgrade) (C : Context) (S : Scope) (oracle : Jobs) (w : World) whe
         → net_names.member_at S a name s ≡ named (to_procedure (Some (net.looked_up a s)) can.number)
     named_is v x a o s =
         ap (λ b. net_names.member_by S a b name s) o.shaped ∙ can.found d o.home (net.looked_up a s) refl o.is_home
+        ∙ ap (λ y. named (callee_by y (Some (net.looked_up a s)) can.number))
+        (way_of_procedure U S T q.0 qualified (of_object object) args can.way can.is_way plain)
 
     abbrev Whole : Outcome net.Memory net.Address → Outcome net.Memory Reached
     Whole z = then (then z member_of_it) take
@@ -108,12 +111,12 @@ module _ (U : Upgrade) (C : Context) (S : Scope) (oracle : Jobs) (w : World) whe
         leaves o y.0 (leaves_so o is) (ap outputs goes ∙ y.1)
     called_seen _ _ is h goes = absurd h
 
-    pub object_call_seen : is_property T.declarations q.0 ≡ false → ObjectIs U K C S oracle T w d t
+    pub object_call_seen : ObjectIs U K C S oracle T w d t
         → IsSeen C S oracle w (typed ty (call q qualified (of_object (typed (types.class d) t)) args))
         (exp_of T (typed ty (call q qualified (of_object (typed (types.class d) t)) args)))
-    object_call_seen plain (no_value none) =
+    object_call_seen (no_value none) =
         leaves [] (outputs (target.reach S oracle false (exp_of T e) w.net)) (leaves_so [] none) refl
-    object_call_seen plain (reached r leads_to before agrees) =
+    object_call_seen (reached r leads_to before agrees) =
         subst (λ a. IsSeen C S oracle w e a) (sym (callee_is T ty q qualified (of_object object) args plain))
         (called_seen (source.value_of C object w.src) (target.address_from S oracle (r w.net)) refl agrees
         (ap (λ z. then z take) (before name w.net ∙ member_reached S oracle T object r leads_to name w.net)))

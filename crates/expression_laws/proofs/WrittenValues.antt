@@ -28,7 +28,7 @@ use Rattle.net_tree.specs.Tree as tree
 use Rattle.net_tree.specs.Tree.{Exp, Exps}
 use Rattle.net_tree.specs.declared.expression.NetBin.TheVariants as op
 use Rattle.net_tree.specs.declared.expression.NetUn.TheVariants as un
-use Rattle.net_run.specs.Names.{Scope, support_name, to_library, to_procedure, to_support}
+use Rattle.net_run.specs.Names.{Scope, named, starts, support_name, to_library, to_procedure, to_support}
 use Rattle.written_trees.specs.Arguments.{has_address, is_property, kept, kept_call, kept_if}
 use Rattle.written_trees.specs.Conversions.{Conversion, applied, by_support, by_word, call_path, conversion, converted, cut, is_stands, literal_or, stands, support_call, text_object, writes_nothing}
 use Rattle.written_trees.specs.Exprs.{exp_of, passed_of}
@@ -46,7 +46,8 @@ use Rattle.run_matches.specs.Match.{MemoryMatch}
 use Rattle.run_matches.specs.Pledges.{Pledge}
 use Rattle.run_matches.specs.Upgrades.{Upgrade}
 use Rattle.run_statements.specs.Frames.{AllCalled, AllCalledOf, AreReadable, CanCall, IsOpen, context_of, demands}
-use Rattle.expression_laws.proofs.Callees.{callee_is}
+use Rattle.run_statements.specs.Ways.{callee_by}
+use Rattle.expression_laws.proofs.Callees.{callee_is, way_of_procedure}
 use Rattle.expression_laws.proofs.Handled.{Handles, as_call, as_seen, as_value, handles_map, is_valued}
 use Rattle.expression_laws.proofs.Me.{me_class}
 use Rattle.expression_laws.proofs.Nothings.{nothing_converted, nothing_exp}
@@ -250,20 +251,28 @@ module _ (U : Upgrade) (K : Pledge) (p : ℕ) (f : SourceFrame) (g : NetFrame) (
   behind : (b : Bool) (whole e : Expr) → b ≡ true → has_address U.program.declarations (kept_if b whole (kept e)) ≡ false → NoAddress e
   behind b whole e is h = subst (λ c. has_address U.program.declarations (kept_if c whole (kept e)) ≡ false) is h
 
-  -- a call
+  -- a call of what is no property
   called_handles : (ty : Ty) (q : ProcId) (qualified : Bool) (of : Object) (args : Passed) → CanCall U K S T p q.0 qualified of args
-      → ReceiverIs U K C S net_oracle T w of → Written (typed ty (call q qualified of args))
-  called_handles ty q qualified _ args can for_none =
+      → is_property U.program.declarations q.0 ≡ false → ReceiverIs U K C S net_oracle T w of → Written (typed ty (call q qualified of args))
+  called_handles ty q qualified _ args can none for_none =
       let e : Expr = typed ty (call q qualified no_object args) in
-      subst (λ a. Handles S (Seen e) a) (sym (callee_is T ty q qualified no_object args (ap (λ D. is_property D q.0) same_declarations ∙ can.plain)))
-      (as_call (to_procedure None can.number) (procedure_path T qualified q.0) (passed_of T q.0 0 args) can.found tt)
-  called_handles ty q qualified _ args can (for_object d t object) =
+      let plain : is_property T.declarations q.0 ≡ false = ap (λ D. is_property D q.0) same_declarations ∙ none in
+      subst (λ a. Handles S (Seen e) a) (sym (callee_is T ty q qualified no_object args plain))
+      (as_call (to_procedure None can.number) (procedure_path T qualified q.0) (passed_of T q.0 0 args)
+      (can.found ∙ ap (λ y. starts (named (callee_by y None can.number)) []) (way_of_procedure U S T q.0 qualified no_object args can.way can.is_way plain))
+      tt)
+  called_handles ty q qualified _ args can none (for_object d t object) =
       let e : Expr = typed ty (call q qualified (of_object (typed (types.class d) t)) args) in
       as_seen (exp_of T e)
-      (object_call_seen U C S net_oracle w K T p ty q qualified d t args can (ap (λ D. is_property D q.0) same_declarations ∙ can.plain) object)
+      (object_call_seen U C S net_oracle w K T p ty q qualified d t args can (ap (λ D. is_property D q.0) same_declarations ∙ none) object)
 
   receiver : (of : Object) → AllCalledOf (demands U K p l k S T) of → covers_receiver uses of ≡ true → ReceiverIs U K C S net_oracle T w of
   receiver = receiver_is U K p f g oracle net_oracle l k c T uses same_declarations readable w start have
+
+  receiver_covered : (q : ProcId) (of : Object) (args : Passed) → (uses.gives q.0 && (covers_receiver uses of && covers_passed uses args)) ≡ true
+      → covers_receiver uses of ≡ true
+  receiver_covered q of args h =
+      (both_true (covers_receiver uses of) (covers_passed uses args) (both_true (uses.gives q.0) (covers_receiver uses of && covers_passed uses args) h).1).0
 
   -- what is given as a user type or an object, where it is no place
   pub group_handles : (e : Expr) → AllCalled (demands U K p l k (scope_of U.written c g k) T) e → covers_group uses e ≡ true
@@ -272,8 +281,8 @@ module _ (U : Upgrade) (K : Pledge) (p : ℕ) (f : SourceFrame) (g : NetFrame) (
   group_handles (typed ty (variable v qualified)) can covers none = absurd (true≢false none)
   group_handles (typed ty (field e k)) can covers none = absurd (true≢false none)
   group_handles (typed ty (call q qualified of args)) can covers none =
-      called_handles ty q qualified of args can.0
-      (receiver of can.2 (both_true (covers_receiver uses of) (covers_passed uses args) (both_true (uses.given ty) (covers_receiver uses of && covers_passed uses args) covers).1).0)
+      called_handles ty q qualified of args can.0 none
+      (receiver of can.2 (receiver_covered q of args (both_true (uses.given ty) (uses.gives q.0 && (covers_receiver uses of && covers_passed uses args)) covers).1))
   group_handles (typed ty (convert to e)) can covers none =
       subst (λ a. Handles S (Seen (typed ty (convert to e))) a) (sym (nothing_exp T ty to e (nothing_converted (uses.given ty) ty to e covers)))
       (as_value tree.nothing refl)
@@ -291,8 +300,8 @@ module _ (U : Upgrade) (K : Pledge) (p : ℕ) (f : SourceFrame) (g : NetFrame) (
   exp_handles (typed ty (field e k)) can covers formed none = absurd (true≢false none)
   exp_handles (typed ty (element e indexes)) can covers formed none = absurd (true≢false none)
   exp_handles (typed ty (call q qualified of args)) can covers formed none =
-      called_handles ty q qualified of args can.0
-      (receiver of can.2 (both_true (covers_receiver uses of) (covers_passed uses args) (both_true (covers_type ty) (covers_receiver uses of && covers_passed uses args) covers).1).0)
+      called_handles ty q qualified of args can.0 none
+      (receiver of can.2 (receiver_covered q of args (both_true (covers_type ty) (uses.gives q.0 && (covers_receiver uses of && covers_passed uses args)) covers).1))
   exp_handles (typed ty (library f no_exprs)) can covers formed none = as_value tree.nothing refl
   exp_handles (typed ty (library f (next_expr e no_exprs))) can covers formed none =
       let whole : Expr = typed ty (library f (next_expr e no_exprs)) in

@@ -5,7 +5,7 @@ ghost use Rattle.run_matches.specs.Frames.{frame_pledge};
 ghost use Rattle.run_matches.specs.Maps.{World};
 ghost use Rattle.run_matches.specs.Upgrades.{Upgrade};
 ghost use Rattle.run_statements.specs.Objects.{ClassesAreWritten};
-ghost use Rattle.expression_laws.specs.Statements.{ArraysAgreeBy, ElementsAgreeBy, FormedExpressionsAgreeBy, FormedScalarsAgreeBy, GroupsAgreeBy, IndexesAgreeBy, MembersAgreeBy, ParametersAreSound, PlacesAgreeBy};
+ghost use Rattle.expression_laws.specs.Statements.{ArraysAgreeBy, ElementsAgreeBy, FormedExpressionsAgreeBy, FormedScalarsAgreeBy, GroupsAgreeBy, IndexesAgreeBy, MembersAgreeBy, ParametersAreSound, PlacesAgreeBy, PropertiesAreSetBy, SettersAgreeBy};
 
 /// A law: under the pledge of a frame, an expression that is covered and well formed gives a value that matches what is written
 /// for it.
@@ -54,4 +54,15 @@ pub fn members_agree()
 pub fn groups_agree()
     ensures { (U : Upgrade) (sound : ParametersAreSound U) (classes : ClassesAreWritten U) (p : ℕ) (w : World) (f : SourceFrame)
         → GroupsAgreeBy U (frame_pledge U p w f) }
+{}
+
+/// A law: a property that takes a value is reached with its object, where it isn't seen yet whether there is one.
+pub fn setters_agree()
+    ensures { (U : Upgrade) (p : ℕ) (w : World) (f : SourceFrame) → SettersAgreeBy U (frame_pledge U p w f) }
+{}
+
+/// A law: its Let or Set is then called with the value, for an object where there is one; without one both sides raise 91.
+pub fn properties_are_set()
+    ensures { (U : Upgrade) (sound : ParametersAreSound U) (p : ℕ) (w : World) (f : SourceFrame)
+        → PropertiesAreSetBy U (frame_pledge U p w f) }
 {}

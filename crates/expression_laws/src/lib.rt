@@ -5,5 +5,5 @@ mod laws;
 
 pub use laws::{
     arrays_agree, elements_agree, expressions_agree, groups_agree, indexes_agree, members_agree,
-    places_agree, scalars_agree,
+    places_agree, properties_are_set, scalars_agree, setters_agree,
 };

@@ -1,23 +1,25 @@
 -- Premises of the theorem that a program meets by tests on its declarations and its lines.
-use Rattle.std.proofs.Common.{◌≡◌, sym, ap, subst, ℕ, zero, suc, Bool, true, false, not, ◌&&◌, List, [], ◌∷◌, length, Some}
+use Rattle.std.proofs.Common.{◌≡◌, refl, sym, ap, subst, ℕ, zero, suc, Bool, true, false, not, ◌&&◌, List, [], ◌∷◌, length, Some}
 use Rattle.std.proofs.lemmas.Bool.{eqb-true, true≢false}
 use Rattle.std.specs.Prelude.{IsTrue, ◌↔◌, nat_eq, nat_lt, slice_get}
 use Rattle.std.specs.List.{Contains, list_all}
 use Rattle.vb_tree.specs.BoundTree.{Ty, array, user}
 use Rattle.vb_tree.specs.declared.bound.LibCall.TheVariants as lib
+use Rattle.bound_tree.specs.RuleSets.{has}
 use Rattle.bound_tree.specs.Tree.{Declarations, Expr, typed, element, call, library, Exprs, no_exprs, next_expr, Line, Passed, no_passed, next_passed, by_value, by_reference, Procedure, Variable}
 use Rattle.bound_facts.specs.Leading.{is_in}
 use Rattle.bound_facts.specs.Parts.{Resize, line_uses, resized_by}
 use Rattle.written_trees.specs.Arguments.{is_property_kind}
-use Rattle.written_trees.specs.Facts.{Holds, types_with}
+use Rattle.written_trees.specs.Facts.{Facts, Holds, head_set, types_with}
+use Rattle.written_trees.specs.Properties.{carries_shape}
 use Rattle.run_base.specs.Machines.{nth_line}
 use Rattle.run_matches.specs.CleanLines.{lines_at, or_none}
 use Rattle.run_matches.specs.Formed.{types_of}
 use Rattle.run_matches.specs.Sites.{Site}
 use Rattle.run_matches.specs.Upgrades.{Upgrade, home_of, parameter_rank}
 use Rattle.run_statements.specs.Fitting.{FitsLine, FitsNode, FitsPassed, rank_of}
-use Rattle.run_statements.specs.Written.{PartsStandTogether}
-use Rattle.name_laws.proofs.Lists.{all_among, all_at, among, both_true, some_same}
+use Rattle.run_statements.specs.Written.{FirstsAreParts, PartsStandTogether}
+use Rattle.name_laws.proofs.Lists.{all_among, all_at, among, both_true, none_of_both, some_same}
 use Rattle.run_laws.proofs.Covered.{not_none}
 
 not_both : (b : Bool) → not b ≡ true → b ≡ true → ⊥
@@ -33,12 +35,29 @@ is_whole x = not (is_property_kind x.kind)
 pub no_parts : (D : Declarations) → list_all is_whole D.procs ≡ true → PartsStandTogether D
 no_parts D h n q s e is_part at = absurd (not_both (is_property_kind q.kind) (all_at is_whole D.procs n q h e) is_part)
 
+pub no_firsts : (D : Declarations) → list_all is_whole D.procs ≡ true → FirstsAreParts D
+no_firsts D h n q e is_part = absurd (not_both (is_property_kind q.kind) (all_at is_whole D.procs n q h e) is_part)
+
+and_none : (a b : Bool) → b ≡ false → (a && b) ≡ false
+and_none true b e = e
+and_none false b e = refl
+
+-- where no head is marked, no property is written in parts
+pub unshaped : (F : Facts) (first k : ℕ) (qs : List Procedure) → ((p : ℕ) → has (head_set F p) 7 ≡ false) → carries_shape F first k qs ≡ false
+unshaped F first k [] h = refl
+unshaped F first k (q ∷ qs) h =
+    none_of_both (nat_eq q.first.0 first && has (head_set F k) 7) (carries_shape F first (suc k) qs)
+    (and_none (nat_eq q.first.0 first) (has (head_set F k) 7) (h k)) (unshaped F first (suc k) qs h)
+
 -- the module of a site is the one of its file
 abbrev pub HasHome : Upgrade → Site → Type 0
 HasHome U s = home_of U s.source_module.file ≡ Some s.home
 
 pub at_site : (P : Site → Type 0) (x y : Site) → Some x ≡ Some y → P x → P y
 at_site P x y e h = subst P (some_same x y e) h
+
+pub at_procedure : (P : Procedure → Type 0) (x y : Procedure) → Some x ≡ Some y → P x → P y
+at_procedure P x y e h = subst P (some_same x y e) h
 
 -- ---- lines
 

@@ -45,7 +45,11 @@ holds_at (shared (suc (suc (suc (suc (suc (suc (suc (suc (suc zero)))))))) ∷ [
 holds_at (shared (suc (suc (suc (suc (suc (suc (suc (suc (suc (suc zero))))))))) ∷ [])) path h = holds_blank
 holds_at (shared (suc (suc (suc (suc (suc (suc (suc (suc (suc (suc (suc zero)))))))))) ∷ [])) path h = holds_blank
 holds_at (shared (suc (suc (suc (suc (suc (suc (suc (suc (suc (suc (suc (suc zero))))))))))) ∷ [])) path h = holds_blank
-holds_at (shared (suc (suc (suc (suc (suc (suc (suc (suc (suc (suc (suc (suc (suc x)))))))))))) ∷ [])) path h = holds_blank
+holds_at (shared (suc (suc (suc (suc (suc (suc (suc (suc (suc (suc (suc (suc (suc zero)))))))))))) ∷ [])) path h = holds_blank
+holds_at (shared (suc (suc (suc (suc (suc (suc (suc (suc (suc (suc (suc (suc (suc (suc zero))))))))))))) ∷ [])) path h = holds_blank
+holds_at (shared (suc (suc (suc (suc (suc (suc (suc (suc (suc (suc (suc (suc (suc (suc (suc zero)))))))))))))) ∷ [])) path h = holds_blank
+holds_at (shared (suc (suc (suc (suc (suc (suc (suc (suc (suc (suc (suc (suc (suc (suc (suc (suc zero))))))))))))))) ∷ [])) path h = holds_blank
+holds_at (shared (suc (suc (suc (suc (suc (suc (suc (suc (suc (suc (suc (suc (suc (suc (suc (suc (suc x)))))))))))))))) ∷ [])) path h = holds_blank
 holds_at (shared (x ∷ y ∷ more)) path h = absurd (true≢false (sym h.counterpart))
 holds_at (made p) path h = let lt : p < 0 = h.is_made in absurd (omega arith)
 holds_at (field zero []) path h = holds_blank
@@ -64,7 +68,11 @@ holds_at (field zero (suc (suc (suc (suc (suc (suc (suc (suc (suc (suc zero)))))
 holds_at (field zero (suc (suc (suc (suc (suc (suc (suc (suc (suc (suc zero))))))))) ∷ [])) (i ∷ path) h = holds_blank
 holds_at (field zero (suc (suc (suc (suc (suc (suc (suc (suc (suc (suc (suc zero)))))))))) ∷ [])) path h = holds_blank
 holds_at (field zero (suc (suc (suc (suc (suc (suc (suc (suc (suc (suc (suc (suc zero))))))))))) ∷ [])) path h = holds_blank
-holds_at (field zero (suc (suc (suc (suc (suc (suc (suc (suc (suc (suc (suc (suc (suc x)))))))))))) ∷ [])) path h = holds_blank
+holds_at (field zero (suc (suc (suc (suc (suc (suc (suc (suc (suc (suc (suc (suc (suc zero)))))))))))) ∷ [])) path h = holds_blank
+holds_at (field zero (suc (suc (suc (suc (suc (suc (suc (suc (suc (suc (suc (suc (suc (suc zero))))))))))))) ∷ [])) path h = holds_blank
+holds_at (field zero (suc (suc (suc (suc (suc (suc (suc (suc (suc (suc (suc (suc (suc (suc (suc zero)))))))))))))) ∷ [])) path h = holds_blank
+holds_at (field zero (suc (suc (suc (suc (suc (suc (suc (suc (suc (suc (suc (suc (suc (suc (suc (suc zero))))))))))))))) ∷ [])) path h = holds_blank
+holds_at (field zero (suc (suc (suc (suc (suc (suc (suc (suc (suc (suc (suc (suc (suc (suc (suc (suc (suc x)))))))))))))))) ∷ [])) path h = holds_blank
 holds_at (field zero (x ∷ y ∷ more)) path h = absurd (true≢false (sym h.counterpart))
 holds_at (field (suc o) k) path h = let lt : suc o < 1 = h.is_made in absurd (omega arith)
 
@@ -122,7 +130,11 @@ kinds_at (suc (suc (suc (suc (suc (suc (suc (suc (suc zero))))))))) y e = inl (�
 kinds_at (suc (suc (suc (suc (suc (suc (suc (suc (suc (suc zero)))))))))) y e = inl (λ path. refl, not_laid (is_module_variable objects.declarations) _ y e refl)
 kinds_at (suc (suc (suc (suc (suc (suc (suc (suc (suc (suc (suc zero))))))))))) y e = inl (λ path. refl, not_laid (is_module_variable objects.declarations) _ y e refl)
 kinds_at (suc (suc (suc (suc (suc (suc (suc (suc (suc (suc (suc (suc zero)))))))))))) y e = inl (λ path. refl, not_laid (is_module_variable objects.declarations) _ y e refl)
-kinds_at (suc (suc (suc (suc (suc (suc (suc (suc (suc (suc (suc (suc (suc x))))))))))))) y e = absurd (not_none e)
+kinds_at (suc (suc (suc (suc (suc (suc (suc (suc (suc (suc (suc (suc (suc zero))))))))))))) y e = inl (λ path. refl, not_laid (is_module_variable objects.declarations) _ y e refl)
+kinds_at (suc (suc (suc (suc (suc (suc (suc (suc (suc (suc (suc (suc (suc (suc zero)))))))))))))) y e = inl (λ path. refl, not_laid (is_module_variable objects.declarations) _ y e refl)
+kinds_at (suc (suc (suc (suc (suc (suc (suc (suc (suc (suc (suc (suc (suc (suc (suc zero))))))))))))))) y e = inl (λ path. refl, not_laid (is_module_variable objects.declarations) _ y e refl)
+kinds_at (suc (suc (suc (suc (suc (suc (suc (suc (suc (suc (suc (suc (suc (suc (suc (suc zero)))))))))))))))) y e = inl (λ path. refl, not_laid (is_module_variable objects.declarations) _ y e refl)
+kinds_at (suc (suc (suc (suc (suc (suc (suc (suc (suc (suc (suc (suc (suc (suc (suc (suc (suc x))))))))))))))))) y e = absurd (not_none e)
 
 counter_kinds : (x : ℕ) (y : Variable) → slice_get objects.declarations.vars x ≡ Some y
     → HeldAs objects.declarations x (is_class_variable objects.declarations 0 y.owner) (field 0 (x ∷ [])) (λ q. held_at q.root q.path)
@@ -139,7 +151,11 @@ counter_kinds (suc (suc (suc (suc (suc (suc (suc (suc (suc zero))))))))) y e = i
 counter_kinds (suc (suc (suc (suc (suc (suc (suc (suc (suc (suc zero)))))))))) y e = inr (v.Nothing, refl)
 counter_kinds (suc (suc (suc (suc (suc (suc (suc (suc (suc (suc (suc zero))))))))))) y e = inl (λ path. refl, not_laid (is_class_variable objects.declarations 0) _ y e refl)
 counter_kinds (suc (suc (suc (suc (suc (suc (suc (suc (suc (suc (suc (suc zero)))))))))))) y e = inl (λ path. refl, not_laid (is_class_variable objects.declarations 0) _ y e refl)
-counter_kinds (suc (suc (suc (suc (suc (suc (suc (suc (suc (suc (suc (suc (suc x))))))))))))) y e = absurd (not_none e)
+counter_kinds (suc (suc (suc (suc (suc (suc (suc (suc (suc (suc (suc (suc (suc zero))))))))))))) y e = inl (λ path. refl, not_laid (is_class_variable objects.declarations 0) _ y e refl)
+counter_kinds (suc (suc (suc (suc (suc (suc (suc (suc (suc (suc (suc (suc (suc (suc zero)))))))))))))) y e = inl (λ path. refl, not_laid (is_class_variable objects.declarations 0) _ y e refl)
+counter_kinds (suc (suc (suc (suc (suc (suc (suc (suc (suc (suc (suc (suc (suc (suc (suc zero))))))))))))))) y e = inl (λ path. refl, not_laid (is_class_variable objects.declarations 0) _ y e refl)
+counter_kinds (suc (suc (suc (suc (suc (suc (suc (suc (suc (suc (suc (suc (suc (suc (suc (suc zero)))))))))))))))) y e = inl (λ path. refl, not_laid (is_class_variable objects.declarations 0) _ y e refl)
+counter_kinds (suc (suc (suc (suc (suc (suc (suc (suc (suc (suc (suc (suc (suc (suc (suc (suc (suc x))))))))))))))))) y e = absurd (not_none e)
 
 fields_at : (o c x : ℕ) (y : Variable) → o < 1 → object_source.class_of o ≡ Some c → slice_get objects.declarations.vars x ≡ Some y
     → HeldAs objects.declarations x (is_class_variable objects.declarations c y.owner) (field o (x ∷ [])) (λ q. held_at q.root q.path)

@@ -12,7 +12,7 @@ use Rattle.bound_facts.specs.Facts.{AreFacts, is_quiet}
 use Rattle.bound_facts.specs.Leading.{is_in, within}
 use Rattle.bound_facts.specs.Node.{is_array_type}
 use Rattle.bound_facts.specs.Parts.{Extent, Resize}
-use Rattle.written_trees.specs.Facts.{is_made_type}
+use Rattle.written_trees.specs.Facts.{head_set, is_made_type}
 use Rattle.run_base.specs.Machines.{nth_line}
 use Rattle.run_matches.specs.Covered.{IsCovered, covers_procedure}
 use Rattle.run_matches.specs.CleanLines.{lines_at}
@@ -21,9 +21,9 @@ use Rattle.run_statements.specs.Fitting.{FitsExtent, FitsLine, FitsResize}
 use Rattle.run_statements.specs.Written.{HasBody, IsWritten}
 use Rattle.name_laws.proofs.Lists.{Among, among, some_same}
 use Rattle.run_laws.proofs.Covered.{not_none}
-use Rattle.inhabited_laws.specs.Sample.{add_lines, main_lines, number, program, sample, sample_known, twice_lines, whole}
+use Rattle.inhabited_laws.specs.Sample.{add_lines, main_lines, number, program, sample, sample_facts, sample_known, twice_lines, whole}
 use Rattle.inhabited_laws.proofs.Chains.{leads_as, led_on}
-use Rattle.inhabited_laws.proofs.Fits.{HasHome, all_named, at_site, is_still, no_parts, none_hold, one_not, one_rank, still_fits, uses_fit}
+use Rattle.inhabited_laws.proofs.Fits.{HasHome, all_named, at_site, is_still, no_firsts, no_parts, none_hold, one_not, one_rank, still_fits, unshaped, uses_fit}
 use Rattle.inhabited_laws.proofs.Unmarked.{all_clean}
 
 -- ---- what is known
@@ -124,11 +124,16 @@ resizes (suc (suc zero)) zero l e = no_resize 2 _ l e refl
 resizes (suc (suc zero)) (suc k) l e = absurd (not_none e)
 resizes (suc (suc (suc p))) k l e = absurd (not_none e)
 
+no_head : (p : ℕ) → has (head_set sample_facts p) 7 ≡ false
+unfolding has none
+no_head p = refl
+
 pub sample_is_written : IsWritten sample
 sample_is_written = record {
   known = sample_facts_are;
   is_written = refl;
   parts = no_parts program.declarations refl;
+  firsts = no_firsts program.declarations refl;
   bodies = bodies;
   forms = λ p s e i l a b. refl;
   fits = λ p k l e u. uses_fit sample refl p k l e;
@@ -138,6 +143,7 @@ sample_is_written = record {
   arrays = none_hold program.declarations is_array_type refl;
   made = none_hold program.declarations is_made_type refl;
   named = all_named program.declarations.vars refl;
+  apart = λ p x e k h n. unshaped sample_facts x.first.0 0 program.declarations.procs no_head;
   homes = homes;
 }
 

@@ -70,6 +70,7 @@ object_world = record { map = object_map; src = object_source; net = object_targ
 
 -- ---- what is printed
 
--- n, what With sets, that following is c, n of what With keeps, that c is Nothing, n of the new object, and the number of the error
+-- n, what With sets, that following is c, n of what With keeps, which its Level raised, that c is Nothing, n of the new object, and the number
+-- of the error
 abbrev pub said : List Output
-said = map (λ (s : List ℕ). printed (s ++ 13 ∷ 10 ∷ [])) (codes " 10 " ∷ codes " 10  11 " ∷ codes " 1 " ∷ codes " 11 " ∷ codes " 2 " ∷ codes " 8 " ∷ codes " 91 " ∷ [])
+said = map (λ (s : List ℕ). printed (s ++ 13 ∷ 10 ∷ [])) (codes " 10 " ∷ codes " 10  11 " ∷ codes " 1 " ∷ codes " 12 " ∷ codes " 2 " ∷ codes " 8 " ∷ codes " 91 " ∷ [])

@@ -1,4 +1,5 @@
--- An assignment to a variable, a field, an element or a variable of an object, or of a user type, does the same as what is written for it.
+-- An assignment to a variable, a field, an element, a variable of an object or a property, or of a user type, does the same as what is written
+-- for it.
 use Rattle.std.proofs.Common.{◌≡◌, ◌∙◌, refl, sym, ap, subst, ⊎_elim, ℕ, Bool, true, false, ◌&&◌, ◌||◌, List, [], ◌∷◌, ◌++◌, codes, true≢false}
 use Rattle.std.proofs.Math.Bool.{or-false}
 use Rattle.vb_tree.specs.BoundTree as types
@@ -25,7 +26,7 @@ use Rattle.net_run.specs.Names as net_names
 use Rattle.run_matches.specs.Agreeing.{Agrees}
 use Rattle.run_matches.specs.CoveredVariables.{covers_type}
 use Rattle.run_matches.specs.CoveredExprs.{Uses, covers_array, covers_expr, covers_base, covers_exprs, covers_object, has_member, has_scalar, is_changeable_in, keeps_order}
-use Rattle.run_matches.specs.CoveredLines.{covers_copy, covers_store, is_member_ordered_in, is_ordered_in}
+use Rattle.run_matches.specs.CoveredLines.{covers_copy, covers_property, covers_store, covers_stored, is_member_ordered_in, is_ordered_in}
 use Rattle.run_matches.specs.Formed.{is_formed}
 use Rattle.run_matches.specs.Frames.{OwnsAll}
 use Rattle.run_matches.specs.Maps.{World}
@@ -38,6 +39,7 @@ use Rattle.run_statements.specs.Frames.{AllCalled, AnyUnits, AreReadable, ArePla
 use Rattle.run_statements.specs.Groups.{GroupsAgree, GroupsAreWritten}
 use Rattle.run_statements.specs.Members.{MembersAgree, MembersAreFound}
 use Rattle.run_statements.specs.Memory.{ElementsAreWritten}
+use Rattle.run_statements.specs.Properties.{PropertiesAreSet, SettersAgree}
 use Rattle.run_statements.specs.Written.{Passes}
 use Rattle.agreeing_laws.proofs.Lasting.{later_now}
 use Rattle.line_laws.specs.Lasting.{GoOnMatching}
@@ -48,12 +50,14 @@ use Rattle.line_laws.proofs.FieldStores.{field_stored, order_is_hidden}
 use Rattle.line_laws.proofs.MemberLines.{member_stored}
 use Rattle.line_laws.proofs.MemberOrders.{member_order_hidden}
 use Rattle.line_laws.proofs.OwnTargets.{IsOwnTarget}
+use Rattle.line_laws.proofs.PropertyLines.{property_assigned}
 use Rattle.line_laws.proofs.Stores.{assignment_agrees, line_is, same_type}
 use Rattle.line_laws.proofs.Targets.{SameStore}
 use Rattle.line_laws.proofs.Uses.{good}
 
 module _ (U : Upgrade) (expressions : ExpressionsAgree U) (scalars : ScalarsAreWritten U) (elements : ElementsAgree U) (indexed : IndexesAgree U)
     (writes : ElementsAreWritten U) (groups : GroupsAgree U) (writes_groups : GroupsAreWritten U) (members : MembersAgree U) (finds : MembersAreFound U)
+    (setters : SettersAgree U) (sets : PropertiesAreSet U)
     (K : Pledge) (p : ℕ) (f : SourceFrame) (g : NetFrame) (l : SourceLine) (k : NetLine) (c : Code) (T : Scope) (declared : T.declarations ≡ U.program.declarations)
     (oracle : SourceCalls) (net_oracle : Jobs) (is_open : IsOpen (scope_of U.written c g k)) (uses : Uses) (readable : AreReadable U T uses)
     (placed : ArePlaced U p f (scope_of U.written c g k) T uses) (agree : CallsAgree U (Passes U) oracle net_oracle) (w : World) (h : MemoryMatch U w)
@@ -132,8 +136,9 @@ module _ (U : Upgrade) (expressions : ExpressionsAgree U) (scalars : ScalarsAreW
         absurd (true≢false (sym (both_true (covers_type ty) false to_covers).1))
     value_stored ty _ e can_to can is to_covers to_formed covers formed own assigns puts = absurd (true≢false (sym is))
 
-    pub stored : (to e : Expr) → Can to → Can e → covers_store uses (to ∷ e ∷ []) ≡ true → is_formed to ≡ true → is_formed e ≡ true → IsOwnTarget U K p f to → Stored to e
-    stored (typed ty t) e can_to can covers to_formed formed own assigns puts =
+    place_stored : (to e : Expr) → Can to → Can e → covers_stored uses to e ≡ true → is_formed to ≡ true → is_formed e ≡ true
+        → IsOwnTarget U K p f to → Stored to e
+    place_stored (typed ty t) e can_to can covers to_formed formed own assigns puts =
         let places : Bool = Places ty t e in
         let values : Bool = covers_expr uses (typed ty t) && covers_expr uses e in
         ⊎_elim
@@ -145,3 +150,12 @@ module _ (U : Upgrade) (expressions : ExpressionsAgree U) (scalars : ScalarsAreW
         copy_stored U groups writes_groups K p f g l k c T declared oracle net_oracle is_open uses readable placed agree w h (G w (later_now U K w h)) owns P
         (typed ty t) e can_to can x formed own assigns)
         (either_true (places && values) (covers_copy uses (typed ty t) e) covers)
+
+    pub stored : (to e : Expr) → Can to → Can e → covers_store uses (to ∷ e ∷ []) ≡ true → is_formed to ≡ true → is_formed e ≡ true
+        → IsOwnTarget U K p f to → Stored to e
+    stored to e can_to can covers to_formed formed own assigns puts =
+        ⊎_elim (λ x. place_stored to e can_to can x to_formed formed own assigns puts)
+        (λ x.
+        property_assigned U expressions groups setters sets K p f g l k c T declared oracle net_oracle is_open uses readable placed agree w h G owns P to e can_to can
+        x formed assigns)
+        (either_true (covers_stored uses to e) (covers_property uses to e) covers)

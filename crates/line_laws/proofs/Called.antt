@@ -18,7 +18,7 @@ use Rattle.bound_tree.specs.declared.expression.Root.{Root}
 use Rattle.bound_facts.specs.Nodes.{nodes, nodes_in, nodes_of_all, nodes_of_object, nodes_of_passed}
 use Rattle.bound_facts.specs.Parts.{line_uses, target_nodes, used_nodes}
 use Rattle.run_matches.specs.CoveredExprs.{Uses, covers_group, covers_object, covers_place, has_member, is_changeable}
-use Rattle.run_matches.specs.CoveredLines.{covers_form, covers_set, covers_set_member, covers_set_variable, is_member_ordered}
+use Rattle.run_matches.specs.CoveredLines.{covers_form, covers_property, covers_property_term, covers_set, covers_set_member, covers_set_variable, is_member_ordered}
 use Rattle.run_matches.specs.UserTypes.{is_class_type}
 use Rattle.run_statements.specs.Frames.{Demands, AllCalled, AllCalledAll, AllCalledFor, AllCalledOf}
 use Rattle.run_statements.specs.Kept.{made_at}
@@ -170,13 +170,22 @@ member_called : (Q : Demands) (uses : Uses) (ty : Ty) (t : Term) (e : Expr) → 
 member_called Q uses ty (field d k) e ordered h = nodes_called Q d h
 member_called Q uses ty _ e ordered h = absurd (true≢false (sym ordered))
 
+-- a property is called
+property_called : (Q : Demands) (uses : Uses) (ty : Ty) (t : Term) (e : Expr) → covers_property_term uses t e ≡ true → OfNodes Q (target_nodes (typed ty t))
+    → AllCalled Q (typed ty t)
+property_called Q uses ty (call p qualified of args) e covers h = nodes_called Q (typed ty (call p qualified of args)) h
+property_called Q uses ty _ e covers h = absurd (true≢false (sym covers))
+
 set_target_called : (Q : Demands) (uses : Uses) (ty : Ty) (t : Term) (e : Expr) → covers_set uses (typed ty t ∷ e ∷ []) ≡ true
     → OfNodes Q (target_nodes (typed ty t)) → AllCalled Q (typed ty t)
 set_target_called Q uses ty t e covers h =
     let to : Expr = typed ty t in
     let places : Bool = covers_place uses to && covers_group uses e in
     let objects : Bool = covers_object uses to && covers_group uses e in
-    let first = both_true (is_class_type ty) (covers_set_variable uses to e || covers_set_member uses to e) covers in
+    let sets : Bool = covers_set_variable uses to e || covers_set_member uses to e in
+    ⊎_elim
+    (λ y.
+    let first = both_true (is_class_type ty) sets y in
     ⊎_elim
     (λ x.
     let second = both_true (is_changeable uses to) (is_same_type ty (type_at e) && places) x in
@@ -184,7 +193,9 @@ set_target_called Q uses ty t e covers h =
     (both_true (covers_place uses to) (covers_group uses e) (both_true (is_same_type ty (type_at e)) places second.1).1).0)
     (λ x.
     member_called Q uses ty t e (both_true (is_member_ordered uses to e) (is_same_type ty (type_at e) && objects) x).0 h)
-    (or_cases (covers_set_variable uses to e) (covers_set_member uses to e) first.1)
+    (or_cases (covers_set_variable uses to e) (covers_set_member uses to e) first.1))
+    (λ y. property_called Q uses ty t e (both_true (is_same_type ty (type_at e)) (covers_property_term uses t e) y).1 h)
+    (or_cases (is_class_type ty && sets) (covers_property uses to e) covers)
 
 set_called : (Q : Demands) (uses : Uses) (target value : Exp) (es : List Expr) → covers_set uses es ≡ true
     → OfNodes Q (used_nodes (source_form.set target value) es) → AllIn (AllCalled Q) es

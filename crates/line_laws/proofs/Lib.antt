@@ -1,4 +1,5 @@
 pub mod Called
+pub mod CallLines
 pub mod Within
 pub mod Bounds
 pub mod KeptPlaces
@@ -39,9 +40,13 @@ pub mod MyMembers
 pub mod MemberStores
 pub mod MemberOrders
 pub mod MemberLines
+pub mod KeptObjects
+pub mod PropertyStores
+pub mod TakenTypes
 pub mod MemberSets
 pub mod FieldStores
 pub mod Copies
+pub mod PropertyLines
 pub mod Sets
 pub mod WithLines
 pub mod WithObjects

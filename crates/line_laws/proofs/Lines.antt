@@ -1,14 +1,12 @@
 -- Covered lines do the same as what is written for them.
-use Rattle.std.proofs.Common.{◌≡◌, ◌∙◌, refl, sym, ap, subst, ℕ, Bool, true, ◌&&◌, Option, Some, List, [], ◌∷◌, ◌++◌, codes, true≢false, false, not, map}
+use Rattle.std.proofs.Common.{◌≡◌, ◌∙◌, refl, sym, ap, subst, ℕ, Bool, true, ◌&&◌, Option, Some, List, [], ◌∷◌, ◌++◌, codes, true≢false, map}
 use Rattle.std.specs.List.{Contains, list_all}
 use Rattle.std.proofs.lemmas.List.Elements.{Contains-push}
-use Rattle.vb_tree.specs.BoundTree.{Ty}
-use Rattle.vb_tree.specs.declared.declared.ProcId.{ProcId}
 use Rattle.vb_tree.specs.declared.form_parts.Label6.{Label6}
 use Rattle.vb_tree.specs.Tree.{Form}
 use Rattle.vb_tree.specs.Tree as source_form
 use Rattle.bound_tree.specs.Labels.{Label, labels}
-use Rattle.bound_tree.specs.Tree.{Expr, Line, typed, element, call, library, new_object, with_object, err_raise, err_clear, Object, Passed}
+use Rattle.bound_tree.specs.Tree.{Expr, Line, typed, element, call, library, new_object, with_object, err_raise, err_clear}
 use Rattle.bound_facts.proofs.Chains.{both_true}
 use Rattle.bound_facts.specs.Node.{args_at, called, declared_at, type_at}
 use Rattle.bound_facts.specs.Parts.{line_uses, resizes}
@@ -19,13 +17,11 @@ use Rattle.run_base.specs.Machines.{go, handled, nth_line}
 use Rattle.run_base.specs.Outcomes.{Outcome, gives, then, some_of}
 use Rattle.written_trees.specs.Bodies.{inside_procedure}
 use Rattle.written_trees.specs.Conversions.{one, support_call, two}
-use Rattle.written_trees.specs.Exprs.{callee_of, exp_of, has_none, passed_of, reads_itself, target_exp}
+use Rattle.written_trees.specs.Exprs.{callee_of, exp_of, passed_of, target_exp}
 use Rattle.written_trees.specs.Lines.{assign_line, first_exp, items_exp, jump, print_name, line_of, call_line, as_call, empty_extents, resized_array}
 use Rattle.written_trees.specs.Types.{element_type, written_type}
 use Rattle.written_trees.specs.Puts as written_puts
 use Rattle.written_trees.specs.Names.{Scope}
-use Rattle.written_trees.specs.Arguments.{is_property}
-use Rattle.written_trees.specs.Exprs as written
 use Rattle.vb6_run.specs.Arrays.{erase}
 use Rattle.vb6_run.specs.Expressions as source
 use Rattle.vb6_run.specs.Forms as source_forms
@@ -63,6 +59,7 @@ use Rattle.run_statements.specs.Groups.{GroupsAgree, GroupsAreWritten}
 use Rattle.run_statements.specs.Kept.{AllSameWays, LinesAgree, made_at, qualified_at, receiver_at}
 use Rattle.run_statements.specs.Members.{MembersAgree, MembersAreFound}
 use Rattle.run_statements.specs.Objects.{ClassesAreWritten}
+use Rattle.run_statements.specs.Properties.{PropertiesAreSet, SettersAgree}
 use Rattle.run_statements.specs.Written.{Passes, site_scope}
 use Rattle.agreeing_laws.specs.Beside.{with_steps}
 use Rattle.agreeing_laws.proofs.Agreeing.{agrees_gives, agrees_weaker, then_agrees}
@@ -83,6 +80,7 @@ use Rattle.line_laws.proofs.Handlers.{Places, handler_agrees, handler_at_agrees,
 use Rattle.line_laws.proofs.Jumps.{exit_agrees, leads}
 use Rattle.line_laws.proofs.Boxes.{AnyShown, AgreesAsCall, box_agrees}
 use Rattle.line_laws.proofs.Called.{AllIn, NodeHas, line_called}
+use Rattle.line_laws.proofs.CallLines.{call_is}
 use Rattle.line_laws.proofs.Errors.{clear_agrees, raise_agrees}
 use Rattle.line_laws.proofs.Owning.{owns_now}
 use Rattle.line_laws.proofs.OwnTargets.{IsOwnTarget, own_target}
@@ -99,17 +97,11 @@ use Rattle.line_laws.proofs.Uses.{all_good, good}
 abbrev AnyDone : World → source.Parts → Unit {0} → Type 0
 AnyDone w x u = Unit {0}
 
--- a call of a procedure that is no part of a property is written as one
-call_is : (U : Upgrade) (T : Scope) → T.declarations ≡ U.program.declarations → (ty : Ty) (q : ProcId) (qualified : Bool) (of : Object) (args : Passed)
-    → is_property U.program.declarations q.0 ≡ false
-    → as_call (exp_of T (typed ty (call q qualified of args))) ≡ net.call (callee_of T q.0 qualified of) (passed_of T q.0 0 args)
-call_is U T declared ty q qualified of args h =
-    ap (λ b. as_call (written.called (b && (has_none args && not (reads_itself T q.0 qualified of))) (callee_of T q.0 qualified of) (passed_of T q.0 0 args)))
-    (ap (λ D. is_property D q.0) declared ∙ h)
-
-module _ (U : Upgrade) (classes : ClassesAreWritten U) (expressions : ExpressionsAgree U) (calls : CallsAreMade U) (reads : ScalarsAreRead U) (scalars : ScalarsAreWritten U) (elements : ElementsAgree U) (indexed : IndexesAgree U)
-    (writes : ElementsAreWritten U) (groups : GroupsAgree U) (writes_groups : GroupsAreWritten U) (members : MembersAgree U) (finds : MembersAreFound U) (arrays : ArraysAgree U) (resizing : ArraysAreResized U) (erasing : ArraysAreErased U) (K : Pledge) (p q : ℕ) (f : SourceFrame) (g : NetFrame) (l : SourceLine) (k : NetLine) (c : Code) (T : Scope)
-    (declared : T.declarations ≡ U.program.declarations) (oracle : SourceCalls) (net_oracle : Jobs)
+module _ (U : Upgrade) (classes : ClassesAreWritten U) (expressions : ExpressionsAgree U) (calls : CallsAreMade U) (reads : ScalarsAreRead U)
+    (scalars : ScalarsAreWritten U) (elements : ElementsAgree U) (indexed : IndexesAgree U) (writes : ElementsAreWritten U) (groups : GroupsAgree U)
+    (writes_groups : GroupsAreWritten U) (members : MembersAgree U) (finds : MembersAreFound U) (setters : SettersAgree U) (sets : PropertiesAreSet U)
+    (arrays : ArraysAgree U) (resizing : ArraysAreResized U) (erasing : ArraysAreErased U) (K : Pledge) (p q : ℕ) (f : SourceFrame) (g : NetFrame)
+    (l : SourceLine) (k : NetLine) (c : Code) (T : Scope) (declared : T.declarations ≡ U.program.declarations) (oracle : SourceCalls) (net_oracle : Jobs)
     (is_open : IsOpen (scope_of U.written c g k)) (uses : Uses) (readable : AreReadable U T uses)
     (placed : ArePlaced U p f (scope_of U.written c g k) T uses) (agree : CallsAgree U (Passes U) oracle net_oracle)
     (R : World → SourceFrame → NetFrame → Type 0) (w : World) (h : MemoryMatch U w)
@@ -180,7 +172,7 @@ module _ (U : Upgrade) (classes : ClassesAreWritten U) (expressions : Expression
       → Agrees U K w R (then (then (source.value_of C value w.src) (let_to C target)) (λ x s. goes_on C s)) (does (assign_line T (target ∷ value ∷ [])))
   assigned to e can_to can covers to_formed formed own =
       let stores : Outcome Memory Unit = then (source.value_of C e w.src) (let_to C to) in
-      stored U expressions scalars elements indexed writes groups writes_groups members finds K p f g l k c T declared oracle net_oracle is_open uses readable placed
+      stored U expressions scalars elements indexed writes groups writes_groups members finds setters sets K p f g l k c T declared oracle net_oracle is_open uses readable placed
       agree w h F owns (λ x. Agrees U K w R (then stores (λ x s. goes_on C s)) (does x)) to e can_to can covers to_formed formed own
       (λ x. goes AnyUnits stores (assignment S net_oracle (exp_of T to) (exp_of T e) w.net) x)
       (λ name x.
@@ -198,16 +190,17 @@ module _ (U : Upgrade) (classes : ClassesAreWritten U) (expressions : Expression
       → Agrees U K w R (then (source.parts_of C e w.src) (λ x s. goes_on C s)) (does (as_call (exp_of T e)))
   called_line (typed ty (call id qualified of args)) can covers formed =
       let t = call id qualified of args in
-      let both = both_true (covers_receiver uses of) (covers_passed uses args) covers in
+      let first = both_true (uses.gives id.0) (covers_receiver uses of && covers_passed uses args) covers in
+      let both = both_true (covers_receiver uses of) (covers_passed uses args) first.1 in
       let r = source.term_parts C ty t w.src in
       let r' = target.address_of S net_oracle (net.call_of (callee_of T id.0 qualified of) (passed_of T id.0 0 args)) w.net in
       let end = does (net.call (callee_of T id.0 qualified of) (passed_of T id.0 0 args)) in
-      subst (λ x. Agrees U K w R (then (source.parts_of C (typed ty t) w.src) (λ x s. goes_on C s)) (does x)) (sym (call_is U T declared ty id qualified of args can.0.plain))
+      subst (λ x. Agrees U K w R (then (source.parts_of C (typed ty t) w.src) (λ x s. goes_on C s)) (does x)) (sym (call_is T ty id qualified of args))
       (subst (λ x. Agrees U K w R (then x (λ x s. goes_on C s)) end) (sym (then_gives r))
       (goes AnyDone r (then r' (λ a t. gives [] tt t))
       (subst (λ x. Agrees U K w AnyDone x (then r' (λ a t. gives [] tt t))) (then_gives r)
       (then_agrees U K w AnyParts AnyDone r r' (λ x s. gives [] x s) (λ a t. gives [] tt t) h
-      (calls K w p f g oracle net_oracle l k c T uses ty id qualified of args h (F w (later_now U K w h)) declared is_open readable placed agree can both.0 both.1 formed)
+      (calls K w p f g oracle net_oracle l k c T uses ty id qualified of args h (F w (later_now U K w h)) declared is_open readable placed agree can first.0 both.0 both.1 formed)
       (λ x a w1 m later. agrees_gives U K w1 AnyDone x tt later.match tt)))))
   called_line (typed ty (library function args)) can covers formed =
       shown (source.parts_of C (typed ty (library function args)) w.src) (exp_of T (typed ty (library function args)))
@@ -242,7 +235,7 @@ module _ (U : Upgrade) (classes : ClassesAreWritten U) (expressions : Expression
   form_agrees ls (source_form.set to value) (x ∷ []) can covers formed found may keep stands ways = absurd (true≢false (sym covers))
   form_agrees ls (source_form.set to value) (x ∷ y ∷ []) can covers formed found may keep stands ways =
       goes AnyUnits (then (source.value_of C y w.src) (set_to C x)) (assignment S net_oracle (target_exp T x) (exp_of T y) w.net)
-      (set_agrees U groups writes_groups members finds K p f g l k c T declared oracle net_oracle is_open uses readable placed agree w h F owns x y
+      (set_agrees U expressions groups writes_groups members finds setters sets K p f g l k c T declared oracle net_oracle is_open uses readable placed agree w h F owns x y
       can.0 can.1.0 covers (both_true (is_formed y) true (both_true (is_formed x) (list_all is_formed (y ∷ [])) formed).1).0 (may.own x (Contains-push [] x)))
   form_agrees ls (source_form.set to value) (x ∷ y ∷ z ∷ es) can covers formed found may keep stands ways = absurd (true≢false (sym covers))
   form_agrees ls (source_form.debug_print items ended) es can covers formed found may keep stands ways =
@@ -348,9 +341,10 @@ node_has U K p l k S T (typed ty (with_object r)) can makes fits aims within = s
 node_has U K p l k S T (typed ty t) can makes fits aims within = tt
 
 -- A covered line does the same as what is written for it, in frames that go on to match.
-pub steady_lines_agree : (U : Upgrade) → ClassesAreWritten U → ExpressionsAgree U → CallsAreMade U → ScalarsAreRead U → ScalarsAreWritten U → ElementsAgree U → IndexesAgree U → ElementsAreWritten U
-    → GroupsAgree U → GroupsAreWritten U → MembersAgree U → MembersAreFound U → ArraysAgree U → ArraysAreResized U → ArraysAreErased U → SteadyLinesAgree U
-steady_lines_agree U classes expressions calls reads scalars elements indexed writes groups writes_groups members finds arrays resizing erasing p s written number turns l c L code opens readable placed own agree can makes fits remade covers stands w f g at h F given =
+pub steady_lines_agree : (U : Upgrade) → ClassesAreWritten U → ExpressionsAgree U → CallsAreMade U → ScalarsAreRead U → ScalarsAreWritten U → ElementsAgree U
+    → IndexesAgree U → ElementsAreWritten U → GroupsAgree U → GroupsAreWritten U → MembersAgree U → MembersAreFound U → SettersAgree U → PropertiesAreSet U
+    → ArraysAgree U → ArraysAreResized U → ArraysAreErased U → SteadyLinesAgree U
+steady_lines_agree U classes expressions calls reads scalars elements indexed writes groups writes_groups members finds setters sets arrays resizing erasing p s written number turns l c L code opens readable placed own agree can makes fits remade covers stands w f g at h F given =
     let K : Pledge = frame_pledge U p w f in
     let owns : OwnsAll U K p f = owns_now U p f K w w g (F w (later_now U K w h)) in
     let R : World → SourceFrame → NetFrame → Type 0 = SteadyNext U K p f.me in
@@ -389,7 +383,7 @@ steady_lines_agree U classes expressions calls reads scalars elements indexed wr
     (target_lines.line_in U.written (target_program.frames_of U.written) net_oracle written g L.line o w1.net)) (sym code)
     (subst (λ x. Agrees U K w1 R (source_program.line_does (runnable_of U) oracle p f l w1.src)
     (target_lines.form_does (target_program.frames_of U.written) net_oracle written c (scope_of U.written c g L.line) g L.line x w1.net)) (sym L.form)
-    (form_agrees U classes expressions calls reads scalars elements indexed writes groups writes_groups members finds arrays resizing erasing K p written f g l L.line c T refl oracle net_oracle (opens g L.line now.names)
+    (form_agrees U classes expressions calls reads scalars elements indexed writes groups writes_groups members finds setters sets arrays resizing erasing K p written f g l L.line c T refl oracle net_oracle (opens g L.line now.names)
     (uses_in U.program p l.form.bindings.mentions) readable (placed f g L.line now.names given) agree R w1 later.match F1 owns L.aims next
     (λ n m i j t u d e c w2 more. placed_at U K p f g w1 later.match F1 owns w2 more n m i j t u d e c)
     (labels (site_lines s)) l.form.source.form l.form.bindings.exprs
@@ -409,14 +403,15 @@ steady_now : (U : Upgrade) (K : Pledge) (w : World) (p : ℕ) (f : SourceFrame) 
     → GoOnMatching U K p f g w
 steady_now U K w p f g h F w1 l = frame_later U K w w1 p f g h l F
 
-pub lines_agree : (U : Upgrade) → ClassesAreWritten U → ExpressionsAgree U → CallsAreMade U → ScalarsAreRead U → ScalarsAreWritten U → ElementsAgree U → IndexesAgree U → ElementsAreWritten U
-    → GroupsAgree U → GroupsAreWritten U → MembersAgree U → MembersAreFound U → ArraysAgree U → ArraysAreResized U → ArraysAreErased U → LinesAgree U
-lines_agree U classes expressions calls reads scalars elements indexed writes groups writes_groups members finds arrays resizing erasing p s written number turns l c L code opens readable placed own agree can makes fits remade covers stands w f g at h F given =
+pub lines_agree : (U : Upgrade) → ClassesAreWritten U → ExpressionsAgree U → CallsAreMade U → ScalarsAreRead U → ScalarsAreWritten U → ElementsAgree U
+    → IndexesAgree U → ElementsAreWritten U → GroupsAgree U → GroupsAreWritten U → MembersAgree U → MembersAreFound U → SettersAgree U → PropertiesAreSet U
+    → ArraysAgree U → ArraysAreResized U → ArraysAreErased U → LinesAgree U
+lines_agree U classes expressions calls reads scalars elements indexed writes groups writes_groups members finds setters sets arrays resizing erasing p s written number turns l c L code opens readable placed own agree can makes fits remade covers stands w f g at h F given =
     let K : Pledge = frame_pledge U p w f in
     agrees_weaker U K w (SteadyNext U K p f.me) (NextMatch U K p f.me)
     (line_result (source_program.machine_of (runnable_of U)) turns p f l w.src)
     (line_result (target_program.machine_of U.written) turns written g L.line w.net)
     (λ w1 f1 g1 later x.
     record { same_object = x.same_object; frames = x.frames w1 (later_now U K w1 later.match); owns = x.owns })
-    (steady_lines_agree U classes expressions calls reads scalars elements indexed writes groups writes_groups members finds arrays resizing erasing p s written number turns l c L code opens readable placed own agree can makes fits remade covers stands w f g at h
+    (steady_lines_agree U classes expressions calls reads scalars elements indexed writes groups writes_groups members finds setters sets arrays resizing erasing p s written number turns l c L code opens readable placed own agree can makes fits remade covers stands w f g at h
     (steady_now U K w p f g h F) given)

@@ -29,7 +29,7 @@ use Rattle.line_laws.proofs.Elements.{known_auto}
 
 -- no object is made for a variable of an object
 module _ (U : Upgrade) (of_class i : ℕ) (member_type : Ty) (m : IsMember U of_class i member_type) where
-  no_auto : auto_class (variable_number U.program.declarations.vars (field_of U.program.declarations (types.class of_class) i)) ≡ None
+  pub no_auto : auto_class (variable_number U.program.declarations.vars (field_of U.program.declarations (types.class of_class) i)) ≡ None
   no_auto = ap (λ o. auto_class (variable_number U.program.declarations.vars o)) m.declares ∙ known_auto U m.number m.known
 
   -- so it is written alike as a target of a Set

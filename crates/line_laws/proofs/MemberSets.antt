@@ -1,5 +1,5 @@
 -- A Set of a variable of an object does the same as what is written for it.
-use Rattle.std.proofs.Common.{◌≡◌, ◌∙◌, refl, sym, ap, subst, inr, ⊎_elim, ℕ, Bool, true, ◌&&◌, ◌||◌, true≢false}
+use Rattle.std.proofs.Common.{◌≡◌, ◌∙◌, refl, sym, ap, subst, inr, ⊎_elim, ℕ, Bool, true, false, ◌&&◌, ◌||◌, true≢false}
 use Rattle.std.proofs.Math.Bool.{or-false}
 use Rattle.std.proofs.lemmas.Bool.{or_cases}
 use Rattle.vb_tree.specs.BoundTree as types
@@ -43,6 +43,7 @@ use Rattle.run_matches.specs.Match.{MemoryMatch}
 use Rattle.run_matches.specs.Pledges.{Later, Pledge}
 use Rattle.run_matches.specs.Runs.{CallsAgree}
 use Rattle.run_matches.specs.Upgrades.{Upgrade}
+use Rattle.run_matches.specs.UserTypes.{is_class_type}
 use Rattle.run_statements.specs.Frames.{AllCalled, AnyUnits, AreReadable, ArePlaced, IsGroup, IsMember, IsOpen, IsReadable, MayChange, ScalarMatch, context_of, demands}
 use Rattle.run_statements.specs.Groups.{GroupsAgree, GroupsAreWritten, ValueMatch}
 use Rattle.run_statements.specs.Members.{MemberFound, MembersAgree, MembersAreFound}
@@ -79,7 +80,7 @@ nothing_is (typed types.nothing _) h = absurd (true≢false (sym h))
 nothing_is (typed _ t) h = absurd (true≢false (sym h))
 
 -- Nothing is a constant, and the only one
-literal_object : (C : source.Context) (uses : Uses) (of_class : ℕ) (t : Term) → is_literal_value (typed (types.class of_class) t) ≡ true
+pub literal_object : (C : source.Context) (uses : Uses) (of_class : ℕ) (t : Term) → is_literal_value (typed (types.class of_class) t) ≡ true
     → covers_group uses (typed (types.class of_class) t) ≡ true → IsConstant C (typed (types.class of_class) t)
 literal_object C uses of_class (constant x o) is covers = absurd (true≢false (sym covers))
 literal_object C uses of_class (convert to e) is covers =
@@ -96,26 +97,25 @@ literal_object C uses of_class (convert to e) is covers =
     }))
 literal_object C uses of_class _ is covers = absurd (true≢false (sym is))
 
--- no object is calm, since none is a scalar
-no_calm_object : (U : Upgrade) (T : Scope) (uses : Uses) → AreReadable U T uses → (of_class : ℕ) (t : Term) → is_calm uses (typed (types.class of_class) t) ≡ true
-    → covers_group uses (typed (types.class of_class) t) ≡ true → ⊥
-no_calm_object U T uses readable of_class (constant x o) calm covers = true≢false (sym covers)
-no_calm_object U T uses readable of_class (variable x qualified) calm covers =
-    let ty : Ty = types.class of_class in
+-- no user type and no object is calm, since none is a scalar
+pub no_calm_group : (U : Upgrade) (T : Scope) (uses : Uses) → AreReadable U T uses → (ty : Ty) → covers_type ty ≡ false → (t : Term)
+    → is_calm uses (typed ty t) ≡ true → covers_group uses (typed ty t) ≡ true → ⊥
+no_calm_group U T uses readable ty none (constant x o) calm covers = true≢false (sym covers)
+no_calm_group U T uses readable ty none (variable x qualified) calm covers =
     let used = (both_true (uses.scalar x && uses.named x qualified) (uses.exact x && (uses.is_of x ty && uses.relied x)) calm).0 in
     let r : IsReadable U x.0 = readable.scalars x (both_true (uses.scalar x) (uses.named x qualified) used).0 in
     let place = both_true (uses.group x ty) (uses.named x qualified) (sym (or-false (uses.group x ty && uses.named x qualified)) ∙ covers) in
     let o : IsGroup U x.0 ty = readable.groups x ty place.0 in
     let same : r.variable.ty ≡ ty = ap (λ z. z.ty) (some_is r.variable o.known.variable (sym r.is_variable ∙ o.known.is_variable)) ∙ o.is_type in
-    true≢false (sym (subst (λ z. covers_type z ≡ true) same (scalar_type U x.0 r)))
-no_calm_object U T uses readable of_class (convert to e) calm covers =
-    let ty : Ty = types.class of_class in
-    let given = both_true (uses.given ty) (is_same_type ty to && is_nothing e) covers in
-    let of = nothing_is e (both_true (is_same_type ty to) (is_nothing e) given.1).1 in
+    true≢false (sym (subst (λ z. covers_type z ≡ true) same (scalar_type U x.0 r)) ∙ none)
+no_calm_group U T uses readable ty none (convert to e) calm covers =
+    let given = both_true (uses.given ty) (is_class_type ty && (is_same_type ty to && is_nothing e)) covers in
+    let of_class = both_true (is_class_type ty) (is_same_type ty to && is_nothing e) given.1 in
+    let of = nothing_is e (both_true (is_same_type ty to) (is_nothing e) of_class.1).1 in
     let all = both_true (is_same_type to ty) (widens (type_at e) to && is_calm uses e) calm in
     let wide = (both_true (widens (type_at e) to) (is_calm uses e) all.1).0 in
     true≢false (sym (subst (λ d. widens (type_at d) to ≡ true) of.1 wide))
-no_calm_object U T uses readable of_class _ calm covers = true≢false (sym calm)
+no_calm_group U T uses readable ty none _ calm covers = true≢false (sym calm)
 
 -- ---- the Set
 
@@ -196,7 +196,7 @@ module _ (U : Upgrade) (groups : GroupsAgree U) (writes_groups : GroupsAreWritte
           let both = both_true (is_calm_object uses d) (are_still uses (nodes e)) y in
           object_stored U members finds K p f g l k c T declared oracle net_oracle uses readable placed w h G owns ty of_class i t ty m (inr refl) covers can_object e writes
           both.0 values (still_values both.1))
-          (λ y. absurd (no_calm_object U T uses readable j from (both_true (is_calm uses e) (are_still uses (nodes d)) y).0 covers_from))
+          (λ y. absurd (no_calm_group U T uses readable (types.class j) refl from (both_true (is_calm uses e) (are_still uses (nodes d)) y).0 covers_from))
           (or_cases (is_calm_object uses d && are_still uses (nodes e)) (is_calm uses e && are_still uses (nodes d)) x))
           (or_cases (is_literal_value e) ((is_calm_object uses d && are_still uses (nodes e)) || (is_calm uses e && are_still uses (nodes d))) keeps)
 

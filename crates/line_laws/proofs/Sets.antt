@@ -1,12 +1,13 @@
--- A Set of a variable, or of a variable of an object, does the same as what is written for it.
-use Rattle.std.proofs.Common.{◌≡◌, ◌∙◌, refl, sym, ap, subst, ℕ, Bool, true, ◌&&◌, Option, Some, None, [], ◌∷◌, ⊎_elim, true≢false}
+-- A Set of a variable, of a variable of an object, or of a property does the same as what is written for it.
+use Rattle.std.proofs.Common.{◌≡◌, ◌∙◌, refl, sym, ap, subst, ℕ, Bool, true, ◌&&◌, ◌||◌, Option, Some, None, [], ◌∷◌, ⊎_elim, true≢false}
 use Rattle.std.proofs.lemmas.Bool.{or_cases}
 use Rattle.vb_tree.specs.BoundTree as types
 use Rattle.vb_tree.specs.BoundTree.{Ty}
 use Rattle.vb_tree.specs.declared.declared.VarId.{VarId}
-use Rattle.bound_tree.specs.Tree.{Expr, typed, Term, variable, field}
+use Rattle.bound_tree.specs.Tree.{Expr, typed, Term, call, variable, field}
 use Rattle.bound_facts.proofs.Chains.{both_true}
 use Rattle.bound_facts.specs.Locks.{is_same_type}
+use Rattle.bound_facts.specs.Node.{type_at}
 use Rattle.run_base.specs.Outcomes.{gives, then, some_of}
 use Rattle.written_trees.specs.Exprs.{exp_of, target_exp}
 use Rattle.written_trees.specs.Names.{Scope}
@@ -23,7 +24,7 @@ use Rattle.net_run.specs.Members.{Code}
 use Rattle.net_run.specs.Names as net_names
 use Rattle.run_matches.specs.Agreeing.{Agrees}
 use Rattle.run_matches.specs.CoveredExprs.{Uses, covers_group, covers_place, is_changeable}
-use Rattle.run_matches.specs.CoveredLines.{covers_set, covers_set_member, covers_set_variable}
+use Rattle.run_matches.specs.CoveredLines.{covers_property, covers_property_term, covers_set, covers_set_member, covers_set_variable}
 use Rattle.run_matches.specs.Formed.{is_formed}
 use Rattle.run_matches.specs.Frames.{OwnsAll}
 use Rattle.run_matches.specs.Maps.{World}
@@ -31,9 +32,11 @@ use Rattle.run_matches.specs.Match.{MemoryMatch}
 use Rattle.run_matches.specs.Pledges.{Pledge}
 use Rattle.run_matches.specs.Runs.{CallsAgree}
 use Rattle.run_matches.specs.Upgrades.{Upgrade}
-use Rattle.run_statements.specs.Frames.{AllCalled, AnyUnits, AreReadable, ArePlaced, IsGroup, IsKnown, IsOpen, context_of, demands}
+use Rattle.run_matches.specs.UserTypes.{is_class_type}
+use Rattle.run_statements.specs.Frames.{AllCalled, AnyUnits, AreReadable, ArePlaced, ExpressionsAgree, IsGroup, IsKnown, IsOpen, context_of, demands}
 use Rattle.run_statements.specs.Groups.{GroupsAgree, GroupsAreWritten}
 use Rattle.run_statements.specs.Members.{MembersAgree, MembersAreFound}
+use Rattle.run_statements.specs.Properties.{PropertiesAreSet, SettersAgree}
 use Rattle.run_statements.specs.Written.{Passes}
 use Rattle.agreeing_laws.proofs.Lasting.{later_now}
 use Rattle.agreeing_laws.proofs.WithPlaces.{class_is}
@@ -42,6 +45,7 @@ use Rattle.line_laws.proofs.Copies.{whole_stored}
 use Rattle.line_laws.proofs.Elements.{known_found}
 use Rattle.line_laws.proofs.MemberSets.{member_set_agrees}
 use Rattle.line_laws.proofs.OwnTargets.{IsOwnTarget}
+use Rattle.line_laws.proofs.PropertyLines.{property_stored}
 use Rattle.line_laws.proofs.Settled.{known_path}
 
 -- where no object is made, the target of a Set is found as that of an assignment
@@ -49,9 +53,9 @@ found_alone : (o : Option Address) (s : Memory) → then (some_of o (λ a w. giv
 found_alone None s = refl
 found_alone (Some a) s = refl
 
-module _ (U : Upgrade) (groups : GroupsAgree U) (writes : GroupsAreWritten U) (members : MembersAgree U) (finds : MembersAreFound U) (K : Pledge) (p : ℕ)
-    (f : SourceFrame) (g : NetFrame) (l : SourceLine) (k : NetLine) (c : Code) (T : Scope) (declared : T.declarations ≡ U.program.declarations) (oracle : SourceCalls)
-    (net_oracle : Jobs) (is_open : IsOpen (scope_of U.written c g k)) (uses : Uses) (readable : AreReadable U T uses)
+module _ (U : Upgrade) (expressions : ExpressionsAgree U) (groups : GroupsAgree U) (writes : GroupsAreWritten U) (members : MembersAgree U)
+    (finds : MembersAreFound U) (setters : SettersAgree U) (sets : PropertiesAreSet U) (K : Pledge) (p : ℕ) (f : SourceFrame) (g : NetFrame) (l : SourceLine)
+    (k : NetLine) (c : Code) (T : Scope) (declared : T.declarations ≡ U.program.declarations) (oracle : SourceCalls) (net_oracle : Jobs) (is_open : IsOpen (scope_of U.written c g k)) (uses : Uses) (readable : AreReadable U T uses)
     (placed : ArePlaced U p f (scope_of U.written c g k) T uses) (agree : CallsAgree U (Passes U) oracle net_oracle) (w : World)
     (h : MemoryMatch U w) (G : GoOnMatching U K p f g w) (owns : OwnsAll U K p f) where
   abbrev C : source.Context
@@ -102,11 +106,26 @@ module _ (U : Upgrade) (groups : GroupsAgree U) (writes : GroupsAreWritten U) (m
       subst (λ z. Can (typed z from) → covers_group uses (typed z from) ≡ true → is_formed (typed z from) ≡ true → SameSet d (typed z from))
       (sym (class_is t of second.0)) (λ can_from covers_from is. object_set t to from can_from third.0 covers_from is own) can third.1 formed
 
-  pub set_agrees : (to e : Expr) → Can to → Can e → covers_set uses (to ∷ e ∷ []) ≡ true → is_formed e ≡ true → IsOwnTarget U K p f to → SameSet to e
-  set_agrees (typed (types.class t) to) e can_to can covers formed own =
+  place_set : (ty : Ty) (to : Term) (e : Expr) → Can (typed ty to) → Can e
+      → (is_class_type ty && (covers_set_variable uses (typed ty to) e || covers_set_member uses (typed ty to) e)) ≡ true → is_formed e ≡ true
+      → IsOwnTarget U K p f (typed ty to) → SameSet (typed ty to) e
+  place_set (types.class t) to e can_to can covers formed own =
       let d : Expr = typed (types.class t) to in
       ⊎_elim (λ x. variable_set t to e can x formed own)
       (λ x.
       member_set_agrees U groups writes members finds K p f g l k c T declared oracle net_oracle is_open uses readable placed agree w h G owns t to e can_to can x formed own)
       (or_cases (covers_set_variable uses d e) (covers_set_member uses d e) covers)
-  set_agrees (typed _ to) e can_to can covers formed own = absurd (true≢false (sym covers))
+  place_set _ to e can_to can covers formed own = absurd (true≢false (sym covers))
+
+  property_set : (ty : Ty) (to : Term) (e : Expr) → Can (typed ty to) → Can e → covers_property_term uses to e ≡ true → is_formed e ≡ true → SameSet (typed ty to) e
+  property_set ty (call q qualified of args) e can_to can covers formed =
+      property_stored U expressions groups setters sets K p f g l k c T declared oracle net_oracle is_open uses readable placed agree w h G owns ty
+      (call q qualified of args) e can_to can covers formed
+  property_set ty _ e can_to can covers formed = absurd (true≢false (sym covers))
+
+  pub set_agrees : (to e : Expr) → Can to → Can e → covers_set uses (to ∷ e ∷ []) ≡ true → is_formed e ≡ true → IsOwnTarget U K p f to → SameSet to e
+  set_agrees (typed ty to) e can_to can covers formed own =
+      let d : Expr = typed ty to in
+      ⊎_elim (λ x. place_set ty to e can_to can x formed own)
+      (λ x. property_set ty to e can_to can (both_true (is_same_type ty (type_at e)) (covers_property_term uses to e) x).1 formed)
+      (or_cases (is_class_type ty && (covers_set_variable uses d e || covers_set_member uses d e)) (covers_property uses d e) covers)

@@ -1,20 +1,22 @@
--- Assignments to elements and to variables of objects that are covered, and some that aren't.
-use Rattle.std.proofs.Common.{◌≡◌, refl, ℕ, pos, true, false, not, nat_eq, None, Some}
+-- Assignments to elements, to variables of objects and to properties that are covered, and some that aren't.
+use Rattle.std.proofs.Common.{◌≡◌, refl, ℕ, pos, true, false, not, ◌&&◌, nat_eq, None, Some}
 use Rattle.vb_tree.specs.BoundTree as types
+use Rattle.vb_tree.specs.BoundTree.{Ty}
 use Rattle.vb_tree.specs.declared.expression.BinOp.TheVariants as b
 use Rattle.vb_tree.specs.declared.value.Value6.TheVariants as v
 use Rattle.bound_tree.specs.declared.expression.Origin.TheVariants.{Literal}
-use Rattle.bound_tree.specs.Tree.{Expr, typed, constant, variable, field, element, call, binary, convert, me, no_object, of_object, no_passed, no_exprs, next_expr}
+use Rattle.bound_tree.specs.Tree.{Expr, typed, constant, variable, field, element, call, binary, convert, me, Object, no_object, of_object, no_passed, no_exprs, next_expr}
 use Rattle.bound_facts.specs.Locks.{is_same_type}
 use Rattle.run_matches.specs.CoveredExprs.{Uses}
-use Rattle.run_matches.specs.CoveredLines.{is_member_ordered, is_ordered}
+use Rattle.run_matches.specs.CoveredLines.{covers_property, is_member_ordered, is_ordered}
 
 -- all variables are Longs or arrays of Longs, the variable 8 is a quiet parameter, and the procedure 0 is inward
+-- and the procedure 2 a Let of a Long
 abbrev uses : Uses
 uses = record {
   scalar = λ w. true;
   array = λ w e. true;
-  group = λ w ty. false;
+  group = λ w ty. is_same_type ty (types.class 0);
   field_type = λ t k. None;
   member_type = λ k i. None;
   me = Some 0;
@@ -22,6 +24,8 @@ uses = record {
   named = λ w qualified. true;
   given = λ ty. false;
   is_of = λ w ty. is_same_type ty types.long;
+  gives = λ q. not (nat_eq q 2);
+  takes = λ q ty. nat_eq q 2 && is_same_type ty types.long;
   inward = λ q. nat_eq q 0;
   exact = λ w. not (nat_eq w.0 8);
   relied = λ w. true;
@@ -129,3 +133,27 @@ both_raise_behind_object = refl
 -- q.Count = x + 1, where q is a quiet parameter
 quiet_object : is_member_ordered uses (count_of (object 8)) (plus_one (long_variable 1)) ≡ false
 quiet_object = refl
+
+-- ---- properties
+
+abbrev property : Ty → Object → Expr
+property ty of = typed ty (call (record { 0 = 2 }) false of no_passed)
+
+abbrev total : Object → Expr
+total of = property types.long of
+
+-- Total = g()
+for_none : covers_property uses (total no_object) (call_of 1) ≡ true
+for_none = refl
+
+-- o.Total = x + 1
+for_calm_object : covers_property uses (total (of_object (object 0))) (plus_one (long_variable 1)) ≡ true
+for_calm_object = refl
+
+-- o.Total = g(), which could set o
+outward_for_object : covers_property uses (total (of_object (object 0))) (call_of 1) ≡ false
+outward_for_object = refl
+
+-- no property has another type than its value, which is written in the form of that type
+in_another_form : covers_property uses (property (types.fixed 3) no_object) one ≡ false
+in_another_form = refl

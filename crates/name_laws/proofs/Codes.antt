@@ -9,48 +9,57 @@ use Rattle.name_laws.proofs.Lists.{Among, among_append, among_at}
 
 -- ---- where a procedure stands
 
--- a procedure that is no part of a property is a member of its module
+abbrev pub member_by : Option net.Property → net.Procedure → net.Member
+member_by None q = net.proc q
+member_by (Some p) q = net.property p
+
+-- the member that it is, or the property of which it is a part
+abbrev pub code_member : Code → net.Member
+code_member c = member_by c.property c.procedure
+
+-- a procedure stands in its module
 pub record IsMember (modules : List net.Module) (c : Code) : Type 0 where
   pub of : net.Module
   pub is_module : slice_get modules c.home ≡ Some of
-  pub is_member : slice_get of.members c.member ≡ Some (net.proc c.procedure)
-  pub sets : c.sets ≡ false
+  pub is_member : slice_get of.members c.member ≡ Some (code_member c)
 
 record InMember (home k : ℕ) (m : net.Member) (c : Code) : Type 0 where
   same_home : c.home ≡ home
   same_member : c.member ≡ k
-  is : m ≡ net.proc c.procedure
-  sets : c.sets ≡ false
+  is : m ≡ code_member c
 
-no_part : (home k : ℕ) (sets : Bool) (p : net.Property) (o : Option net.Procedure) (c : Code) → c.property ≡ None → Among (part_code home k sets p o) c → ⊥
-no_part home k sets p None c none h = h
-no_part home k sets p (Some q) c none (inl e) = let is : Some p ≡ c.property = ap (λ (d : Code). d.property) e in absurd (cc (is, none))
-no_part home k sets p (Some q) c none (inr h) = h
-
-in_member : (home k : ℕ) (m : net.Member) (c : Code) → c.property ≡ None → Among (codes_of_member home k m) c → InMember home k m c
-in_member home k (net.member_comment units) c none h = absurd h
-in_member home k (net.variable visibility v) c none h = absurd h
-in_member home k (net.const_member visibility d) c none h = absurd h
-in_member home k (net.structure s) c none h = absurd h
-in_member home k (net.property p) c none h = by (among_append (part_code home k false p p.get) (part_code home k true p p.set) c h)
-  where
-    by : Among (part_code home k false p p.get) c ⊎ Among (part_code home k true p p.set) c → InMember home k (net.property p) c
-    by (inl m) = absurd (no_part home k false p p.get c none m)
-    by (inr m) = absurd (no_part home k true p p.set c none m)
-in_member home k (net.proc p) c none (inl e) = record {
+in_part : (home k : ℕ) (sets : Bool) (p : net.Property) (o : Option net.Procedure) (c : Code) → Among (part_code home k sets p o) c
+    → InMember home k (net.property p) c
+in_part home k sets p None c h = absurd h
+in_part home k sets p (Some q) c (inl e) = record {
   same_home = sym (ap (λ (d : Code). d.home) e);
   same_member = sym (ap (λ (d : Code). d.member) e);
-  is = ap (λ (d : Code). net.proc d.procedure) e;
-  sets = sym (ap (λ (d : Code). d.sets) e);
+  is = ap code_member e;
 }
-in_member home k (net.proc p) c none (inr h) = absurd h
+in_part home k sets p (Some q) c (inr h) = absurd h
+
+in_member : (home k : ℕ) (m : net.Member) (c : Code) → Among (codes_of_member home k m) c → InMember home k m c
+in_member home k (net.member_comment units) c h = absurd h
+in_member home k (net.variable visibility v) c h = absurd h
+in_member home k (net.const_member visibility d) c h = absurd h
+in_member home k (net.structure s) c h = absurd h
+in_member home k (net.property p) c h = by (among_append (part_code home k false p p.get) (part_code home k true p p.set) c h)
+  where
+    by : Among (part_code home k false p p.get) c ⊎ Among (part_code home k true p p.set) c → InMember home k (net.property p) c
+    by (inl m) = in_part home k false p p.get c m
+    by (inr m) = in_part home k true p p.set c m
+in_member home k (net.proc p) c (inl e) = record {
+  same_home = sym (ap (λ (d : Code). d.home) e);
+  same_member = sym (ap (λ (d : Code). d.member) e);
+  is = ap code_member e;
+}
+in_member home k (net.proc p) c (inr h) = absurd h
 
 record InMembers (home k : ℕ) (ms : List net.Member) (c : Code) : Type 0 where
   same_home : c.home ≡ home
   place : ℕ
   same_member : c.member ≡ k + place
-  is : slice_get ms place ≡ Some (net.proc c.procedure)
-  sets : c.sets ≡ false
+  is : slice_get ms place ≡ Some (code_member c)
 
 no_more : (k : ℕ) → k ≡ k + 0
 no_more k = omega arith
@@ -58,32 +67,31 @@ no_more k = omega arith
 one_more : (k j : ℕ) → suc k + j ≡ k + suc j
 one_more k j = omega arith
 
-in_members : (home k : ℕ) (ms : List net.Member) (c : Code) → c.property ≡ None → Among (codes_of_members home k ms) c → InMembers home k ms c
-in_members home k [] c none h = absurd h
-in_members home k (m ∷ ms) c none h =
-    by (among_append (codes_of_member home k m) (codes_of_members home (suc k) ms) c h) (λ n. in_members home (suc k) ms c none n)
+in_members : (home k : ℕ) (ms : List net.Member) (c : Code) → Among (codes_of_members home k ms) c → InMembers home k ms c
+in_members home k [] c h = absurd h
+in_members home k (m ∷ ms) c h =
+    by (among_append (codes_of_member home k m) (codes_of_members home (suc k) ms) c h) (λ n. in_members home (suc k) ms c n)
   where
     by : Among (codes_of_member home k m) c ⊎ Among (codes_of_members home (suc k) ms) c
         → (Among (codes_of_members home (suc k) ms) c → InMembers home (suc k) ms c) → InMembers home k (m ∷ ms) c
     by (inl n) more =
-        let x : InMember home k m c = in_member home k m c none n in
-        record { same_home = x.same_home; place = 0; same_member = x.same_member ∙ no_more k; is = ap Some x.is; sets = x.sets }
+        let x : InMember home k m c = in_member home k m c n in
+        record { same_home = x.same_home; place = 0; same_member = x.same_member ∙ no_more k; is = ap Some x.is }
     by (inr n) more =
         let x : InMembers home (suc k) ms c = more n in
-        record { same_home = x.same_home; place = suc x.place; same_member = x.same_member ∙ one_more k x.place; is = x.is; sets = x.sets }
+        record { same_home = x.same_home; place = suc x.place; same_member = x.same_member ∙ one_more k x.place; is = x.is }
 
 record InModules (home : ℕ) (ms : List net.Module) (c : Code) : Type 0 where
   place : ℕ
   same_home : c.home ≡ home + place
   of : net.Module
   is_module : slice_get ms place ≡ Some of
-  is : slice_get of.members c.member ≡ Some (net.proc c.procedure)
-  sets : c.sets ≡ false
+  is : slice_get of.members c.member ≡ Some (code_member c)
 
-in_modules : (home : ℕ) (ms : List net.Module) (c : Code) → c.property ≡ None → Among (codes_of_modules home ms) c → InModules home ms c
-in_modules home [] c none h = absurd h
-in_modules home (m ∷ ms) c none h =
-    by (among_append (codes_of_members home 0 m.members) (codes_of_modules (suc home) ms) c h) (λ n. in_modules (suc home) ms c none n)
+in_modules : (home : ℕ) (ms : List net.Module) (c : Code) → Among (codes_of_modules home ms) c → InModules home ms c
+in_modules home [] c h = absurd h
+in_modules home (m ∷ ms) c h =
+    by (among_append (codes_of_members home 0 m.members) (codes_of_modules (suc home) ms) c h) (λ n. in_modules (suc home) ms c n)
   where
     from_start : (j : ℕ) → 0 + j ≡ j
     from_start j = omega arith
@@ -91,27 +99,25 @@ in_modules home (m ∷ ms) c none h =
     by : Among (codes_of_members home 0 m.members) c ⊎ Among (codes_of_modules (suc home) ms) c
         → (Among (codes_of_modules (suc home) ms) c → InModules (suc home) ms c) → InModules home (m ∷ ms) c
     by (inl n) more =
-        let x : InMembers home 0 m.members c = in_members home 0 m.members c none n in
+        let x : InMembers home 0 m.members c = in_members home 0 m.members c n in
         record {
           place = 0;
           same_home = x.same_home ∙ no_more home;
           of = m;
           is_module = refl;
-          is = subst (λ j. slice_get m.members j ≡ Some (net.proc c.procedure)) (sym (x.same_member ∙ from_start x.place)) x.is;
-          sets = x.sets;
+          is = subst (λ j. slice_get m.members j ≡ Some (code_member c)) (sym (x.same_member ∙ from_start x.place)) x.is;
         }
     by (inr n) more =
         let x : InModules (suc home) ms c = more n in
-        record { place = suc x.place; same_home = x.same_home ∙ one_more home x.place; of = x.of; is_module = x.is_module; is = x.is; sets = x.sets }
+        record { place = suc x.place; same_home = x.same_home ∙ one_more home x.place; of = x.of; is_module = x.is_module; is = x.is }
 
-pub stands_in : (N : net.Project) (n : ℕ) (c : Code) → code_at N n ≡ Some c → c.property ≡ None → IsMember N.modules c
-stands_in N n c e none =
-    let x : InModules 0 N.modules c = in_modules 0 N.modules c none (among_at (codes_of N) n c e) in
+pub stands_in : (N : net.Project) (n : ℕ) (c : Code) → code_at N n ≡ Some c → IsMember N.modules c
+stands_in N n c e =
+    let x : InModules 0 N.modules c = in_modules 0 N.modules c (among_at (codes_of N) n c e) in
     record {
       of = x.of;
       is_module = subst (λ j. slice_get N.modules j ≡ Some x.of) (sym (x.same_home ∙ from_start x.place)) x.is_module;
       is_member = x.is;
-      sets = x.sets;
     }
   where
     from_start : (j : ℕ) → 0 + j ≡ j
@@ -131,9 +137,9 @@ not_same i k h = by (nat_eq i k) refl
     by true e = absurd (h (eqb-true i k e))
     by false e = refl
 
-module _ (home k : ℕ) where
+module _ (home k : ℕ) (flag : Bool) where
   abbrev T : Code → Bool
-  T = is_code_of home k false
+  T = is_code_of home k flag
 
   and_false : (a b : Bool) → b ≡ false → (a && b) ≡ false
   and_false true b h = h
@@ -143,7 +149,7 @@ module _ (home k : ℕ) where
   part_none : (h i : ℕ) (sets : Bool) (p : net.Property) (o : Option net.Procedure) → ((c : Bool) → (nat_eq h home && (nat_eq i k && c)) ≡ false)
       → count_of T (part_code h i sets p o) ≡ 0
   part_none h i sets p None other = refl
-  part_none h i sets p (Some q) other = ap (λ b. one_if b + 0) (other (is_same_flag sets false))
+  part_none h i sets p (Some q) other = ap (λ b. one_if b + 0) (other (is_same_flag sets flag))
 
   member_none : (h i : ℕ) (m : net.Member) → ((c : Bool) → (nat_eq h home && (nat_eq i k && c)) ≡ false) → count_of T (codes_of_member h i m) ≡ 0
   member_none h i (net.member_comment units) other = refl
@@ -155,7 +161,7 @@ module _ (home k : ℕ) where
       let first = part_none h i false p p.get other in
       let second = part_none h i true p p.set other in
       omega (arith, both, first, second)
-  member_none h i (net.proc p) other = ap (λ b. one_if b + 0) (other true)
+  member_none h i (net.proc p) other = ap (λ b. one_if b + 0) (other (is_same_flag false flag))
 
   members_none : (h i : ℕ) (ms : List net.Member) → ((j : ℕ) (c : Bool) → i ≤ j → (nat_eq h home && (nat_eq j k && c)) ≡ false)
       → count_of T (codes_of_members h i ms) ≡ 0
@@ -175,30 +181,42 @@ module _ (home k : ℕ) where
       let second = modules_none (suc h) ms (omega (arith, lt)) in
       omega (arith, both, first, second)
 
-  -- of a Get and a Set one passes
   at_most : (b : Bool) → one_if b ≤ 1
   at_most true = omega arith
   at_most false = omega arith
 
-  one_at_most : (o : Option net.Procedure) (h i : ℕ) (p : net.Property) → count_of T (part_code h i false p o) ≤ 1
-  one_at_most None h i p = omega arith
-  one_at_most (Some q) h i p = let b = at_most (nat_eq h home && (nat_eq i k && true)) in omega (arith, b)
+  part_one : (o : Option net.Procedure) (h i : ℕ) (sets : Bool) (p : net.Property) → count_of T (part_code h i sets p o) ≤ 1
+  part_one None h i sets p = omega arith
+  part_one (Some q) h i sets p = let b = at_most (nat_eq h home && (nat_eq i k && is_same_flag sets flag)) in omega (arith, b)
 
-  set_none : (o : Option net.Procedure) (h i : ℕ) (p : net.Property) → count_of T (part_code h i true p o) ≡ 0
-  set_none None h i p = refl
-  set_none (Some q) h i p = ap (λ b. one_if b + 0) (and_false (nat_eq h home) (nat_eq i k && false) (and_false (nat_eq i k) false refl))
+  other_none : (o : Option net.Procedure) (h i : ℕ) (sets : Bool) (p : net.Property) → is_same_flag sets flag ≡ false → count_of T (part_code h i sets p o) ≡ 0
+  other_none None h i sets p e = refl
+  other_none (Some q) h i sets p e =
+      ap (λ b. one_if b + 0) (and_false (nat_eq h home) (nat_eq i k && is_same_flag sets flag) (and_false (nat_eq i k) (is_same_flag sets flag) e))
 
   member_one : (h i : ℕ) (m : net.Member) → count_of T (codes_of_member h i m) ≤ 1
   member_one h i (net.member_comment units) = omega arith
   member_one h i (net.variable visibility v) = omega arith
   member_one h i (net.const_member visibility d) = omega arith
   member_one h i (net.structure s) = omega arith
-  member_one h i (net.property p) =
-      let both = count_append T (part_code h i false p p.get) (part_code h i true p p.set) in
-      let first = one_at_most p.get h i p in
-      let second = set_none p.set h i p in
-      omega (arith, both, first, second)
-  member_one h i (net.proc p) = let b = at_most (nat_eq h home && (nat_eq i k && true)) in omega (arith, b)
+  member_one h i (net.property p) = by flag refl
+    where
+      sum : count_of T (codes_of_member h i (net.property p)) ≡ count_of T (part_code h i false p p.get) + count_of T (part_code h i true p p.set)
+      sum = count_append T (part_code h i false p p.get) (part_code h i true p p.set)
+
+      -- of a Get and a Set one passes
+      by : (b : Bool) → flag ≡ b → count_of T (codes_of_member h i (net.property p)) ≤ 1
+      by true e =
+          let both = sum in
+          let first = other_none p.get h i false p (ap (is_same_flag false) e) in
+          let second = part_one p.set h i true p in
+          omega (arith, both, first, second)
+      by false e =
+          let both = sum in
+          let first = part_one p.get h i false p in
+          let second = other_none p.set h i true p (ap (is_same_flag true) e) in
+          omega (arith, both, first, second)
+  member_one h i (net.proc p) = let b = at_most (nat_eq h home && (nat_eq i k && is_same_flag false flag)) in omega (arith, b)
 
   members_one : (h i : ℕ) (ms : List net.Member) → count_of T (codes_of_members h i ms) ≤ 1
   members_one h i [] = omega arith
@@ -243,10 +261,14 @@ module _ (home k : ℕ) where
 below_two : (n : ℕ) → n ≤ 1 → n < 2
 below_two n h = omega (arith, h)
 
--- a procedure is found by its module and its member
-pub number_found : (N : net.Project) (n : ℕ) (c : Code) → code_at N n ≡ Some c → c.sets ≡ false → code_number N c.home c.member false ≡ Some n
-number_found N n c e sets =
-    position_found (is_code_of c.home c.member false) (codes_of N) n c e
-    (ap (λ b. b && (nat_eq c.member c.member && is_same_flag c.sets false)) (eq-eqb c.home c.home refl)
-    ∙ ap (λ b. b && is_same_flag c.sets false) (eq-eqb c.member c.member refl) ∙ ap (λ b. is_same_flag b false) sets)
-    (below_two (count_of (is_code_of c.home c.member false) (codes_of N)) (modules_one c.home c.member 0 N.modules))
+same_flag : (b : Bool) → is_same_flag b b ≡ true
+same_flag true = refl
+same_flag false = refl
+
+-- a procedure is found by its module, its member, and whether it is a Set
+pub number_found : (N : net.Project) (n : ℕ) (c : Code) → code_at N n ≡ Some c → code_number N c.home c.member c.sets ≡ Some n
+number_found N n c e =
+    position_found (is_code_of c.home c.member c.sets) (codes_of N) n c e
+    (ap (λ b. b && (nat_eq c.member c.member && is_same_flag c.sets c.sets)) (eq-eqb c.home c.home refl)
+    ∙ ap (λ b. b && is_same_flag c.sets c.sets) (eq-eqb c.member c.member refl) ∙ same_flag c.sets)
+    (below_two (count_of (is_code_of c.home c.member c.sets) (codes_of N)) (modules_one c.home c.member c.sets 0 N.modules))

@@ -1,7 +1,8 @@
 -- What a written procedure declares has free names.
-use Rattle.std.proofs.Common.{◌≡◌, refl, sym, subst, ℕ, suc, ◌+◌, Bool, true, false, cond, List, [], ◌∷◌, ◌++◌, map, Option, Some, None, slice_get}
-use Rattle.std.specs.Prelude.{◌||◌, is_some}
+use Rattle.std.proofs.Common.{◌≡◌, refl, ap, ◌∙◌, ℕ, suc, ◌+◌, Bool, true, false, cond, List, [], ◌∷◌, ◌++◌, map, Option, Some, None, slice_get}
 use Rattle.std.specs.List.{list_all}
+use Rattle.vb_tree.specs.declared.declared.ProcKind.{ProcKind}
+use Rattle.vb_tree.specs.declared.declared.ProcKind.TheVariants as kind
 use Rattle.vb_tree.specs.declared.declared.VarId.{VarId}
 use Rattle.vb_tree.specs.declared.value.Value6.{Value6}
 use Rattle.vb_tree.specs.Blocks.{is_code}
@@ -9,14 +10,15 @@ use Rattle.vb_tree.specs.Tree.{Form}
 use Rattle.vb_tree.specs.Tree as source
 use Rattle.bound_tree.specs.Tree.{Variable, Constant, Procedure}
 use Rattle.net_tree.specs.Tree as net
-use Rattle.written_trees.specs.Heads.{is_function, head_of, written_visibility, param_by, params_of, result_type}
+use Rattle.net_tree.specs.Types.{TypeName}
+use Rattle.written_trees.specs.Heads.{param_by, params_of}
 use Rattle.written_trees.specs.Lines.{is_flagged_for}
 use Rattle.written_trees.specs.Names.{Scope}
 use Rattle.written_trees.specs.Prologues.{Code, variables_of, constants_of, written_variable, is_static, variable_dim, constant_dim_by, constant_dim, sound_value, statement_dims, dims_from, declares, counter_dim, count_replaced, counters_from, prologue}
 use Rattle.net_run.specs.Members as made
-use Rattle.net_run.specs.Members.{params_by, result_by}
 use Rattle.run_matches.specs.Covered.{is_free_name}
 use Rattle.run_matches.specs.Frames.{result_names, dim_name, declared_names}
+use Rattle.run_statements.specs.Written.{written_result}
 use Rattle.name_laws.specs.Free.{is_free_head, is_free_member, has_free_members, is_free_code}
 use Rattle.name_laws.proofs.Lists.{both_true, and_true, all_append, all_cond, all_map, all_flat}
 use Rattle.name_laws.proofs.Names.{HasFreeNames, variable_free, counter_free, is_free_variable, is_free_constant, variables_free, constants_free}
@@ -42,18 +44,9 @@ module _ (S : Scope) (F : HasFreeNames S.declarations) where
       by v None e = refl
       by v (Some x) e = and_true (is_free_name x.name) true (variable_free S.declarations F v x e) refl
 
-  head_params_free : (q : Procedure) (name : List ℕ) → are_free (map (λ (p : net.Param). p.name) (params_by None (head_of S q name))) ≡ true
-  head_params_free q name = by (is_function q.kind)
-    where
-      names : are_free (map (λ (p : net.Param). p.name) (params_of S false q.params)) ≡ true
-      names =
-          all_map is_free_name (λ (p : net.Param). p.name) is_free_param (params_of S false q.params) (λ p h. h) (params_free false q.params)
-
-      by : (b : Bool) → are_free (map (λ (p : net.Param). p.name) (params_by None (cond b
-          (net.function (written_visibility q.visibility) name (params_of S false q.params) (result_type S q))
-          (net.sub (written_visibility q.visibility) name (params_of S false q.params))))) ≡ true
-      by true = names
-      by false = names
+  param_names_free : (by_value : Bool) (vs : List VarId) → are_free (map (λ (p : net.Param). p.name) (params_of S by_value vs)) ≡ true
+  param_names_free by_value vs =
+      all_map is_free_name (λ (p : net.Param). p.name) is_free_param (params_of S by_value vs) (λ p h. h) (params_free by_value vs)
 
   -- ---- declarations at the head
 
@@ -99,36 +92,33 @@ module _ (S : Scope) (F : HasFreeNames S.declarations) where
       (all_append is_free_dim (dims_from S declares n lines) (dims_from S is_code n lines) (dims_free declares n lines) (dims_free is_code n lines))
       (counters_free 0 code))
 
--- ---- a procedure that is no part of a property
+-- ---- the names of a procedure
 
-result_free : (h : net.Head) → is_free_head h ≡ true → are_free (result_names (result_by None h)) ≡ true
-result_free (net.sub visibility name params) e = refl
-result_free (net.function visibility name params ty) e = and_true (is_free_name name) true e refl
-result_free net.sub_new e = refl
-result_free net.get_part e = refl
-result_free (net.set_part name ty) e = refl
+pub result_free : (S : Scope) (x : Procedure) (k : ProcKind) → is_free_name x.name ≡ true → are_free (result_names (written_result S x k)) ≡ true
+result_free S x kind.Sub h = refl
+result_free S x kind.Function h = and_true (is_free_name x.name) true h refl
+result_free S x kind.Get h = and_true (is_free_name x.name) true h refl
+result_free S x kind.Let h = refl
+result_free S x kind.Set h = refl
 
-abbrev names_by : Option net.Property → net.Procedure → List (List ℕ)
-names_by of q = map (λ (p : net.Param). p.name) (params_by of q.head) ++ (result_names (result_by of q.head) ++ map dim_name q.prologue)
-
--- its names, by those of its parameters and its prologue
-pub names_free : (c : made.Code) (q : net.Procedure) → c.property ≡ None → c.procedure ≡ q → is_free_code c ≡ true
-    → are_free (map (λ (p : net.Param). p.name) (params_by None q.head)) ≡ true → are_free (map dim_name q.prologue) ≡ true
-    → list_all is_free_name (declared_names c) ≡ true
-names_free c q e r h params dims =
-    let head : is_free_head q.head ≡ true =
-    subst (λ (t : net.Procedure). is_free_head t.head ≡ true) r
-    (subst (λ (o : Option net.Property). (is_some o || is_free_head c.procedure.head) ≡ true) e h) in
-    subst (λ (o : Option net.Property). are_free (names_by o c.procedure) ≡ true) (sym e)
-    (subst (λ (t : net.Procedure). are_free (names_by None t) ≡ true) (sym r)
-    (all_append is_free_name (map (λ (p : net.Param). p.name) (params_by None q.head)) (result_names (result_by None q.head) ++ map dim_name q.prologue) params
-    (all_append is_free_name (result_names (result_by None q.head)) (map dim_name q.prologue) (result_free q.head head) dims)))
+-- those of its parameters, its result and its prologue
+pub procedure_names_free : (S : Scope) (F : HasFreeNames S.declarations) (c : made.Code) (by_value : Bool) (vs : List VarId) (r : Option (List ℕ × TypeName))
+    (T : Scope) (n : ℕ) (lines : List source.Line) (code : List Code) → HasFreeNames T.declarations → made.params_of c ≡ params_of S by_value vs
+    → made.result_of c ≡ r → are_free (result_names r) ≡ true → c.procedure.prologue ≡ prologue T n lines code → list_all is_free_name (declared_names c) ≡ true
+procedure_names_free S F c by_value vs r T n lines code G params result free dims =
+    let named = map (λ (p : net.Param). p.name) (made.params_of c) in
+    let results = result_names (made.result_of c) in
+    all_append is_free_name named (results ++ map dim_name c.procedure.prologue)
+    (ap (λ ps. are_free (map (λ (p : net.Param). p.name) ps)) params ∙ param_names_free S F by_value vs)
+    (all_append is_free_name results (map dim_name c.procedure.prologue) (ap (λ o. are_free (result_names o)) result ∙ free)
+    (ap (λ ds. are_free (map dim_name ds)) dims ∙ prologue_free T G n lines code))
 
 -- ---- the procedures of a project
 
-part_free : (home k : ℕ) (sets : Bool) (p : net.Property) (o : Option net.Procedure) → list_all is_free_code (made.part_code home k sets p o) ≡ true
-part_free home k sets p None = refl
-part_free home k sets p (Some q) = refl
+part_free : (home k : ℕ) (sets : Bool) (p : net.Property) (o : Option net.Procedure) → is_free_name p.name ≡ true
+    → list_all is_free_code (made.part_code home k sets p o) ≡ true
+part_free home k sets p None h = refl
+part_free home k sets p (Some q) h = and_true (is_free_name p.name) true h refl
 
 member_codes_free : (home k : ℕ) (m : net.Member) → is_free_member m ≡ true → list_all is_free_code (made.codes_of_member home k m) ≡ true
 member_codes_free home k (net.member_comment units) h = refl
@@ -136,7 +126,8 @@ member_codes_free home k (net.variable visibility v) h = refl
 member_codes_free home k (net.const_member visibility c) h = refl
 member_codes_free home k (net.structure s) h = refl
 member_codes_free home k (net.property p) h =
-    all_append is_free_code (made.part_code home k false p p.get) (made.part_code home k true p p.set) (part_free home k false p p.get) (part_free home k true p p.set)
+    all_append is_free_code (made.part_code home k false p p.get) (made.part_code home k true p p.set) (part_free home k false p p.get h)
+    (part_free home k true p p.set h)
 member_codes_free home k (net.proc p) h = and_true (is_free_head p.head) true h refl
 
 members_codes_free : (home k : ℕ) (ms : List net.Member) → list_all is_free_member ms ≡ true → list_all is_free_code (made.codes_of_members home k ms) ≡ true
@@ -152,11 +143,3 @@ codes_free home (m ∷ ms) h =
     let b = both_true (has_free_members m) (list_all has_free_members ms) h in
     all_append is_free_code (made.codes_of_members home 0 m.members) (made.codes_of_modules (suc home) ms) (members_codes_free home 0 m.members b.0)
     (codes_free (suc home) ms b.1)
-
-pub procedure_names_free : (S : Scope) (F : HasFreeNames S.declarations) (c : made.Code) (q : Procedure) (name : List ℕ) (T : Scope) (n : ℕ)
-    (lines : List source.Line) (code : List Code) (t : net.Procedure) → HasFreeNames T.declarations → c.property ≡ None → c.procedure ≡ t
-    → t.head ≡ head_of S q name → t.prologue ≡ prologue T n lines code → is_free_code c ≡ true → list_all is_free_name (declared_names c) ≡ true
-procedure_names_free S F c q name T n lines code t G e r h d free =
-    names_free c t e r free
-    (subst (λ (i : net.Head). are_free (map (λ (p : net.Param). p.name) (params_by None i)) ≡ true) (sym h) (head_params_free S F q name))
-    (subst (λ (ds : List net.Dim). are_free (map dim_name ds) ≡ true) (sym d) (prologue_free T G n lines code))

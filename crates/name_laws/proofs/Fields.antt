@@ -30,7 +30,7 @@ use Rattle.name_laws.proofs.ClassTypes.{ClassLed, class_led}
 use Rattle.name_laws.proofs.Codes.{module_is}
 use Rattle.name_laws.proofs.Counting.{count_append, count_of, first_found}
 use Rattle.name_laws.proofs.FieldWords.{field_written, object_begins}
-use Rattle.name_laws.proofs.Found.{from_start, members_most}
+use Rattle.name_laws.proofs.CodeMembers.{from_start, members_most}
 use Rattle.name_laws.proofs.Homes.{HomeModule, home_module, same_file}
 use Rattle.name_laws.proofs.Laid.{Laid, constant_laid, members_laid, nothing_laid, other_laid, variable_laid}
 use Rattle.name_laws.proofs.Led.{differing}

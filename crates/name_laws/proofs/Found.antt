@@ -1,55 +1,49 @@
 -- A procedure that is called is found by what is written for its name, one of the class of an object behind the object.
-use Rattle.std.proofs.Common.{◌≡◌, refl, sym, ap, subst, ◌∙◌, ℕ, suc, ◌+◌, ◌<◌, ◌≤◌, Bool, true, false, cond, not, ◌&&◌, ◌||◌, nat_eq, List, [], ◌∷◌, ◌++◌, Option, Some, None, slice_get, eqb-true, eq-eqb, arith}
+use Rattle.std.proofs.Common.{◌≡◌, refl, sym, ap, subst, ◌∙◌, ℕ, suc, ◌+◌, ◌≤◌, Bool, true, false, cond, not, ◌&&◌, ◌||◌, nat_eq, List, [], ◌∷◌, ◌++◌, Option, Some, None, option_map, slice_get, eqb-true, arith}
 use Rattle.std.specs.Cmp.Lexicographic.{pointwise}
 use Rattle.std.specs.Prelude.{option_and_then}
-use Rattle.std.proofs.lemmas.Bool.{ltb-true}
-use Rattle.up_base.specs.Names.{is_same_name, lower_case}
+use Rattle.up_base.specs.Names.{is_same_name}
 use Rattle.vb_tree.specs.Tree.{Module}
 use Rattle.bound_tree.specs.Tree.{Declarations, Procedure, Program}
 use Rattle.bound_facts.specs.Members.{class_files}
 use Rattle.net_tree.specs.Tree as net
+use Rattle.net_tree.specs.Types.{TypeName}
 use Rattle.written_trees.specs.Bodies.{inside_procedure}
 use Rattle.written_trees.specs.Facts.{Facts}
-use Rattle.written_trees.specs.Heads.{is_function, result_type}
+use Rattle.written_trees.specs.Heads.{is_function}
 use Rattle.written_trees.specs.Names as written_names
 use Rattle.written_trees.specs.Names.{first_name, is_foreign, is_standard_module, module_name, procedure_name, procedure_path, procedure_path_of}
 use Rattle.written_trees.specs.Placing.{Numbers, behind_members}
 use Rattle.written_trees.specs.Projects.{first_numbers, modules_from, next_module, written_module}
 use Rattle.net_run.specs.Lines.{NetFrame, NetLine, scope_of}
-use Rattle.net_run.specs.Members.{code_number, is_head_named, is_member_named, member_named, result_of}
-use Rattle.net_run.specs.Names.{Scope, frame_start, frame_var, is_result, member_start, module_member, module_start, named, named_member, path_start, procedure_reached, some_member, starts, to_procedure, var_in}
+use Rattle.net_run.specs.Members.{is_member_named, member_named, result_of}
+use Rattle.net_run.specs.Names.{Reached, Scope, frame_start, frame_var, is_result, member_reached, member_start, module_member, module_start, named_member, path_start, starts, var_in}
 use Rattle.net_run.specs.Shapes.{first_from, members_of, module_at, module_named}
 use Rattle.net_run.specs.Values.{Value}
 use Rattle.vb6_run.specs.Runnables.{is_class_file}
 use Rattle.run_matches.specs.Callees.{count_named, is_first_module, is_found, is_found_behind, is_found_here, is_found_inside, is_found_outside, is_nowhere, is_once, is_source_name, is_that_place, names_in, other_names, result_name}
-use Rattle.run_matches.specs.Covered.{is_method_site}
+use Rattle.run_matches.specs.Covered.{is_method_site, is_result_of}
 use Rattle.run_matches.specs.CoveredExprs.{is_number}
 use Rattle.run_matches.specs.Frames.{HasNames, declared_names, result_names}
 use Rattle.run_matches.specs.Sites.{Site, site_of}
 use Rattle.run_matches.specs.Upgrades.{Upgrade, class_home, home_of}
-use Rattle.run_statements.specs.Kept.{CalleesAreFound, MethodsAreFound}
+use Rattle.run_statements.specs.Kept.{CalleesAreFound, IsFoundAs, MethodsAreFound}
 use Rattle.run_statements.specs.Written.{IsWritten, WrittenProcedure, site_scope}
-use Rattle.name_laws.proofs.Codes.{IsMember, module_is, number_found, stands_in}
-use Rattle.name_laws.proofs.Counting.{count_of, first_found, found_stands, none_found}
-use Rattle.name_laws.proofs.FrameNames.{code_head, frame_none, no_result_named, none_left, none_right, result_are, var_none}
+use Rattle.name_laws.proofs.CodeMembers.{from_start, leads_as, member_found, member_leads, members_are, members_most, modules_are, name_leads}
+use Rattle.name_laws.proofs.Codes.{code_member}
+use Rattle.name_laws.proofs.Counting.{count_of, found_stands, none_found}
+use Rattle.name_laws.proofs.FrameNames.{frame_none, no_result_named, none_left, none_right, result_are, result_word, same_by, var_none}
 use Rattle.name_laws.proofs.Lists.{both_true, same_numbers, some_same}
 use Rattle.name_laws.proofs.Looked.{not_true}
-use Rattle.name_laws.proofs.MemberNames.{head_named, modules_most, named_append}
+use Rattle.name_laws.proofs.MemberNames.{named_append}
 
 -- ---- tests
 
+none_below : (a b : ℕ) → a ≤ b → b ≡ 0 → a ≡ 0
+none_below a b h k = omega (arith, h, k)
+
 nowhere_is : (name : List ℕ) (ns : List (List ℕ)) → is_nowhere name ns ≡ true → count_named name ns ≡ 0
 nowhere_is name ns h = eqb-true (count_named name ns) 0 h
-
-once_is : (name : List ℕ) (ns : List (List ℕ)) → is_once name ns ≡ true → count_named name ns < 2
-once_is name ns h = ltb-true (count_named name ns) 2 h
-
-same_units : (xs : List ℕ) → pointwise nat_eq xs xs ≡ true
-same_units [] = refl
-same_units (x ∷ xs) = ap (λ b. b && pointwise nat_eq xs xs) (eq-eqb x x refl) ∙ same_units xs
-
-same_name : (name : List ℕ) → is_same_name name name ≡ true
-same_name name = same_units (lower_case name)
 
 -- what the test on a procedure of a class says
 pub record MethodTest (D : Declarations) (class : ℕ) (y : Procedure) (t : Site) : Type 0 where
@@ -100,85 +94,28 @@ module_found P F at test net_test i (x ∷ xs) same n m e =
         (w, ap (λ b. cond b (Some (i, w)) rest) q ∙ ap (λ j. Some (j, w)) (ap (λ (p : ℕ × Module). p.0) pair))
     by false q z more = let v = more z in (v.0, ap (λ b. cond b (Some (i, w)) rest) q ∙ v.1)
 
--- ---- the callee is a member of its module
-
-below_two : (a b : ℕ) → a ≤ b → b < 2 → a < 2
-below_two a b h k = omega (arith, h, k)
-
-none_below : (a b : ℕ) → a ≤ b → b ≡ 0 → a ≡ 0
-none_below a b h k = omega (arith, h, k)
-
-pub from_start : (n : ℕ) → 0 + n ≡ n
-from_start n = omega arith
+-- ---- behind an object of its class
 
 module _ (U : Upgrade) (I : IsWritten U) where
   abbrev D : Declarations
   D = U.program.declarations
 
-  abbrev N : net.Project
-  N = U.written
-
-  modules_are : U.written.modules ≡ modules_from U.program U.facts first_numbers U.program.declarations.project.modules
-  modules_are = ap (λ (M : net.Project). M.modules) I.is_written
-
-  pub members_most : (home : ℕ) (w : net.Module) (name : List ℕ) → slice_get U.written.modules home ≡ Some w
-      → count_of (is_member_named name) w.members ≤ count_named name (names_in U.program.declarations home)
-  members_most home w name e =
-      modules_most name U.program U.facts first_numbers D.project.modules home w (subst (λ ms. slice_get ms home ≡ Some w) modules_are e)
-
-  pub members_are : (home : ℕ) (w : net.Module) → slice_get U.written.modules home ≡ Some w → members_of (module_at U.written home) ≡ w.members
-  members_are home w e = ap members_of (module_is U.written.modules home ∙ e)
-
-  module _ (q : ℕ) (t : Site) (y : Procedure) (V : WrittenProcedure U q t y) where
-    abbrev w : net.Module
-    w = written_module U.program U.facts V.numbers t.source_module
-
-    member : IsMember U.written.modules V.code
-    member = stands_in U.written V.number V.code V.is_code V.property
-
-    of_is : member.of ≡ w
-    of_is = some_same member.of w (sym member.is_module ∙ ap (slice_get U.written.modules) V.home ∙ V.is_module)
-
-    is_member : slice_get w.members V.code.member ≡ Some (net.proc V.code.procedure)
-    is_member = subst (λ (m : net.Module). slice_get m.members V.code.member ≡ Some (net.proc V.code.procedure)) of_is member.is_member
-
-    is_named : is_member_named y.name (net.proc V.code.procedure) ≡ true
-    is_named = ap (is_head_named y.name) (code_head U q t y V) ∙ head_named y.name (site_scope U t) y y.name ∙ same_name y.name
-
-    pub member_found : is_once y.name (names_in D t.home) ≡ true
-        → member_named y.name (members_of (module_at U.written t.home)) ≡ Some (V.code.member, net.proc V.code.procedure)
-    member_found once =
-        let most = members_most t.home w y.name V.is_module in
-        ap (member_named y.name) (members_are t.home w V.is_module)
-        ∙ first_found (is_member_named y.name) 0 w.members V.code.member (net.proc V.code.procedure) is_member is_named
-        (below_two (count_of (is_member_named y.name) w.members) (count_named y.name (names_in D t.home)) most (once_is y.name (names_in D t.home) once))
-        ∙ ap (λ n. Some (n, net.proc V.code.procedure)) (from_start V.code.member)
-
-    pub number_is : code_number U.written t.home V.code.member false ≡ Some V.number
-    number_is =
-        ap (λ h. code_number U.written h V.code.member false) (sym V.home) ∙ number_found U.written V.number V.code V.is_code member.sets
-
-    -- what its member leads to
-    reached : (S : Scope) (object : Option Value) → S.project ≡ U.written → is_once y.name (names_in D t.home) ≡ true
-        → some_member S object t.home (member_named y.name (members_of (module_at U.written t.home))) ≡ named (to_procedure object V.number)
-    reached S object same once =
-        ap (some_member S object t.home) (member_found once)
-        ∙ ap (λ M. procedure_reached object (code_number M t.home V.code.member false)) same
-        ∙ ap (procedure_reached object) number_is
-
-    -- behind an object of its class
-    method_found : (class home : ℕ) (S : Scope) (object : Value) → site_of D q ≡ Some t → slice_get D.procs q ≡ Some y
-        → is_method_site D class y (Some t) ≡ true → class_home U class ≡ Some home → S.project ≡ U.written
-        → named_member S (Some object) home (procedure_name D q) ≡ named (to_procedure (Some object) V.number)
-    method_found class home S object is_site is_procedure h is_home same =
-        let m : MethodTest D class y t = method_test D class y t h in
-        let there : home_of U t.source_module.file ≡ Some home =
-        ap (home_of U) m.stands ∙ ap (option_and_then (home_of U)) (sym m.is_file) ∙ is_home in
-        let at : home ≡ t.home = some_same home t.home (sym there ∙ I.homes q t is_site) in
-        ap (named_member S (Some object) home) (ap (first_name D) is_procedure ∙ m.named)
-        ∙ ap (λ n. named_member S (Some object) n y.name) at
-        ∙ ap (λ M. some_member S (Some object) t.home (member_named y.name (members_of (module_at M t.home)))) same
-        ∙ reached S (Some object) same m.once
+  method_found : (q : ℕ) (t : Site) (y : Procedure) (V : WrittenProcedure U q t y) (class home : ℕ) (S : Scope) (object : Value) → site_of D q ≡ Some t
+      → slice_get D.procs q ≡ Some y → is_method_site D class y (Some t) ≡ true → class_home U class ≡ Some home → S.project ≡ U.written
+      → IsFoundAs y.kind (Some object) V.number (named_member S (Some object) home (procedure_name D q))
+  method_found q t y V class home S object is_site is_procedure h is_home same =
+      let m : MethodTest D class y t = method_test D class y t h in
+      let there : home_of U t.source_module.file ≡ Some home =
+      ap (home_of U) m.stands ∙ ap (option_and_then (home_of U)) (sym m.is_file) ∙ is_home in
+      let at : home ≡ t.home = some_same home t.home (sym there ∙ I.homes q t is_site) in
+      let F = leads_as U I q t y V S (Some object) same in
+      record {
+        way = F.way;
+        suits = F.suits;
+        is_found =
+            ap (named_member S (Some object) home) (ap (first_name D) is_procedure ∙ m.named)
+            ∙ ap (λ n. named_member S (Some object) n y.name) at ∙ name_leads U I q t y V S (Some object) same m.once ∙ F.is_found;
+      }
 
   -- ---- from where it is called
 
@@ -189,6 +126,9 @@ module _ (U : Upgrade) (I : IsWritten U) where
 
     abbrev module_of : List ℕ
     module_of = t.source_module.name
+
+    abbrev R : Reached
+    R = member_leads U I q t y V S None refl
 
     -- where the names of the frame lack a name, no variable has it
     no_variable : (name : List ℕ) → count_named name (declared_names W.code) ≡ 0 → var_in g.vars name ≡ None
@@ -204,7 +144,7 @@ module _ (U : Upgrade) (I : IsWritten U) where
             no_variable y.name
             (frame_none U p s x W y.name source (nowhere_is y.name (other_names D (Some x) s) nowhere) (no_result_named (result_of W.code) y.name e))
 
-    here : is_found_here D (other_names D (Some x) s) s t y.name ≡ true → path_start S true (y.name ∷ []) ≡ starts (named (to_procedure None V.number)) []
+    here : is_found_here D (other_names D (Some x) s) s t y.name ≡ true → path_start S true (y.name ∷ []) ≡ starts R []
     here h =
         let rest = is_nowhere y.name (other_names D (Some x) s) && is_once y.name (names_in D t.home) in
         let a = both_true (nat_eq s.home t.home) (is_source_name y.name && rest) h in
@@ -213,9 +153,8 @@ module _ (U : Upgrade) (I : IsWritten U) where
         let home : W.code.home ≡ t.home = W.home ∙ eqb-true s.home t.home a.0 in
         ap (λ o. frame_start S y.name [] o) (not_in_frame b.0 c.0)
         ∙ ap (member_start S y.name [])
-        (ap (λ n. member_named y.name (members_of (module_at U.written n))) home ∙ member_found q t y V c.1)
-        ∙ ap (λ o. starts (procedure_reached None o) [])
-        (ap (λ n. code_number U.written n V.code.member false) home ∙ number_is q t y V)
+        (ap (λ n. member_named y.name (members_of (module_at U.written n))) home ∙ member_found U I q t y V c.1)
+        ∙ ap (λ n. starts (member_reached S None n V.code.member (code_member V.code)) []) home
 
     -- behind the name of its module
     -- no variable has the name of the module
@@ -232,7 +171,7 @@ module _ (U : Upgrade) (I : IsWritten U) where
         ∙ by (is_function x.kind) (none_left one others split)))
       where
         by : (b : Bool) → count_named module_of (x.name ∷ []) ≡ 0
-            → count_named module_of (result_names (cond b (Some (x.name, result_type (site_scope U s) x)) None)) ≡ 0
+            → count_named module_of (result_names (cond b (Some (x.name, result_word (site_scope U s) x x.kind)) None)) ≡ 0
         by true h = h
         by false h = refl
 
@@ -254,14 +193,14 @@ module _ (U : Upgrade) (I : IsWritten U) where
             let home : found.0 ≡ t.home = eqb-true found.0 t.home z in
             let v =
             module_found U.program U.facts first_numbers (λ (m : Module). is_same_name m.name module_of) test 0 D.project.modules (λ at m. refl) found.0 found.1 e in
-            let at : module_named U.written module_of ≡ Some (found.0, v.0) = ap (first_from test 0) modules_are ∙ v.1 in
+            let at : module_named U.written module_of ≡ Some (found.0, v.0) = ap (first_from test 0) (modules_are U I) ∙ v.1 in
             let stands = found_stands test 0 U.written.modules found.0 v.0 at in
             let place : stands.0 ≡ t.home = sym (from_start stands.0) ∙ sym stands.1 ∙ home in
             let same : v.0 ≡ w = some_same v.0 w (sym stands.2 ∙ ap (slice_get U.written.modules) place ∙ V.is_module) in
             at ∙ (λ i. Some (home i, same i))
 
     behind : is_found_behind D (result_name (Some x) ++ other_names D (Some x) s) s t y.name ≡ true
-        → path_start S true (module_of ∷ y.name ∷ []) ≡ starts (named (to_procedure None V.number)) []
+        → path_start S true (module_of ∷ y.name ∷ []) ≡ starts R []
     behind h =
         let all = result_name (Some x) ++ other_names D (Some x) s in
         let fifth = not t.source_module.class && is_once y.name (names_in D t.home) in
@@ -275,15 +214,15 @@ module _ (U : Upgrade) (I : IsWritten U) where
         let own = written_module U.program U.facts W.numbers s.source_module in
         let none : member_named module_of (members_of (module_at U.written W.code.home)) ≡ None =
         ap (λ n. member_named module_of (members_of (module_at U.written n))) W.home
-        ∙ ap (member_named module_of) (members_are s.home own W.is_module)
+        ∙ ap (member_named module_of) (members_are U I s.home own W.is_module)
         ∙ none_found (is_member_named module_of) 0 own.members
-        (none_below (count_of (is_member_named module_of) own.members) (count_named module_of (names_in D s.home)) (members_most s.home own module_of W.is_module)
+        (none_below (count_of (is_member_named module_of) own.members) (count_named module_of (names_in D s.home)) (members_most U I s.home own module_of W.is_module)
         (nowhere_is module_of (names_in D s.home) c.0)) in
         ap (λ o. frame_start S module_of (y.name ∷ []) o) (module_not_in_frame a.0 b.0)
         ∙ ap (member_start S module_of (y.name ∷ [])) none
         ∙ ap (module_start S module_of (y.name ∷ [])) (module_at_name d.0)
         ∙ ap (λ class. module_member S t.home class (y.name ∷ [])) (not_true t.source_module.class e.0)
-        ∙ ap (λ r. starts r []) (reached q t y V S None refl e.1)
+        ∙ ap (λ r. starts r []) (name_leads U I q t y V S None refl e.1)
 
     -- by either path
     abbrev foreign : Bool
@@ -291,7 +230,7 @@ module _ (U : Upgrade) (I : IsWritten U) where
 
     either_path : (qualified b : Bool) → (qualified || foreign) ≡ b → (foreign || is_found_here D (other_names D (Some x) s) s t y.name) ≡ true
         → is_found_behind D (result_name (Some x) ++ other_names D (Some x) s) s t y.name ≡ true
-        → path_start S true (cond b (module_of ∷ y.name ∷ []) (y.name ∷ [])) ≡ starts (named (to_procedure None V.number)) []
+        → path_start S true (cond b (module_of ∷ y.name ∷ []) (y.name ∷ [])) ≡ starts R []
     either_path qualified true e h z = behind z
     either_path qualified false e h z = here (second foreign (is_found_here D (other_names D (Some x) s) s t y.name) (not_second qualified foreign e) h)
       where
@@ -306,7 +245,7 @@ module _ (U : Upgrade) (I : IsWritten U) where
     -- from outside of its module
     outside : (qualified : Bool) → is_found_outside D (Some x) s y t ≡ true
         → path_start S true (cond (qualified || foreign) (module_name D y.module_number ∷ y.name ∷ []) (y.name ∷ []))
-        ≡ starts (named (to_procedure None V.number)) []
+        ≡ starts R []
     outside qualified h =
         let last = is_found_behind D (result_name (Some x) ++ other_names D (Some x) s) s t y.name in
         let third = foreign || is_found_here D (other_names D (Some x) s) s t y.name in
@@ -319,7 +258,7 @@ module _ (U : Upgrade) (I : IsWritten U) where
     -- in its class
     inside : (qualified : Bool) → is_found_inside D (Some x) s y t qualified ≡ true
         → path_start S true (cond (qualified || foreign) (module_name D y.module_number ∷ y.name ∷ []) (y.name ∷ []))
-        ≡ starts (named (to_procedure None V.number)) []
+        ≡ starts R []
     inside qualified h =
         let there = is_standard_module (written_names.module_at D.project y.module_number) in
         let path = λ (b : Bool). cond b (module_name D y.module_number ∷ y.name ∷ []) (y.name ∷ []) in
@@ -330,7 +269,7 @@ module _ (U : Upgrade) (I : IsWritten U) where
         ap (λ q. path_start S true (path (q || foreign))) (not_true qualified b.0) ∙ ap (λ q. path_start S true (path (not q && there))) c.0 ∙ here a.1
 
     path_found : slice_get D.procs q ≡ Some y → (qualified : Bool) → is_found D (Some x) s (Some y) (Some t) qualified ≡ true
-        → path_start S true (procedure_path (inside_procedure (site_scope U s) p) qualified q) ≡ starts (named (to_procedure None V.number)) []
+        → path_start S true (procedure_path (inside_procedure (site_scope U s) p) qualified q) ≡ starts R []
     path_found is qualified h =
         let kinds = cond t.source_module.class (is_found_inside D (Some x) s y t qualified) (is_found_outside D (Some x) s y t) in
         let a = both_true (pointwise nat_eq (first_name D (Some y)) y.name) kinds h in
@@ -341,16 +280,46 @@ module _ (U : Upgrade) (I : IsWritten U) where
       where
         by : (class : Bool) → cond class (is_found_inside D (Some x) s y t qualified) (is_found_outside D (Some x) s y t) ≡ true
             → path_start S true (cond (qualified || foreign) (module_name D y.module_number ∷ y.name ∷ []) (y.name ∷ []))
-            ≡ starts (named (to_procedure None V.number)) []
+            ≡ starts R []
         by true k = inside qualified k
         by false k = outside qualified k
+
+    -- ---- without arguments
+
+    -- where its name is that of no result
+    no_result : is_result_of (Some x) (Some y) ≡ false → is_result S.result_name y.name ≡ false
+    no_result h =
+        ap (λ o. is_result (option_map (λ (r : List ℕ × TypeName). r.0) o) y.name) (result_are U p s x W)
+        ∙ by (is_function x.kind) (result_word (site_scope U s) x x.kind) h
+      where
+        by : (b : Bool) (ty : TypeName) → (b && is_same_name x.name y.name) ≡ false
+            → is_result (option_map (λ (r : List ℕ × TypeName). r.0) (cond b (Some (x.name, ty)) None)) y.name ≡ false
+        by true ty e = e
+        by false ty e = refl
+
+    alone : slice_get D.procs q ≡ Some y → (qualified : Bool) → is_found D (Some x) s (Some y) (Some t) qualified ≡ true
+        → is_result_of (Some x) (Some y) ≡ false → path_start S false (procedure_path (inside_procedure (site_scope U s) p) qualified q)
+        ≡ path_start S true (procedure_path (inside_procedure (site_scope U s) p) qualified q)
+    alone is qualified h none =
+        let kinds = cond t.source_module.class (is_found_inside D (Some x) s y t qualified) (is_found_outside D (Some x) s y t) in
+        let a = both_true (pointwise nat_eq (first_name D (Some y)) y.name) kinds h in
+        let path = procedure_path (inside_procedure (site_scope U s) p) qualified q in
+        let path_is : path ≡ cond (qualified || foreign) (module_name D y.module_number ∷ y.name ∷ []) (y.name ∷ []) =
+        ap (procedure_path_of (inside_procedure (site_scope U s) p) qualified) is
+        ∙ ap (λ n. cond (qualified || foreign) (module_name D y.module_number ∷ n ∷ []) (n ∷ [])) (same_numbers (first_name D (Some y)) y.name a.0) in
+        subst (λ z. path_start S false z ≡ path_start S true z) (sym path_is)
+        (sym (same_by S (module_name D y.module_number) y.name (qualified || foreign) (no_result none)))
 
 -- ---- the laws
 
 pub callees_are_found : (U : Upgrade) → IsWritten U → CalleesAreFound U
-callees_are_found U I p q s t x y W V g k site procedure kind other_site other_procedure other_kind qualified found names =
-    path_found U I p q s t x y W V g k names other_procedure qualified found
+callees_are_found U I p q s t x y W V g k site procedure other_site other_procedure qualified found names = record {
+  reached = member_leads U I q t y V (scope_of U.written W.code g k) None refl;
+  leads = path_found U I p q s t x y W V g k names other_procedure qualified found;
+  found = leads_as U I q t y V (scope_of U.written W.code g k) None refl;
+  alone = alone U I p q s t x y W V g k names other_procedure qualified found;
+}
 
 pub methods_are_found : (U : Upgrade) → IsWritten U → MethodsAreFound U
-methods_are_found U I q class home t y V S object site procedure kind test is_home same =
+methods_are_found U I q class home t y V S object site procedure test is_home same =
     method_found U I q t y V class home S object site procedure test is_home same

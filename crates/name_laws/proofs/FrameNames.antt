@@ -6,11 +6,14 @@ use Rattle.up_base.specs.Names.{is_same_name, lower_case}
 use Rattle.vb_tree.specs.Blocks.{is_code}
 use Rattle.vb_tree.specs.Tree.{Form}
 use Rattle.vb_tree.specs.Tree as source
+use Rattle.vb_tree.specs.declared.declared.ProcKind.{ProcKind}
+use Rattle.vb_tree.specs.declared.declared.ProcKind.TheVariants as kind
 use Rattle.vb_tree.specs.declared.declared.VarId.{VarId}
 use Rattle.vb_tree.specs.declared.value.Value6.{Value6}
 use Rattle.bound_tree.specs.Tree.{Constant, Declarations, Procedure, Variable}
 use Rattle.net_tree.specs.Tree as net
 use Rattle.net_tree.specs.Types.{TypeName}
+use Rattle.written_trees.specs.Arguments.{is_property_kind}
 use Rattle.written_trees.specs.Bodies.{code_at, inside_procedure}
 use Rattle.written_trees.specs.Facts.{is_flagged_variable}
 use Rattle.written_trees.specs.Heads as heads
@@ -18,62 +21,53 @@ use Rattle.written_trees.specs.Heads.{is_function}
 use Rattle.written_trees.specs.Lines.{counter_name, is_flagged_for}
 use Rattle.written_trees.specs.Names.{Scope}
 use Rattle.written_trees.specs.Prologues.{Code, constant_dim_by, counter_dim, count_replaced, counters_from, declares, dims_from, is_static, object_variable, one_if, sound_value, typed_variable}
-use Rattle.net_run.specs.Members.{params_by, params_of, result_by, result_of}
-use Rattle.net_run.specs.Names.{is_result, var_in}
+use Rattle.net_run.specs.Members.{params_of, result_of}
+use Rattle.net_run.specs.Names as net_names
+use Rattle.net_run.specs.Names.{frame_start, is_result, path_start, var_in}
 use Rattle.net_run.specs.Store.{Address}
 use Rattle.run_matches.specs.Callees.{begins_below, count_named, is_source_name, own_of_some, parameter_owns}
 use Rattle.run_matches.specs.Frames.{declared_names, dim_name, result_names}
 use Rattle.run_matches.specs.Sites.{Own, Site, first_statement, own_constant, own_name, own_variable, owns_from, owns_of, site_lines}
 use Rattle.run_matches.specs.Upgrades.{Upgrade}
 use Rattle.run_statements.specs.Kept.{own_dim}
-use Rattle.run_statements.specs.Written.{WrittenProcedure, site_scope}
+use Rattle.run_statements.specs.Written.{WrittenProcedure, first_type, site_scope, written_result}
 use Rattle.name_laws.proofs.Lists.{map_append}
 use Rattle.name_laws.proofs.MemberNames.{named_append}
 use Rattle.name_laws.proofs.Prologues.{dims_same}
 
 -- ---- the head
 
-params_by_head : (o : Option net.Property) (b : Bool) (f s : net.Head) (ps : List net.Param) → params_by o f ≡ ps → params_by o s ≡ ps → params_by o (cond b f s) ≡ ps
-params_by_head o true f s ps d e = d
-params_by_head o false f s ps d e = e
+-- the type of a result
+abbrev pub result_word : Scope → Procedure → ProcKind → TypeName
+result_word S x kind.Function = heads.result_type S x
+result_word S x _ = first_type S (slice_get S.declarations.procs x.first.0)
 
-result_by_head : (o : Option net.Property) (b : Bool) (f s : net.Head) → result_by o (cond b f s) ≡ cond b (result_by o f) (result_by o s)
-result_by_head o true f s = refl
-result_by_head o false f s = refl
+result_by_kind : (S : Scope) (x : Procedure) (k : ProcKind) → written_result S x k ≡ cond (is_function k) (Some (x.name, result_word S x k)) None
+result_by_kind S x kind.Sub = refl
+result_by_kind S x kind.Function = refl
+result_by_kind S x kind.Get = refl
+result_by_kind S x kind.Let = refl
+result_by_kind S x kind.Set = refl
 
-module _ (U : Upgrade) (p : ℕ) (s : Site) (x : Procedure) (W : WrittenProcedure U p s x) where
-  abbrev ps : List net.Param
-  ps = heads.params_of (site_scope U s) false x.params
+pub result_are : (U : Upgrade) (p : ℕ) (s : Site) (x : Procedure) (W : WrittenProcedure U p s x)
+    → result_of W.code ≡ cond (is_function x.kind) (Some (x.name, result_word (site_scope U s) x x.kind)) None
+result_are U p s x W = W.result ∙ result_by_kind (site_scope U s) x x.kind
 
-  abbrev f : net.Head
-  f = net.function (heads.written_visibility x.visibility) x.name ps (heads.result_type (site_scope U s) x)
-
-  abbrev g : net.Head
-  g = net.sub (heads.written_visibility x.visibility) x.name ps
-
-  pub code_head : W.code.procedure.head ≡ heads.head_of (site_scope U s) x x.name
-  code_head = ap (λ (q : net.Procedure). q.head) W.is_written
-
-  pub params_are : params_of W.code ≡ heads.params_of (site_scope U s) false x.params
-  params_are = ap (λ h. params_by W.code.property h) code_head ∙ params_by_head W.code.property (is_function x.kind) f g ps refl refl
-
-  pub result_are : result_of W.code ≡ cond (is_function x.kind) (Some (x.name, heads.result_type (site_scope U s) x)) None
-  result_are = ap (λ h. result_by W.code.property h) code_head ∙ result_by_head W.code.property (is_function x.kind) f g
-
-one_name : (S : Scope) (v : ℕ) (o : Option Variable) → map own_name (own_of_some v o) ≡ map (λ (q : net.Param). q.name) (heads.param_by S false v o)
-one_name S v None = refl
-one_name S v (Some y) = refl
+one_name : (S : Scope) (by_value : Bool) (v : ℕ) (o : Option Variable)
+    → map own_name (own_of_some v o) ≡ map (λ (q : net.Param). q.name) (heads.param_by S by_value v o)
+one_name S by_value v None = refl
+one_name S by_value v (Some y) = refl
 
 -- parameters are written under their names
-pub parameter_names : (S : Scope) (vs : List VarId)
-    → map own_name (parameter_owns S.declarations vs) ≡ map (λ (q : net.Param). q.name) (heads.params_of S false vs)
-parameter_names S [] = refl
-parameter_names S (v ∷ vs) =
+pub parameter_names : (S : Scope) (by_value : Bool) (vs : List VarId)
+    → map own_name (parameter_owns S.declarations vs) ≡ map (λ (q : net.Param). q.name) (heads.params_of S by_value vs)
+parameter_names S by_value [] = refl
+parameter_names S by_value (v ∷ vs) =
     let o = slice_get S.declarations.vars v.0 in
     map_append own_name (own_of_some v.0 o) (parameter_owns S.declarations vs)
-    ∙ ap (λ ns. ns ++ map own_name (parameter_owns S.declarations vs)) (one_name S v.0 o)
-    ∙ ap (λ ns. map (λ (q : net.Param). q.name) (heads.param_by S false v.0 o) ++ ns) (parameter_names S vs)
-    ∙ sym (map_append (λ (q : net.Param). q.name) (heads.param_by S false v.0 o) (heads.params_of S false vs))
+    ∙ ap (λ ns. ns ++ map own_name (parameter_owns S.declarations vs)) (one_name S by_value v.0 o)
+    ∙ ap (λ ns. map (λ (q : net.Param). q.name) (heads.param_by S by_value v.0 o) ++ ns) (parameter_names S by_value vs)
+    ∙ sym (map_append (λ (q : net.Param). q.name) (heads.param_by S by_value v.0 o) (heads.params_of S by_value vs))
 
 -- ---- declarations
 
@@ -183,8 +177,8 @@ module _ (U : Upgrade) (p : ℕ) (s : Site) (x : Procedure) (W : WrittenProcedur
 
   params_none : count_named name (map own_name (parameter_owns D x.params)) ≡ 0 → count_named name (map (λ (q : net.Param). q.name) (params_of W.code)) ≡ 0
   params_none h =
-      ap (λ ps. count_named name (map (λ (q : net.Param). q.name) ps)) (params_are U p s x W)
-      ∙ ap (count_named name) (sym (parameter_names (site_scope U s) x.params)) ∙ h
+      ap (λ ps. count_named name (map (λ (q : net.Param). q.name) ps)) W.params
+      ∙ ap (count_named name) (sym (parameter_names (site_scope U s) (is_property_kind x.kind) x.params)) ∙ h
 
   pub frame_none : count_named name (map own_name (parameter_owns D x.params) ++ map own_name (owns_of D s)) ≡ 0
       → count_named name (result_names (result_of W.code)) ≡ 0 → count_named name (declared_names W.code) ≡ 0
@@ -220,3 +214,14 @@ pub no_result_named : (r : Option (List ℕ × TypeName)) (name : List ℕ) → 
     → count_named name (result_names r) ≡ 0
 no_result_named None name h = refl
 no_result_named (Some r) name h = ap (λ c. one_if c + 0) h
+
+-- ---- names before arguments
+
+-- a name that isn't that of the result leads to the same
+pub same_start : (E : net_names.Scope) (name : List ℕ) → is_result E.result_name name ≡ false → path_start E true (name ∷ []) ≡ path_start E false (name ∷ [])
+same_start E name h = ap (λ b. frame_start E name [] (cond b None (var_in E.vars name))) h
+
+pub same_by : (E : net_names.Scope) (outer name : List ℕ) (b : Bool) → is_result E.result_name name ≡ false
+    → path_start E true (cond b (outer ∷ name ∷ []) (name ∷ [])) ≡ path_start E false (cond b (outer ∷ name ∷ []) (name ∷ []))
+same_by E outer name true h = refl
+same_by E outer name false h = same_start E name h

@@ -7,14 +7,16 @@ use Rattle.vb_tree.specs.declared.value.Value6.{Value6}
 use Rattle.vb_tree.specs.Tree as source
 use Rattle.bound_tree.specs.Tree.{Variable, Constant, Procedure, Declarations}
 use Rattle.net_tree.specs.Tree as net
+use Rattle.net_tree.specs.Types.{TypeName}
+use Rattle.written_trees.specs.Arguments.{is_property_kind}
 use Rattle.written_trees.specs.Bodies.{inside_procedure, code_at}
 use Rattle.written_trees.specs.Facts.{is_flagged_variable}
-use Rattle.written_trees.specs.Heads.{is_function, head_of, written_visibility, param_by, params_of, result_type}
+use Rattle.written_trees.specs.Heads.{is_function, param_by, params_of}
 use Rattle.written_trees.specs.Lines.{counter_name, is_flagged_for}
 use Rattle.written_trees.specs.Names.{Scope, variable_name_of}
 use Rattle.written_trees.specs.Prologues.{Code, dims_from, declares, counter_dim, count_replaced, counters_from, prologue, is_static, object_variable, typed_variable, constant_dim_by, sound_value}
 use Rattle.net_run.specs.Lines.{NetFrame}
-use Rattle.net_run.specs.Members.{params_by, result_by}
+use Rattle.net_run.specs.Members as net_members
 use Rattle.net_run.specs.Names.{var_in}
 use Rattle.net_run.specs.Store.{Address}
 use Rattle.run_matches.specs.Frames.{HasNames, result_names, dim_name, declared_names}
@@ -23,6 +25,7 @@ use Rattle.run_matches.specs.Sites.{Site, site_lines, first_statement, Own, own_
 use Rattle.run_matches.specs.Upgrades.{Upgrade}
 use Rattle.run_statements.specs.Kept.{own_dim}
 use Rattle.run_statements.specs.Written.{WrittenProcedure, site_scope}
+use Rattle.name_laws.proofs.FrameNames.{result_are, result_word}
 use Rattle.name_laws.proofs.Lists.{both_true, and_true, all_append, map_append}
 use Rattle.name_laws.proofs.Looked.{other_name}
 use Rattle.name_laws.proofs.Others.{all_parts}
@@ -57,21 +60,9 @@ module _ (name : List ℕ) where
       by None e = refl
       by (Some x) e = and_true (is_other name x.name) true e refl
 
-  abbrev head_by : Bool → Scope → Procedure → List ℕ → net.Head
-  head_by b S q n =
-      cond b
-      (net.function (written_visibility q.visibility) n (params_of S false q.params) (result_type S q))
-      (net.sub (written_visibility q.visibility) n (params_of S false q.params))
-
-  head_params_other : (b : Bool) (S : Scope) (q : Procedure) (n : List ℕ) → are_other (map (λ (p : net.Param). p.name) (params_of S false q.params)) ≡ true
-      → are_other (map (λ (p : net.Param). p.name) (params_by None (head_by b S q n))) ≡ true
-  head_params_other true S q n h = h
-  head_params_other false S q n h = h
-
-  result_other : (b : Bool) (S : Scope) (q : Procedure) (n : List ℕ) → are_other (cond b (n ∷ []) []) ≡ true
-      → are_other (result_names (result_by None (head_by b S q n))) ≡ true
-  result_other true S q n h = h
-  result_other false S q n h = refl
+  result_other : (b : Bool) (n : List ℕ) (ty : TypeName) → are_other (cond b (n ∷ []) []) ≡ true → are_other (result_names (cond b (Some (n, ty)) None)) ≡ true
+  result_other true n ty h = h
+  result_other false n ty h = refl
 
   -- ---- declarations at the head
 
@@ -139,9 +130,6 @@ module _ (name : List ℕ) where
 
   -- ---- the frame
 
-  abbrev names_by : Option net.Property → net.Procedure → List (List ℕ)
-  names_by of q = map (λ (p : net.Param). p.name) (params_by of q.head) ++ (result_names (result_by of q.head) ++ map dim_name q.prologue)
-
   declared_other : (U : Upgrade) (p : ℕ) (s : Site) (x : Procedure) (W : WrittenProcedure U p s x) → is_free_in U.program.declarations s x name ≡ true
       → are_other (declared_names W.code) ≡ true
   declared_other U p s x W h =
@@ -153,14 +141,16 @@ module _ (name : List ℕ) where
       let c = all_parts (is_other name) params (result ++ map own_name (owns_of D s)) b.1 in
       let d = all_parts (is_other name) result (map own_name (owns_of D s)) c.1 in
       let n = first_statement s in
-      let head = head_of S x x.name in
       let code = code_at U.program S n s.placed.at.procedure (site_lines s) in
       let dims = prologue (inside_procedure S s.placed.at.procedure) n (site_lines s) code in
-      ap (λ of. are_other (names_by of W.code.procedure)) W.property ∙ ap (λ t. are_other (names_by None t)) W.is_written
-      ∙ all_append (is_other name) (map (λ (p : net.Param). p.name) (params_by None head)) (result_names (result_by None head) ++ map dim_name dims)
-      (head_params_other (is_function x.kind) S x x.name (params_other S false x.params c.0))
-      (all_append (is_other name) (result_names (result_by None head)) (map dim_name dims) (result_other (is_function x.kind) S x x.name d.0)
-      (prologue_other (inside_procedure S s.placed.at.procedure) n (site_lines s) code b.0 d.1))
+      let named = map (λ (p : net.Param). p.name) (net_members.params_of W.code) in
+      let results = result_names (net_members.result_of W.code) in
+      let prologue_is : map dim_name W.code.procedure.prologue ≡ map dim_name dims = ap (λ (q : net.Procedure). map dim_name q.prologue) W.is_written in
+      all_append (is_other name) named (results ++ map dim_name W.code.procedure.prologue)
+      (ap (λ ps. are_other (map (λ (p : net.Param). p.name) ps)) W.params ∙ params_other S (is_property_kind x.kind) x.params c.0)
+      (all_append (is_other name) results (map dim_name W.code.procedure.prologue)
+      (ap (λ o. are_other (result_names o)) (result_are U p s x W) ∙ result_other (is_function x.kind) x.name (result_word S x x.kind) d.0)
+      (ap are_other prologue_is ∙ prologue_other (inside_procedure S s.placed.at.procedure) n (site_lines s) code b.0 d.1))
 
   pub frame_none : (U : Upgrade) (p : ℕ) (s : Site) (x : Procedure) (W : WrittenProcedure U p s x) (g : NetFrame) → HasNames (Some W.code) g
       → is_free_in U.program.declarations s x name ≡ true → var_in g.vars name ≡ None

@@ -4,6 +4,8 @@ use Rattle.std.specs.Prelude.{is_some, option_and_then}
 use Rattle.std.specs.Cmp.Lexicographic.{pointwise}
 use Rattle.std.specs.List.{list_all}
 use Rattle.up_base.specs.Names.{is_same_name, lower_case}
+use Rattle.vb_tree.specs.declared.declared.ProcKind.{ProcKind}
+use Rattle.vb_tree.specs.declared.declared.ProcKind.TheVariants as kind
 use Rattle.vb_tree.specs.declared.value.Value6.{Value6}
 use Rattle.vb_tree.specs.Tree.{Member, Nodes}
 use Rattle.bound_tree.specs.Tree.{Constant, Declarations, Procedure, Program}
@@ -13,6 +15,7 @@ use Rattle.net_tree.specs.declared.declaration.NetVisibility.{NetVisibility}
 use Rattle.net_tree.specs.Tree as net
 use Rattle.run_base.specs.Machines.{enters}
 use Rattle.run_base.specs.Outcomes.{gives, then}
+use Rattle.written_trees.specs.Arguments.{is_property_kind}
 use Rattle.written_trees.specs.Bodies.{procedure_with}
 use Rattle.written_trees.specs.Comments.{Comment}
 use Rattle.written_trees.specs.DeclaredMembers.{constant_by, module_constant}
@@ -36,7 +39,8 @@ use Rattle.run_matches.specs.Upgrades.{Upgrade, class_home, home_of}
 use Rattle.run_statements.specs.Frames.{written_initialized}
 use Rattle.run_statements.specs.Written.{IsWritten, WrittenProcedure}
 use Rattle.name_laws.specs.Objects.{InitializersAreFound, NothingInitializes}
-use Rattle.name_laws.proofs.Found.{MethodTest, member_found, members_are, method_test, number_is}
+use Rattle.name_laws.proofs.CodeMembers.{member_found, members_are, number_is}
+use Rattle.name_laws.proofs.Found.{MethodTest, method_test}
 use Rattle.name_laws.proofs.Homes.{HomeModule, home_module}
 use Rattle.name_laws.proofs.Lists.{and_true, both_true, same_numbers, some_same}
 use Rattle.name_laws.proofs.Looked.{first_none}
@@ -44,9 +48,9 @@ use Rattle.name_laws.proofs.Others.{all_by, members_pass}
 
 -- ---- a name that is the same without case
 
--- the first Sub of a name has the name
+-- the first Sub of a name is one, and has the name
 sub_named : (file : ℕ) (name : List ℕ) (k : ℕ) (ps : List Procedure) (q : ℕ) → sub_from file name k ps ≡ Some q
-    → (i : ℕ) × (q ≡ k + i) × (p : Procedure) × (slice_get ps i ≡ Some p) × (is_same_name p.name name ≡ true)
+    → (i : ℕ) × (q ≡ k + i) × (p : Procedure) × (slice_get ps i ≡ Some p) × (is_sub p.kind ≡ true) × (is_same_name p.name name ≡ true)
 sub_named file name k [] q e = absurd (cc e)
 sub_named file name k (p ∷ ps) q e = by (is_sub_named file name p) refl e (λ h. sub_named file name (suc k) ps q h)
   where
@@ -58,12 +62,20 @@ sub_named file name k (p ∷ ps) q e = by (is_sub_named file name p) refl e (λ 
 
     by : (b : Bool) → is_sub_named file name p ≡ b → cond b (Some k) (sub_from file name (suc k) ps) ≡ Some q
         → (sub_from file name (suc k) ps ≡ Some q
-        → (i : ℕ) × (q ≡ suc k + i) × (z : Procedure) × (slice_get ps i ≡ Some z) × (is_same_name z.name name ≡ true))
-        → (i : ℕ) × (q ≡ k + i) × (z : Procedure) × (slice_get (p ∷ ps) i ≡ Some z) × (is_same_name z.name name ≡ true)
+        → (i : ℕ) × (q ≡ suc k + i) × (z : Procedure) × (slice_get ps i ≡ Some z) × (is_sub z.kind ≡ true) × (is_same_name z.name name ≡ true))
+        → (i : ℕ) × (q ≡ k + i) × (z : Procedure) × (slice_get (p ∷ ps) i ≡ Some z) × (is_sub z.kind ≡ true) × (is_same_name z.name name ≡ true)
     by true t h more =
         let a = both_true (nat_eq p.module_number file) (is_sub p.kind && is_same_name p.name name) t in
-        (0, sym (some_same k q h) ∙ here, p, refl, (both_true (is_sub p.kind) (is_same_name p.name name) a.1).1)
-    by false t h more = let m = more h in (suc m.0, further m.0 m.1, m.2, m.3, m.4)
+        let b = both_true (is_sub p.kind) (is_same_name p.name name) a.1 in
+        (0, sym (some_same k q h) ∙ here, p, refl, b.0, b.1)
+    by false t h more = let m = more h in (suc m.0, further m.0 m.1, m.2, m.3, m.4, m.5)
+
+plain_sub : (k : ProcKind) → is_sub k ≡ true → is_property_kind k ≡ false
+plain_sub kind.Sub h = refl
+plain_sub kind.Function h = absurd (cc h)
+plain_sub kind.Get h = absurd (cc h)
+plain_sub kind.Let h = absurd (cc h)
+plain_sub kind.Set h = absurd (cc h)
 
 same_member : (a b : List ℕ) → lower_case a ≡ lower_case b → (m : net.Member) → is_member_named a m ≡ is_member_named b m
 same_member a b e (net.member_comment units) = refl
@@ -142,15 +154,15 @@ module _ (U : Upgrade) (I : IsWritten U) (q class home : ℕ) (t : Site) (y : Pr
   sub_is : sub_from y.module_number name 0 D.procs ≡ Some q
   sub_is = sym (ap (class_sub D name) m.is_file) ∙ is
 
-  named_so : is_same_name y.name name ≡ true
-  named_so =
+  is_named_sub : (is_sub y.kind ≡ true) × (is_same_name y.name name ≡ true)
+  is_named_sub =
       let s = sub_named y.module_number name 0 D.procs q sub_is in
       let number : s.0 ≡ q = (let e = s.1 in omega (arith, e)) in
       let same : s.2 ≡ y = some_same s.2 y (sym s.3 ∙ ap (slice_get D.procs) number ∙ is_procedure) in
-      ap (λ (z : Procedure). is_same_name z.name name) (sym same) ∙ s.4
+      (ap (λ (z : Procedure). is_sub z.kind) (sym same) ∙ s.4, ap (λ (z : Procedure). is_same_name z.name name) (sym same) ∙ s.5)
 
   alike : lower_case y.name ≡ lower_case name
-  alike = same_numbers (lower_case y.name) (lower_case name) named_so
+  alike = same_numbers (lower_case y.name) (lower_case name) is_named_sub.1
 
   at : home ≡ t.home
   at =
@@ -188,7 +200,7 @@ module _ (U : Upgrade) (I : IsWritten U) (q class home : ℕ) (t : Site) (y : Pr
       ∙ ap (initializer_at N t.home)
       (same_first (is_member_named making.initializer) (is_member_named y.name) (same_member making.initializer y.name (sym alike)) 0
       (members_of (module_at N t.home)) ∙ member_found U I q t y V m.once)
-      ∙ number_is U I q t y V
+      ∙ number_is U I q t y V false (V.alone (plain_sub y.kind is_named_sub.0)).sets
 
   pub initializer_found : (oracle : Jobs) (o : ℕ) (s : net_store.Memory)
       → written_initialized U home oracle o s ≡ then (oracle (enters V.number (Some o) tt []) s) (λ x s. gives [] tt s)

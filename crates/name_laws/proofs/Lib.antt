@@ -20,6 +20,7 @@ pub mod Owned
 pub mod Numbers
 pub mod Prologues
 pub mod FrameNames
+pub mod CodeMembers
 pub mod Found
 pub mod Owns
 pub mod Inward

@@ -14,7 +14,8 @@ use Rattle.written_trees.specs.Facts.{Facts, line_set, variable_set, constant_se
 use Rattle.written_trees.specs.Names.{Scope}
 use Rattle.written_trees.specs.Prologues.{variables_of, constants_of, union, statement_set, one_if, set_if, code_sets, declares}
 use Rattle.run_matches.specs.CleanLines.{IsCleanLine, lines_at, or_none}
-use Rattle.run_matches.specs.Covered.{IsCoveredLine, covers_procedure, covers_statement, is_empty, is_mentioned}
+use Rattle.run_matches.specs.Covered.{IsCoveredLine, covers_procedure, covers_statement, is_mentioned}
+use Rattle.run_matches.specs.JoinedProperties.{is_empty}
 use Rattle.run_matches.specs.Sites.{Site, site_of, site_lines, first_statement, code_statement, statement_of, Own, own_variable, own_constant, owns_from, owns_of, statement_owns}
 use Rattle.run_matches.specs.Upgrades.{Upgrade, is_unknown, type_of}
 use Rattle.run_statements.specs.Kept.{IsUnreplaced}

@@ -1,5 +1,5 @@
 -- What is written in a module has the names that the module declares, and none more often.
-use Rattle.std.proofs.Common.{◌≡◌, refl, sym, ap, subst, ℕ, zero, suc, ◌+◌, ◌≤◌, Bool, true, false, cond, not, List, [], ◌∷◌, ◌++◌, map, Option, Some, None, slice_get, arith}
+use Rattle.std.proofs.Common.{◌≡◌, refl, sym, ap, subst, ℕ, zero, suc, ◌+◌, ◌≤◌, Bool, true, false, cond, not, ◌&&◌, List, [], ◌∷◌, ◌++◌, map, Option, Some, None, slice_get, arith}
 use Rattle.std.specs.List.{flat_map}
 use Rattle.up_base.specs.Names.{is_same_name}
 use Rattle.vb_tree.specs.Tree.{Form, Member, Module, Nodes, alone, group, proc}
@@ -23,7 +23,7 @@ use Rattle.written_trees.specs.Projects.{has_initializer, makers, module_scope, 
 use Rattle.written_trees.specs.Prologues.{constants_of, object_variable, one_if, sound_value, typed_variable, variables_of, written_variable}
 use Rattle.written_trees.specs.Properties.{head_comments, is_counted, is_separate, joined_property, no_part, own_part, property_of, separate_name}
 use Rattle.net_run.specs.Members.{is_head_named, is_member_named}
-use Rattle.run_matches.specs.Callees.{count_named, enum_names, names_among, names_at, names_from, procedure_names}
+use Rattle.run_matches.specs.Callees.{count_named, enum_names, names_among, names_at, names_from, is_inner, procedure_names}
 use Rattle.run_matches.specs.Sites.{own_constants, own_name, own_variables, statement_owns}
 use Rattle.name_laws.proofs.Counting.{count_append, count_of}
 use Rattle.name_laws.proofs.Lists.{map_append}
@@ -190,35 +190,39 @@ module _ (name : List ℕ) where
     one_more_name : (m : net.Member) (n : List ℕ) (xs : List (List ℕ)) → AtMost name (m ∷ []) xs → AtMost name (m ∷ []) (n ∷ xs)
     one_more_name m n xs h = omega (arith, h)
 
-    by_most : (ps : List Placed) (p : Placed) (body : Nodes) (q : Procedure)
+    by_most : (ps : List Placed) (p : Placed) (body : Nodes) (q : Procedure) → stays_inside S p.at.procedure q ≡ false
         → AtMost name (member_by P S ps p body q ∷ []) (procedure_names S.declarations p.at.procedure (Some q))
-    by_most ps p body q = by (is_property_kind q.kind) (is_separate S q)
+    by_most ps p body q = by (is_property_kind q.kind) (is_separate S q) (is_inner S.declarations p.at.procedure q)
       where
         n : List ℕ
         n = procedure_name S.declarations p.at.procedure
 
-        by : (b c : Bool)
+        by : (b c d : Bool) → (b && (not c && d)) ≡ false
             → AtMost name
             (cond (not b) (plain_member P S p body q q.name)
             (cond c (plain_member P S p body q (separate_name q.kind (procedure_name S.declarations p.at.procedure))) (property_member P S ps p body q)) ∷ [])
-            (cond b (procedure_name S.declarations p.at.procedure ∷ separate_name q.kind (procedure_name S.declarations p.at.procedure) ∷ []) (q.name ∷ []))
-        by false c = one_member (plain_member P S p body q q.name) q.name [] (plain_named p body q q.name)
-        by true true =
+            (cond b (cond d [] (procedure_name S.declarations p.at.procedure ∷ []) ++ separate_name q.kind (procedure_name S.declarations p.at.procedure) ∷ [])
+            (q.name ∷ []))
+        by false c d h = one_member (plain_member P S p body q q.name) q.name [] (plain_named p body q q.name)
+        by true true true h =
+            one_member (plain_member P S p body q (separate_name q.kind n)) (separate_name q.kind n) [] (plain_named p body q (separate_name q.kind n))
+        by true true false h =
             one_more_name (plain_member P S p body q (separate_name q.kind n)) n (separate_name q.kind n ∷ [])
             (one_member (plain_member P S p body q (separate_name q.kind n)) (separate_name q.kind n) [] (plain_named p body q (separate_name q.kind n)))
-        by true false = one_member (property_member P S ps p body q) n (separate_name q.kind n ∷ []) (property_named ps p body q)
+        by true false true h = absurd (cc h)
+        by true false false h = one_member (property_member P S ps p body q) n (separate_name q.kind n ∷ []) (property_named ps p body q)
 
     procedures_most : (ps : List Placed) (p : Placed) (head : source.Line) (body : Nodes) (o : Option Procedure)
         → AtMost name (procedure_members P S ps p head body o) (procedure_names S.declarations p.at.procedure o)
     procedures_most ps p head body None = none_at_all []
-    procedures_most ps p head body (Some q) = by (stays_inside S p.at.procedure q)
+    procedures_most ps p head body (Some q) = by (stays_inside S p.at.procedure q) refl
       where
-        by : (b : Bool) → AtMost name (cond b [] (member_comments (head_comments S p head) ++ member_by P S ps p body q ∷ []))
+        by : (b : Bool) → stays_inside S p.at.procedure q ≡ b → AtMost name (cond b [] (member_comments (head_comments S p head) ++ member_by P S ps p body q ∷ []))
             (procedure_names S.declarations p.at.procedure (Some q))
-        by true = none_at_all (procedure_names S.declarations p.at.procedure (Some q))
-        by false =
+        by true e = none_at_all (procedure_names S.declarations p.at.procedure (Some q))
+        by false e =
             most_behind (member_comments (head_comments S p head)) (member_by P S ps p body q ∷ []) (procedure_names S.declarations p.at.procedure (Some q))
-            (comments_none (head_comments S p head)) (by_most ps p body q)
+            (comments_none (head_comments S p head)) (by_most ps p body q e)
 
     -- ---- members
 

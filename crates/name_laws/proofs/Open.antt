@@ -1,11 +1,14 @@
 -- Where no name is reserved, the names of written functions lead to them.
-use Rattle.std.proofs.Common.{◌≡◌, refl, ap, ◌∙◌, ℕ, zero, suc, Bool, true, false, cond, List, [], ◌∷◌, map, Some, None, codes}
+use Rattle.std.proofs.Common.{◌≡◌, refl, ap, sym, ◌∙◌, ℕ, zero, suc, Bool, true, false, cond, List, [], ◌∷◌, map, Some, None, codes}
 use Rattle.std.specs.List.{list_all}
 use Rattle.vb_tree.specs.FlatLines.{flat_lines}
 use Rattle.net_tree.specs.Tree as net
 use Rattle.up_base.specs.Names.{is_same_name}
-use Rattle.written_trees.specs.Bodies.{procedure_with, inside_procedure, code_at}
-use Rattle.written_trees.specs.Heads.{head_of}
+use Rattle.bound_tree.specs.Tree.{Procedure}
+use Rattle.written_trees.specs.Arguments.{is_property_kind}
+use Rattle.written_trees.specs.Bodies.{inside_procedure, code_at}
+use Rattle.written_trees.specs.Heads.{head_of, is_function, params_of, result_type, written_visibility}
+use Rattle.written_trees.specs.Names.{Scope}
 use Rattle.written_trees.specs.Projects.{first_numbers, modules_from}
 use Rattle.net_run.specs.Lines.{scope_of}
 use Rattle.net_run.specs.Members as made
@@ -17,14 +20,15 @@ use Rattle.net_run.specs.Store.{Address}
 use Rattle.row_laws.specs.Uncaptured.{IsFree}
 use Rattle.run_matches.specs.Covered.{is_free_name}
 use Rattle.run_matches.specs.Frames.{declared_names}
+use Rattle.run_matches.specs.Sites.{Site}
 use Rattle.run_matches.specs.Upgrades.{Upgrade}
 use Rattle.run_statements.specs.Kept.{NamesAreOpen}
-use Rattle.run_statements.specs.Written.{IsWritten, site_scope}
-use Rattle.name_laws.specs.Free.{is_free_head, is_free_member, has_free_members, is_free_code}
+use Rattle.run_statements.specs.Written.{IsWritten, WrittenProcedure, site_scope, written_result}
+use Rattle.name_laws.specs.Free.{is_free_by, is_free_head, is_free_member, has_free_members, is_free_code}
 use Rattle.name_laws.proofs.Lists.{both_true, all_at}
 use Rattle.name_laws.proofs.Names.{IsNoFree, no_support, no_library, no_mathematics, free_names}
 use Rattle.name_laws.proofs.WrittenMembers.{modules_free, module_names_free}
-use Rattle.name_laws.proofs.Declared.{codes_free, procedure_names_free}
+use Rattle.name_laws.proofs.Declared.{codes_free, procedure_names_free, result_free}
 
 -- ---- searches for a name that no free name is
 
@@ -80,6 +84,31 @@ free_scope S name other vars members modules = record {
   no_module = module_none name other 0 S.project.modules modules;
 }
 
+-- ---- the name of a procedure
+
+named_by_head : (S : Scope) (x : Procedure) (name : List ℕ) → is_free_head (head_of S x name) ≡ true → is_free_name name ≡ true
+named_by_head S x name = by (is_function x.kind)
+  where
+    by : (b : Bool) → is_free_head (cond b
+        (net.function (written_visibility x.visibility) name (params_of S false x.params) (result_type S x))
+        (net.sub (written_visibility x.visibility) name (params_of S false x.params))) ≡ true → is_free_name name ≡ true
+    by true h = h
+    by false h = h
+
+-- what is written has it from its head, or from the property of which it is a part
+own_name_free : (U : Upgrade) (p : ℕ) (s : Site) (x : Procedure) (W : WrittenProcedure U p s x) → is_free_code W.code ≡ true → is_free_name x.name ≡ true
+own_name_free U p s x W free = by (is_property_kind x.kind) refl
+  where
+    by : (b : Bool) → is_property_kind x.kind ≡ b → is_free_name x.name ≡ true
+    by true e =
+        let J = W.joined e in
+        ap is_free_name (sym J.name) ∙ ap (λ o. is_free_by o W.code.procedure.head) (sym J.is_property) ∙ free
+    by false e =
+        let A = W.alone e in
+        named_by_head (site_scope U s) x x.name
+        (ap is_free_head (sym A.is_head) ∙ ap (λ (q : net.Procedure). is_free_head q.head) (sym W.is_written)
+        ∙ ap (λ o. is_free_by o W.code.procedure.head) (sym A.property) ∙ free)
+
 -- ---- the law
 
 pub names_are_open : (U : Upgrade) → IsWritten U → NamesAreOpen U
@@ -96,10 +125,10 @@ names_are_open U I p s x W g k covers names =
     all_at is_free_code (made.codes_of U.written) W.number W.code (codes_free 0 U.written.modules members) W.is_code in
     let S = site_scope U s in
     let lines = flat_lines s.body in
-    let t = procedure_with U.program S s.placed s.body (head_of S x x.name) W.close in
     let declared : list_all is_free_name (declared_names W.code) ≡ true =
-    procedure_names_free S F W.code x x.name (inside_procedure S s.placed.at.procedure) (suc s.placed.at.statement) lines
-    (code_at U.program S (suc s.placed.at.statement) s.placed.at.procedure lines) t F W.property W.is_written refl refl code in
+    procedure_names_free S F W.code (is_property_kind x.kind) x.params (written_result S x x.kind) (inside_procedure S s.placed.at.procedure)
+    (suc s.placed.at.statement) lines (code_at U.program S (suc s.placed.at.statement) s.placed.at.procedure lines) F W.params W.result
+    (result_free S x x.kind (own_name_free U p s x W code)) (ap (λ (q : net.Procedure). q.prologue) W.is_written) in
     let vars : list_all is_free_name (map (λ (x : List ℕ × Address). x.0) g.vars) ≡ true = ap (list_all is_free_name) names ∙ declared in
     record {
       support = free_scope (scope_of U.written W.code g k) support_name no_support vars members modules;

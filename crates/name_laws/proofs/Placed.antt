@@ -1,5 +1,5 @@
 -- The variables that covered lines use are found on both sides.
-use Rattle.std.proofs.Common.{◌≡◌, refl, ap, sym, subst, ◌∙◌, inl, inr, ℕ, ◌+◌, arith, Bool, true, false, cond, not, nat_eq, List, [], ◌∷◌, None, Some, option_map, slice_get}
+use Rattle.std.proofs.Common.{◌≡◌, refl, ap, sym, subst, ◌∙◌, inl, inr, ℕ, ◌+◌, arith, Bool, true, false, cond, not, nat_eq, List, None, Some, option_map, slice_get}
 use Rattle.std.specs.Prelude.{option_and_then, ◌||◌}
 use Rattle.up_base.specs.Names.{is_same_name}
 use Rattle.std.specs.Map.{lookup}
@@ -15,13 +15,13 @@ use Rattle.bound_facts.specs.SelfMade.{module_of}
 use Rattle.vb6_run.specs.Programs.{is_static_of}
 use Rattle.vb6_run.specs.Runnables.{is_class_file}
 use Rattle.written_trees.specs.Bodies.{inside_procedure}
-use Rattle.written_trees.specs.Heads.{is_function, result_type}
+use Rattle.written_trees.specs.Heads.{is_function}
 use Rattle.written_trees.specs.Names.{Scope, is_foreign, module_name, owner_path, variable_path_of}
 use Rattle.vb6_run.specs.Store.{Address, SourceFrame}
 use Rattle.net_run.specs.Lines.{NetFrame, NetLine, scope_of}
 use Rattle.net_run.specs.Members.{code_at}
 use Rattle.net_run.specs.Names as net_names
-use Rattle.net_run.specs.Names.{frame_start, is_result, path_start, var_in}
+use Rattle.net_run.specs.Names.{is_result, path_start}
 use Rattle.run_matches.specs.CoveredVariables.{is_foreign_name, is_named_apart, is_reached}
 use Rattle.run_matches.specs.CoveredExprs.{IsUsed, uses_in}
 use Rattle.run_matches.specs.Covered.{is_reference_in, is_reference_owner_of}
@@ -34,7 +34,7 @@ use Rattle.run_statements.specs.Kept.{UsesArePlaced}
 use Rattle.run_statements.specs.Written.{IsWritten, WrittenProcedure, site_scope}
 use Rattle.name_laws.proofs.Lists.{both_true, some_same, same_number}
 use Rattle.name_laws.proofs.Classes.{stands_here, stands_in_class}
-use Rattle.name_laws.proofs.FrameNames.{result_are}
+use Rattle.name_laws.proofs.FrameNames.{result_are, result_word, same_by, same_start}
 use Rattle.name_laws.proofs.Keys.{StaticKey, static_parts, key_of_static}
 use Rattle.name_laws.proofs.Looked.{not_true}
 use Rattle.name_laws.proofs.Led.{led, differing}
@@ -130,15 +130,6 @@ code_is U p s x W = ap (option_and_then (code_at U.written)) W.is_number ∙ W.i
 
 -- ---- names before indexes
 
--- a name that isn't that of the result leads to the same
-same_start : (E : net_names.Scope) (name : List ℕ) → is_result E.result_name name ≡ false → path_start E true (name ∷ []) ≡ path_start E false (name ∷ [])
-same_start E name h = ap (λ b. frame_start E name [] (cond b None (var_in E.vars name))) h
-
-same_by : (E : net_names.Scope) (outer name : List ℕ) (b : Bool) → is_result E.result_name name ≡ false
-    → path_start E true (cond b (outer ∷ name ∷ []) (name ∷ [])) ≡ path_start E false (cond b (outer ∷ name ∷ []) (name ∷ []))
-same_by E outer name true h = refl
-same_by E outer name false h = same_start E name h
-
 owner_start : (E : net_names.Scope) (T : Scope) (q : Bool) (name : List ℕ) (o : Owner) → is_result E.result_name name ≡ false
     → path_start E true (owner_path T q name o) ≡ path_start E false (owner_path T q name o)
 owner_start E T q name (owner.Module home) h =
@@ -165,7 +156,7 @@ leads_before U p s x is W g k v y is_variable apart q =
     let other : not (is_same_name x.name y.name) ≡ true = sym (ap (λ o. is_named_apart o y.name) is) ∙ apart in
     let none : is_result E.result_name y.name ≡ false =
     ap (λ o. is_result (option_map (λ (r : List ℕ × TypeName). r.0) o) y.name) (result_are U p s x W)
-    ∙ no_result_by (is_function x.kind) x.name y.name (result_type (site_scope U s) x) other in
+    ∙ no_result_by (is_function x.kind) x.name y.name (result_word (site_scope U s) x x.kind) other in
     subst (λ o. path_start E true (variable_path_of T q o) ≡ path_start E false (variable_path_of T q o)) (sym is_variable)
     (owner_start E T q y.name y.owner none)
 

@@ -244,6 +244,8 @@ module _ (U : Upgrade) (I : IsWritten U) (p : ℕ) (mentions : List Mention)
     exact = λ v h. uses_exact U I.known v.0 h;
     facts = same;
     types = λ v ty h. h;
+    gives = λ q h. h;
+    takes = λ q ty h. h;
     inward = λ q h. seen_inward U.program U.known I.known q h;
     relied = λ v h. h;
   }

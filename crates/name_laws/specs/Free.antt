@@ -1,7 +1,7 @@
 -- What is written under names that aren't reserved.
-use Rattle.std.specs.Prelude.{Bool, true, ◌||◌, is_some}
+use Rattle.std.specs.Prelude.{Bool, true, Option, Some, None}
 use Rattle.std.specs.List.{list_all}
-use Rattle.net_tree.specs.Tree.{Head, sub, function, sub_new, get_part, set_part, Member, member_comment, variable, const_member, structure, property, proc, Module}
+use Rattle.net_tree.specs.Tree.{Head, sub, function, sub_new, get_part, set_part, Property, Member, member_comment, variable, const_member, structure, property, proc, Module}
 use Rattle.net_run.specs.Members.{Code}
 use Rattle.run_matches.specs.Covered.{is_free_name}
 
@@ -24,6 +24,10 @@ is_free_member (proc p) = is_free_head p.head
 abbrev pub has_free_members : Module → Bool
 has_free_members m = list_all is_free_member m.members
 
--- a part of a property has no name of its own
+-- a part of a property has the name of that
+abbrev pub is_free_by : Option Property → Head → Bool
+is_free_by None head = is_free_head head
+is_free_by (Some p) head = is_free_name p.name
+
 abbrev pub is_free_code : Code → Bool
-is_free_code c = is_some c.property || is_free_head c.procedure.head
+is_free_code c = is_free_by c.property c.procedure.head

@@ -41,7 +41,7 @@ HasParts D ps first =
 
 -- ---- parts
 
-abbrev IsPart : Declarations → List Placed → ℕ → Type 0
+abbrev pub IsPart : Declarations → List Placed → ℕ → Type 0
 IsPart D ps n = (q : Procedure) × (slice_get D.procs n ≡ Some q) × StandsIn ps n
 
 part_here : (P : Program) (S : Scope) (later : Bool) (p : Placed) (m : Member) (o : Option Procedure) (q : Procedure) → is_procedure_member m ≡ true
@@ -66,14 +66,14 @@ part_found P S first n (r ∷ ps) q zero p e s t =
     either_part P S first n r ps q e (λ other. let here : is_at n r ≡ true = ap (is_at_some n) s ∙ t in absurd (true≢false (sym here ∙ other)))
 part_found P S first n (r ∷ ps) q (suc i) p e s t = either_part P S first n r ps q e (λ other. part_found P S first n ps q i p e s t)
 
-part_is : (P : Program) (S : Scope) (first : ℕ) (ps : List Placed) (o : Option ℕ) → ((n : ℕ) → o ≡ Some n → IsPart S.declarations ps n)
+pub part_is : (P : Program) (S : Scope) (first : ℕ) (ps : List Placed) (o : Option ℕ) → ((n : ℕ) → o ≡ Some n → IsPart S.declarations ps n)
     → is_some (part_at P S first ps o).procedure ≡ is_some o
 part_is P S first ps None h = refl
 part_is P S first ps (Some n) h =
     let r : IsPart S.declarations ps n = h n refl in
     part_found P S first n ps r.0 r.2.0 r.2.1 r.1 r.2.2 r.2.3
 
-same_kind : (a b : ProcKind) → is_kind a b ≡ true → is_property_kind a ≡ true → is_property_kind b ≡ true
+pub same_kind : (a b : ProcKind) → is_kind a b ≡ true → is_property_kind a ≡ true → is_property_kind b ≡ true
 same_kind kind.Sub b h i = absurd (cc i)
 same_kind kind.Function b h i = absurd (cc i)
 same_kind kind.Get kind.Get h i = refl
@@ -109,7 +109,7 @@ let_or_set D first n e =
     put_numbered D first n (part_number D kind.Let first) (part_number D kind.Set first) (λ m. part_numbered D kind.Let first m refl)
     (λ m. part_numbered D kind.Set first m refl) e
 
-part_stands : (D : Declarations) (ps : List Placed) (first n : ℕ) → HasParts D ps first → NumbersPart D first n → IsPart D ps n
+pub part_stands : (D : Declarations) (ps : List Placed) (first n : ℕ) → HasParts D ps first → NumbersPart D first n → IsPart D ps n
 part_stands D ps first n has r = (r.part, r.is_there, has n r.part r.is_there r.is_property r.has_first)
 
 -- ---- properties

@@ -15,7 +15,6 @@ use Rattle.net_tree.specs.declared.declaration.NetClose.{NetClose}
 use Rattle.net_tree.specs.Tree as net
 use Rattle.written_trees.specs.Bodies.{procedure_with}
 use Rattle.written_trees.specs.Bodies as bound
-use Rattle.written_trees.specs.Heads.{head_of}
 use Rattle.written_trees.specs.Lines.{replaced_by}
 use Rattle.written_trees.specs.Prologues.{code_sets}
 use Rattle.net_run.specs.Members.{Code}
@@ -99,4 +98,4 @@ label_found same U s c a head close is own b sound unreplaced =
 pub labels_are_found : LabelsAreSame → (U : Upgrade) → IsWritten U → LabelsAreFound U
 labels_are_found same U w p s x site W sound unreplaced a own =
     subst (FoundAt U s W.code a) (site_number U.program.declarations p s site)
-    (label_found same U s W.code a (head_of (site_scope U s) x x.name) W.close W.is_written own) (w.bodies p s site) sound unreplaced
+    (label_found same U s W.code a W.head W.close W.is_written own) (w.bodies p s site) sound unreplaced

@@ -17,7 +17,6 @@ use Rattle.net_tree.specs.Tree as net
 use Rattle.written_trees.specs.Bodies.{inside_procedure, procedure_with, replaced_in}
 use Rattle.written_trees.specs.Bodies as bound
 use Rattle.written_trees.specs.Facts.{line_set}
-use Rattle.written_trees.specs.Heads.{head_of}
 use Rattle.written_trees.specs.Lines.{line_by, line_of, replaced_by, written_line}
 use Rattle.written_trees.specs.Names.{Scope}
 use Rattle.written_trees.specs.Prologues as prologues
@@ -233,7 +232,7 @@ line_written same_aims same_tests U s written k l c head close there is b e keep
 pub lines_are_written : AimsAreSame → TestsAreSame → (U : Upgrade) → IsWritten U → LinesAreWritten U
 lines_are_written same_aims same_tests U w p s x site W k l e keeps rules =
     subst (LineAt U s W.number k l) (site_number U.program.declarations p s site)
-    (line_written same_aims same_tests U s W.number k l W.code (head_of (site_scope U s) x x.name) W.close W.is_code W.is_written) (w.bodies p s site) e keeps rules
+    (line_written same_aims same_tests U s W.number k l W.code W.head W.close W.is_code W.is_written) (w.bodies p s site) e keeps rules
 
 -- ---- no others
 
@@ -251,4 +250,4 @@ no_further_lines U w p s x site there W zero e = no_line_before (slice_get (map 
 no_further_lines U w p s x site there W (suc k) e =
     target_line U W.number k W.code W.is_code
     ∙ subst (NothingAt U s W.code k) (site_number U.program.declarations p s site)
-    (nothing_written U s k W.code (head_of (site_scope U s) x x.name) W.close W.is_written) (w.bodies p s site) e
+    (nothing_written U s k W.code W.head W.close W.is_written) (w.bodies p s site) e

@@ -5,8 +5,8 @@ ghost use Rattle.run_statements.specs.Kept.{LabelsAreFound, LinesAreWritten, NoF
 
 use target_laws::{same_aims, same_labels, same_tests};
 
-/// A law: each procedure that is no part of a property has a number among the written ones, and what is written for it stands there, in
-/// the module that its own is written as.
+/// A law: each Sub or Function, and each part of a property that is written as one, has a number among the written procedures, and what is
+/// written for it stands there, in the module that its own is written as.
 pub fn procedures_are_written()
     ensures { (U : Upgrade) → IsWritten U → ProceduresAreWritten U }
 {}

@@ -3,7 +3,7 @@ use Rattle.vb_tree.specs.BoundTree.{Ty}
 use Rattle.name_laws.proofs.Keeping.{seen_to_keep}
 use Rattle.bound_facts.specs.Nodes.{nodes_of_passed}
 use Rattle.run_matches.specs.Keeping.{given_types, keeps_callee, keeps_each, keeps_entered, keeps_given, keeps_seen}
-use Rattle.std.proofs.Common.{◌≡◌, sym, ap, subst, ◌∙◌, ℕ, Bool, true, false, Option, Some, ◌++◌, map, ◌&&◌, None, List, [], ◌∷◌, inl, inr}
+use Rattle.std.proofs.Common.{◌≡◌, sym, ap, subst, ◌∙◌, ℕ, Bool, true, Option, Some, ◌++◌, map, ◌&&◌, None, List, [], ◌∷◌, inl, inr}
 use Rattle.std.specs.Prelude.{nat_lt, slice_get}
 use Rattle.std.specs.List.{Contains, list_all}
 use Rattle.up_base.proofs.Tests.{both_true}
@@ -17,22 +17,26 @@ use Rattle.bound_facts.specs.Node.{args_at, called}
 use Rattle.bound_facts.specs.Parts.{line_uses}
 use Rattle.run_base.specs.Machines.{nth_line}
 use Rattle.net_run.specs.Calls.{passings, passings_of_code}
-use Rattle.written_trees.specs.Arguments.{is_property_at, is_property_kind, parameter_in, takes_reference_of}
+use Rattle.net_run.specs.Lines.{scope_of}
+use Rattle.written_trees.specs.Arguments.{parameter_in, takes_reference_of}
+use Rattle.written_trees.specs.Bodies.{inside_procedure}
 use Rattle.run_matches.specs.CleanLines.{IsCleanLine, line_points, lines_at, result_points}
-use Rattle.run_matches.specs.Covered.{covers_called_for, covers_calls, covers_node, suits, suits_callee, suits_passed, hands, hands_callee, hands_passed}
+use Rattle.run_matches.specs.Covered.{covers_called_for, covers_calls, covers_node, covers_use_of, suits, suits_callee, suits_passed, hands, hands_callee, hands_passed}
+use Rattle.run_matches.specs.CoveredExprs.{is_giving}
 use Rattle.run_matches.specs.Sites.{Site, site_of}
 use Rattle.run_matches.specs.Upgrades.{Upgrade}
 use Rattle.run_statements.specs.Fitting.{FitsNode, FitsPassed}
 use Rattle.run_statements.specs.Frames.{passing_at, passing_by, KeepsEach, NodesKeep}
 use Rattle.run_statements.specs.Kept.{CalleesAreFound, CanCallFrom, MethodsAreFound, qualified_at, receiver_at}
-use Rattle.run_statements.specs.Written.{Passes, ProceduresAreWritten, WrittenProcedure}
+use Rattle.run_statements.specs.Written.{Passes, ProceduresAreWritten, WrittenProcedure, site_scope}
 use Rattle.name_laws.proofs.Lists.{Among, all_among, among, among_left, among_right, contains, map_among}
 use Rattle.name_laws.proofs.Uses.{clean_line_is}
-use Rattle.run_laws.proofs.Covered.{CoveredProcedure, covered_parts, no_property, not_none, some_is}
-use Rattle.name_laws.proofs.FrameNames.{params_are}
-use Rattle.run_laws.proofs.Heads.{params_pass}
+use Rattle.run_laws.proofs.Covered.{CoveredProcedure, covered_parts, not_none, some_is}
+use Rattle.run_laws.proofs.Parts.{clean_unparted}
+use Rattle.run_laws.proofs.Heads.{params_given}
 use Rattle.run_laws.proofs.Names.{names_in_code}
 use Rattle.run_laws.proofs.Receiving.{called_within, is_found_by, node_test, receives}
+use Rattle.run_laws.proofs.Ways.{FoundFrom, way_is}
 use Rattle.run_laws.proofs.Reaching.{IsLineOf, inward_called, keeps_called}
 
 -- ---- the callee
@@ -66,9 +70,10 @@ pub call_fits : (U : Upgrade) (q : ℕ) (d : Expr) → FitsNode U d → called d
 call_fits U q (typed ty (tree.call f qualified of args)) h e = subst (λ n. FitsPassed U n 0 args) (some_is e) h
 call_fits U q (typed ty _) h e = absurd (not_none e)
 
--- what a line calls passes the test
+-- what a line calls passes the tests
 pub callee_covered : (U : Upgrade) (p q : ℕ) (l : Line) (d : Expr) → covers_calls U.program p l ≡ true → Contains (line_uses l) d → called d ≡ Some q
-    → covers_called_for U.program p (site_of U.program.declarations p) q (qualified_at d) (receiver_at d) ≡ true
+    → (covers_called_for U.program p (site_of U.program.declarations p) q (qualified_at d) (receiver_at d) ≡ true)
+    × (covers_use_of U.program.declarations p q (qualified_at d) (receiver_at d) (args_at d) ≡ true)
 callee_covered U p q l d h m e =
     node_test U.program p q (site_of U.program.declarations p) d
     (all_among (covers_node U.program p (site_of U.program.declarations p)) (line_uses l) d (call_parts U p l h).0 (among (line_uses l) d m)) e
@@ -97,7 +102,7 @@ seen_inside U ts (d ∷ ds) h =
 module _ (U : Upgrade) (known : AreFacts U.program U.known) (procedures : ProceduresAreWritten U) (found : CalleesAreFound U) (methods : MethodsAreFound U)
     (p q : ℕ) (s : Site) (x : Procedure)
     (is_site : site_of U.program.declarations p ≡ Some s) (is_procedure : slice_get U.program.declarations.procs p ≡ Some x)
-    (kind : is_property_kind x.kind ≡ false) (W : WrittenProcedure U p s x) (l : Line) (stands : IsLineOf U.program p l)
+    (W : WrittenProcedure U p s x) (l : Line) (stands : IsLineOf U.program p l)
     (call : Contains (line_calls U.program.declarations p l) (p, q)) (qualified : Bool) (of : Object)
     (test : covers_called_for U.program p (site_of U.program.declarations p) q qualified of ≡ true) (pass : Passes U q) where
   abbrev D : Declarations
@@ -107,41 +112,45 @@ module _ (U : Upgrade) (known : AreFacts U.program U.known) (procedures : Proced
   c = covered_parts U.program q (pass.1 q (empty q))
 
   abbrev V : WrittenProcedure U q c.site c.procedure
-  V = procedures q c.site c.procedure c.is_site c.is_procedure (no_property c.procedure.kind c.kind)
+  V = procedures q c.site c.procedure c.is_site c.is_procedure c.joined (clean_unparted U q c.procedure pass.0)
 
   within : nat_lt q (count_procedures U.program) ≡ true
   within = called_within U.program p q (site_of D p) qualified of test
 
-  passings_are : (i : ℕ) → passing_at (passings_of_code (Some V.code)) i ≡ passing_by (takes_reference_of D (slice_get c.procedure.params i))
-  passings_are i =
-      ap (λ ps. passing_at (passings ps) i) (params_are U q c.site c.procedure V)
-      ∙ params_pass U c.site q c.procedure.params c.params i
+  passings_are : is_giving (slice_get D.procs q) ≡ true → (i : ℕ)
+      → passing_at (passings_of_code (Some V.code)) i ≡ passing_by (takes_reference_of D (slice_get c.procedure.params i))
+  passings_are gives i =
+      ap (λ ps. passing_at (passings ps) i) V.params
+      ∙ params_given U c.site q c.procedure c.is_procedure c.joined c.params (sym (ap is_giving c.is_procedure) ∙ gives) i
 
-  pub can_call : (args : Passed) → suits_passed U.program.declarations q 0 args ≡ true → hands_callee U.program (Some q) args ≡ true → FitsPassed U q 0 args
+  pub can_call : (args : Passed) → covers_use_of U.program.declarations p q qualified of args ≡ true
+      → suits_passed U.program.declarations q 0 args ≡ true → hands_callee U.program (Some q) args ≡ true → FitsPassed U q 0 args
       → CanCallFrom U p s W.code q qualified of args
-  can_call args fit hand ranks w f g k names =
+  can_call args covers fit hand ranks w f g k names =
       let both = both_true (hands_passed U.program q 0 args) (keeps_given U.program q args) hand in
       let ts = given_types args in
       let keeping = both_true (keeps_each U.program q ts) (list_all (keeps_entered U.program ts) (nodes_of_passed args)) both.1 in
+      let F : FoundFrom U (scope_of U.written W.code g k) (inside_procedure (site_scope U s) p) x c.procedure q V.number qualified of =
+      is_found_by U p q s c.site x c.procedure is_site is_procedure c.is_site c.is_procedure found methods W V g k (names_in_code U p s x W g names) qualified
+      of test in
       record {
         passes = pass;
         keeps = λ ty h. keeps_called U.program p q x is_procedure within l stands call ty h;
         inward = λ h. inward_called U known p q x is_procedure within l stands call h;
         number = V.number;
         is_number = V.is_number;
-        plain = ap is_property_at c.is_procedure ∙ no_property c.procedure.kind c.kind;
+        way = F.way;
+        is_way = way_is U p q V.number s x c.procedure is_procedure c.is_procedure (scope_of U.written W.code g k) qualified of args F covers;
         receives = receives U p q s c.site x c.procedure is_site is_procedure c.is_site c.is_procedure qualified of test;
         suits = fit;
         hands = both.0;
         given = seen_each U q ts keeping.0;
         inside = seen_inside U ts (nodes_of_passed args) keeping.1;
         ranks = ranks;
-        passings = λ i.
-            ap (λ o. passing_at (passings_of_code o) i) V.is_code ∙ passings_are i
+        passings = λ gives i.
+            ap (λ o. passing_at (passings_of_code o) i) V.is_code ∙ passings_are gives i
             ∙ sym (ap (λ o. passing_by (takes_reference_of D (parameter_in o i))) c.is_procedure);
-        found =
-            is_found_by U p q s c.site x c.procedure is_site is_procedure c.is_site c.is_procedure found methods W V kind
-            (no_property c.procedure.kind c.kind) g k (names_in_code U p s x W g names) qualified of test;
+        found = F.found;
       }
 
 -- ---- what a line that is clean by itself calls

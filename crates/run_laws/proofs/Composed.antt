@@ -49,7 +49,9 @@ use Rattle.run_matches.specs.Likeness.{SameShape, same_class}
 use Rattle.memory_laws.proofs.Elements.{elements_are_written}
 use Rattle.memory_laws.proofs.Resizing.{arrays_are_erased, arrays_are_resized}
 use Rattle.expression_laws.proofs.Agreements.{arrays_agree, calls_are_made, elements_agree, expressions_agree, groups_agree, indexes_agree_all, members_agree}
+use Rattle.expression_laws.proofs.Setters.{properties_are_set, setters_agree}
 use Rattle.expression_laws.specs.Statements.{ParametersAreSound}
+use Rattle.run_laws.proofs.Firsts.{gets_are_first}
 use Rattle.run_laws.proofs.SoundParameters.{parameters_are_sound}
 use Rattle.line_laws.proofs.Lines.{lines_agree}
 use Rattle.run_laws.specs.Premises.{GroupsAreWritten, LinePremises, ObjectsBegin, OwnedAreUsable, RunPremises}
@@ -73,7 +75,7 @@ lines_do U w =
     let classes : ClassesAreWritten U = fields_are_written U w in
     lines_agree U classes (expressions_agree U sound classes) (calls_are_made U sound classes) (scalars_are_read U) (scalars_are_written U)
     (elements_agree U sound classes) (indexes_agree_all U sound classes) (elements_are_written U) (groups_agree U sound classes) (groups_are_written U)
-    (members_agree U) (members_are_found U)
+    (members_agree U) (members_are_found U) (setters_agree U) (properties_are_set U sound)
     (arrays_agree U) (arrays_are_resized U) (arrays_are_erased U)
 
 -- the name of a user type leads to its structure, and that of a class to the class
@@ -121,6 +123,7 @@ run_premises U w = record {
   ranked = w.dimensions;
   groups = types_are_written U w;
   read = λ p base me xs ys. groups_are_read U (call_pledge U p base me xs ys);
+  firsts = gets_are_first U w.firsts;
 }
 
 line_premises : (U : Upgrade) → IsWritten U → LinePremises U

@@ -26,7 +26,7 @@ use Rattle.run_matches.specs.Formed.{is_formed}
 use Rattle.run_matches.specs.CoveredVariables.{belongs_to, covers_array_owner, covers_bounds, covers_declared, covers_group_type, has_extents, is_array_of, are_different, covers_owner, covers_type}
 use Rattle.run_matches.specs.CoveredExprs.{Uses, uses_in}
 use Rattle.run_matches.specs.CoveredLines.{covers_form, covers_in_block, covers_label, covers_line, has_sound_label, has_sound_label_in, jump_of}
-use Rattle.run_matches.specs.Covered.{covers_body, covers_head, covers_kind, covers_names, covers_owns, covers_procedure, covers_site, covers_variables, is_plain, is_plain_kind, keeps_blocks, keeps_blocks_in, covers_own, covers_all_calls, covers_calls, covers_parameter, covers_result, has_no_static, has_result, is_answer_of, is_parameter_of}
+use Rattle.run_matches.specs.Covered.{covers_body, covers_head, covers_joined, covers_names, covers_owns, covers_procedure, covers_site, covers_variables, is_plain, is_plain_kind, keeps_blocks, keeps_blocks_in, covers_own, covers_all_calls, covers_calls, covers_parameter, covers_result, has_no_static, has_result, is_answer_of, is_parameter_of}
 use Rattle.run_matches.specs.Callees.{frame_owns}
 use Rattle.run_matches.specs.Sites.{Site, own_name, owns_of, site_of, local_numbers, static_numbers}
 use Rattle.run_laws.proofs.Outside.{AreStaticsOutside, statics_outside}
@@ -72,7 +72,7 @@ same_name name = same_units (lower_case name)
 record Head (P : Program) (p : ℕ) (o : Option Procedure) : Type 0 where
   procedure : Procedure
   is_procedure : o ≡ Some procedure
-  kind : covers_kind procedure.kind ≡ true
+  joined : covers_joined P.declarations p procedure ≡ true
   params : list_all (covers_parameter P p) procedure.params ≡ true
   result : has_result P.declarations p procedure procedure.kind ≡ true
   parameters : map (λ (v : VarId). v.0) procedure.params ≡ owned_from (is_parameter_of p) 0 P.declarations.vars
@@ -84,7 +84,7 @@ head_parts P p (Some x) h =
     let D : Declarations = P.declarations in
     let numbers = pointwise nat_eq (map (λ (v : VarId). v.0) x.params) (owned_from (is_parameter_of p) 0 D.vars)
     && pointwise nat_eq (answer_in x.answer) (owned_from (is_answer_of p) 0 D.vars) in
-    let a = both_true (covers_kind x.kind) (list_all (covers_parameter P p) x.params && covers_result D p x) h in
+    let a = both_true (covers_joined D p x) (list_all (covers_parameter P p) x.params && covers_result D p x) h in
     let b = both_true (list_all (covers_parameter P p) x.params) (covers_result D p x) a.1 in
     let d = both_true (has_result D p x x.kind) numbers b.1 in
     let e = both_true (pointwise nat_eq (map (λ (v : VarId). v.0) x.params) (owned_from (is_parameter_of p) 0 D.vars))
@@ -92,7 +92,7 @@ head_parts P p (Some x) h =
     record {
       procedure = x;
       is_procedure = refl;
-      kind = a.0;
+      joined = a.0;
       params = b.0;
       result = d.0;
       parameters = same_numbers (map (λ (v : VarId). v.0) x.params) (owned_from (is_parameter_of p) 0 D.vars) e.0;
@@ -131,7 +131,7 @@ pub record CoveredProcedure (P : Program) (p : ℕ) : Type 0 where
   pub names : covers_names P.declarations ≡ true
   pub procedure : Procedure
   pub is_procedure : slice_get P.declarations.procs p ≡ Some procedure
-  pub kind : covers_kind procedure.kind ≡ true
+  pub joined : covers_joined P.declarations p procedure ≡ true
   pub params : list_all (covers_parameter P p) procedure.params ≡ true
   pub result : has_result P.declarations p procedure procedure.kind ≡ true
   pub parameters : map (λ (v : VarId). v.0) procedure.params ≡ owned_from (is_parameter_of p) 0 P.declarations.vars
@@ -178,7 +178,7 @@ covered_parts P p h =
       names = a.0;
       procedure = x.procedure;
       is_procedure = x.is_procedure;
-      kind = x.kind;
+      joined = x.joined;
       params = x.params;
       result = x.result;
       parameters = x.parameters;
@@ -197,13 +197,6 @@ covered_parts P p h =
       in_blocks = y.in_blocks;
       calls = called_all P p (slice_get P.bodies p) y.lines whole.0 y.are_lines;
     }
-
-pub no_property : (k : ProcKind) → covers_kind k ≡ true → is_property_kind k ≡ false
-no_property kind.Sub h = refl
-no_property kind.Function h = refl
-no_property kind.Get h = absurd (true≢false (sym h))
-no_property kind.Let h = absurd (true≢false (sym h))
-no_property kind.Set h = absurd (true≢false (sym h))
 
 plain_kind : (k : ProcKind) → is_plain_kind k ≡ true → is_property_kind k ≡ false
 plain_kind kind.Sub h = refl

@@ -1,5 +1,5 @@
 -- The entry of a covered procedure makes frames that match.
-use Rattle.std.proofs.Common.{◌≡◌, refl, sym, ap, subst, ◌∙◌, ℕ, ◌+◌, arith, true, false, not, nat_eq, Option, Some, None, option_map, List, [], ◌∷◌, ◌++◌, map, ◌⊎◌, inl, inr, true≢false, ⊎_elim}
+use Rattle.std.proofs.Common.{◌≡◌, refl, sym, ap, subst, ◌∙◌, ℕ, ◌+◌, arith, Bool, true, false, not, nat_eq, Option, Some, None, option_map, List, [], ◌∷◌, ◌++◌, map, ◌⊎◌, inl, inr, true≢false, ⊎_elim}
 use Rattle.std.specs.Prelude.{slice_get, ◌&&◌, ◌||◌}
 use Rattle.std.specs.List.{list_any, list_all}
 use Rattle.written_trees.specs.Prologues.{is_static}
@@ -23,6 +23,7 @@ use Rattle.net_run.specs.Program as target
 use Rattle.net_run.specs.Program.{dims_made, enter, frame_made}
 use Rattle.net_run.specs.Shapes as shape
 use Rattle.net_run.specs.Store as net
+use Rattle.written_trees.specs.Arguments.{is_property, is_property_at, is_property_kind}
 use Rattle.written_trees.specs.Bodies.{inside_procedure}
 use Rattle.written_trees.specs.Heads as heads
 use Rattle.written_trees.specs.Names.{Scope, variable_name_of}
@@ -52,12 +53,12 @@ use Rattle.agreeing_laws.proofs.Made.{below_self, below_then}
 use Rattle.agreeing_laws.proofs.Moves.{locks_later}
 use Rattle.agreeing_laws.proofs.OwnObjects.{own_object_later}
 use Rattle.agreeing_laws.proofs.Scalars.{object_later}
-use Rattle.name_laws.proofs.FrameNames.{own_names, parameter_names, params_are}
+use Rattle.name_laws.proofs.FrameNames.{own_names, parameter_names}
 use Rattle.name_laws.proofs.Lists.{Among, all_among, among_right, flat_among, map_append}
 use Rattle.name_laws.proofs.Owned.{owned_is}
 use Rattle.name_laws.proofs.Owns.{number_if, own_is}
 use Rattle.run_laws.specs.Entered.{AllKeyed, AllSound, GivenVariable, IsResult, LocalsMatch, OwnPlace, RunMatch, StaticMatch, next_constant, next_static, next_variable, no_locals}
-use Rattle.run_laws.specs.Premises.{ArraysHaveRanks, GroupsAreWritten, MakesAlike}
+use Rattle.run_laws.specs.Premises.{ArraysHaveRanks, GetsAreFirst, GroupsAreWritten, MakesAlike}
 use Rattle.run_laws.proofs.Covered.{CoveredProcedure}
 use Rattle.run_laws.proofs.Heads.{HasAnswer, HasNone, Parameter, a_result, answer_names, answer_parts, no_result, parameter_belongs, parameter_is}
 use Rattle.run_laws.proofs.Names.{code_is}
@@ -72,6 +73,7 @@ use Rattle.run_laws.proofs.Locals.{Found, listed_behind, local_found, local_late
 use Rattle.run_laws.proofs.LocalsMade.{Locals, locals_agree}
 use Rattle.run_laws.proofs.Parameters.{AreParameters, Parameters, parameters_agree}
 use Rattle.run_laws.proofs.ParametersMade.{Local}
+use Rattle.run_laws.proofs.AnswerTypes.{AnswerTyped, answer_typed}
 use Rattle.run_laws.proofs.ResultsMade.{ResultMade, result_made}
 use Rattle.run_laws.proofs.Standing.{different_behind, made_object, module_in_is, nothing_by, nothing_kept, plain_place, ending_owns, static_declared, static_root_is, no_place_kept, none_kept_from}
 use Rattle.up_base.proofs.Tests.{both_true, either}
@@ -83,12 +85,19 @@ module _ (U : Upgrade) (p : ℕ) (c : CoveredProcedure U.program p) (W : Written
     (kept : OwnsAreKept U p c.site c.procedure W)
     (usable : (v : ℕ) (x : Variable) → slice_get U.program.declarations.vars v ≡ Some x → belongs_to p x.owner ≡ true
     → is_scalar_or_loud U.program v x ≡ true → IsUsable U v) (answers : (h : HasAnswer U.program.declarations p c.procedure) → IsResult U h.id.0) (ranked : ArraysHaveRanks U)
-    (groups : GroupsAreWritten U) where
+    (groups : GroupsAreWritten U) (firsts : GetsAreFirst U) where
   abbrev D : Declarations
   D = U.program.declarations
 
   abbrev x : Procedure
   x = c.procedure
+
+  -- a part of a property takes values
+  abbrev part : Bool
+  part = is_property_kind x.kind
+
+  is_part : is_property U.program.declarations p ≡ part
+  is_part = ap is_property_at c.is_procedure
 
   abbrev S : Scope
   S = inside_procedure (site_scope U c.site) p
@@ -144,7 +153,7 @@ module _ (U : Upgrade) (p : ℕ) (c : CoveredProcedure U.program p) (W : Written
       let ps = params_of W.code in
       let rest = result_names (result_of W.code) ++ map dim_name W.code.procedure.prologue in
       map_append own_name (parameter_owns D x.params) others
-      ∙ ap (λ ns. ns ++ map own_name others) (parameter_names H x.params ∙ ap (map (λ (q : net_tree.Param). q.name)) (sym (params_are U p c.site x W)))
+      ∙ ap (λ ns. ns ++ map own_name others) (parameter_names H part x.params ∙ ap (map (λ (q : net_tree.Param). q.name)) (sym W.params))
       ∙ ap (λ ns. map (λ (q : net_tree.Param). q.name) ps ++ ns)
       (map_append own_name (answer_owns D x.answer) os
       ∙ ap (λ ns. ns ++ map own_name os) (answer_names U p c.site x W result)
@@ -347,7 +356,9 @@ module _ (U : Upgrade) (p : ℕ) (c : CoveredProcedure U.program p) (W : Written
         (locals_agree U K makes ranked groups S refl refl W.code home to w 0 os sound keyed low start)))))
     others_agree w to (inr h) low start =
         let y : Variable = h.variable in
-        let M : ResultMade U groups c.site W.code.home home p x h K makes = result_made U groups c.site W.code.home home p x h K makes (answers h) in
+        let typed : AnswerTyped U H x h.variable.ty = answer_typed U c.site p x h c.joined c.is_procedure firsts in
+        let M : ResultMade U groups c.site W.code.home home p x h typed K makes =
+        result_made U groups c.site W.code.home home p x h typed K makes (answers h) in
         let s = variable_shape D h.id.0 in
         let ds = map (own_dim S) os in
         let R = Locals U K (own_variable h.id.0 y ∷ os) in
@@ -428,7 +439,7 @@ module _ (U : Upgrade) (p : ℕ) (c : CoveredProcedure U.program p) (W : Written
 
     target_entry : (to : Option ℕ) (t : net.Memory)
         → enter U.written W.number to tt ys t
-        ≡ then (target.parameters U.written W.code.home (heads.params_of H false x.params) ys t) (target_rest to)
+        ≡ then (target.parameters U.written W.code.home (heads.params_of H part x.params) ys t) (target_rest to)
     target_entry to t =
         let ps = λ (params : List net_tree.Param) (k : List (List ℕ × net.Address) → net.Memory → Outcome net.Memory NetFrame).
         then (target.parameters U.written W.code.home params ys t) k in
@@ -437,7 +448,7 @@ module _ (U : Upgrade) (p : ℕ) (c : CoveredProcedure U.program p) (W : Written
         ∙ ap (λ dims. ps (params_of W.code) (λ params t.
         then (then (target.result_made U.written W.code.home (result_of W.code) t) (λ own t.
         then (dims_made U.written W.code to 0 dims t) (λ ds t. gives [] (own ++ ds) t))) (λ more t. gives [] (net_begun to (params ++ more)) t))) kept.prologue
-        ∙ ap (λ params. ps params (target_rest to)) (params_are U p c.site x W)
+        ∙ ap (λ params. ps params (target_rest to)) W.params
 
     -- variables of both lists
     match_append : (u : World) (ks bs : List Own) (ds es : List (ℕ × Address)) (gs hs : List (List ℕ × net.Address)) → LocalsMatch U K u ks ds gs
@@ -459,12 +470,12 @@ module _ (U : Upgrade) (p : ℕ) (c : CoveredProcedure U.program p) (W : Written
         let R = RunMatch U K p me in
         let placed = λ (j : ℕ). ap (λ o. slice_get (params_at o) (0 + j)) c.is_procedure ∙ ap (λ n. slice_get x.params n) (none_before j) in
         let r = parameters (runnable_of U) p 0 x.params xs w.src in
-        let r' = target.parameters U.written W.code.home (heads.params_of H false x.params) ys w.net in
+        let r' = target.parameters U.written W.code.home (heads.params_of H part x.params) ys w.net in
         subst (λ z. Agrees U K w R z (enter U.written W.number to tt ys w.net)) (sym (source_entry w.src))
         (subst (λ z. Agrees U K w R (then r source_rest) z) (sym (target_entry to w.net))
-        (then_agrees U K w (Parameters U p groups H refl refl W.code.home home K makes w0 start parameter_sound x.params) R r r' source_rest
+        (then_agrees U K w (Parameters U p groups H refl refl W.code.home home part is_part K makes w0 start parameter_sound x.params) R r r' source_rest
         (target_rest to) h
-        (parameters_agree U p groups H refl refl W.code.home home K makes w0 start parameter_sound x.params c.params 0 placed xs ys args w l low h)
+        (parameters_agree U p groups H refl refl W.code.home home part is_part K makes w0 start parameter_sound x.params c.params 0 placed xs ys args w l low h)
         (λ ds gs u m later.
         then_agrees U K u (Locals U K others) R (all_others x.answer u.src) (net_others (result_of W.code) to u.net)
         (λ more w. gives [] (begun_frame me (locked_by xs ++ locked) (ds ++ more)) w) (λ more t. gives [] (net_begun to (gs ++ more)) t) later.match

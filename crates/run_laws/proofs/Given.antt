@@ -4,6 +4,8 @@ use Rattle.vb_tree.specs.BoundTree as types
 use Rattle.vb_tree.specs.BoundTree.{Ty}
 use Rattle.vb_tree.specs.declared.declared.Owner.{Owner}
 use Rattle.vb_tree.specs.declared.declared.Owner.TheVariants as owner
+use Rattle.net_tree.specs.declared.declaration.NetPassing.{NetPassing}
+use Rattle.net_tree.specs.declared.declaration.NetPassing.TheVariants as passing
 use Rattle.net_tree.specs.Types.{TypeName}
 use Rattle.bound_facts.specs.Locks.{is_same_type}
 use Rattle.run_base.specs.Frames.{by_address, by_value}
@@ -17,7 +19,6 @@ use Rattle.net_run.specs.Program.{parameter_by}
 use Rattle.net_run.specs.Shapes as shape
 use Rattle.net_run.specs.Store as net
 use Rattle.net_run.specs.Values as net_value
-use Rattle.written_trees.specs.Heads as heads
 use Rattle.run_matches.specs.Addresses.{HasParameterRank, IsDeclaredAt, IsDeclaredShape, IsTarget, Same, same_item, same_root, AllLocked, ArgsMatch, IsElement, IsVariable, address_args, no_args, source_bound, target_bound, value_args}
 use Rattle.run_matches.specs.Agreeing.{Agrees}
 use Rattle.run_matches.specs.CoveredVariables.{covers_type}
@@ -45,11 +46,9 @@ value_bound p (owner.Value q) h s x w = refl
 value_bound p (owner.Reference q) h s x w = refl
 value_bound p _ h s x w = absurd (true≢false (sym h))
 
-pub value_taken : (p : ℕ) (o : Owner) → is_parameter_of p o ≡ true → (s : shape.Shape) (y : net_value.Value) (w : net.Memory)
-    → parameter_by (heads.passing_of o) s (by_value y) w ≡ net.made_with s y w
-value_taken p (owner.Value q) h s y w = refl
-value_taken p (owner.Reference q) h s y w = refl
-value_taken p _ h s y w = absurd (true≢false (sym h))
+pub value_taken : (z : NetPassing) (s : shape.Shape) (y : net_value.Value) (w : net.Memory) → parameter_by z s (by_value y) w ≡ net.made_with s y w
+value_taken passing.Value s y w = refl
+value_taken passing.Reference s y w = refl
 
 -- ---- addresses
 
@@ -291,7 +290,7 @@ locks_given U K w p _ _ _ (address_args i a b xs ys same target whole plain rank
     given_locks U K w a b xs same (locks_given U K w p (suc i) xs ys rest)
 locks_given U K w p _ _ _ (source_bound i a s y xs ys quiet mirrors target there plain rest) =
     subst (λ ls. AllLocked U K w ls) (sym (given_unlocked U a xs target)) (locks_given U K w p (suc i) xs ys rest)
-locks_given U K w p _ _ _ (target_bound i x b xs ys quiet mirrors typed rest) = locks_given U K w p (suc i) xs ys rest
+locks_given U K w p _ _ _ (target_bound i x b xs ys quiet takes mirrors typed rest) = locks_given U K w p (suc i) xs ys rest
 
 pub locks_joined : (U : Upgrade) (K : Pledge) (w : World) (xs ys : Locked) → AllLocked U K w xs → AllLocked U K w ys → AllLocked U K w (xs ++ ys)
 locks_joined U K w [] ys h k = k

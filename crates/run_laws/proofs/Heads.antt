@@ -1,10 +1,10 @@
--- What is written for the head of a covered procedure: its parameters, and the result variable of a Function.
-use Rattle.std.proofs.Common.{◌≡◌, ◌⊎◌, inl, inr, refl, sym, ap, ◌∙◌, ℕ, zero, suc, Bool, true, false, cond, not, ◌&&◌, nat_eq, true≢false, Option, Some, None, List, [], ◌∷◌, ◌++◌, map, ◌||◌}
+-- What is written for the head of a covered procedure: its parameters, and the result variable of a Function or a Get.
+use Rattle.std.proofs.Common.{◌≡◌, ◌⊎◌, inl, inr, refl, sym, ap, ◌∙◌, ℕ, zero, suc, Bool, true, false, not, ◌&&◌, nat_eq, true≢false, Option, Some, None, List, [], ◌∷◌, ◌++◌, map, ◌||◌}
 use Rattle.std.specs.Prelude.{is_some, slice_get}
 use Rattle.std.specs.Cmp.Lexicographic.{pointwise}
 use Rattle.std.specs.List.{list_all}
 use Rattle.up_base.proofs.Lists.{all_first, all_rest}
-use Rattle.up_base.proofs.Tests.{both_true}
+use Rattle.up_base.proofs.Tests.{both_true, not_true}
 use Rattle.vb_tree.specs.declared.declared.Owner.{Owner}
 use Rattle.vb_tree.specs.declared.declared.Owner.TheVariants as owner
 use Rattle.vb_tree.specs.declared.declared.ProcId.{ProcId}
@@ -14,22 +14,24 @@ use Rattle.vb_tree.specs.declared.declared.VarId.{VarId}
 use Rattle.bound_tree.specs.Tree.{Declarations, Procedure, Program, Variable}
 use Rattle.bound_facts.specs.Locks.{is_same_type}
 use Rattle.net_tree.specs.declared.declaration.NetPassing.TheVariants as passing
+use Rattle.net_tree.specs.Types.{TypeName}
 use Rattle.net_run.specs.Calls.{passings}
 use Rattle.net_run.specs.Members.{result_of}
-use Rattle.written_trees.specs.Arguments.{is_reference_owner, takes_reference_at, takes_reference_of}
+use Rattle.written_trees.specs.Arguments.{is_property_kind, is_reference_owner, takes_reference_at, takes_reference_of}
 use Rattle.written_trees.specs.Heads as heads
 use Rattle.written_trees.specs.Heads.{is_function}
 use Rattle.written_trees.specs.Names.{Scope}
 use Rattle.run_matches.specs.Callees.{answer_owns, own_of_some}
 use Rattle.run_matches.specs.CoveredVariables.{belongs_to, covers_type, is_loud_owner}
-use Rattle.run_matches.specs.Covered.{covers_parameter, has_answer, has_result, is_answer_of, is_result_in, is_parameter_of, is_scalar_or_loud, is_taken_in}
+use Rattle.run_matches.specs.CoveredExprs.{takes_value}
+use Rattle.run_matches.specs.Covered.{covers_joined, covers_parameter, has_answer, has_result, is_answer_of, is_result_in, is_parameter_of, is_scalar_or_loud, is_taken_in}
 use Rattle.run_matches.specs.Frames.{result_names}
 use Rattle.run_matches.specs.Sites.{Site, own_name}
 use Rattle.run_matches.specs.Upgrades.{Upgrade}
 use Rattle.run_statements.specs.Frames.{passing_at, passing_by}
-use Rattle.run_statements.specs.Written.{WrittenProcedure, site_scope}
-use Rattle.name_laws.proofs.FrameNames.{result_are}
+use Rattle.run_statements.specs.Written.{WrittenProcedure, first_type, site_scope, written_result}
 use Rattle.run_laws.proofs.Covered.{same_numbers}
+use Rattle.run_laws.proofs.Parts.{JoinedPart, get_params, giving_part, joined_part, part_joined}
 
 -- ---- parameters
 
@@ -113,21 +115,35 @@ answer_parts D p x h = by x.kind refl h
     by : (k : ProcKind) → x.kind ≡ k → has_result D p x k ≡ true → HasNone x ⊎ HasAnswer D p x
     by kind.Sub e a = inl (record { function = ap is_function e; is_answer = none_is x.answer a })
     by kind.Function e a = inr (answer_is D p x (ap is_function e) a)
-    by kind.Get e a = absurd (true≢false (sym a))
-    by kind.Let e a = absurd (true≢false (sym a))
-    by kind.Set e a = absurd (true≢false (sym a))
+    by kind.Get e a = inr (answer_is D p x (ap is_function e) a)
+    by kind.Let e a = inl (record { function = ap is_function e; is_answer = none_is x.answer a })
+    by kind.Set e a = inl (record { function = ap is_function e; is_answer = none_is x.answer a })
 
 -- ---- the head
 
+-- what is written for the type of a result: a property has that of its first part
+abbrev pub answer_word : Scope → Procedure → ProcKind → TypeName
+answer_word S x kind.Get = first_type S (slice_get S.declarations.procs x.first.0)
+answer_word S x _ = heads.result_type S x
+
+none_written : (S : Scope) (x : Procedure) (k : ProcKind) → is_function k ≡ false → written_result S x k ≡ None
+none_written S x kind.Function h = absurd (true≢false h)
+none_written S x kind.Get h = absurd (true≢false h)
+none_written S x kind.Sub h = refl
+none_written S x kind.Let h = refl
+none_written S x kind.Set h = refl
+
+some_written : (S : Scope) (x : Procedure) (k : ProcKind) → is_function k ≡ true → written_result S x k ≡ Some (x.name, answer_word S x k)
+some_written S x kind.Function h = refl
+some_written S x kind.Get h = refl
+some_written S x _ h = absurd (true≢false (sym h))
+
 module _ (U : Upgrade) (p : ℕ) (s : Site) (x : Procedure) (W : WrittenProcedure U p s x) where
-  abbrev S : Scope
-  S = site_scope U s
-
   pub no_result : HasNone x → result_of W.code ≡ None
-  no_result h = result_are U p s x W ∙ ap (λ b. cond b (Some (x.name, heads.result_type S x)) None) h.function
+  no_result h = W.result ∙ none_written (site_scope U s) x x.kind h.function
 
-  pub a_result : HasAnswer U.program.declarations p x → result_of W.code ≡ Some (x.name, heads.result_type (site_scope U s) x)
-  a_result h = result_are U p s x W ∙ ap (λ b. cond b (Some (x.name, heads.result_type S x)) None) h.function
+  pub a_result : HasAnswer U.program.declarations p x → result_of W.code ≡ Some (x.name, answer_word (site_scope U s) x x.kind)
+  a_result h = W.result ∙ some_written (site_scope U s) x x.kind h.function
 
 -- ---- what is written for parameters
 
@@ -156,6 +172,22 @@ params_pass U s q (v ∷ vs) h i =
         ∙ passing_is y.owner ∙ ap (λ o. passing_by (takes_reference_at o)) (sym e)
     by y e (suc n) more =
         ap (λ o. passing_at (passings (heads.param_by (site_scope U s) false v.0 o ++ heads.params_of (site_scope U s) false vs)) (suc n)) e ∙ more n
+
+-- so are those of what gives a result: a Get has none
+pub params_given : (U : Upgrade) (s : Site) (q : ℕ) (x : Procedure) → slice_get U.program.declarations.procs q ≡ Some x
+    → covers_joined U.program.declarations q x ≡ true → list_all (covers_parameter U.program q) x.params ≡ true → not (takes_value x.kind) ≡ true → (i : ℕ)
+    → passing_at (passings (heads.params_of (site_scope U s) (is_property_kind x.kind) x.params)) i
+    ≡ passing_by (takes_reference_of U.program.declarations (slice_get x.params i))
+params_given U s q x is joined h gives i = by (is_property_kind x.kind) refl
+  where
+    by : (b : Bool) → is_property_kind x.kind ≡ b
+        → passing_at (passings (heads.params_of (site_scope U s) b x.params)) i ≡ passing_by (takes_reference_of U.program.declarations (slice_get x.params i))
+    by false e = params_pass U s q x.params h i
+    by true e =
+        let part : JoinedPart U.program.declarations q x = joined_part U.program.declarations q x (part_joined U.program.declarations q x joined e) in
+        let none : x.params ≡ [] = get_params U.program.declarations q x is part (giving_part x.kind (not_true (takes_value x.kind) gives) e) in
+        ap (λ vs. passing_at (passings (heads.params_of (site_scope U s) true vs)) i) none ∙ none_at i
+        ∙ sym (ap (λ vs. passing_by (takes_reference_of U.program.declarations (slice_get vs i))) none)
 
 -- ---- names
 

@@ -1,5 +1,6 @@
 pub mod Outside
 pub mod Covered
+pub mod Parts
 pub mod Keeping
 pub mod Dims
 pub mod GroupDims
@@ -13,6 +14,7 @@ pub mod Names
 pub mod Heads
 pub mod Given
 pub mod ParametersMade
+pub mod AnswerTypes
 pub mod ResultsMade
 pub mod ParameterTypes
 pub mod Parameters
@@ -21,6 +23,7 @@ pub mod Standing
 pub mod Entries
 pub mod Pledged
 pub mod Reaching
+pub mod Ways
 pub mod Receiving
 pub mod Callees
 pub mod Making
@@ -29,4 +32,5 @@ pub mod Lines
 pub mod Results
 pub mod Runs
 mod SoundParameters
+mod Firsts
 pub mod Composed

@@ -31,6 +31,7 @@ use Rattle.line_laws.proofs.Called.{use_calls, use_makes}
 use Rattle.run_laws.proofs.Callees.{call_fits, call_suits, callee_covered, called_clean, can_call, call_hands}
 use Rattle.run_laws.proofs.Making.{can_make, made_covered}
 use Rattle.run_laws.proofs.Names.{code_is, is_below}
+use Rattle.run_laws.proofs.Parts.{plain_joined, plain_unparted}
 
 -- the bound lines of a procedure, as its lines
 pub body_is : (U : Upgrade) (p : ℕ) (lines : List Line) → slice_get U.program.bodies p ≡ Some lines
@@ -82,10 +83,11 @@ module _ (U : Upgrade) (h : LinePremises U) where
       → Contains (line_uses c.line) d → called d ≡ Some q → CanCallFrom U p c.site W.code q (qualified_at d) (receiver_at d) (args_at d)
   can_call_from p k clean c x W d q m e =
       let call : Contains (line_calls U.program.declarations p c.line) (p, q) = use_calls U.program.declarations p q c.line d m e in
-      can_call U h.known h.procedures h.found h.methods p q c.site x.procedure c.is_site x.is_procedure x.kind W c.line
-      (record { lines = c.lines; are_lines = c.are_lines; place = k; stands = c.is_line }) call (qualified_at d) (receiver_at d) (callee_covered U p q c.line d c.calls m e)
+      let tests = callee_covered U p q c.line d c.calls m e in
+      can_call U h.known h.procedures h.found h.methods p q c.site x.procedure c.is_site x.is_procedure W c.line
+      (record { lines = c.lines; are_lines = c.are_lines; place = k; stands = c.is_line }) call (qualified_at d) (receiver_at d) tests.0
       (called_clean U p (suc k) c.line clean (ap (λ o. nth_line (or_none o) (suc k)) c.are_lines ∙ c.is_line) q call, c.entered q call)
-      (args_at d) (call_suits U p q c.line d c.calls m e) (call_hands U p q c.line d c.calls m e)
+      (args_at d) tests.1 (call_suits U p q c.line d c.calls m e) (call_hands U p q c.line d c.calls m e)
       (call_fits U q d (h.fits p k c.line clean (ap (λ o. nth_line (or_none o) (suc k)) c.are_lines ∙ c.is_line) d m) e)
 
   -- and new objects can be made
@@ -104,7 +106,9 @@ module _ (U : Upgrade) (h : LinePremises U) where
   one_line : (p k : ℕ) → IsCleanLine U.program U.facts.marks p (suc k) → IsCoveredLine U.program p (suc k) → LineDoesTheSame U p (suc k)
   one_line p k clean c =
       let x : PlainProcedure (slice_get U.program.declarations.procs p) = plain_parts (slice_get U.program.declarations.procs p) c.plain in
-      let W : WrittenProcedure U p c.site x.procedure = h.procedures p c.site x.procedure c.is_site x.is_procedure x.kind in
+      let W : WrittenProcedure U p c.site x.procedure =
+      h.procedures p c.site x.procedure c.is_site x.is_procedure (plain_joined U.program.declarations p x.procedure x.kind)
+      (plain_unparted U p x.procedure x.kind) in
       let found = bound_line c.lines k c.line c.is_line in
       let l : SourceLine = found.0 in
       let lines_are : lines_of U p ≡ c.lines = ap or_none c.are_lines in

@@ -12,7 +12,7 @@ use Rattle.bound_facts.specs.Facts.{AreFacts}
 use Rattle.bound_facts.specs.Members.{class_files, initializer}
 use Rattle.bound_facts.specs.Parts.{line_uses}
 use Rattle.vb6_run.specs.Store.{SourceFrame}
-use Rattle.run_matches.specs.Covered.{covers_calls, covers_initializer, covers_kind, covers_node, is_method, is_method_in, is_method_site}
+use Rattle.run_matches.specs.Covered.{covers_calls, covers_initializer, covers_node, is_method, is_method_in, is_method_site, is_plain}
 use Rattle.run_matches.specs.CoveredVariables.{covers_class, covers_made_file, has_extents, declares_variables}
 use Rattle.run_matches.specs.Frames.{frame_pledge}
 use Rattle.run_matches.specs.Maps.{World}
@@ -26,7 +26,8 @@ use Rattle.name_laws.proofs.Lists.{all_among, among}
 use Rattle.name_laws.proofs.Receiving.{method_receives}
 use Rattle.run_laws.specs.Premises.{ObjectsBegin}
 use Rattle.run_laws.proofs.Callees.{call_parts}
-use Rattle.run_laws.proofs.Covered.{CoveredProcedure, covered_parts, no_property, not_none, some_is}
+use Rattle.run_laws.proofs.Covered.{CoveredProcedure, covered_parts, not_none, some_is}
+use Rattle.run_laws.proofs.Parts.{clean_unparted}
 use Rattle.run_laws.proofs.Reaching.{IsLineOf, inward_called, keeps_called}
 
 -- ---- what the test on a node says
@@ -49,10 +50,9 @@ made_covered U p class l d h m e =
 initializer_site : (D : Declarations) (class q : ℕ) (y : Procedure) (t : Site) → slice_get D.procs q ≡ Some y → site_of D q ≡ Some t
     → is_method D (types.class class) q ≡ true → is_method_site D class y (Some t) ≡ true
 initializer_site D class q y t is_procedure is_site h =
-    (both_true (covers_kind y.kind) (is_method_site D class y (Some t))
-    (subst (λ o. (covers_kind y.kind && is_method_site D class y o) ≡ true) is_site
+    subst (λ o. is_method_site D class y o ≡ true) is_site
     (subst (λ o. is_method_in D class q o ≡ true) is_procedure
-    (both_true (covers_class D class) (is_method_in D class q (slice_get D.procs q)) h).1))).1
+    (both_true (covers_class D class) (is_method_in D class q (slice_get D.procs q)) h).1)
 
 -- ---- one class
 
@@ -69,11 +69,14 @@ module _ (U : Upgrade) (known : AreFacts U.program U.known) (procedures : Proced
       → covers_initializer U.program class o ≡ true → Initializes U (frame_pledge U p w f) class home o
   begins w f home is_home None is h = begin.nothing class home is_home is
   begins w f home is_home (Some q) is h =
-      let tests = both_true (nat_lt q (count_procedures U.program)) (is_method D (types.class class) q) h in
+      let there = nat_lt q (count_procedures U.program) && is_method D (types.class class) q in
+      let tests =
+      both_true (nat_lt q (count_procedures U.program)) (is_method D (types.class class) q) (both_true (is_plain (slice_get D.procs q)) there h).1 in
       let call : Contains (line_calls D p l) (p, q) = calls q is in
       let passes : Passes U q = pass q tests.0 call in
       let c : CoveredProcedure U.program q = covered_parts U.program q (passes.1 q (empty q)) in
-      let V : WrittenProcedure U q c.site c.procedure = procedures q c.site c.procedure c.is_site c.is_procedure (no_property c.procedure.kind c.kind) in
+      let V : WrittenProcedure U q c.site c.procedure =
+      procedures q c.site c.procedure c.is_site c.is_procedure c.joined (clean_unparted U q c.procedure passes.0) in
       let method : is_method_site D class c.procedure (Some c.site) ≡ true = initializer_site D class q c.procedure c.site c.is_procedure c.is_site tests.1 in (
         record {
           passes = passes;

@@ -17,7 +17,7 @@ pub names_in_code : (U : Upgrade) (p : ℕ) (s : Site) (x : Procedure) (W : Writ
     → HasNames (Some W.code) g
 names_in_code U p s x W g h = subst (λ o. HasNames o g) (code_is U p s x W) h
 
-below : {X : Type 0} (xs : List X) (i : ℕ) (x : X) → slice_get xs i ≡ Some x → i < length xs
+pub below : {X : Type 0} (xs : List X) (i : ℕ) (x : X) → slice_get xs i ≡ Some x → i < length xs
 below [] i x e = absurd (cc e)
 below (y ∷ ys) zero x e = omega arith
 below (y ∷ ys) (suc i) x e = let h = below ys i x e in omega (arith, h)

@@ -1,12 +1,14 @@
 -- What is written for parameters, and which addresses they take.
 use Rattle.vb_tree.specs.declared.declared.Owner.{Owner}
-use Rattle.std.proofs.Common.{◌≡◌, refl, sym, ap, subst, ◌∙◌, ℕ, true, false, Some, List, [], ◌∷◌, inl, inr, eq-eqb, nat_eq}
+use Rattle.std.proofs.Common.{◌≡◌, refl, sym, ap, subst, ◌∙◌, ℕ, Bool, true, cond, Some, List, [], ◌∷◌, inl, inr, eq-eqb, nat_eq}
 use Rattle.std.specs.Prelude.{slice_get}
 use Rattle.up_base.proofs.Tests.{and_true}
 use Rattle.vb_tree.specs.BoundTree as types
 use Rattle.vb_tree.specs.BoundTree.{Ty}
 use Rattle.vb_tree.specs.declared.declared.VarId.{VarId}
 use Rattle.bound_tree.specs.Tree.{Declarations, Variable}
+use Rattle.net_tree.specs.declared.declaration.NetPassing.{NetPassing}
+use Rattle.net_tree.specs.declared.declaration.NetPassing.TheVariants as passing
 use Rattle.net_tree.specs.Tree as net_tree
 use Rattle.net_tree.specs.Types as words
 use Rattle.net_tree.specs.Types.{TypeName}
@@ -95,11 +97,15 @@ sound_taken U K w endless d a b p c shaped same at = absurd c
 
 -- ---- what is written
 
-abbrev pub param_of : Owner → List ℕ → TypeName → net_tree.Param
-param_of o name t = record { passing = heads.passing_of o; name = name; ty = t }
+-- by value in a part of a property, else as it is in the source
+abbrev pub passing_as : (by_value : Bool) → Owner → NetPassing
+passing_as by_value o = cond by_value passing.Value (heads.passing_of o)
+
+abbrev pub param_of : NetPassing → List ℕ → TypeName → net_tree.Param
+param_of passed name t = record { passing = passed; name = name; ty = t }
 
 module _ (U : Upgrade) (p : ℕ) (groups : GroupsAreWritten U) (S : Scope) (same : S.declarations ≡ U.program.declarations) (facts : S.facts ≡ U.facts) (home : ℕ)
-    (here : home_of U S.file ≡ Some home) where
+    (here : home_of U S.file ≡ Some home) (part : Bool) where
   abbrev D : Declarations
   D = U.program.declarations
 
@@ -107,7 +113,7 @@ module _ (U : Upgrade) (p : ℕ) (groups : GroupsAreWritten U) (S : Scope) (same
   pub record ParamWritten (v : VarId) (q : Parameter U.program p v) : Type 1 where
     pub word : TypeName
     pub written : shape.Shape
-    pub is_param : heads.param_by S false v.0 (slice_get S.declarations.vars v.0) ≡ param_of q.variable.owner q.variable.name word ∷ []
+    pub is_param : heads.param_by S part v.0 (slice_get S.declarations.vars v.0) ≡ param_of (passing_as part q.variable.owner) q.variable.name word ∷ []
     pub shaped : shape.shape_of U.written home word ≡ written
     pub alike : SameShape U (variable_shape D v.0) written
     pub taken :
@@ -117,12 +123,12 @@ module _ (U : Upgrade) (p : ℕ) (groups : GroupsAreWritten U) (S : Scope) (same
   -- what is written for a parameter
   pub param_is : (v : VarId) (q : Parameter U.program p v) (t : TypeName)
       → type_with S.declarations S.file q.variable.qualified (S.facts.rank v.0) q.variable.ty ≡ t
-      → heads.param_by S false v.0 (slice_get S.declarations.vars v.0) ≡ param_of q.variable.owner q.variable.name t ∷ []
+      → heads.param_by S part v.0 (slice_get S.declarations.vars v.0) ≡ param_of (passing_as part q.variable.owner) q.variable.name t ∷ []
   param_is v q t written =
       let y : Variable = q.variable in
-      ap (λ E. heads.param_by S false v.0 (slice_get E.vars v.0)) same
-      ∙ ap (heads.param_by S false v.0) q.is_variable
-      ∙ ap (λ z. param_of y.owner y.name z ∷ []) written
+      ap (λ E. heads.param_by S part v.0 (slice_get E.vars v.0)) same
+      ∙ ap (heads.param_by S part v.0) q.is_variable
+      ∙ ap (λ z. param_of (passing_as part y.owner) y.name z ∷ []) written
 
   unfoldable pub param_written : (v : VarId) (q : Parameter U.program p v) → IsUsable U v.0 → ParamWritten v q
   param_written v q (inl r) =

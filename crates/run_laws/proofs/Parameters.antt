@@ -13,6 +13,8 @@ use Rattle.bound_tree.specs.Tree.{Declarations, Variable}
 use Rattle.bound_facts.specs.Effects.{params_at, is_own_owner, is_own_variable}
 use Rattle.bound_facts.specs.Facts.{Known, is_quiet, is_quiet_owner, is_quiet_variable}
 use Rattle.bound_facts.specs.Node.{is_array_type}
+use Rattle.net_tree.specs.declared.declaration.NetPassing.{NetPassing}
+use Rattle.net_tree.specs.declared.declaration.NetPassing.TheVariants as passing
 use Rattle.net_tree.specs.Types.{TypeName}
 use Rattle.run_base.specs.Frames.{by_address, by_value}
 use Rattle.run_base.specs.Outcomes.{Outcome, after, gives, some_of, then, outside}
@@ -25,11 +27,12 @@ use Rattle.net_run.specs.Program as target
 use Rattle.net_run.specs.Shapes as shape
 use Rattle.net_run.specs.Store as net
 use Rattle.net_run.specs.Values as net_value
+use Rattle.written_trees.specs.Arguments.{is_property}
 use Rattle.written_trees.specs.Heads as heads
 use Rattle.written_trees.specs.Facts.{is_array_variable}
 use Rattle.written_trees.specs.Names.{Scope}
 use Rattle.written_trees.specs.Prologues.{is_static}
-use Rattle.run_matches.specs.Addresses.{ArgsMatch, Bound, IsPlain, IsTarget, IsTypedAs, Mirrors, Same, address_args, images, mirrored, no_args, source_bound, target_bound, value_args, GivesWhole, IsElement, IsVariable, IsWhole, is_element, IsGivable, SuitsParameter}
+use Rattle.run_matches.specs.Addresses.{ArgsMatch, Bound, IsPlain, IsTarget, IsTypedAs, Mirrors, Same, address_args, images, mirrored, no_args, source_bound, target_bound, value_args, GivesWhole, IsElement, IsVariable, IsWhole, is_element, IsGivable, SuitsParameter, TakesAddresses}
 use Rattle.run_matches.specs.Agreeing.{Agrees}
 use Rattle.run_matches.specs.Callees.{own_of_some, parameter_owns}
 use Rattle.run_matches.specs.CoveredVariables.{covers_type}
@@ -60,7 +63,7 @@ use Rattle.run_laws.proofs.Heads.{Parameter, parameter_is}
 use Rattle.run_laws.proofs.Locals.{local_later}
 use Rattle.run_laws.specs.Premises.{GroupsAreWritten, MakesAlike}
 use Rattle.run_laws.proofs.ParametersMade.{Local, group_value_agrees, readable_type, value_is_made}
-use Rattle.run_laws.proofs.ParameterTypes.{ParamWritten, param_written}
+use Rattle.run_laws.proofs.ParameterTypes.{ParamWritten, param_written, passing_as}
 
 none_more : (i : ℕ) → i ≡ i + 0
 none_more i = omega arith
@@ -97,7 +100,7 @@ quiet_reference F _ b h = absurd (true≢false (sym h))
 -- ---- one parameter
 
 module _ (U : Upgrade) (p : ℕ) (groups : GroupsAreWritten U) (S : Scope) (same : S.declarations ≡ U.program.declarations) (facts : S.facts ≡ U.facts) (home : ℕ)
-    (here : home_of U S.file ≡ Some home) where
+    (here : home_of U S.file ≡ Some home) (part : Bool) (is_part : is_property U.program.declarations p ≡ part) where
   abbrev D : Declarations
   D = U.program.declarations
 
@@ -105,10 +108,10 @@ module _ (U : Upgrade) (p : ℕ) (groups : GroupsAreWritten U) (S : Scope) (same
   ps = params_at (slice_get D.procs p)
 
   abbrev Written : (v : VarId) → Parameter U.program p v → Type 1
-  Written v q = ParamWritten U p groups S same facts home here v q
+  Written v q = ParamWritten U p groups S same facts home here part v q
 
   abbrev param : (v : VarId) (q : Parameter U.program p v) → IsUsable U v.0 → Written v q
-  param v q u = param_written U p groups S same facts home here v q u
+  param v q u = param_written U p groups S same facts home here part v q u
 
   -- an array is one where it is taken
   array_there : (v : VarId) (i : ℕ) (element : Ty) → IsArray U v.0 element → slice_get ps i ≡ Some v → takes_array U.program.declarations p i ≡ true
@@ -136,7 +139,7 @@ module _ (U : Upgrade) (p : ℕ) (groups : GroupsAreWritten U) (S : Scope) (same
     abbrev Rest : List VarId → (i : ℕ) → List SourceGiven → List NetGiven → Type 0
     Rest vs i xs ys =
         (w : World) → Later U K w0 w → Below K.base (mark w.src) → MemoryMatch U w
-        → Agrees U K w (Parameters vs) (parameters (runnable_of U) p i vs xs w.src) (target.parameters U.written home (heads.params_of S false vs) ys w.net)
+        → Agrees U K w (Parameters vs) (parameters (runnable_of U) p i vs xs w.src) (target.parameters U.written home (heads.params_of S part vs) ys w.net)
 
     -- the source's first parameter is bound, then the others
     abbrev source_from : (v : VarId) → Outcome Memory Address → (i : ℕ) → List VarId → List SourceGiven → Outcome Memory (List (ℕ × Address))
@@ -159,10 +162,19 @@ module _ (U : Upgrade) (p : ℕ) (groups : GroupsAreWritten U) (S : Scope) (same
       quiet_at = ap (is_quiet_id D U.known) at
 
       -- what both bind to it
-      abbrev BoundHere : World → IsUsable U v.0 → (quiet : Bool) → Owner → SourceGiven → NetGiven → Type 0
-      BoundHere w u quiet o g h =
+      abbrev BoundHere : World → IsUsable U v.0 → (quiet : Bool) → Owner → NetPassing → SourceGiven → NetGiven → Type 0
+      BoundHere w u quiet o z g h =
           Agrees U K w (Local U K v.0) (bound_to quiet o s g w.src)
-          (target.parameter_by (heads.passing_of o) (param v q u).written h w.net)
+          (target.parameter_by z (param v q u).written h w.net)
+
+      -- how the target takes it
+      abbrev passed : NetPassing
+      passed = passing_as part q.variable.owner
+
+      -- an address goes to no part of a property
+      passed_by : (id : ProcId) → q.variable.owner ≡ owner.Reference id → TakesAddresses U p → passed ≡ passing.Reference
+      passed_by id is takes =
+          ap (passing_as part) is ∙ ap (λ b. cond b passing.Value passing.Reference) (sym is_part ∙ takes)
 
       -- what is bound to a parameter by reference is no variable of the procedure's own
       foreign : (id : ProcId) → q.variable.owner ≡ owner.Reference id → (n : ℕ) → is_own_of U n v.0 ≡ false
@@ -184,13 +196,12 @@ module _ (U : Upgrade) (p : ℕ) (groups : GroupsAreWritten U) (S : Scope) (same
 
         -- a value makes a place of its own
         scalar_agrees : (w : World) (x : Value) (y : net_value.Value) → LikeV U w0 x y → Later U K w0 w → Below K.base (mark w.src)
-            → BoundHere w (inl r) false q.variable.owner (by_value x) (by_value y)
+            → BoundHere w (inl r) false q.variable.owner passed (by_value x) (by_value y)
         unfolding param_written
         scalar_agrees w x y like l low =
-            subst (λ z. Agrees U K w (Local U K v.0) z (target.parameter_by (heads.passing_of q.variable.owner) (shape.scalar m.word) (by_value y) w.net))
+            subst (λ z. Agrees U K w (Local U K v.0) z (target.parameter_by passed (shape.scalar m.word) (by_value y) w.net))
             (sym (value_bound p q.variable.owner q.parameter s x w.src))
-            (subst (λ z. Agrees U K w (Local U K v.0) (make_with s x w.src) z)
-            (sym (value_taken p q.variable.owner q.parameter (shape.scalar m.word) y w.net))
+            (subst (λ z. Agrees U K w (Local U K v.0) (make_with s x w.src) z) (sym (value_taken passed (shape.scalar m.word) y w.net))
             (value_is_made U K makes w0 w v.0 r m.word x y word low l like))
 
         module _ (quiet : is_quiet D U.known v.0 ≡ true) (id : ProcId) (is : q.variable.owner ≡ owner.Reference id) where
@@ -212,17 +223,18 @@ module _ (U : Upgrade) (p : ℕ) (groups : GroupsAreWritten U) (S : Scope) (same
 
           -- values on both sides
           quiet_value : (w : World) (x : Value) (y : net_value.Value) → LikeV U w0 x y → Later U K w0 w
-              → BoundHere w (inl r) true (owner.Reference id) (by_value x) (by_value y)
+              → BoundHere w (inl r) true (owner.Reference id) passed (by_value x) (by_value y)
           unfolding param_written
           quiet_value w x y like l =
-              quiet_agrees w (temporary true s x w.src) (net.made_with (shape.scalar m.word) y w.net)
+              subst (λ z. Agrees U K w (Local U K v.0) (temporary true s x w.src) z) (sym (value_taken passed (shape.scalar m.word) y w.net))
+              (quiet_agrees w (temporary true s x w.src) (net.made_with (shape.scalar m.word) y w.net)
               (subst (λ d. Agrees U K w (QuietMatch U K m.word) (temporary true d x w.src)
               (net.made_with (shape.scalar m.word) y w.net)) (sym shaped)
-              (values_bound U K r.variable.ty m.word (readable_type U v.0 r) word w0 w x y l like))
+              (values_bound U K r.variable.ty m.word (readable_type U v.0 r) word w0 w x y l like)))
 
           -- a value on the source's side alone
           target_agrees : (w : World) (x : Value) (b : net.Address) → Mirrors U K w0 (constant x) b → IsTypedAs U x (net.shape_at b) → Later U K w0 w
-              → BoundHere w (inl r) true (owner.Reference id) (by_value x) (by_address b)
+              → BoundHere w (inl r) true (owner.Reference id) passing.Reference (by_value x) (by_address b)
           unfolding param_written
           target_agrees w x b mirrors typed l =
               let z' = cond (shape.is_same_shape (net.shape_at b) (shape.scalar m.word)) (gives [] b w.net) (outside []) in
@@ -232,9 +244,11 @@ module _ (U : Upgrade) (p : ℕ) (groups : GroupsAreWritten U) (S : Scope) (same
 
           -- a value on the target's side alone
           source_agrees : (w : World) (a : Address) (k : shape.Shape) (y : net_value.Value) → Mirrors U K w0 a (net.constant k y) → IsVariable U a → IsPlain U w a
-              → Later U K w0 w → BoundHere w (inl r) true (owner.Reference id) (by_address a) (by_value y)
+              → Later U K w0 w → BoundHere w (inl r) true (owner.Reference id) passed (by_address a) (by_value y)
           unfolding param_written
-          source_agrees w a k y mirrors at plain l = by (is_address_of s a) refl
+          source_agrees w a k y mirrors at plain l =
+              subst (λ z. Agrees U K w (Local U K v.0) (provided (is_address_of s a) (λ w. gives [] a w) w.src) z)
+              (sym (value_taken passed (shape.scalar m.word) y w.net)) (by (is_address_of s a) refl)
             where
               by : (t : Bool) → is_address_of (variable_shape D v.0) a ≡ t
                   → Agrees U K w (Local U K v.0) (provided t (λ w. gives [] a w) w.src) (net.made_with (shape.scalar m.word) y w.net)
@@ -251,7 +265,7 @@ module _ (U : Upgrade) (p : ℕ) (groups : GroupsAreWritten U) (S : Scope) (same
       address_agrees : (u : IsUsable U v.0) (id : ProcId) → q.variable.owner ≡ owner.Reference id → (quiet : Bool) (w : World) (a : Address) (b : net.Address)
           → Same U K w0 a b → IsTarget U a → GivesWhole U p i a → IsPlain U w0 a → SuitsParameter U p i a b → Later U K w0 w
           → MemoryMatch U w
-          → BoundHere w u quiet (owner.Reference id) (by_address a) (by_address b)
+          → BoundHere w u quiet (owner.Reference id) passing.Reference (by_address a) (by_address b)
       address_agrees u id is quiet w a b alike target whole plain suits l h = by (is_address_of s a) refl
         where
           by : (t : Bool) → is_address_of (variable_shape D v.0) a ≡ t
@@ -261,7 +275,7 @@ module _ (U : Upgrade) (p : ℕ) (groups : GroupsAreWritten U) (S : Scope) (same
               agrees_outside U K w (Local U K v.0)
               (cond (shape.is_same_shape (net.shape_at b) (param v q u).written) (gives [] b w.net) (outside []))
           by true e =
-              let place : GivenPlace U v.0 a = given_place U v.0 u a target suits.1 e in
+              let place : GivenPlace U v.0 a = given_place U v.0 u a target suits.1.0 e in
               let rank : HasRankOf U v.0 (net.shape_at b) = rank_for U p i v.0 (net.shape_at b) (rank_there v i at) suits.0 in
               let taken : shape.is_same_shape (net.shape_at b) (param v q u).written ≡ true =
               (param v q u).taken K w0 a b place.position alike place.stands rank in
@@ -285,23 +299,23 @@ module _ (U : Upgrade) (p : ℕ) (groups : GroupsAreWritten U) (S : Scope) (same
       -- then the others
       next_agrees : (u : IsUsable U v.0) (g : SourceGiven) (h : NetGiven) (xs : List SourceGiven) (ys : List NetGiven)
           → Rest vs (suc i) xs ys → (w : World) → Later U K w0 w → Below K.base (mark w.src) → MemoryMatch U w
-          → BoundHere w u ((runnable_of U).quiet p i) q.variable.owner g h
+          → BoundHere w u ((runnable_of U).quiet p i) q.variable.owner passed g h
           → Agrees U K w (Parameters (v ∷ vs)) (parameters (runnable_of U) p i (v ∷ vs) (g ∷ xs) w.src)
-          (target.parameters U.written home (heads.params_of S false (v ∷ vs)) (h ∷ ys) w.net)
+          (target.parameters U.written home (heads.params_of S part (v ∷ vs)) (h ∷ ys) w.net)
       next_agrees u g h xs ys rest w l low start_w bound_here =
           let n : Written v q = param v q u in
           let R = Parameters (v ∷ vs) in
           let name = q.variable.name in
-          let others = heads.params_of S false vs in
+          let others = heads.params_of S part vs in
           let z = bound_to ((runnable_of U).quiet p i) q.variable.owner s g w.src in
-          let z' = target.parameter_by (heads.passing_of q.variable.owner) n.written h w.net in
+          let z' = target.parameter_by passed n.written h w.net in
           let from = λ (x : Outcome net.Memory (List ℕ × net.Address)).
           then x (λ b t. then (target.parameters U.written home others ys t) (λ bs t. gives [] (b ∷ bs) t)) in
-          subst (λ x. Agrees U K w R (source_from v x (suc i) vs xs) (target.parameters U.written home (heads.params_of S false (v ∷ vs)) (h ∷ ys) w.net))
+          subst (λ x. Agrees U K w R (source_from v x (suc i) vs xs) (target.parameters U.written home (heads.params_of S part (v ∷ vs)) (h ∷ ys) w.net))
           (sym (bound_is v q ((runnable_of U).quiet p i) g w.src))
           (subst (λ x. Agrees U K w R (source_from v z (suc i) vs xs) (target.parameters U.written home (x ++ others) (h ∷ ys) w.net)) (sym n.is_param)
           (subst (λ x. Agrees U K w R (source_from v z (suc i) vs xs)
-          (from (then (target.parameter_by (heads.passing_of q.variable.owner) x h w.net) (λ a t. gives [] (name, a) t)))) (sym n.shaped)
+          (from (then (target.parameter_by passed x h w.net) (λ a t. gives [] (name, a) t)))) (sym n.shaped)
           (subst (λ x. Agrees U K w R (source_from v z (suc i) vs xs) x)
           (sym (then_assoc z' (λ a t. gives [] (name, a) t) (λ b t. then (target.parameters U.written home others ys t) (λ bs t. gives [] (b ∷ bs) t))))
           (then_agrees U K w (Local U K v.0) R z z'
@@ -357,66 +371,68 @@ module _ (U : Upgrade) (p : ℕ) (groups : GroupsAreWritten U) (S : Scope) (same
       -- a value at a parameter of a user type or of a class: one of another type makes none
       group_first : (ty : Ty) (r : IsGroup U v.0 ty) (x : Value) (y : net_value.Value) → LikeV U w0 x y → IsGivable U p i x → (w : World) → Later U K w0 w
           → Below K.base (mark w.src)
-          → BoundHere w (inr (inr (ty, r))) ((runnable_of U).quiet p i) q.variable.owner (by_value x) (by_value y)
+          → BoundHere w (inr (inr (ty, r))) ((runnable_of U).quiet p i) q.variable.owner passed (by_value x) (by_value y)
       group_first ty r x y like given w l low =
           let R = Local U K v.0 in
           let d : shape.Shape = (param v q (inr (inr (ty, r)))).written in
-          let z' = target.parameter_by (heads.passing_of q.variable.owner) d (by_value y) w.net in
+          let z' = target.parameter_by passed d (by_value y) w.net in
           subst (λ b. Agrees U K w R (bound_to b q.variable.owner s (by_value x) w.src) z') (sym (group_exact ty r))
           (subst (λ z. Agrees U K w R z z') (sym (value_bound p q.variable.owner q.parameter s x w.src))
-          (subst (λ z. Agrees U K w R (make_with s x w.src) z) (sym (value_taken p q.variable.owner q.parameter d y w.net))
+          (subst (λ z. Agrees U K w R (make_with s x w.src) z) (sym (value_taken passed d y w.net))
           (group_value_agrees U K makes w0 w v.0 ty r p i x y like given low l d (param v q (inr (inr (ty, r)))).alike)))
 
       value_first : (u : IsUsable U v.0) (x : Value) (y : net_value.Value) → LikeV U w0 x y → IsGivable U p i x → (w : World) → Later U K w0 w
-          → Below K.base (mark w.src) → BoundHere w u ((runnable_of U).quiet p i) q.variable.owner (by_value x) (by_value y)
+          → Below K.base (mark w.src) → BoundHere w u ((runnable_of U).quiet p i) q.variable.owner passed (by_value x) (by_value y)
       value_first (inl r) x y like none w l low = by ((runnable_of U).quiet p i) refl
         where
-          by : (t : Bool) → (runnable_of U).quiet p i ≡ t → BoundHere w (inl r) t q.variable.owner (by_value x) (by_value y)
+          by : (t : Bool) → (runnable_of U).quiet p i ≡ t → BoundHere w (inl r) t q.variable.owner passed (by_value x) (by_value y)
           by false e = scalar_agrees r w x y like l low
           by true e =
               let o = by_reference_here e in
-              subst (λ z. BoundHere w (inl r) true z (by_value x) (by_value y)) (sym o.1) (quiet_value r (sym quiet_at ∙ e) o.0 o.1 w x y like l)
+              subst (λ z. BoundHere w (inl r) true z passed (by_value x) (by_value y)) (sym o.1) (quiet_value r (sym quiet_at ∙ e) o.0 o.1 w x y like l)
       value_first (inr (inr r)) x y like given w l low = group_first r.0 r.1 x y like given w l low
       value_first (inr (inl r)) (scalar ty z) y like none w l low =
-          none_agrees r.0 r.1 (scalar ty z) w (target.parameter_by (heads.passing_of q.variable.owner) (param v q (inr (inl r))).written (by_value y) w.net) tt
+          none_agrees r.0 r.1 (scalar ty z) w (target.parameter_by passed (param v q (inr (inl r))).written (by_value y) w.net) tt
       value_first (inr (inl r)) (fields t zs) y like none w l low =
-          none_agrees r.0 r.1 (fields t zs) w (target.parameter_by (heads.passing_of q.variable.owner) (param v q (inr (inl r))).written (by_value y) w.net) tt
+          none_agrees r.0 r.1 (fields t zs) w (target.parameter_by passed (param v q (inr (inl r))).written (by_value y) w.net) tt
       value_first (inr (inl r)) (elements e dims zs) y like none w l low = absurd (true≢false (sym (array_there v i r.0 r.1 at) ∙ none))
 
       address_first : (u : IsUsable U v.0) (a : Address) (b : net.Address) (xs : List SourceGiven) (ys : List NetGiven) → Same U K w0 a b → IsTarget U a
           → GivesWhole U p i a → IsPlain U w0 a → SuitsParameter U p i a b → Rest vs (suc i) xs ys → (w : World) → Later U K w0 w → Below K.base (mark w.src)
           → MemoryMatch U w → (o : Owner) → q.variable.owner ≡ o → is_parameter_of p o ≡ true
           → Agrees U K w (Parameters (v ∷ vs)) (parameters (runnable_of U) p i (v ∷ vs) (by_address a ∷ xs) w.src)
-          (target.parameters U.written home (heads.params_of S false (v ∷ vs)) (by_address b ∷ ys) w.net)
+          (target.parameters U.written home (heads.params_of S part (v ∷ vs)) (by_address b ∷ ys) w.net)
       address_first u a b xs ys alike target_is whole plain suits rest w l low h (owner.Value id) is k =
-          first_outside id is a xs w (target.parameters U.written home (heads.params_of S false (v ∷ vs)) (by_address b ∷ ys) w.net)
+          first_outside id is a xs w (target.parameters U.written home (heads.params_of S part (v ∷ vs)) (by_address b ∷ ys) w.net)
       address_first u a b xs ys alike target_is whole plain suits rest w l low h (owner.Reference id) is k =
           next_agrees u (by_address a) (by_address b) xs ys rest w l low h
-          (subst (λ z. BoundHere w u ((runnable_of U).quiet p i) z (by_address a) (by_address b)) (sym is)
-          (address_agrees u id is ((runnable_of U).quiet p i) w a b alike target_is whole plain suits l h))
+          (subst (λ z. BoundHere w u ((runnable_of U).quiet p i) q.variable.owner z (by_address a) (by_address b)) (sym (passed_by id is suits.1.1))
+          (subst (λ z. BoundHere w u ((runnable_of U).quiet p i) z passing.Reference (by_address a) (by_address b)) (sym is)
+          (address_agrees u id is ((runnable_of U).quiet p i) w a b alike target_is whole plain suits l h)))
       address_first u a b xs ys alike target_is whole plain suits rest w l low h _ is k = absurd (true≢false (sym k))
 
       source_first : (u : IsUsable U v.0) (a : Address) (k : shape.Shape) (y : net_value.Value) → (runnable_of U).quiet p i ≡ true
           → Mirrors U K w0 a (net.constant k y) → IsVariable U a → (w : World) → IsPlain U w a → Later U K w0 w
-          → BoundHere w u ((runnable_of U).quiet p i) q.variable.owner (by_address a) (by_value y)
+          → BoundHere w u ((runnable_of U).quiet p i) q.variable.owner passed (by_address a) (by_value y)
       source_first (inl r) a k y e mirrors target_is w plain l =
           let o = by_reference_here e in
-          subst (λ t. BoundHere w (inl r) t q.variable.owner (by_address a) (by_value y)) (sym e)
-          (subst (λ z. BoundHere w (inl r) true z (by_address a) (by_value y)) (sym o.1)
+          subst (λ t. BoundHere w (inl r) t q.variable.owner passed (by_address a) (by_value y)) (sym e)
+          (subst (λ z. BoundHere w (inl r) true z passed (by_address a) (by_value y)) (sym o.1)
           (source_agrees r (sym quiet_at ∙ e) o.0 o.1 w a k y mirrors target_is plain l))
       source_first (inr (inl r)) a k y e mirrors target_is w plain l = absurd (true≢false (sym e ∙ array_exact r.0 r.1))
       source_first (inr (inr r)) a k y e mirrors target_is w plain l = absurd (true≢false (sym e ∙ group_exact r.0 r.1))
 
-      target_first : (u : IsUsable U v.0) (x : Value) (b : net.Address) → (runnable_of U).quiet p i ≡ true → Mirrors U K w0 (constant x) b
+      target_first : (u : IsUsable U v.0) (x : Value) (b : net.Address) → (runnable_of U).quiet p i ≡ true → TakesAddresses U p → Mirrors U K w0 (constant x) b
           → IsTypedAs U x (net.shape_at b) → (w : World) → Later U K w0 w
-          → BoundHere w u ((runnable_of U).quiet p i) q.variable.owner (by_value x) (by_address b)
-      target_first (inl r) x b e mirrors typed w l =
+          → BoundHere w u ((runnable_of U).quiet p i) q.variable.owner passed (by_value x) (by_address b)
+      target_first (inl r) x b e takes mirrors typed w l =
           let o = by_reference_here e in
-          subst (λ t. BoundHere w (inl r) t q.variable.owner (by_value x) (by_address b)) (sym e)
-          (subst (λ z. BoundHere w (inl r) true z (by_value x) (by_address b)) (sym o.1)
-          (target_agrees r (sym quiet_at ∙ e) o.0 o.1 w x b mirrors typed l))
-      target_first (inr (inl r)) x b e mirrors typed w l = absurd (true≢false (sym e ∙ array_exact r.0 r.1))
-      target_first (inr (inr r)) x b e mirrors typed w l = absurd (true≢false (sym e ∙ group_exact r.0 r.1))
+          subst (λ t. BoundHere w (inl r) t q.variable.owner passed (by_value x) (by_address b)) (sym e)
+          (subst (λ z. BoundHere w (inl r) true q.variable.owner z (by_value x) (by_address b)) (sym (passed_by o.0 o.1 takes))
+          (subst (λ z. BoundHere w (inl r) true z passing.Reference (by_value x) (by_address b)) (sym o.1)
+          (target_agrees r (sym quiet_at ∙ e) o.0 o.1 w x b mirrors typed l)))
+      target_first (inr (inl r)) x b e takes mirrors typed w l = absurd (true≢false (sym e ∙ array_exact r.0 r.1))
+      target_first (inr (inr r)) x b e takes mirrors typed w l = absurd (true≢false (sym e ∙ group_exact r.0 r.1))
 
     -- the parameters from one on
     pub parameters_agree : (vs : List VarId) → list_all (covers_parameter U.program p) vs ≡ true → (i : ℕ)
@@ -429,10 +445,10 @@ module _ (U : Upgrade) (p : ℕ) (groups : GroupsAreWritten U) (S : Scope) (same
         agrees_outside U K w (Parameters []) (target.parameters U.written home [] ys w.net)
     parameters_agree [] h i there _ ys (source_bound _ a s y xs others is mirrors target_is made_there plain rest) w l low m =
         agrees_outside U K w (Parameters []) (target.parameters U.written home [] ys w.net)
-    parameters_agree [] h i there _ ys (target_bound _ x b xs others is mirrors typed rest) w l low m =
+    parameters_agree [] h i there _ ys (target_bound _ x b xs others is takes mirrors typed rest) w l low m =
         agrees_outside U K w (Parameters []) (target.parameters U.written home [] ys w.net)
     parameters_agree (v ∷ vs) h i there _ ys (no_args _) w l low m =
-        agrees_outside U K w (Parameters (v ∷ vs)) (target.parameters U.written home (heads.params_of S false (v ∷ vs)) ys w.net)
+        agrees_outside U K w (Parameters (v ∷ vs)) (target.parameters U.written home (heads.params_of S part (v ∷ vs)) ys w.net)
     parameters_agree (v ∷ vs) h i there _ _ (value_args _ x y xs ys like none rest) w l low m =
         let q : Parameter U.program p v = parameter_is U.program p v (all_first (covers_parameter U.program p) v vs h) in
         let at : slice_get ps i ≡ Some v = first_there i v vs there in
@@ -450,9 +466,9 @@ module _ (U : Upgrade) (p : ℕ) (groups : GroupsAreWritten U) (S : Scope) (same
         next_agrees v q i at vs (readable v q) (by_address a) (by_value y) xs ys
         (parameters_agree vs (all_rest (covers_parameter U.program p) v vs h) (suc i) (rest_there i v vs there) xs ys rest) w l low m
         (source_first v q i at vs (readable v q) a s y is mirrors target_is w (plain_later U w0 w a l.extends made_there plain) l)
-    parameters_agree (v ∷ vs) h i there _ _ (target_bound _ x b xs ys is mirrors typed rest) w l low m =
+    parameters_agree (v ∷ vs) h i there _ _ (target_bound _ x b xs ys is takes mirrors typed rest) w l low m =
         let q : Parameter U.program p v = parameter_is U.program p v (all_first (covers_parameter U.program p) v vs h) in
         let at : slice_get ps i ≡ Some v = first_there i v vs there in
         next_agrees v q i at vs (readable v q) (by_value x) (by_address b) xs ys
         (parameters_agree vs (all_rest (covers_parameter U.program p) v vs h) (suc i) (rest_there i v vs there) xs ys rest) w l low m
-        (target_first v q i at vs (readable v q) x b is mirrors typed w l)
+        (target_first v q i at vs (readable v q) x b is takes mirrors typed w l)

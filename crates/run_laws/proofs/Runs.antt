@@ -51,12 +51,13 @@ use Rattle.agreeing_laws.proofs.Moves.{locks_later}
 use Rattle.agreeing_laws.proofs.OwnObjects.{own_object_later}
 use Rattle.run_laws.specs.Entered.{IsResult, RunMatch}
 use Rattle.run_laws.specs.Premises.{ArraysHaveRanks, CallsMakeAlike, RunPremises}
-use Rattle.run_laws.proofs.Covered.{CoveredProcedure, all_at, blocks_are_kept, covered_parts, form_at, form_covered, jumps_soundly, labels_are_sound, no_property, not_none, some_is, extents_given, own_covered_at}
+use Rattle.run_laws.proofs.Covered.{CoveredProcedure, all_at, blocks_are_kept, covered_parts, form_at, form_covered, jumps_soundly, labels_are_sound, not_none, some_is, extents_given, own_covered_at}
 use Rattle.run_laws.proofs.Entries.{all_names, entries_agree}
 use Rattle.line_laws.proofs.Called.{use_calls, use_makes}
 use Rattle.run_laws.proofs.Callees.{call_fits, call_suits, callee_covered, can_call, call_hands}
 use Rattle.run_laws.proofs.Making.{can_make, made_covered}
 use Rattle.run_laws.proofs.Names.{is_below}
+use Rattle.run_laws.proofs.Parts.{clean_unparted}
 use Rattle.run_laws.proofs.Heads.{HasAnswer, answer_sound}
 use Rattle.run_laws.proofs.Keeping.{line_keeps}
 use Rattle.run_laws.proofs.Lines.{LineSame, body_is, line_is, line_same}
@@ -81,7 +82,7 @@ module _ (U : Upgrade) (h : RunPremises U) where
   abbrev pub written : (p : ℕ) (pass : Passes U p) → WrittenProcedure U p (parts p pass).site (parts p pass).procedure
   written p pass =
       let c : CoveredProcedure U.program p = parts p pass in
-      h.procedures p c.site c.procedure c.is_site c.is_procedure (no_property c.procedure.kind c.kind)
+      h.procedures p c.site c.procedure c.is_site c.is_procedure c.joined (clean_unparted U p c.procedure pass.0)
 
   module _ (p : ℕ) (pass : Passes U p) where
     abbrev c : CoveredProcedure U.program p
@@ -125,14 +126,14 @@ module _ (U : Upgrade) (h : RunPremises U) where
         let call : Contains (line_calls U.program.declarations p l) (p, q) = use_calls U.program.declarations p q l d m e in
         let calls : covers_calls U.program p l ≡ true = all_at (covers_calls U.program p) c.lines k l c.calls at in
         let stands : IsLineOf U.program p l = record { lines = c.lines; are_lines = c.are_lines; place = k; stands = at } in
-        let test = callee_covered U p q l d calls m e in
+        let tests = callee_covered U p q l d calls m e in
         let within : nat_lt q (count_procedures U.program) ≡ true =
-        called_within U.program p q (site_of U.program.declarations p) (qualified_at d) (receiver_at d) test in
-        can_call U h.known h.procedures h.found h.methods p q c.site c.procedure c.is_site c.is_procedure (no_property c.procedure.kind c.kind) W l stands call
-        (qualified_at d) (receiver_at d) test (
+        called_within U.program p q (site_of U.program.declarations p) (qualified_at d) (receiver_at d) tests.0 in
+        can_call U h.known h.procedures h.found h.methods p q c.site c.procedure c.is_site c.is_procedure W l stands call
+        (qualified_at d) (receiver_at d) tests.0 (
           clean_called U.program p q c.procedure c.is_procedure within l stands call U.facts.marks pass.0,
           covered_called U.program p q c.procedure c.is_procedure within l stands call pass.1,
-        ) (args_at d) (call_suits U p q l d calls m e) (call_hands U p q l d calls m e) (call_fits U q d (h.fits p k l pass.0 (ap (λ (ls : List Line). slice_get ls k) lines_are ∙ at) d m) e)
+        ) (args_at d) tests.1 (call_suits U p q l d calls m e) (call_hands U p q l d calls m e) (call_fits U q d (h.fits p k l pass.0 (ap (λ (ls : List Line). slice_get ls k) lines_are ∙ at) d m) e)
 
     -- and new objects can be made
     can_make_from : (k : ℕ) (l : Line) → slice_get c.lines k ≡ Some l → (d : Expr) (class : ℕ) → Contains (line_uses l) d → made_at d ≡ Some class
@@ -192,7 +193,7 @@ module _ (U : Upgrade) (h : RunPremises U) where
         }
 
     names_differ : are_different (declared_names (written p pass).code) ≡ true
-    names_differ = subst (λ ns. are_different ns ≡ true) (all_names U p c W kept usable answer_is ranked h.groups) c.different
+    names_differ = subst (λ ns. are_different ns ≡ true) (all_names U p c W kept usable answer_is ranked h.groups h.firsts) c.different
 
     pub body : BodyRuns U p (written p pass).number
     body = record {
@@ -229,7 +230,7 @@ module _ (U : Upgrade) (h : RunPremises U) where
       then_agrees U K w (RunMatch U K p me) (ResultMatch U) (entered_as R p me locked xs w.src)
       (target.enter N W.number (option_map w.map.objects me) tt ys w.net) (λ f s. go (source.machine_of R) n (runs p f) s)
       (λ g t. go (target.machine_of N) n (runs W.number g) t) m
-      (entries_agree U p c W (kept p pass) (usable p pass) (answer_is p pass) (ranked p pass) h.groups base me xs ys (h.makes p base me xs ys) locked w0 w start args
+      (entries_agree U p c W (kept p pass) (usable p pass) (answer_is p pass) (ranked p pass) h.groups h.firsts base me xs ys (h.makes p base me xs ys) locked w0 w start args
       l obj own held low m)
       (λ f g u r later. turns.rests p pass base me xs ys u f g r later.match)
 

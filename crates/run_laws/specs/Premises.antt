@@ -2,6 +2,7 @@
 use Rattle.std.specs.Prelude.{◌≡◌, ℕ, suc, Bool, true, false, Option, Some, None, slice_get, List, [], ◌∷◌}
 use Rattle.std.specs.List.{Contains}
 use Rattle.vb_tree.specs.BoundTree.{Ty}
+use Rattle.vb_tree.specs.declared.declared.ProcKind.TheVariants as kind
 use Rattle.bound_tree.specs.Tree.{Expr, Line, Procedure, Variable}
 use Rattle.bound_facts.specs.Clean.{IsClean}
 use Rattle.run_base.specs.Machines.{nth_line, go}
@@ -26,11 +27,13 @@ use Rattle.run_matches.specs.Agreeing.{Agrees}
 use Rattle.run_matches.specs.CleanLines.{IsCleanLine, lines_at}
 use Rattle.written_trees.specs.Bodies.{inside_procedure}
 use Rattle.written_trees.specs.Facts.{is_array_variable}
+use Rattle.written_trees.specs.Heads.{is_function}
 use Rattle.written_trees.specs.Types.{type_with}
 use Rattle.run_matches.specs.CoveredVariables.{belongs_to, covers_declared, covers_user, has_extents}
 use Rattle.run_matches.specs.CoveredExprs.{uses_in}
 use Rattle.run_matches.specs.CoveredLines.{covers_line}
 use Rattle.run_matches.specs.Covered.{IsCoveredLine, covers_procedure, is_scalar_or_loud}
+use Rattle.run_matches.specs.JoinedProperties.{is_joined}
 use Rattle.run_matches.specs.Likeness.{scalar_word, LikeV, SameShape}
 use Rattle.run_matches.specs.Maps.{Mark, World}
 use Rattle.run_matches.specs.Match.{MemoryMatch}
@@ -177,6 +180,14 @@ abbrev pub CleanResizesFit : Upgrade → Type 0
 CleanResizesFit U =
     (p k : ℕ) (l : Line) → IsClean U.program U.facts.marks p → nth_line (lines_at U.program p) (suc k) ≡ Some l → FitsLine U p l
 
+-- ---- properties
+
+-- a Get of a property whose first part gives a result is that part
+abbrev pub GetsAreFirst : Upgrade → Type 0
+GetsAreFirst U =
+    (p : ℕ) (x f : Procedure) → slice_get U.program.declarations.procs p ≡ Some x → x.kind ≡ kind.Get → is_joined U.program.declarations p x ≡ true
+    → slice_get U.program.declarations.procs x.first.0 ≡ Some f → is_function f.kind ≡ true → x.first.0 ≡ p
+
 -- ---- lines by themselves
 
 abbrev pub CleanLinesAreUnreplaced : Upgrade → Type 0
@@ -250,3 +261,4 @@ pub record RunPremises (U : Upgrade) : Type 0 where
   pub ranked : has_extents U.program ≡ true → ArraysHaveRanks U
   pub groups : GroupsAreWritten U
   pub read : ResultsAreRead U
+  pub firsts : GetsAreFirst U

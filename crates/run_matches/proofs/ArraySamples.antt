@@ -1,7 +1,7 @@
 -- A small program over arrays: one of the module with lower bound 1, and a dynamic one that is made anew, given by reference and erased.
 use Rattle.std.proofs.Common.{◌≡◌, refl, ℕ, pos, nat_eq, cond, true, false, List, [], ◌∷◌, ◌++◌, codes, Some, None}
 use Rattle.std.specs.Fmt.{digits}
-use Rattle.vb_tree.specs.BoundTree.{Ty, array, long, nothing}
+use Rattle.vb_tree.specs.BoundTree.{array, long, nothing}
 use Rattle.vb_tree.specs.declared.bound.LibCall.TheVariants as lib
 use Rattle.vb_tree.specs.declared.declared.Owner.TheVariants as owner
 use Rattle.vb_tree.specs.declared.declared.ProcKind.TheVariants as kind
@@ -11,7 +11,6 @@ use Rattle.vb_tree.specs.declared.project.ProjectKind.TheVariants.{Exe}
 use Rattle.vb_tree.specs.declared.value.Value6.TheVariants as v
 use Rattle.vb_tree.specs.Tree.{Form}
 use Rattle.vb_tree.specs.Tree as source
-use Rattle.bound_tree.specs.declared.body.Mention.{Mention}
 use Rattle.bound_tree.specs.declared.body.Mention.TheVariants as mention
 use Rattle.bound_tree.specs.declared.expression.Origin.TheVariants.{Literal}
 use Rattle.bound_tree.specs.RuleSets.{has, none, both}

@@ -1,7 +1,7 @@
 -- A small program that gives elements of an array by reference: the array is kept while the procedure runs that is called.
 use Rattle.std.proofs.Common.{◌≡◌, refl, ℕ, pos, nat_eq, true, false, List, [], ◌∷◌, ◌++◌, codes, Some, None}
 use Rattle.std.specs.Fmt.{digits}
-use Rattle.vb_tree.specs.BoundTree.{Ty, array, long, nothing}
+use Rattle.vb_tree.specs.BoundTree.{array, long, nothing}
 use Rattle.vb_tree.specs.declared.declared.Owner.TheVariants as owner
 use Rattle.vb_tree.specs.declared.declared.ProcKind.TheVariants as kind
 use Rattle.vb_tree.specs.declared.expression.BinOp.TheVariants as b
@@ -10,7 +10,6 @@ use Rattle.vb_tree.specs.declared.project.ProjectKind.TheVariants.{Exe}
 use Rattle.vb_tree.specs.declared.value.Value6.TheVariants as v
 use Rattle.vb_tree.specs.Tree.{Form}
 use Rattle.vb_tree.specs.Tree as source
-use Rattle.bound_tree.specs.declared.body.Mention.{Mention}
 use Rattle.bound_tree.specs.declared.body.Mention.TheVariants as mention
 use Rattle.bound_tree.specs.declared.expression.Origin.TheVariants.{Literal}
 use Rattle.bound_tree.specs.RuleSets.{has, none, both}

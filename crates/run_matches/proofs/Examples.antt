@@ -5,7 +5,7 @@ use Rattle.std.proofs.lemmas.Bool.{true≢false}
 use Rattle.vb_tree.specs.BoundTree.{long}
 use Rattle.vb_tree.specs.declared.value.Value6.TheVariants as v
 use Rattle.std.specs.Fmt.{digits}
-use Rattle.std.specs.Prelude.{Option, slice_get}
+use Rattle.std.specs.Prelude.{slice_get}
 use Rattle.bound_facts.specs.SelfMade.{module_of}
 use Rattle.vb6_run.specs.Runnables.{is_class_file}
 use Rattle.bound_facts.specs.Calls.{Reaches}
@@ -238,5 +238,9 @@ reaches_itself q (longer a b c chain pair) = below_zero pair.0 pair.1
 main_is_covered : IsCovered program 2
 main_is_covered = reaches_itself
 
-property_not : covers_procedure program 1 ≡ false
-property_not = refl
+-- the parts of a property
+let_covered : covers_procedure program 0 ≡ true
+let_covered = refl
+
+get_covered : covers_procedure program 1 ≡ true
+get_covered = refl

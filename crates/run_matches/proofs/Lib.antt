@@ -9,6 +9,7 @@ mod ArraySamples
 mod ElementSamples
 mod TypeSamples
 mod ObjectSamples
+mod PropertySamples
 pub mod StoreExamples
 mod CoveredExamples
 mod LibraryExamples

@@ -1,6 +1,6 @@
 -- A small program over variables of a class: set, compared, given to procedures and by a Function, and asked for variables and procedures of
 -- objects, one of them new and kept by a With.
-use Rattle.std.proofs.Common.{◌≡◌, ◌||◌, refl, pos, nat_eq, true, false, ℕ, List, [], ◌∷◌, ◌++◌, codes, None, Some}
+use Rattle.std.proofs.Common.{◌≡◌, refl, pos, nat_eq, true, false, ℕ, List, [], ◌∷◌, ◌++◌, codes, None, Some}
 use Rattle.std.specs.Fmt.{digits}
 use Rattle.vb_tree.specs.BoundTree.{class, boolean, long, nothing}
 use Rattle.vb_tree.specs.declared.declared.Owner.TheVariants as owner

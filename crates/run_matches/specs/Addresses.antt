@@ -14,6 +14,7 @@ use Rattle.net_run.specs.Names as net_part
 use Rattle.net_run.specs.Shapes as shape
 use Rattle.net_run.specs.Store as net
 use Rattle.net_run.specs.Values as net_value
+use Rattle.written_trees.specs.Arguments.{is_property}
 use Rattle.run_matches.specs.Covered.{is_relied_at}
 use Rattle.run_matches.specs.CoveredVariables.{covers_type}
 use Rattle.run_matches.specs.Upgrades.{Upgrade, class_home, variable_key, is_flagged_field, parameter_rank, runnable_of, takes_array}
@@ -246,8 +247,12 @@ IsDeclaredAt U (root s q) = IsDeclaredShape U s
 IsDeclaredAt U (item e q j path) = Unit {0}
 IsDeclaredAt U (constant x) = Unit {0}
 
+-- a procedure that is no part of a property: what is written for a parameter of such a part takes a value
+abbrev pub TakesAddresses : Upgrade → (procedure : ℕ) → Type 0
+TakesAddresses U p = is_property U.program.declarations p ≡ false
+
 abbrev pub SuitsParameter : Upgrade → (procedure place : ℕ) → Address → net.Address → Type 0
-SuitsParameter U p i a b = HasParameterRank U p i (net.shape_at b) × IsDeclaredAt U a
+SuitsParameter U p i a b = HasParameterRank U p i (net.shape_at b) × (IsDeclaredAt U a × TakesAddresses U p)
 
 -- an address of what was made
 abbrev pub IsThere : World → Address → Type 0
@@ -277,7 +282,7 @@ pub data ArgsMatch (U : Upgrade) (K : Pledge) (w : World) (p : ℕ) : (place : �
       → Mirrors U K w a (net.constant s y) → IsVariable U a → IsThere w a → IsPlain U w a → ArgsMatch U K w p (suc i) xs ys → ArgsMatch U K w p i (by_address a ∷ xs) (by_value y ∷ ys)
   target_bound :
       (i : ℕ) (x : Value) (b : net.Address) (xs : List SourceGiven) (ys : List NetGiven) → (runnable_of U).quiet p i ≡ true
-      → Mirrors U K w (constant x) b → IsTypedAs U x (net.shape_at b) → ArgsMatch U K w p (suc i) xs ys → ArgsMatch U K w p i (by_value x ∷ xs) (by_address b ∷ ys)
+      → TakesAddresses U p → Mirrors U K w (constant x) b → IsTypedAs U x (net.shape_at b) → ArgsMatch U K w p (suc i) xs ys → ArgsMatch U K w p i (by_value x ∷ xs) (by_address b ∷ ys)
 
 -- The arguments match, and each array in a value occurs once, in no position that is compared.
 pub record ArgsOk (U : Upgrade) (K : Pledge) (w : World) (p : ℕ) (xs : List SourceGiven) (ys : List NetGiven) : Type 0 where

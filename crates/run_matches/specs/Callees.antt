@@ -13,7 +13,7 @@ use Rattle.written_trees.specs.Names.{first_name, is_foreign, module_name, proce
 use Rattle.written_trees.specs.Placing.{Numbers, Placed, behind_members, is_type_head, placed_members}
 use Rattle.written_trees.specs.Projects.{first_numbers, next_module}
 use Rattle.written_trees.specs.Prologues.{constants_of, one_if}
-use Rattle.written_trees.specs.Properties.{separate_name}
+use Rattle.written_trees.specs.Properties.{is_counted, separate_name}
 use Rattle.vb6_run.specs.Runnables.{is_class_file}
 use Rattle.net_run.specs.Shapes.{first_from}
 use Rattle.run_matches.specs.Sites.{Own, Site, own_constants, own_name, own_variable, owns_of, statement_owns}
@@ -55,11 +55,17 @@ abbrev pub enum_names : Declarations → (file n : ℕ) → List source.Line →
 enum_names D file n [] = []
 enum_names D file n (l ∷ ls) = map own_name (own_constants (constants_of D file n)) ++ enum_names D file (suc n) ls
 
+-- a later part of a property stands in the first one
+abbrev pub is_inner : Declarations → (procedure : ℕ) → Procedure → Bool
+is_inner D p q = is_counted D p q && not (nat_eq q.first.0 p)
+
 -- a part of a property may stand by itself
+abbrev pub part_names : Declarations → (procedure : ℕ) → Procedure → List (List ℕ)
+part_names D p q = cond (is_inner D p q) [] (procedure_name D p ∷ []) ++ separate_name q.kind (procedure_name D p) ∷ []
+
 abbrev pub procedure_names : Declarations → (procedure : ℕ) → Option Procedure → List (List ℕ)
 procedure_names D p None = []
-procedure_names D p (Some q) =
-    cond (is_property_kind q.kind) (procedure_name D p ∷ separate_name q.kind (procedure_name D p) ∷ []) (q.name ∷ [])
+procedure_names D p (Some q) = cond (is_property_kind q.kind) (part_names D p q) (q.name ∷ [])
 
 abbrev pub names_at : Declarations → (file : ℕ) → Numbers → Member → List (List ℕ)
 names_at D file at (alone l) = map own_name (statement_owns D file at.statement)

@@ -22,14 +22,17 @@ use Rattle.bound_facts.specs.Effects.{params_at}
 use Rattle.bound_facts.specs.Locks.{is_same_type}
 use Rattle.bound_facts.specs.Node.{type_at, called, args_at, is_array_type}
 use Rattle.bound_facts.specs.Parts.{line_uses}
-use Rattle.vb6_meaning.specs.Answers.{Answer}
 use Rattle.run_base.specs.Machines.{nth_line}
-use Rattle.written_trees.specs.Arguments.{is_conversion, takes_reference}
+use Rattle.up_base.specs.Names.{is_same_name}
+use Rattle.written_trees.specs.Arguments.{is_conversion, is_property, is_property_kind, takes_reference}
+use Rattle.written_trees.specs.Exprs.{has_none}
+use Rattle.written_trees.specs.Heads.{is_function}
 use Rattle.written_trees.specs.Prologues.{variables_of, constants_of, is_static}
 use Rattle.vb6_run.specs.Forms.{SourceLine, body_of}
 use Rattle.vb6_run.specs.Programs.{is_local_of, owned_from, answer_in, is_static_of}
 use Rattle.written_trees.specs.Names.{first_name}
 use Rattle.run_matches.specs.Callees.{frame_owns, is_found, is_once, names_in}
+use Rattle.run_matches.specs.JoinedProperties.{is_empty, is_joined}
 use Rattle.run_matches.specs.Shared.{is_outer, others_differ}
 use Rattle.run_matches.specs.Upgrades.{takes_array}
 use Rattle.run_matches.specs.UserTypes.{is_group_type, is_user}
@@ -40,13 +43,9 @@ use Rattle.run_matches.specs.CoveredLines.{covers_line, covers_in_block, jump_of
 
 -- ---- procedures
 
--- Subs and Functions
-abbrev pub covers_kind : ProcKind → Bool
-covers_kind kind.Sub = true
-covers_kind kind.Function = true
-covers_kind kind.Get = false
-covers_kind kind.Let = false
-covers_kind kind.Set = false
+-- Subs and Functions, and parts of properties that are written as one, without index parameters
+abbrev pub covers_joined : Declarations → (procedure : ℕ) → Procedure → Bool
+covers_joined D p x = cond (is_property_kind x.kind) (is_joined D p x) true
 
 abbrev pub is_plain_kind : ProcKind → Bool
 is_plain_kind kind.Sub = true
@@ -54,6 +53,11 @@ is_plain_kind kind.Function = true
 is_plain_kind kind.Get = false
 is_plain_kind kind.Let = false
 is_plain_kind kind.Set = false
+
+-- a Sub or a Function; the parts of a property aren't
+abbrev pub is_plain : Option Procedure → Bool
+is_plain None = false
+is_plain (Some x) = is_plain_kind x.kind
 
 abbrev pub is_value_of : (procedure : ℕ) → Owner → Bool
 is_value_of p (owner.Value q) = nat_eq p q.0
@@ -107,9 +111,11 @@ has_answer D p x (Some v) = is_result_in p x (slice_get D.vars v.0)
 abbrev pub has_result : Declarations → (procedure : ℕ) → Procedure → ProcKind → Bool
 has_result D p x kind.Sub = not (is_some x.answer)
 has_result D p x kind.Function = has_answer D p x x.answer
-has_result D p x _ = false
+has_result D p x kind.Get = has_answer D p x x.answer
+has_result D p x kind.Let = not (is_some x.answer)
+has_result D p x kind.Set = not (is_some x.answer)
 
--- a result variable of the Function's name and type
+-- a result variable of the name and type of the Function or the Get
 abbrev pub covers_result : Declarations → (procedure : ℕ) → Procedure → Bool
 covers_result D p x =
     has_result D p x x.kind
@@ -120,7 +126,7 @@ covers_result D p x =
 abbrev pub covers_head : Program → (procedure : ℕ) → Option Procedure → Bool
 covers_head P p None = false
 covers_head P p (Some x) =
-    covers_kind x.kind && (list_all (covers_parameter P p) x.params && covers_result P.declarations p x)
+    covers_joined P.declarations p x && (list_all (covers_parameter P p) x.params && covers_result P.declarations p x)
 
 -- each variable of the procedure is covered, and each ReDim of the project gives extents
 abbrev pub covers_variables : Program → (procedure : ℕ) → Bool
@@ -183,7 +189,7 @@ is_method_site D c y (Some t) =
 
 abbrev pub is_method_in : Declarations → (class callee : ℕ) → Option Procedure → Bool
 is_method_in D c q None = false
-is_method_in D c q (Some y) = covers_kind y.kind && is_method_site D c y (site_of D q)
+is_method_in D c q (Some y) = is_method_site D c y (site_of D q)
 
 abbrev pub is_method : Declarations → Ty → (callee : ℕ) → Bool
 is_method D (types.class c) q = covers_class D c && is_method_in D c q (slice_get D.procs q)
@@ -199,10 +205,27 @@ covers_called_for P p s q qualified (of_object e) = covers_method P e q
 
 abbrev pub covers_initializer : Program → (class : ℕ) → Option ℕ → Bool
 covers_initializer P c None = true
-covers_initializer P c (Some q) = nat_lt q (count_procedures P) && is_method P.declarations (types.class c) q
+covers_initializer P c (Some q) =
+    is_plain (slice_get P.declarations.procs q) && (nat_lt q (count_procedures P) && is_method P.declarations (types.class c) q)
+
+abbrev pub is_result_of : Option Procedure → Option Procedure → Bool
+is_result_of None y = false
+is_result_of (Some x) None = false
+is_result_of (Some x) (Some y) = is_function x.kind && is_same_name x.name y.name
+
+-- by its name alone, as it isn't in itself and where that names a result
+abbrev pub stands_alone : Declarations → (procedure callee : ℕ) → (qualified : Bool) → Object → Bool
+stands_alone D p q qualified no_object =
+    not (nat_eq p q && not qualified) && not (is_result_of (slice_get D.procs p) (slice_get D.procs q))
+stands_alone D p q qualified (of_object e) = true
+
+-- a property is used without arguments
+abbrev pub covers_use_of : Declarations → (procedure callee : ℕ) → (qualified : Bool) → Object → Passed → Bool
+covers_use_of D p q qualified of args = cond (is_property D q) (has_none args && stands_alone D p q qualified of) true
 
 abbrev pub covers_node_term : Program → (procedure : ℕ) → Option Site → Term → Bool
-covers_node_term P p s (call q qualified of args) = covers_called_for P p s q.0 qualified of
+covers_node_term P p s (call q qualified of args) =
+    covers_called_for P p s q.0 qualified of && covers_use_of P.declarations p q.0 qualified of args
 covers_node_term P p s (new_object c) = covers_initializer P c.0 (initializer P.declarations c.0)
 covers_node_term P p s t = true
 
@@ -241,10 +264,14 @@ is_type_at D ty (Some v) = is_parameter_type ty (slice_get D.vars v.0)
 abbrev pub suits_group : Declarations → (procedure place : ℕ) → Expr → Bool
 suits_group D q i e = not (is_group_type (type_at e)) || is_type_at D (type_at e) (slice_get (params_at (slice_get D.procs q)) i)
 
+-- a parameter that takes a reference is none of a part of a property
+abbrev pub takes_address : Declarations → (procedure place : ℕ) → Bool
+takes_address D q i = not (is_property D q) && takes_reference D q i
+
 -- a reference goes to a parameter that takes one
 abbrev pub suits_argument : Declarations → (procedure place : ℕ) → Argument → Bool
 suits_argument D q i (by_value e) = suits_group D q i e
-suits_argument D q i (by_reference e) = takes_reference D q i && (is_referred e && (suits_array D q i e && suits_group D q i e))
+suits_argument D q i (by_reference e) = takes_address D q i && (is_referred e && (suits_array D q i e && suits_group D q i e))
 
 abbrev pub suits_passed : Declarations → (procedure place : ℕ) → Passed → Bool
 suits_passed D q i no_passed = true
@@ -311,11 +338,6 @@ covers_procedure P p =
 abbrev pub IsCovered : Program → (procedure : ℕ) → Type 0
 IsCovered P p = (q : ℕ) → Reaches P p q → covers_procedure P q ≡ true
 
--- a Sub or a Function; the parts of a property aren't
-abbrev pub is_plain : Option Procedure → Bool
-is_plain None = false
-is_plain (Some x) = is_plain_kind x.kind
-
 abbrev pub has_three : List Expr → Bool
 has_three [] = false
 has_three (counter ∷ []) = false
@@ -330,10 +352,6 @@ keeps_blocks_in _ es = true
 
 abbrev pub keeps_blocks : tree.Line → Bool
 keeps_blocks l = keeps_blocks_in l.source.form l.bindings.exprs
-
-abbrev pub is_empty : {A : Type 0} → List A → Bool
-is_empty [] = true
-is_empty (x ∷ xs) = false
 
 abbrev pub is_mentioned : List Mention → ℕ × Variable → Bool
 is_mentioned mentions v = list_any (is_mention_of (record { 0 = v.0 })) mentions

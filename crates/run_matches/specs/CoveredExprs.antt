@@ -5,6 +5,8 @@ use Rattle.vb_tree.specs.BoundTree as types
 use Rattle.vb_tree.specs.BoundTree.{Ty}
 use Rattle.vb_tree.specs.declared.bound.LibCall.{LibCall}
 use Rattle.vb_tree.specs.declared.bound.LibCall.TheVariants as lib
+use Rattle.vb_tree.specs.declared.declared.ProcKind.{ProcKind}
+use Rattle.vb_tree.specs.declared.declared.ProcKind.TheVariants as kind
 use Rattle.vb_tree.specs.declared.declared.VarId.{VarId}
 use Rattle.vb_tree.specs.declared.expression.BinOp.{BinOp}
 use Rattle.vb_tree.specs.declared.expression.BinOp.TheVariants as b
@@ -12,7 +14,7 @@ use Rattle.vb_tree.specs.declared.value.Value6.{Value6}
 use Rattle.vb_tree.specs.declared.value.Value6.TheVariants as value
 use Rattle.bound_tree.specs.declared.body.Mention.{Mention}
 use Rattle.bound_tree.specs.declared.body.Mention.TheVariants as mention
-use Rattle.bound_tree.specs.Tree.{Variable, Program, Expr, typed, Term, constant, variable, field, element, call, library, unary, binary, convert, new_object, me, with_object, err_number, err_raise, err_clear, is_same, loose, Exprs, no_exprs, next_expr, Object, no_object, of_object, Argument, by_value, by_reference, Passed, no_passed, next_passed, Declarations}
+use Rattle.bound_tree.specs.Tree.{Variable, Procedure, Program, Expr, typed, Term, constant, variable, field, element, call, library, unary, binary, convert, new_object, me, with_object, err_number, err_raise, err_clear, is_same, loose, Exprs, no_exprs, next_expr, Object, no_object, of_object, Argument, by_value, by_reference, Passed, no_passed, next_passed, Declarations}
 use Rattle.bound_tree.specs.Tree as tree
 use Rattle.bound_facts.specs.CanRaise.{raises_by}
 use Rattle.bound_facts.specs.Calls.{count_variables}
@@ -25,6 +27,7 @@ use Rattle.bound_facts.specs.Nodes.{nodes, nodes_of_all}
 use Rattle.vb6_meaning.specs.Answers.{Answer}
 use Rattle.vb6_meaning.specs.Answers as answer
 use Rattle.vb6_meaning.specs.Values.{coerce}
+use Rattle.written_trees.specs.Puts.{last_of}
 use Rattle.vb6_run.specs.Values.{is_typed}
 use Rattle.bound_facts.specs.Members.{class_files}
 use Rattle.bound_facts.specs.SelfMade.{module_of}
@@ -107,6 +110,9 @@ pub record Uses : Type 0 where
   pub given : Ty → Bool
   -- variables that are declared with a type
   pub is_of : VarId → Ty → Bool
+  -- procedures that are no Let and no Set of a property, and those that take a value of a type as a Let or a Set
+  pub gives : (procedure : ℕ) → Bool
+  pub takes : (procedure : ℕ) → Ty → Bool
   -- procedures that are seen to be inward
   pub inward : (procedure : ℕ) → Bool
   pub exact : VarId → Bool
@@ -120,6 +126,10 @@ IsUsed uses v =
 abbrev pub is_declared_as : Ty → Option Variable → Bool
 is_declared_as ty None = false
 is_declared_as ty (Some x) = is_same_type ty x.ty
+
+abbrev pub is_typed_variable : Declarations → Ty → Option VarId → Bool
+is_typed_variable D ty None = false
+is_typed_variable D ty (Some v) = is_declared_as ty (slice_get D.vars v.0)
 
 abbrev pub is_element_term : Term → Bool
 is_element_term (element a indexes) = true
@@ -159,6 +169,22 @@ class_at D (Some s) (Some file) = cond (nat_eq s.source_module.file file && s.so
 abbrev pub class_of : Declarations → (procedure : ℕ) → Option ℕ
 class_of D p = class_at D (site_of D p) (module_of (slice_get D.procs p))
 
+abbrev pub takes_value : ProcKind → Bool
+takes_value kind.Sub = false
+takes_value kind.Function = false
+takes_value kind.Get = false
+takes_value kind.Let = true
+takes_value kind.Set = true
+
+abbrev pub is_giving : Option Procedure → Bool
+is_giving None = false
+is_giving (Some q) = not (takes_value q.kind)
+
+-- the last parameter of a Let or a Set takes the value
+abbrev pub is_taking : Declarations → Ty → Option Procedure → Bool
+is_taking D ty None = false
+is_taking D ty (Some q) = takes_value q.kind && is_typed_variable D ty (last_of q.params)
+
 -- those that a line of a procedure uses and mentions
 abbrev pub uses_in : Program → (procedure : ℕ) → List Mention → Uses
 uses_in P p mentions = record {
@@ -172,6 +198,8 @@ uses_in P p mentions = record {
   named = is_named_so P.declarations;
   given = covers_group_type P.declarations;
   is_of = λ v ty. is_declared_as ty (slice_get P.declarations.vars v.0);
+  gives = λ q. is_giving (slice_get P.declarations.procs q);
+  takes = λ q ty. is_taking P.declarations ty (slice_get P.declarations.procs q);
   inward = is_inward_in P;
   exact = λ v. is_loud P v.0 (slice_get P.declarations.vars v.0);
   relied = λ v. is_relied_on P v.0;
@@ -350,7 +378,7 @@ abbrev mutual
   covers_term uses (field e k) =
       (has_scalar uses (type_at e) k && covers_base uses e) || (has_member uses (type_at e) k covers_type && covers_object uses e)
   covers_term uses (element e indexes) = covers_array uses e && covers_exprs uses indexes
-  covers_term uses (call p qualified of args) = covers_receiver uses of && covers_passed uses args
+  covers_term uses (call p qualified of args) = uses.gives p.0 && (covers_receiver uses of && covers_passed uses args)
   covers_term uses (library f args) = (covers_library f && covers_exprs uses args) || (is_bound f && covers_bounded uses args)
   covers_term uses (unary op e) = covers_expr uses e
   covers_term uses (binary op d e) = covers_operator op && (covers_expr uses d && covers_expr uses e)
@@ -369,7 +397,7 @@ abbrev mutual
   covers_group uses (typed ty t) = covers_place_term uses ty t || covers_group_term uses ty t
 
   pub covers_group_term : Uses → Ty → Term → Bool
-  covers_group_term uses ty (call p qualified of args) = uses.given ty && (covers_receiver uses of && covers_passed uses args)
+  covers_group_term uses ty (call p qualified of args) = uses.given ty && (uses.gives p.0 && (covers_receiver uses of && covers_passed uses args))
   covers_group_term uses ty (field e k) = covers_object_term uses ty (field e k)
   covers_group_term uses ty me = covers_object_term uses ty me
   covers_group_term uses ty (new_object c) = is_class_of (Some c.0) ty && uses.made c.0

@@ -14,7 +14,7 @@ use Rattle.vb_tree.specs.Tree.{CaseItem, Form}
 use Rattle.vb_tree.specs.Tree as source
 use Rattle.bound_tree.specs.Labels.{Label, label_of}
 use Rattle.bound_tree.specs.Labels as mark
-use Rattle.bound_tree.specs.Tree.{Variable, Program, Expr, typed, Term, variable, field, element, call, library, err_raise, err_clear, with_object}
+use Rattle.bound_tree.specs.Tree.{Variable, Program, Expr, typed, Term, variable, field, element, call, library, err_raise, err_clear, with_object, Object, no_object, of_object}
 use Rattle.bound_tree.specs.Tree as tree
 use Rattle.bound_tree.specs.declared.expression.Root.{Root}
 use Rattle.bound_tree.specs.declared.expression.Root.TheVariants as at
@@ -22,7 +22,7 @@ use Rattle.bound_facts.specs.Folded.{folded}
 use Rattle.bound_facts.specs.Locks.{is_same_type}
 use Rattle.bound_facts.specs.Node.{type_at, root}
 use Rattle.bound_facts.specs.Parts.{Extent, Resize, resizes, line_uses}
-use Rattle.vb6_meaning.specs.Answers.{Answer}
+use Rattle.written_trees.specs.Exprs.{has_none}
 use Rattle.run_base.specs.Machines.{nth_line}
 use Rattle.vb6_run.specs.Forms.{SourceLine}
 use Rattle.vb6_run.specs.Programs.{is_local_of}
@@ -55,10 +55,27 @@ abbrev pub covers_copy : Uses → (target value : Expr) → Bool
 covers_copy uses to e =
     is_user (type_at to) && (is_changeable uses to && (is_same_type (type_at to) (type_at e) && (covers_place uses to && covers_group uses e)))
 
--- an assignment to a variable, a field or an element
-abbrev pub covers_store : Uses → List Expr → Bool
-covers_store uses (to ∷ e ∷ []) =
+abbrev pub is_receiver_ordered : Uses → Object → (value : Expr) → Bool
+is_receiver_ordered uses no_object e = true
+is_receiver_ordered uses (of_object d) e = is_class_type (type_at d) && keeps_object uses d e
+
+abbrev pub covers_property_term : Uses → (target : Term) → (value : Expr) → Bool
+covers_property_term uses (call p qualified of args) e =
+    (uses.takes p.0 (type_at e) && has_none args)
+    && (is_receiver_ordered uses of e && (covers_receiver uses of && (covers_expr uses e || covers_group uses e)))
+covers_property_term uses t e = false
+
+-- a property takes a value of its type; its object may be known before the value
+abbrev pub covers_property : Uses → (target value : Expr) → Bool
+covers_property uses (typed ty t) e = is_same_type ty (type_at e) && covers_property_term uses t e
+
+abbrev pub covers_stored : Uses → (target value : Expr) → Bool
+covers_stored uses to e =
     ((is_changeable uses to || (is_ordered uses to e || is_member_ordered uses to e)) && (covers_expr uses to && covers_expr uses e)) || covers_copy uses to e
+
+-- an assignment to a variable, a field, an element or a property
+abbrev pub covers_store : Uses → List Expr → Bool
+covers_store uses (to ∷ e ∷ []) = covers_stored uses to e || covers_property uses to e
 covers_store uses es = false
 
 -- a Set of a variable
@@ -71,7 +88,7 @@ covers_set_member uses to e =
     is_member_ordered uses to e && (is_same_type (type_at to) (type_at e) && (covers_object uses to && covers_group uses e))
 
 abbrev pub covers_set : Uses → List Expr → Bool
-covers_set uses (to ∷ e ∷ []) = is_class_type (type_at to) && (covers_set_variable uses to e || covers_set_member uses to e)
+covers_set uses (to ∷ e ∷ []) = (is_class_type (type_at to) && (covers_set_variable uses to e || covers_set_member uses to e)) || covers_property uses to e
 covers_set uses es = false
 
 -- a condition, or what a Select Case compares: one expression
@@ -134,7 +151,7 @@ covers_box uses t = false
 
 -- a call, also of MsgBox, and of Err.Raise or Err.Clear
 abbrev pub covers_called_in : Uses → Term → Bool
-covers_called_in uses (call p qualified of args) = covers_receiver uses of && covers_passed uses args
+covers_called_in uses (call p qualified of args) = uses.gives p.0 && (covers_receiver uses of && covers_passed uses args)
 covers_called_in uses (library f args) = covers_box uses (library f args)
 covers_called_in uses (err_raise e) = covers_expr uses e
 covers_called_in uses err_clear = true

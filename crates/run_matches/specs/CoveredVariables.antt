@@ -8,12 +8,11 @@ use Rattle.vb_tree.specs.BoundTree.{Ty}
 use Rattle.vb_tree.specs.declared.declared.Owner.{Owner}
 use Rattle.vb_tree.specs.declared.declared.Owner.TheVariants as owner
 use Rattle.vb_tree.specs.declared.declared.VarId.{VarId}
-use Rattle.vb_tree.specs.declared.expression.BinOp.TheVariants as b
 use Rattle.vb_tree.specs.Tree.{Module}
 use Rattle.bound_tree.specs.declared.body.Mention.{Mention}
 use Rattle.bound_tree.specs.declared.body.Mention.TheVariants as mention
 use Rattle.bound_tree.specs.declared.declared.TypeDecl.{TypeDecl}
-use Rattle.bound_tree.specs.Tree.{Variable, Procedure, Declarations, Program, variable, field, element}
+use Rattle.bound_tree.specs.Tree.{Variable, Procedure, Declarations, Program}
 use Rattle.bound_facts.specs.Bounds.{ranks}
 use Rattle.bound_facts.specs.Calls.{count_variables}
 use Rattle.bound_facts.specs.Effects.{touched}
@@ -21,7 +20,6 @@ use Rattle.bound_facts.specs.Facts.{acts}
 use Rattle.bound_facts.specs.Leading.{is_in}
 use Rattle.bound_facts.specs.Locks.{is_same_type}
 use Rattle.bound_facts.specs.Members.{field_of, class_files, terminator, variables_from}
-use Rattle.vb6_meaning.specs.Answers.{Answer}
 use Rattle.written_trees.specs.Placing.{Placed}
 use Rattle.written_trees.specs.Types.{element_type}
 use Rattle.written_trees.specs.Names.{is_standard_module, module_at, module_name}

@@ -1,6 +1,6 @@
 -- Which procedures are seen to be inward: a set of procedures is grown from the outward ones along calls, and holds all that lead there
 -- where nothing more leads into it.
-use Rattle.std.specs.Prelude.{ℕ, zero, suc, Bool, true, false, cond, not, ◌&&◌, ◌||◌, List, [], ◌∷◌}
+use Rattle.std.specs.Prelude.{ℕ, zero, suc, Bool, cond, not, ◌&&◌, ◌||◌, List, [], ◌∷◌}
 use Rattle.std.specs.List.{list_all}
 use Rattle.bound_tree.specs.Tree.{Program}
 use Rattle.bound_facts.specs.Calls.{calls, count_procedures}

@@ -17,7 +17,7 @@ use Rattle.net_run.specs.Shapes as shape
 use Rattle.net_run.specs.Store as net
 use Rattle.net_run.specs.Values as net_value
 use Rattle.run_matches.specs.Upgrades.{Upgrade}
-use Rattle.run_matches.specs.Maps.{Map, Mark, World, mark, IsMade, IsMatched, moved_at, root_variable}
+use Rattle.run_matches.specs.Maps.{Map, Mark, World, IsMade, IsMatched, moved_at, root_variable}
 use Rattle.run_matches.specs.Likeness.{SameShape}
 
 -- ---- the source

@@ -1,10 +1,10 @@
 -- Uses of arrays that suit their ranks and their lower bounds, where the declaration of the array carries no issue.
-use Rattle.std.specs.Prelude.{◌≡◌, ◌<◌, ℕ, suc, ℤ, pos, Bool, true, false, Option, Some, None, is_some, length, slice_get}
+use Rattle.std.specs.Prelude.{◌≡◌, ◌<◌, ℕ, suc, ℤ, pos, true, false, Option, Some, None, is_some, length, slice_get}
 use Rattle.std.specs.List.{Contains}
 use Rattle.vb_tree.specs.declared.bound.LibCall.{LibCall}
 use Rattle.vb_tree.specs.declared.bound.LibCall.TheVariants as lib
 use Rattle.vb_tree.specs.declared.value.Value6.TheVariants as v
-use Rattle.bound_tree.specs.Tree.{Expr, typed, Line, Term, call, element, library, Exprs, no_exprs, next_expr, Argument, by_value, by_reference, Passed, no_passed, next_passed}
+use Rattle.bound_tree.specs.Tree.{Expr, typed, Line, call, element, library, Exprs, next_expr, Argument, by_value, by_reference, Passed, no_passed, next_passed}
 use Rattle.bound_facts.specs.Bounds.{array_at, home_base, low_in}
 use Rattle.bound_facts.specs.Folded.{folded}
 use Rattle.bound_facts.specs.Node.{declared_at}

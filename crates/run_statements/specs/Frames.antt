@@ -46,11 +46,11 @@ use Rattle.net_meaning.specs.declared.value.ValueN.TheVariants as n
 use Rattle.written_trees.specs.Exprs.{callee_of, exp_of, passed_of}
 use Rattle.written_trees.specs.Names.{Scope, class_path, variable_path, procedure_name, procedure_path}
 use Rattle.run_matches.specs.Addresses.{Same, IsPlain, IsScalarAt, IsTarget, SameIndexes}
-use Rattle.written_trees.specs.Arguments.{is_property, takes_reference}
+use Rattle.written_trees.specs.Arguments.{takes_reference}
 use Rattle.run_matches.specs.Agreeing.{Agrees}
 use Rattle.run_matches.specs.Formed.{passed_are_formed, is_formed}
 use Rattle.run_matches.specs.CoveredVariables.{covers_type, covers_group_type, covers_made, covers_variable, is_in_order, is_named_so, covers_user}
-use Rattle.run_matches.specs.CoveredExprs.{Uses, IsUsed, covers_array, covers_expr, covers_exprs, covers_passed, covers_receiver, is_declared_as, is_relied_on}
+use Rattle.run_matches.specs.CoveredExprs.{Uses, IsUsed, covers_array, covers_expr, covers_exprs, covers_passed, covers_receiver, is_declared_as, is_giving, is_relied_on, is_taking}
 use Rattle.run_matches.specs.Covered.{hands_passed, suits_passed}
 use Rattle.run_matches.specs.SoundShapes.{IsField, IsSoundShape}
 use Rattle.run_matches.specs.Frames.{FrameMatch, GivenAddress, HasPlace, IsOwnAddress, is_own_of, is_reference_of, lines_of}
@@ -62,6 +62,7 @@ use Rattle.run_matches.specs.Upgrades.{Upgrade, class_home, runnable_of, is_flag
 use Rattle.row_laws.specs.Uncaptured.{IsUncaptured, IsTextUncaptured, IsMathUncaptured}
 use Rattle.run_matches.specs.Runs.{CallsAgree}
 use Rattle.run_statements.specs.Fitting.{FitsBounds, FitsRank, rank_of, FitsPassed}
+use Rattle.run_statements.specs.Ways.{IsWay, Way, callee_by}
 use Rattle.run_statements.specs.Written.{Passes}
 use Rattle.bound_tree.specs.Targets.{with_round}
 use Rattle.run_base.specs.Machines.{nth_line, enters}
@@ -149,6 +150,8 @@ pub record AreReadable (U : Upgrade) (T : Scope) (uses : Uses) : Type 0 where
   pub exact : (v : VarId) → uses.exact v ≡ true → is_quiet U.program.declarations U.known v.0 ≡ false
   pub facts : T.facts ≡ U.facts
   pub types : (v : VarId) (ty : Ty) → uses.is_of v ty ≡ true → is_declared_as ty (slice_get U.program.declarations.vars v.0) ≡ true
+  pub gives : (q : ℕ) → uses.gives q ≡ true → is_giving (slice_get U.program.declarations.procs q) ≡ true
+  pub takes : (q : ℕ) (ty : Ty) → uses.takes q ty ≡ true → is_taking U.program.declarations ty (slice_get U.program.declarations.procs q) ≡ true
   pub inward : (q : ℕ) → uses.inward q ≡ true → is_inward U q ≡ true
   pub relied : (v : VarId) → uses.relied v ≡ true → is_relied_on U.program v.0 ≡ true
 
@@ -382,13 +385,12 @@ Receives U p q no_object =
 Receives U p q (of_object e) = (class : ℕ) × (type_at e ≡ types.class class) × StandsInClass U q class
 
 -- what is written for it is found by its name, behind an object as a member of its class
-abbrev pub IsFound : Upgrade → net_names.Scope → Scope → (callee number : ℕ) → (qualified : Bool) → Object → Type 0
-IsFound U S T q number qualified no_object =
-    net_names.path_start S true (procedure_path T qualified q) ≡ net_names.starts (net_names.named (net_names.to_procedure None number)) []
-IsFound U S T q number qualified (of_object e) =
+abbrev pub IsFound : Upgrade → net_names.Scope → Scope → Way → (callee number : ℕ) → (qualified : Bool) → Object → Type 0
+IsFound U S T way q number qualified no_object =
+    net_names.path_start S true (procedure_path T qualified q) ≡ net_names.starts (net_names.named (callee_by way None number)) []
+IsFound U S T way q number qualified (of_object e) =
     (class home : ℕ) (object : net_value.Value) → type_at e ≡ types.class class → class_home U class ≡ Some home
-    → net_names.named_member S (Some object) home (procedure_name T.declarations q)
-    ≡ net_names.named (net_names.to_procedure (Some object) number)
+    → net_names.named_member S (Some object) home (procedure_name T.declarations q) ≡ net_names.named (callee_by way (Some object) number)
 
 -- A procedure that can be called with arguments from where something is written: it passes, and promises what is promised there; the
 -- arguments suit its parameters; what is written for it takes them as it does, and is found by its name.
@@ -398,15 +400,19 @@ pub record CanCall (U : Upgrade) (K : Pledge) (S : net_names.Scope) (T : Scope) 
   pub inward : K.steady → is_inward U q ≡ true
   pub number : ℕ
   pub is_number : written_number U q ≡ Some number
-  pub plain : is_property U.program.declarations q ≡ false
+  pub way : Way
+  pub is_way : IsWay U S T way q qualified of args
   pub receives : Receives U p q of
   pub suits : suits_passed U.program.declarations q 0 args ≡ true
   pub hands : hands_passed U.program q 0 args ≡ true
   pub given : KeepsEach U q (given_types args)
   pub inside : NodesKeep U (given_types args) (nodes_of_passed args)
   pub ranks : FitsPassed U q 0 args
-  pub passings : (i : ℕ) → passing_at (passings_at U.written (Some number)) i ≡ passing_by (takes_reference U.program.declarations q i)
-  pub found : IsFound U S T q number qualified of
+  -- the value that a Let or Set takes goes by value
+  pub passings :
+      is_giving (slice_get U.program.declarations.procs q) ≡ true → (i : ℕ)
+      → passing_at (passings_at U.written (Some number)) i ≡ passing_by (takes_reference U.program.declarations q i)
+  pub found : IsFound U S T way q number qualified of
 
 -- ---- new objects
 
@@ -508,7 +514,7 @@ CallsAreMade U =
     (T : Scope) (uses : Uses) (ty : Ty) (q : ProcId) (qualified : Bool) (of : Object) (args : Passed) → MemoryMatch U w → FrameMatch U K w p f g
     → T.declarations ≡ U.program.declarations → IsOpen (scope_of U.written c g k) → AreReadable U T uses → ArePlaced U p f (scope_of U.written c g k) T uses
     → CallsAgree U (Passes U) oracle net_oracle → AllCalled (demands U K p l k (scope_of U.written c g k) T) (typed ty (call q qualified of args))
-    → covers_receiver uses of ≡ true → covers_passed uses args ≡ true → passed_are_formed args ≡ true
+    → uses.gives q.0 ≡ true → covers_receiver uses of ≡ true → covers_passed uses args ≡ true → passed_are_formed args ≡ true
     → Agrees U K w AnyParts
     (source.term_parts (context_of U oracle p f l) ty (call q qualified of args) w.src)
     (target.address_of (scope_of U.written c g k) net_oracle (call_of (callee_of T q.0 qualified of) (passed_of T q.0 0 args)) w.net)

@@ -1,7 +1,7 @@
 -- What clean procedures and lines that are covered keep in what is written for them.
 use Rattle.std.specs.Prelude.{◌≡◌, ◌||◌, ◌⊎◌, ℕ, suc, true, false, Option, Some, None, List, map, slice_get, Bool, [], nat_lt}
 use Rattle.std.specs.List.{Contains, list_all}
-use Rattle.vb_tree.specs.declared.declared.VarId.{VarId}
+use Rattle.vb_tree.specs.declared.declared.ProcKind.{ProcKind}
 use Rattle.vb_tree.specs.declared.form_parts.Label6.{Label6}
 use Rattle.bound_tree.specs.declared.rule_set.RuleSet.{RuleSet}
 use Rattle.bound_tree.specs.Labels.{label_of, label_at, labels}
@@ -16,7 +16,6 @@ use Rattle.run_base.specs.Machines.{line_at, nth_line, go}
 use Rattle.written_trees.specs.Bodies.{inside_procedure}
 use Rattle.written_trees.specs.Lines.{jump, replaced_by}
 use Rattle.written_trees.specs.Names.{Scope, procedure_name, procedure_path}
-use Rattle.written_trees.specs.Arguments.{is_property_kind}
 use Rattle.written_trees.specs.Prologues.{code_sets, constant_dim, variable_dim}
 use Rattle.vb6_run.specs.Forms.{SourceLine}
 use Rattle.vb6_run.specs.Lines.{lines_in}
@@ -30,14 +29,15 @@ use Rattle.net_run.specs.Program as net_program
 use Rattle.run_matches.specs.CoveredExprs.{uses_in}
 use Rattle.run_matches.specs.CoveredVariables.{covers_made}
 use Rattle.run_matches.specs.CoveredLines.{covers_in_block, covers_label, covers_line, has_sound_label, jump_of, resumes}
-use Rattle.run_matches.specs.Covered.{covers_names, is_method_site, keeps_blocks}
+use Rattle.run_matches.specs.Covered.{covers_names, is_method_site, is_result_of, keeps_blocks}
 use Rattle.run_matches.specs.Frames.{HasNames, lines_of, FrameMatch, NextMatch, frame_pledge, GivenStand}
 use Rattle.run_matches.specs.Pledges.{is_inward, is_self_made}
 use Rattle.run_matches.specs.Runs.{CallsAgree, line_result}
 use Rattle.run_matches.specs.Sites.{Own, own_variable, own_constant, Site, site_of, site_lines, first_statement, owns_of}
 use Rattle.run_matches.specs.Upgrades.{Upgrade, class_home, code_of, runnable_of}
 use Rattle.run_statements.specs.Fitting.{FitsLine, FitsNode}
-use Rattle.run_statements.specs.Frames.{AreReadable, IsOpen, IsReadable, ArePlaced, CanCall, CanMake, IsUsable}
+use Rattle.run_statements.specs.Frames.{AreReadable, IsOpen, ArePlaced, CanCall, CanMake, IsUsable}
+use Rattle.run_statements.specs.Ways.{SuitsKind, Way, callee_by}
 use Rattle.run_statements.specs.Written.{WrittenProcedure, WrittenLine, site_scope, Passes}
 use Rattle.run_matches.specs.Agreeing.{Agrees}
 use Rattle.run_matches.specs.Callees.{is_found}
@@ -52,24 +52,36 @@ NamesAreOpen U =
     (p : ℕ) (s : Site) (x : Procedure) (W : WrittenProcedure U p s x) (g : NetFrame) (k : NetLine) → covers_names U.program.declarations ≡ true
     → HasNames (Some W.code) g → IsOpen (scope_of U.written W.code g k)
 
+-- a procedure of a kind is found as one of a number
+pub record IsFoundAs (k : ProcKind) (object : Option net_value.Value) (number : ℕ) (r : net_names.Reached) : Type 0 where
+  pub way : Way
+  pub suits : SuitsKind way k
+  pub is_found : r ≡ net_names.named (callee_by way object number)
+
+-- what a name leads to, and without arguments too, where it names no result
+pub record LeadsTo (k : ProcKind) (number : ℕ) (is_result : Bool) (S : net_names.Scope) (path : List (List ℕ)) : Type 0 where
+  pub reached : net_names.Reached
+  pub leads : net_names.path_start S true path ≡ net_names.starts reached []
+  pub found : IsFoundAs k None number reached
+  pub alone : is_result ≡ false → net_names.path_start S false path ≡ net_names.path_start S true path
+
 -- a procedure that is called is found by what is written for its name
 abbrev pub CalleesAreFound : Upgrade → Type 0
 CalleesAreFound U =
     (p q : ℕ) (s t : Site) (x y : Procedure) (W : WrittenProcedure U p s x) (V : WrittenProcedure U q t y) (g : NetFrame) (k : NetLine)
-    → site_of U.program.declarations p ≡ Some s → slice_get U.program.declarations.procs p ≡ Some x → is_property_kind x.kind ≡ false
-    → site_of U.program.declarations q ≡ Some t → slice_get U.program.declarations.procs q ≡ Some y → is_property_kind y.kind ≡ false
+    → site_of U.program.declarations p ≡ Some s → slice_get U.program.declarations.procs p ≡ Some x
+    → site_of U.program.declarations q ≡ Some t → slice_get U.program.declarations.procs q ≡ Some y
     → (qualified : Bool) → is_found U.program.declarations (Some x) s (Some y) (Some t) qualified ≡ true → HasNames (Some W.code) g
-    → net_names.path_start (scope_of U.written W.code g k) true (procedure_path (inside_procedure (site_scope U s) p) qualified q)
-    ≡ net_names.starts (net_names.named (net_names.to_procedure None V.number)) []
+    → LeadsTo y.kind V.number (is_result_of (Some x) (Some y)) (scope_of U.written W.code g k)
+    (procedure_path (inside_procedure (site_scope U s) p) qualified q)
 
 -- and so is one of the class of an object, behind the object
 abbrev pub MethodsAreFound : Upgrade → Type 0
 MethodsAreFound U =
     (q class home : ℕ) (t : Site) (y : Procedure) (V : WrittenProcedure U q t y) (S : net_names.Scope) (object : net_value.Value)
-    → site_of U.program.declarations q ≡ Some t → slice_get U.program.declarations.procs q ≡ Some y → is_property_kind y.kind ≡ false
+    → site_of U.program.declarations q ≡ Some t → slice_get U.program.declarations.procs q ≡ Some y
     → is_method_site U.program.declarations class y (Some t) ≡ true → class_home U class ≡ Some home → S.project ≡ U.written
-    → net_names.named_member S (Some object) home (procedure_name U.program.declarations q)
-    ≡ net_names.named (net_names.to_procedure (Some object) V.number)
+    → IsFoundAs y.kind (Some object) V.number (net_names.named_member S (Some object) home (procedure_name U.program.declarations q))
 
 -- ---- declarations of a procedure
 

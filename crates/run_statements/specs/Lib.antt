@@ -1,8 +1,10 @@
 pub mod Fitting
 pub mod Written
+pub mod Ways
 pub mod Frames
 pub mod Groups
 pub mod Members
+pub mod Properties
 pub mod Kept
 pub mod Memory
 pub mod Arrays

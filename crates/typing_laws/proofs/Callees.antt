@@ -15,7 +15,7 @@ use Rattle.bound_facts.specs.Bounds.{declared_ranks, rank_items, ranks}
 use Rattle.run_base.specs.Machines.{nth_line}
 use Rattle.vb6_run.specs.Runnables.{Runnable}
 use Rattle.run_matches.specs.CoveredVariables.{has_extents, has_rank}
-use Rattle.run_matches.specs.Covered.{covers_callee, covers_calls, covers_node, is_method, suits, hands}
+use Rattle.run_matches.specs.Covered.{covers_callee, covers_calls, covers_method, covers_node, covers_use_of, is_method, suits, hands}
 use Rattle.run_matches.specs.Sites.{Site, site_of}
 use Rattle.typing_laws.specs.Calls.{CallsAreSuited, Each, IsReady, IsSuited}
 use Rattle.typing_laws.proofs.Places.{not_none, some_is}
@@ -152,10 +152,12 @@ callee_known P p (Some s) q qualified h = (both_true (nat_lt q (count_procedures
 -- what a node calls is a procedure of the project
 node_known : (P : Program) (p : ℕ) (s : Option Site) (q : ℕ) (e : Expr) → covers_node P p s e ≡ true → called e ≡ Some q → nat_lt q (count_procedures P) ≡ true
 node_known P p s q (typed ty (call f qualified no_object args)) h n =
-    subst (λ k. nat_lt k (count_procedures P) ≡ true) (some_is n) (callee_known P p s f.0 qualified h)
+    let a = both_true (covers_callee P p s f.0 qualified) (covers_use_of P.declarations p f.0 qualified no_object args) h in
+    subst (λ k. nat_lt k (count_procedures P) ≡ true) (some_is n) (callee_known P p s f.0 qualified a.0)
 node_known P p s q (typed ty (call f qualified (of_object e) args)) h n =
+    let a = both_true (covers_method P e f.0) (covers_use_of P.declarations p f.0 qualified (of_object e) args) h in
     subst (λ k. nat_lt k (count_procedures P) ≡ true) (some_is n)
-    (both_true (nat_lt f.0 (count_procedures P)) (is_method P.declarations (type_at e) f.0) h).0
+    (both_true (nat_lt f.0 (count_procedures P)) (is_method P.declarations (type_at e) f.0) a.0).0
 node_known P p s q (typed ty _) h n = absurd (not_none n)
 
 pub line_suited : (R : Runnable) (p k : ℕ) (x : Procedure) (lines : List Line) (l : Line) → slice_get R.program.declarations.procs p ≡ Some x

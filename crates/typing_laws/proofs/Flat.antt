@@ -10,7 +10,7 @@ use Rattle.bound_facts.specs.Locks.{is_same_type}
 use Rattle.bound_facts.specs.Node.{type_at}
 use Rattle.run_matches.specs.CoveredVariables.{covers_type}
 use Rattle.run_matches.specs.CoveredExprs.{Uses, covers_argument, covers_array, covers_base, covers_expr, covers_group, covers_group_term, covers_object, covers_operand, covers_place, has_inner, has_member, has_scalar, is_changeable, is_class_of, is_new, is_nothing, is_passable}
-use Rattle.run_matches.specs.CoveredLines.{covers_copy, covers_set, covers_set_member, covers_set_variable, covers_store, covers_with, is_member_ordered, is_ordered}
+use Rattle.run_matches.specs.CoveredLines.{covers_copy, covers_property, covers_property_term, covers_set, covers_set_member, covers_set_variable, covers_store, covers_stored, covers_with, is_member_ordered, is_ordered}
 use Rattle.run_matches.specs.UserTypes.{is_class_type, is_user}
 use Rattle.typing_laws.specs.Flat.{without_groups}
 
@@ -166,6 +166,14 @@ no_member_ordered : (u : Uses) (to e : Expr) → covers_expr (without_groups u) 
 no_member_ordered u (typed ty (field d k)) e c h = no_field u ty d k c
 no_member_ordered u (typed ty _) e c h = true≢false (sym h)
 
+-- no property takes a value
+no_property : (u : Uses) (to e : Expr) → covers_property (without_groups u) to e ≡ true → ⊥
+no_property u (typed ty t) e h = by t (both_true (is_same_type ty (type_at e)) (covers_property_term (without_groups u) t e) h).1
+  where
+    by : (t : Term) → covers_property_term (without_groups u) t e ≡ true → ⊥
+    by (call p qualified of args) c = true≢false (sym c)
+    by _ c = true≢false (sym c)
+
 -- an assignment of a scalar to a variable that is changed, or to an element
 pub record Stored (u : Uses) (to e : Expr) : Type 0 where
   pub kind : (is_changeable (without_groups u) to ≡ true) ⊎ (is_ordered (without_groups u) to e ≡ true)
@@ -173,7 +181,7 @@ pub record Stored (u : Uses) (to e : Expr) : Type 0 where
   pub value : covers_expr (without_groups u) e ≡ true
 
 pub stored_of : (u : Uses) (to e : Expr) → covers_store (without_groups u) (to ∷ e ∷ []) ≡ true → Stored u to e
-stored_of u to e h = by (either (stores && parts) (covers_copy vs to e) h)
+stored_of u to e h = whole (either (covers_stored vs to e) (covers_property vs to e) h)
   where
     vs : Uses
     vs = without_groups u
@@ -205,16 +213,20 @@ stored_of u to e h = by (either (stores && parts) (covers_copy vs to e) h)
         let y = both_true (is_same_type (type_at to) (type_at e)) (covers_place vs to && covers_group vs e) x.1 in
         absurd (no_place_covered u to (both_true (covers_place vs to) (covers_group vs e) y.1).0)
 
+    whole : (covers_stored vs to e ≡ true) ⊎ (covers_property vs to e ≡ true) → Stored u to e
+    whole (inl c) = by (either (stores && parts) (covers_copy vs to e) c)
+    whole (inr p) = absurd (no_property u to e p)
+
 -- no Set is covered
 pub no_set : (u : Uses) (es : List Expr) → covers_set (without_groups u) es ≡ true → ⊥
 no_set u [] h = true≢false (sym h)
 no_set u (to ∷ []) h = true≢false (sym h)
 no_set u (to ∷ e ∷ d ∷ es) h = true≢false (sym h)
-no_set u (to ∷ e ∷ []) h =
-    let vs : Uses = without_groups u in
-    by (either (covers_set_variable vs to e) (covers_set_member vs to e)
-    (both_true (is_class_type (type_at to)) (covers_set_variable vs to e || covers_set_member vs to e) h).1)
+no_set u (to ∷ e ∷ []) h = whole (either (is_class_type (type_at to) && sets) (covers_property (without_groups u) to e) h)
   where
+    sets : Bool
+    sets = covers_set_variable (without_groups u) to e || covers_set_member (without_groups u) to e
+
     by : (covers_set_variable (without_groups u) to e ≡ true) ⊎ (covers_set_member (without_groups u) to e ≡ true) → ⊥
     by (inl c) =
         let vs : Uses = without_groups u in
@@ -226,3 +238,8 @@ no_set u (to ∷ e ∷ []) h =
         let x = both_true (is_member_ordered vs to e) (is_same_type (type_at to) (type_at e) && (covers_object vs to && covers_group vs e)) c in
         let y = both_true (is_same_type (type_at to) (type_at e)) (covers_object vs to && covers_group vs e) x.1 in
         no_object_covered u to (both_true (covers_object vs to) (covers_group vs e) y.1).0
+
+    whole : (is_class_type (type_at to) && sets ≡ true) ⊎ (covers_property (without_groups u) to e ≡ true) → ⊥
+    whole (inl c) =
+        by (either (covers_set_variable (without_groups u) to e) (covers_set_member (without_groups u) to e) (both_true (is_class_type (type_at to)) sets c).1)
+    whole (inr p) = no_property u to e p

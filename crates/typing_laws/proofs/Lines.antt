@@ -287,13 +287,15 @@ module _ (C : Context) (F : Footprint) (X : SourceJob → Memory → Type 0) (ca
   call_statement w h (typed ty (call q qualified no_object args)) covers formed typing suited =
       let types = both_true (are_typed_passed D args) (fits_call D ty args (slice_get D.procs q.0)) typing in
       let callee : Callee C q.0 ty args = callee_of C q.0 ty args (suited.0.ready q.0 refl) types.1 in
+      let given = both_true (uses.gives q.0) (covers_passed uses args) covers in
       let t : Term = call q qualified no_object args in
       as_statement w ty t (Leaves C X (typed ty t) w) (λ p v. refl)
       (ends_as K (IsCalled C F X calls mentions callee.parts.head.procedure) Any (Leaves C X (typed ty t) w) w (term_parts C ty t w) (λ v p i. tt)
       (call_ends C F X calls mentions w (fits_in C F w h) ty q qualified args callee
-      (call_args_end C F X calls mentions ty q args callee covers formed types.0 suited.0.suits suited.1 w (fits_in C F w h))))
+      (call_args_end C F X calls mentions ty q args callee given.1 formed types.0 suited.0.suits suited.1 w (fits_in C F w h))))
   call_statement w h (typed ty (call q qualified (of_object e) args)) covers formed typing suited =
-      absurd (no_object_covered (outer_uses C.runnable.program C.procedure mentions) e (both_true (covers_object uses e) (covers_passed uses args) covers).0)
+      let given = both_true (uses.gives q.0) (covers_object uses e && covers_passed uses args) covers in
+      absurd (no_object_covered (outer_uses C.runnable.program C.procedure mentions) e (both_true (covers_object uses e) (covers_passed uses args) given.1).0)
   call_statement w h (typed ty (library f args)) covers formed typing suited =
       let a = both_true (is_box f) (covers_term uses (library f args)) covers in
       let b = both_true (is_row_of_call f (types_of args) ty) (are_formed args) formed in

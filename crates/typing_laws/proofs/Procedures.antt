@@ -17,7 +17,7 @@ use Rattle.vb6_run.specs.Programs.{answer_in, owned_from}
 use Rattle.vb6_run.specs.Runnables.{Runnable, is_class_file}
 use Rattle.run_matches.specs.CoveredVariables.{belongs_to, covers_declared, has_extents}
 use Rattle.run_matches.specs.CoveredLines.{covers_in_block, covers_line}
-use Rattle.run_matches.specs.Covered.{covers_all_calls, covers_body, covers_calls, covers_head, covers_kind, covers_names, covers_parameter, covers_procedure, covers_result, covers_site, covers_variables, has_answer, has_result, is_answer_of, is_parameter_of, is_plain_kind, is_result_in, is_scalar_or_loud, is_taken_in}
+use Rattle.run_matches.specs.Covered.{covers_all_calls, covers_body, covers_calls, covers_head, covers_joined, covers_names, covers_parameter, covers_procedure, covers_result, covers_site, covers_variables, has_answer, has_result, is_answer_of, is_parameter_of, is_plain, is_plain_kind, is_result_in, is_scalar_or_loud, is_taken_in}
 use Rattle.run_matches.specs.Shared.{is_outer}
 use Rattle.run_matches.specs.Sites.{site_of}
 use Rattle.typing_laws.specs.Flat.{are_flat_lines, has_flat_variables, is_flat, is_flat_line}
@@ -28,16 +28,15 @@ use Rattle.typing_laws.proofs.Uses.{own_flat}
 pub record Head (P : Program) (p : ℕ) : Type 0 where
   pub procedure : Procedure
   pub is_procedure : slice_get P.declarations.procs p ≡ Some procedure
-  pub kind : covers_kind procedure.kind ≡ true
   pub params : list_all (covers_parameter P p) procedure.params ≡ true
   pub result : covers_result P.declarations p procedure ≡ true
 
 head_in : (P : Program) (p : ℕ) (o : Option Procedure) → slice_get P.declarations.procs p ≡ o → covers_head P p o ≡ true → Head P p
 head_in P p None is h = absurd (true≢false (sym h))
 head_in P p (Some x) is h =
-    let a = both_true (covers_kind x.kind) (list_all (covers_parameter P p) x.params && covers_result P.declarations p x) h in
+    let a = both_true (covers_joined P.declarations p x) (list_all (covers_parameter P p) x.params && covers_result P.declarations p x) h in
     let b = both_true (list_all (covers_parameter P p) x.params) (covers_result P.declarations p x) a.1 in
-    record { procedure = x; is_procedure = is; kind = a.0; params = b.0; result = b.1 }
+    record { procedure = x; is_procedure = is; params = b.0; result = b.1 }
 
 -- the head of a covered procedure
 pub head_of : (P : Program) (p : ℕ) → covers_procedure P p ≡ true → Head P p
@@ -65,6 +64,8 @@ body_in P p (Some lines) is h c t s =
 
 pub record Parts (P : Program) (p : ℕ) : Type 0 where
   pub head : Head P p
+  -- it is a Sub or a Function
+  pub plain : is_plain_kind head.procedure.kind ≡ true
   -- it stands in a standard module
   pub outer : not (is_class_file P.declarations head.procedure.module_number) ≡ true
   pub variables : has_flat_variables P p ≡ true
@@ -88,24 +89,20 @@ parts_of R p ready =
     let b = both_true head (at && (covers_variables P p && body)) a.1 in
     let c = both_true at (covers_variables P p && body) b.1 in
     let d = both_true (covers_variables P p) body c.1 in
-    let f = both_true (is_outer D (slice_get D.procs p)) (are_flat_lines P p (slice_get P.bodies p) && has_flat_variables P p) (ready.flat p (empty p)) in
+    let outer = is_outer D (slice_get D.procs p) in
+    let k = both_true (is_plain (slice_get D.procs p)) (outer && (are_flat_lines P p (slice_get P.bodies p) && has_flat_variables P p)) (ready.flat p (empty p)) in
+    let f = both_true outer (are_flat_lines P p (slice_get P.bodies p) && has_flat_variables P p) k.1 in
     let s = both_true (are_flat_lines P p (slice_get P.bodies p)) (has_flat_variables P p) f.1 in
     let x : Head P p = head_in P p (slice_get D.procs p) refl b.0 in
     record {
       head = x;
+      plain = sym (ap is_plain x.is_procedure) ∙ k.0;
       outer = sym (ap (is_outer D) x.is_procedure) ∙ f.0;
       variables = s.1;
       extents = (both_true (list_all (λ (x : Variable). cond (belongs_to p x.owner) (covers_declared D x) true) D.vars) (has_extents P) d.0).1;
       body = body_in P p (slice_get P.bodies p) refl d.1 z.0 (ready.typed p (empty p)) s.0;
       gives = ready.results p (empty p);
     }
-
-pub covers_plain : (k : ProcKind) → covers_kind k ≡ true → is_plain_kind k ≡ true
-covers_plain kind.Sub h = refl
-covers_plain kind.Function h = refl
-covers_plain kind.Get h = absurd (true≢false (sym h))
-covers_plain kind.Let h = absurd (true≢false (sym h))
-covers_plain kind.Set h = absurd (true≢false (sym h))
 
 -- ---- parameters
 
@@ -160,9 +157,12 @@ answer_by D p x kind.Sub a h e =
     absurd (true≢false (sym (ap is_some e) ∙ not_true (is_some x.answer) h))
 answer_by D p x kind.Function a h e =
     answered_in D p x a (slice_get D.vars a.0) refl (subst (λ o. has_answer D p x o ≡ true) e h)
-answer_by D p x kind.Get a h e = absurd (true≢false (sym h))
-answer_by D p x kind.Let a h e = absurd (true≢false (sym h))
-answer_by D p x kind.Set a h e = absurd (true≢false (sym h))
+answer_by D p x kind.Get a h e =
+    answered_in D p x a (slice_get D.vars a.0) refl (subst (λ o. has_answer D p x o ≡ true) e h)
+answer_by D p x kind.Let a h e =
+    absurd (true≢false (sym (ap is_some e) ∙ not_true (is_some x.answer) h))
+answer_by D p x kind.Set a h e =
+    absurd (true≢false (sym (ap is_some e) ∙ not_true (is_some x.answer) h))
 
 -- which variables are parameters and which is the result
 pub record Results (D : Declarations) (p : ℕ) (x : Procedure) : Type 0 where

@@ -113,7 +113,8 @@ module _ (C : Context) (F : Footprint) (X : SourceJob → Memory → Type 0) (ca
           tt,
         )
     right_ends (typed ty (call q qualified no_object args)) covers formed typing suited w fits =
-        let both = both_true (covers_type ty) (covers_passed uses args) covers in
+        let both = both_true (covers_type ty) (uses.gives q.0 && covers_passed uses args) covers in
+        let given = both_true (uses.gives q.0) (covers_passed uses args) both.1 in
         let types = both_true (are_typed_passed D args) (fits_call D ty args (slice_get D.procs q.0)) typing in
         let callee : Callee C q.0 ty args = callee_of C q.0 ty args (suited.0.ready q.0 refl) types.1 in
         let x : Procedure = callee.parts.head.procedure in
@@ -122,12 +123,14 @@ module _ (C : Context) (F : Footprint) (X : SourceJob → Memory → Type 0) (ca
               (call_value C F X calls mentions w ty (call q qualified no_object args) x L both.0 callee.same
               (sym (ap gives_what_it_has callee.parts.head.is_procedure) ∙ callee.parts.gives)
               (call_ends C F X calls mentions w fits ty q qualified args callee
-              (passed_end q.0 (called_of C q.0 ty args callee) x.params 0 (λ j. ap (λ n. slice_get x.params n) (no_place j)) callee.parts.head.params args both.1 formed
+              (passed_end q.0 (called_of C q.0 ty args callee) x.params 0 (λ j. ap (λ n. slice_get x.params n) (no_place j)) callee.parts.head.params args given.1 formed
               types.0 callee.fits suited.0.suits suited.1 w fits))),
           tt,
         )
     right_ends (typed ty (call q qualified (of_object e) args)) covers formed typing suited w fits =
-        absurd (no_object_covered all_uses e (both_true (covers_object uses e) (covers_passed uses args) (both_true (covers_type ty) (covers_object uses e && covers_passed uses args) covers).1).0)
+        let both = both_true (covers_type ty) (uses.gives q.0 && (covers_object uses e && covers_passed uses args)) covers in
+        let given = both_true (uses.gives q.0) (covers_object uses e && covers_passed uses args) both.1 in
+        absurd (no_object_covered all_uses e (both_true (covers_object uses e) (covers_passed uses args) given.1).0)
     right_ends (typed ty (field e i)) covers formed typing suited w fits = absurd (no_field all_uses ty e i covers)
     right_ends (typed ty (element a indexes)) covers formed typing suited w fits =
         let both = both_true (covers_type ty) (covers_array uses a && covers_exprs uses indexes) covers in

@@ -36,7 +36,7 @@ use Rattle.typing_laws.proofs.Addresses.{seat_later}
 use Rattle.typing_laws.proofs.Ends.{Ends, ends_after, ends_weaker, keeps_self, then_ends}
 use Rattle.typing_laws.proofs.Expressions.{Fits, IsScalarOf, IsTerm, IsTyped, asked_ends, first_text, fits_later, scalar_ends, text_of}
 use Rattle.typing_laws.proofs.Plain.{Plain, same_as}
-use Rattle.typing_laws.proofs.Procedures.{Parts as ProcedureParts, covers_plain, parts_of as procedure_parts}
+use Rattle.typing_laws.proofs.Procedures.{Parts as ProcedureParts, parts_of as procedure_parts}
 use Rattle.typing_laws.specs.Frames.{Footprint, Ground, ground}
 
 -- ---- arguments that stay
@@ -109,7 +109,7 @@ callee_of C q ty args ready h =
     let p : ProcedureParts C.runnable.program q = procedure_parts C.runnable q ready in
     let x : Procedure = p.head.procedure in
     let b = both_true (is_same_type ty x.result) (fits_parameters (declared C) x.params args)
-    (fits_plain (declared C) ty args x (covers_plain x.kind p.head.kind) (sym (ap (λ o. fits_call (declared C) ty args o) p.head.is_procedure) ∙ h)) in
+    (fits_plain (declared C) ty args x p.plain (sym (ap (λ o. fits_call (declared C) ty args o) p.head.is_procedure) ∙ h)) in
     record { ready = ready; parts = p; same = b.0; fits = b.1 }
 
 -- a parameter at a place that takes a reference

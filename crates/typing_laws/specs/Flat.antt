@@ -1,5 +1,5 @@
--- Flat procedures: those of standard modules over scalars and arrays of scalars. Of what is covered they have no user types and no objects. These
--- are the procedures of which the typing laws speak.
+-- Flat procedures: Subs and Functions of standard modules over scalars and arrays of scalars. Of what is covered they have no user types, no objects
+-- and no properties. These are the procedures of which the typing laws speak.
 use Rattle.std.specs.Prelude.{ℕ, Bool, true, false, not, cond, ◌&&◌, ◌||◌, List, Option, Some, None, slice_get}
 use Rattle.std.specs.List.{list_all}
 use Rattle.vb_tree.specs.declared.declared.VarId.{VarId}
@@ -9,6 +9,7 @@ use Rattle.written_trees.specs.Types.{element_type}
 use Rattle.run_matches.specs.CoveredVariables.{belongs_to, covers_array_variable, covers_type, is_class_member}
 use Rattle.run_matches.specs.CoveredExprs.{Uses, uses_in}
 use Rattle.run_matches.specs.CoveredLines.{covers_form}
+use Rattle.run_matches.specs.Covered.{is_plain}
 use Rattle.run_matches.specs.Formed.{is_formed}
 use Rattle.run_matches.specs.Shared.{is_outer}
 
@@ -16,7 +17,7 @@ use Rattle.run_matches.specs.Shared.{is_outer}
 abbrev pub is_flat : Variable → Bool
 is_flat x = covers_type x.ty || covers_array_variable (element_type x.ty) x
 
--- the same scalars and arrays, and no user type or class: so no field is covered, and Me is none
+-- the same scalars and arrays, and no user type, class or property that takes a value: so no field is covered, and Me is none
 abbrev pub without_groups : Uses → Uses
 without_groups uses = record {
   scalar = uses.scalar;
@@ -29,6 +30,8 @@ without_groups uses = record {
   named = uses.named;
   given = λ ty. false;
   is_of = uses.is_of;
+  gives = uses.gives;
+  takes = λ q ty. false;
   inward = uses.inward;
   relied = uses.relied;
   exact = uses.exact;
@@ -63,7 +66,8 @@ are_flat_lines P p (Some lines) = list_all (is_flat_line P p) lines
 abbrev pub has_flat_variables : Program → (procedure : ℕ) → Bool
 has_flat_variables P p = list_all (λ (x : Variable). cond (belongs_to p x.owner) (is_flat x) true) P.declarations.vars
 
--- a procedure of a standard module without user types or objects: its lines, if there are any, and its variables
+-- a Sub or a Function of a standard module without user types or objects: its lines, if there are any, and its variables
 abbrev pub is_flat_procedure : Program → (procedure : ℕ) → Bool
 is_flat_procedure P p =
-    is_outer P.declarations (slice_get P.declarations.procs p) && (are_flat_lines P p (slice_get P.bodies p) && has_flat_variables P p)
+    is_plain (slice_get P.declarations.procs p)
+    && (is_outer P.declarations (slice_get P.declarations.procs p) && (are_flat_lines P p (slice_get P.bodies p) && has_flat_variables P p))

@@ -83,10 +83,10 @@ pub fn starts_are_sound()
         → lay_module_variables D (owned_from (is_module_variable D) 0 D.vars) empty_memory ≡ gives o tt w → IsSound (ground D anywhere) w }
 {}
 
-/// A law: a run of a covered procedure that is flat, which is to say of a standard module and over scalars and arrays of scalars, and well typed with
-/// all that it reaches, from any memory in which the variables of modules have values of their types, with arguments of the types of its parameters
-/// and any number of steps, writes to variables of modules, Statics, what it is given by reference and what it makes alone, keeps the types of what
-/// stands there, gives a value of its own type, and is outside only where one of the lines or entries that it goes over leaves.
+/// A law: a run of a covered procedure that is flat, which is to say a Sub or a Function of a standard module over scalars and arrays of scalars, and
+/// well typed with all that it reaches, from any memory in which the variables of modules have values of their types, with arguments of the types of its
+/// parameters and any number of steps, writes to variables of modules, Statics, what it is given by reference and what it makes alone, keeps the types of
+/// what stands there, gives a value of its own type, and is outside only where one of the lines or entries that it goes over leaves.
 #[tactic(auto, using(crate::proofs::Runs::run_result))]
 pub fn runs_leave_at_edges()
     ensures { (R : Runnable) (p n : ℕ) (x : Procedure) (me : Option ℕ) (args : List SourceGiven) (inputs : List (List ℕ)) (w : Memory) → IsReady R p

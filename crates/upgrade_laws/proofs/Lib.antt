@@ -18,10 +18,17 @@ pub mod Homes
 pub mod Settling
 pub mod Owned
 pub mod Together
+pub mod Firsts
 pub mod Named
 pub mod SiteHomes
 pub mod Read
 pub mod Ranks
 pub mod Fits
 pub mod Fitted
+pub mod SparedRules
+pub mod SparedArguments
+pub mod SparedWords
+pub mod SparedPlans
+pub mod SparedHeads
+pub mod PropertiesApart
 pub mod Making

@@ -21,9 +21,11 @@ use Rattle.upgrade_laws.specs.Separate.{HaveDifferentFiles}
 use Rattle.upgrade_laws.specs.Upgrades.{CountsClean, Parts, UpgradeOf}
 use Rattle.upgrade_laws.proofs.Bodies.{bodies_are_bound}
 use Rattle.upgrade_laws.proofs.Cleanness.{clean_apart, clean_together}
+use Rattle.upgrade_laws.proofs.Firsts.{firsts_are_parts}
 use Rattle.upgrade_laws.proofs.Fitted.{dimensions_suit, ranks_suit, resizes_suit, uses_suit}
 use Rattle.upgrade_laws.proofs.Forms.{forms_are_quiet}
 use Rattle.upgrade_laws.proofs.Named.{types_are_named}
+use Rattle.upgrade_laws.proofs.PropertiesApart.{properties_apart}
 use Rattle.upgrade_laws.proofs.Read.{grammar_orderly}
 use Rattle.upgrade_laws.proofs.SiteHomes.{sites_are_home}
 use Rattle.upgrade_laws.proofs.Together.{parts_stand_together}
@@ -83,6 +85,7 @@ written_for P u is orderly =
       known = facts_are_known (program_of b) is.made.found is.made.are_found;
       is_written = w.exact;
       parts = parts_stand_together P b is.is_bound orderly;
+      firsts = firsts_are_parts P b is.is_bound orderly;
       bodies = bodies_are_bound P b is.is_bound;
       forms = forms_are_quiet (program_of b) (all_marks (passes_of b is.made.found)) w.facts w.are_facts
           (subst (λ (Q : Project). HaveDifferentFiles Q.modules) (sym is.is_bound.project) orderly.files);
@@ -93,6 +96,8 @@ written_for P u is orderly =
       arrays = w.are_facts.are.arrays;
       made = w.are_facts.are.made;
       named = types_are_named P b is.is_bound;
+      apart = λ p x e property whole plain.
+          properties_apart P b is.is_bound is.made.found is.made.are_found w.facts w.are_facts.marks p x e property whole;
       homes = sites_are_home P b is.is_bound orderly;
     }
 

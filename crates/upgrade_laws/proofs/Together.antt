@@ -39,7 +39,7 @@ use Rattle.upgrade_laws.proofs.Walked.{procs_follow}
 
 -- ---- the files of procedures
 
-abbrev named_file : NamedProcedure → ℕ
+abbrev pub named_file : NamedProcedure → ℕ
 named_file p = p.module_number
 
 abbrev pub site_file : Site → ℕ
@@ -128,7 +128,7 @@ modules_filed home at (m ∷ ms) k o =
     ∙ sym (map-append site_file (module_sites home at m) rest)
 
 -- the procedures of a project stand in the files of its sites
-listed_filed : (P : Project) → AreOrderly P.modules → files_in (lists_of P) ≡ map site_file (sites_from 0 first_numbers P.modules)
+pub listed_filed : (P : Project) → AreOrderly P.modules → files_in (lists_of P) ≡ map site_file (sites_from 0 first_numbers P.modules)
 unfolding with_declared
 listed_filed P o = modules_filed 0 first_numbers P.modules (counts no_lists) o.members
 
@@ -183,14 +183,15 @@ third_true true false c d e = absurd (cc e)
 third_true false b c d e = absurd (cc e)
 
 -- a procedure of the module of another, whose number is this one
-record IsBeside (p : NamedProcedure) (qs : List NamedProcedure) (i number : ℕ) : Type 0 where
-  place : ℕ
-  procedure : NamedProcedure
-  is_number : number ≡ i + place
-  is_listed : slice_get qs place ≡ Some procedure
-  same : p.module_number ≡ procedure.module_number
+pub record IsBeside (p : NamedProcedure) (qs : List NamedProcedure) (i number : ℕ) : Type 0 where
+  pub place : ℕ
+  pub procedure : NamedProcedure
+  pub is_number : number ≡ i + place
+  pub is_listed : slice_get qs place ≡ Some procedure
+  pub same : p.module_number ≡ procedure.module_number
+  pub parts : are_parts p procedure ≡ true
 
-first_found : (k : ℕ) (p : NamedProcedure) (i : ℕ) (qs : List NamedProcedure) → (first_part k p i qs ≡ k) ⊎ IsBeside p qs i (first_part k p i qs)
+pub first_found : (k : ℕ) (p : NamedProcedure) (i : ℕ) (qs : List NamedProcedure) → (first_part k p i qs ≡ k) ⊎ IsBeside p qs i (first_part k p i qs)
 first_found k p i [] = inl refl
 first_found k p i (q ∷ qs) = by (are_parts p q) refl (first_found k p (i + 1) qs)
   where
@@ -207,19 +208,27 @@ first_found k p i (q ∷ qs) = by (are_parts p q) refl (first_found k p (i + 1) 
           is_listed = refl;
           same = equal p.module_number q.module_number
               (third_true (is_property p.kind) (is_property q.kind) (nat_eq p.module_number q.module_number) (is_same_name p.name q.name) e);
+          parts = e;
         })
     by false e (inl h) = inl h
     by false e (inr h) =
-        inr (record { place = suc h.place; procedure = h.procedure; is_number = omega (arith, h.is_number); is_listed = h.is_listed; same = h.same })
+        inr (record {
+          place = suc h.place;
+          procedure = h.procedure;
+          is_number = omega (arith, h.is_number);
+          is_listed = h.is_listed;
+          same = h.same;
+          parts = h.parts;
+        })
 
-abbrev firsts_of : List Procedure → List ℕ
+abbrev pub firsts_of : List Procedure → List ℕ
 firsts_of qs = map (λ (q : Procedure). q.first.0) qs
 
 -- the number that is the first part for the procedure of a number
-record IsFirst (all ps : List NamedProcedure) (k n first : ℕ) : Type 0 where
-  procedure : NamedProcedure
-  is_listed : slice_get ps n ≡ Some procedure
-  is_first : first ≡ first_part (k + n) procedure 0 all
+pub record IsFirst (all ps : List NamedProcedure) (k n first : ℕ) : Type 0 where
+  pub procedure : NamedProcedure
+  pub is_listed : slice_get ps n ≡ Some procedure
+  pub is_first : first ≡ first_part (k + n) procedure 0 all
 
 itself : (k : ℕ) → k ≡ k + 0
 itself k = omega arith
@@ -230,7 +239,7 @@ next k n = omega arith
 from_zero : (n : ℕ) → 0 + n ≡ n
 from_zero n = omega arith
 
-bare_firsts : (all : List NamedProcedure) (k : ℕ) (ps : List NamedProcedure) (n first : ℕ)
+pub bare_firsts : (all : List NamedProcedure) (k : ℕ) (ps : List NamedProcedure) (n first : ℕ)
     → slice_get (firsts_of (bare_procedures (firsts_from all k ps) ps)) n ≡ Some first → IsFirst all ps k n first
 bare_firsts all k [] n first e = absurd (none-some first e)
 bare_firsts all k (p ∷ ps) zero first e = record {
@@ -254,7 +263,7 @@ final_firsts : (vs : List Variable) (heads : List RuleSet) (n : ℕ) (qs : List 
 final_firsts vs heads n [] = refl
 final_firsts vs heads n (q ∷ qs) = ap (λ (l : List ℕ). q.first.0 ∷ l) (final_firsts vs heads (n + 1) qs)
 
-declared_firsts : (P : Project) (D : Declarations) (M : Marks) → IsDeclared P D M → firsts_of D.procs ≡ firsts_of (bare_of (lists_of P))
+pub declared_firsts : (P : Project) (D : Declarations) (M : Marks) → IsDeclared P D M → firsts_of D.procs ≡ firsts_of (bare_of (lists_of P))
 declared_firsts P D M is =
     let S : Declarations = settled is.member P (lists_of P) in
     ap (λ (E : Declarations). firsts_of E.procs) is.declarations
@@ -264,13 +273,13 @@ declared_firsts P D M is =
 
 -- ---- parts of properties
 
-with_file : (ss : List Site) (n file : ℕ) → slice_get (map site_file ss) n ≡ Some file → (t : Site) × (slice_get ss n ≡ Some t) × (site_file t ≡ file)
+pub with_file : (ss : List Site) (n file : ℕ) → slice_get (map site_file ss) n ≡ Some file → (t : Site) × (slice_get ss n ≡ Some t) × (site_file t ≡ file)
 with_file [] n file e = absurd (none-some file e)
 with_file (s ∷ ss) zero file e = (s, refl, same_Some (site_file s) file e)
 with_file (s ∷ ss) (suc n) file e = with_file ss n file e
 
 -- one item of lists that are mapped to the same
-file_at : (ps : List NamedProcedure) (ss : List Site) (n : ℕ) (p : NamedProcedure) → map named_file ps ≡ map site_file ss → slice_get ps n ≡ Some p
+pub file_at : (ps : List NamedProcedure) (ss : List Site) (n : ℕ) (p : NamedProcedure) → map named_file ps ≡ map site_file ss → slice_get ps n ≡ Some p
     → slice_get (map site_file ss) n ≡ Some p.module_number
 file_at ps ss n p same e =
     ap (λ (l : List ℕ). slice_get l n) (sym same) ∙ slice_get-map named_file ps n ∙ ap (λ (o : Option NamedProcedure). option_map named_file o) e
