@@ -44,10 +44,10 @@ pub fn declared_have_results()
     ensures { (P : Project) (D : Declarations) (M : Marks) (R : Runnable) (p : ℕ) → IsDeclared P D M → R.program ≡ bound_program D → HaveResults R p }
 {}
 
-/// So a run of a covered procedure of a bound project that is flat with all that it reaches, which is to say over scalars and arrays of scalars, in
-/// which no loud parameter runs as a quiet one, from any memory in which the variables of modules have values of their types, writes to variables
-/// of modules, Statics, what it is given by reference and what it makes alone, keeps the types of what stands there, and is outside only where one
-/// of the lines or entries that it goes over leaves.
+/// So a run of a covered procedure of a bound project that is flat with all that it reaches, which is to say over scalars, arrays of scalars and
+/// user types of scalars, in which no loud parameter runs as a quiet one, from any memory in which the variables of modules have values of their
+/// types, writes to variables of modules, Statics, what it is given by reference and what it makes alone, keeps the types of what stands there, and
+/// is outside only where one of the lines or entries that it goes over leaves.
 pub fn bound_runs_leave_at_edges()
     ensures { (P : Project) (D : Declarations) (M : Marks) (R : Runnable) (p n : ℕ) (x : Procedure) (me : Option ℕ) (args : List SourceGiven)
         (inputs : List (List ℕ)) (w : Memory) → IsDeclared P D M → R.program ≡ bound_program D → IsCovered R.program p → AreFlat R p

@@ -6,7 +6,7 @@ use Rattle.vb_tree.specs.BoundTree.{Ty}
 use Rattle.vb_tree.specs.declared.declared.Owner.{Owner}
 use Rattle.vb_tree.specs.declared.declared.Owner.TheVariants as owner
 use Rattle.vb_tree.specs.declared.value.Value6.{Value6}
-use Rattle.bound_tree.specs.Tree.{Program, Variable}
+use Rattle.bound_tree.specs.Tree.{Declarations, Program, Variable}
 use Rattle.run_base.specs.Outcomes.{Outcome, found, gives, outside, some_of}
 use Rattle.run_base.specs.Positions.{Position}
 use Rattle.written_trees.specs.Arguments.{is_reference_owner}
@@ -15,8 +15,9 @@ use Rattle.vb6_run.specs.Store.{Address, Held, Locked, Memory, constant, item, i
 use Rattle.vb6_run.specs.Values.{Dimension, Value, Values, count_values, next_value, no_values, part_in, scalar, value_at, with_known_part, with_value_at}
 use Rattle.run_matches.specs.CoveredVariables.{covers_type, is_loud, is_loud_owner}
 use Rattle.run_matches.specs.Typed.{IsSized, no_elements, sized}
-use Rattle.typing_laws.specs.Frames.{Footprint, Ground, IsElement, IsGone, IsPlace, Keeps, Stands, ground}
-use Rattle.typing_laws.specs.Plain.{EachPlain, IsShapeOf, IsValue, Plain, array_shape, holds_array, holds_scalar, next_plain, none_plain, scalar_shape}
+use Rattle.typing_laws.specs.Frames.{Fills, Footprint, Ground, Inside, IsElement, IsGone, IsPlace, Keeps, Stands, ground}
+use Rattle.typing_laws.specs.Plain.{EachPlain, IsShapeOf, IsValue, Plain, array_shape, holds_array, holds_scalar, next_plain, none_plain, scalar_shape, user_shape}
+use Rattle.typing_laws.proofs.Ends.{fills_later}
 use Rattle.typing_laws.proofs.Held.{Single, Table, single_of, table_of}
 use Rattle.typing_laws.proofs.Places.{keeps_changed, not_none, some_is}
 use Rattle.typing_laws.proofs.Plain.{is_covered, is_kept, self}
@@ -24,7 +25,7 @@ use Rattle.typing_laws.proofs.Plain.{is_covered, is_kept, self}
 -- ---- addresses of variables of a type
 
 abbrev pub IsSeat : Ground → Memory → Ty → Address → Type 0
-IsSeat K w ty (root d q) = IsShapeOf ty d × Stands K w q ty
+IsSeat K w ty (root d q) = IsShapeOf K.declarations ty d × Fills K w q ty d
 IsSeat K w ty (item e q j path) = IsElement K w ty e q path
 IsSeat K w ty (constant y) = IsValue ty y
 
@@ -49,12 +50,13 @@ pub record AtRoot (P : Program) (F : Footprint) (w : Memory) (x : Variable) (a :
   pub shape : Shape
   pub position : Position
   pub is : a ≡ root shape position
-  pub fits : IsShapeOf x.ty shape
+  pub fits : IsShapeOf P.declarations x.ty shape
   pub stands : Stands (ground P.declarations F) w position x.ty
+  pub inside : Inside (ground P.declarations F) w shape position
 
 pub at_root : (P : Program) (F : Footprint) (w : Memory) (v : ℕ) (x : Variable) (a : Address) → IsPlace P F w v x a → is_reference_owner x.owner ≡ false
     → AtRoot P F w x a
-at_root P F w v x (root d q) h own = record { shape = d; position = q; is = refl; fits = h.0; stands = h.1 }
+at_root P F w v x (root d q) h own = record { shape = d; position = q; is = refl; fits = h.0; stands = h.1.0; inside = h.1.1 }
 at_root P F w v x (item e q j path) h own = absurd (true≢false (sym h.0 ∙ own))
 at_root P F w v x (constant y) h own = absurd (true≢false (sym (owner_loud P v x.owner own) ∙ h.0))
 
@@ -64,19 +66,20 @@ seat_of P F w v x (item e q j path) h = h.1
 seat_of P F w v x (constant y) h = h.1
 
 pub seat_later : (K : Ground) (w u : Memory) (ty : Ty) (a : Address) → Keeps K w u → IsSeat K w ty a → IsSeat K u ty a
-seat_later K w u ty (root d q) k h = (h.0, k.places q ty h.1)
+seat_later K w u ty (root d q) k h = (h.0, fills_later K w u k q ty d h.1)
 seat_later K w u ty (item e q j path) k h = (h.0, h.1, k.places q (types.array ty 0) h.2)
 seat_later K w u ty (constant y) k h = h
 
 pub place_later : (P : Program) (F : Footprint) (w u : Memory) (v : ℕ) (x : Variable) (a : Address) → Keeps (ground P.declarations F) w u → IsPlace P F w v x a
     → IsPlace P F u v x a
-place_later P F w u v x (root d q) k h = (h.0, k.places q x.ty h.1)
+place_later P F w u v x (root d q) k h = (h.0, fills_later (ground P.declarations F) w u k q x.ty d h.1)
 place_later P F w u v x (item e q j path) k h = (h.0, seat_later (ground P.declarations F) w u x.ty (item e q j path) k h.1)
 place_later P F w u v x (constant y) k h = h
 
-pub simple_is : (ty : Ty) (d : Shape) → covers_type ty ≡ true → IsShapeOf ty d → d ≡ simple ty
+pub simple_is : {D : Declarations} (ty : Ty) (d : Shape) → covers_type ty ≡ true → IsShapeOf D ty d → d ≡ simple ty
 simple_is _ _ c (scalar_shape ty d) = refl
 simple_is _ _ c (array_shape e rank bounds d) = absurd (true≢false (sym c))
+simple_is _ _ c (user_shape t d fs is of) = absurd (true≢false (sym c))
 
 -- ---- elements
 
@@ -123,7 +126,7 @@ module _ (K : Ground) (w : Memory) (ty : Ty) where
 
   pub read_seat : (a : Address) → covers_type ty ≡ true → IsSeat K w ty a → IsRead a ⊎ IsUnread a
   read_seat (root d q) c h =
-      let s : Single ty (w.held q) = single_of ty (w.held q) c h.1.holds in
+      let s : Single ty (w.held q) = single_of ty (w.held q) c h.1.0.holds in
       inl (record {
         value = s.value;
         reads = ap (λ z. read (root z q) w) (simple_is ty d c h.0) ∙ root_read q s.value s.holds s.plain;
@@ -176,11 +179,11 @@ module _ (K : Ground) (w : Memory) (ty : Ty) where
 
     pub write_seat : (a : Address) → covers_type ty ≡ true → IsSeat K w ty a → (IsConstant a → ⊥) → IsWritten a ⊎ IsUnwritten a
     write_seat (root d q) c h n =
-        let s : Single ty (w.held q) = single_of ty (w.held q) c h.1.holds in
+        let s : Single ty (w.held q) = single_of ty (w.held q) c h.1.0.holds in
         inl (record {
           memory = with_held q (single ty z) w;
           writes = ap (λ g. write locked (scalar ty z) (root g q) w) (simple_is ty d c h.0) ∙ root_written q s.value s.holds;
-          keeps = keeps_changed K w q ty (single ty z) h.1 (holds_scalar ty z plain);
+          keeps = keeps_changed K w q ty (single ty z) h.1.0 (holds_scalar ty z plain);
         })
     write_seat (constant y) c h n = absurd (n tt)
     write_seat (item e q j path) c h n = by (value_at t.values j) refl

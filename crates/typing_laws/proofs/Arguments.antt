@@ -18,11 +18,11 @@ use Rattle.vb6_run.specs.Expressions.{Context, at_address, declared, value_in, p
 use Rattle.vb6_run.specs.Runnables.{variable_address}
 use Rattle.vb6_run.specs.Store as store
 use Rattle.vb6_run.specs.Store.{Address, root, Memory, SourceGiven}
-use Rattle.vb6_run.specs.Values.{Value, scalar}
+use Rattle.vb6_run.specs.Values.{Value}
 use Rattle.run_matches.specs.CoveredVariables.{covers_type, is_loud}
 use Rattle.run_matches.specs.CoveredExprs.{Uses, covers_expr, is_passable, covers_array, covers_exprs}
 use Rattle.run_matches.specs.Covered.{is_referred}
-use Rattle.typing_laws.specs.Flat.{flat_uses, outer_uses}
+use Rattle.typing_laws.specs.Flat.{flat_uses}
 use Rattle.typing_laws.specs.Calls.{CallsKeep, SourceJob}
 use Rattle.typing_laws.specs.Frames.{IsGiven}
 use Rattle.typing_laws.specs.Leaving.{Leaves, at_gone}
@@ -31,17 +31,19 @@ use Rattle.typing_laws.specs.Typed.{has_type, is_typed}
 use Rattle.typing_laws.proofs.Addresses.{IsConstant, IsRead, IsSeat, IsUnread, no_constant, read_seat, seat_of}
 use Rattle.typing_laws.proofs.Ends.{Ends, ends_after, keeps_self, then_ends}
 use Rattle.typing_laws.proofs.Expressions.{Fits, IsTyped, no_array, or_true, same_type, variable_is, variable_place}
-use Rattle.typing_laws.proofs.Plain.{Plain, same_as}
+use Rattle.typing_laws.proofs.Plain.{same_as}
 use Rattle.typing_laws.proofs.Uses.{PlaceOf, Used, use_is}
 use Rattle.typing_laws.specs.Frames.{Footprint, Ground, Stands, ground}
 use Rattle.typing_laws.specs.Flat.{is_flat}
-use Rattle.typing_laws.specs.Plain.{IsShapeOf, array_shape}
+use Rattle.typing_laws.specs.Plain.{IsShapeOf, IsValueOf, array_shape}
+use Rattle.typing_laws.proofs.Wholes.{of_scalar}
 use Rattle.typing_laws.specs.Typed.{fits_type}
 use Rattle.typing_laws.proofs.Arrays.{HasArray, array_place, array_read, stands_with_rank, table_at}
 use Rattle.typing_laws.proofs.Expressions.{fit_same}
-use Rattle.typing_laws.proofs.Flat.{NamesArray, no_field, variable_used}
+use Rattle.typing_laws.proofs.Fields.{field_given}
+use Rattle.typing_laws.proofs.Flat.{NamesArray, variable_used}
 use Rattle.typing_laws.proofs.Found.{IsRight, element_given}
-use Rattle.typing_laws.proofs.Made.{IsArray, flat_kinds, flat_known}
+use Rattle.typing_laws.proofs.Made.{FlatKind, flat_kinds, flat_known}
 use Rattle.typing_laws.proofs.Uses.{UsedArray, array_use_is}
 use Rattle.vb6_run.specs.Shapes.{array, simple}
 
@@ -71,7 +73,7 @@ module _ (C : Context) (F : Footprint) (X : SourceJob → Memory → Type 0) (ca
   GoodGiven o v g = IsGiven K v o g
 
   value_given : (y : Variable) (t : Ty) (x : Value) (v : Memory) → t ≡ y.ty → IsValue t x → IsGiven K v (Some y) (by_value x)
-  value_given y t x v e h = (h.0, h.1 ∙ ap (λ s. scalar s h.0) e, subst (λ s. Plain s h.0) e h.2)
+  value_given y t x v e h = subst (λ s. IsValueOf D s x) e (of_scalar D t x h)
 
   pub by_value_ends : (w : Memory) (y : Variable) (e : Expr) (quiet : Bool) → type_at e ≡ y.ty
       → Ends K (IsTyped (type_at e)) (Leaves C X e w) w (value_of C e w)
@@ -125,7 +127,7 @@ module _ (C : Context) (F : Footprint) (X : SourceJob → Memory → Type 0) (ca
   no_reference ty t a h = true≢false (sym h ∙ a)
 
   -- an array goes by its address
-  named_given : (w : Memory) → Fits C F w → (y : Variable) (el : Ty) (rank : ℕ) (x : VarId) (qualified quiet : Bool) → uses.array x el ≡ true → is_flat y ≡ true
+  named_given : (w : Memory) → Fits C F w → (y : Variable) (el : Ty) (rank : ℕ) (x : VarId) (qualified quiet : Bool) → uses.array x el ≡ true → is_flat D y ≡ true
       → fits_type y.ty (types.array el rank) ≡ true → is_reference_owner y.owner ≡ true
       → Ends K (GoodGiven (Some y)) (Leaves C X (typed (types.array el rank) (variable x qualified)) w) w
       (argument_of C quiet (tree.by_reference (typed (types.array el rank) (variable x qualified))) w)
@@ -136,13 +138,13 @@ module _ (C : Context) (F : Footprint) (X : SourceJob → Memory → Type 0) (ca
       let there : Address = root (array (simple el) h.bounds) h.place in
       subst (λ r. Ends K (GoodGiven (Some y)) (Leaves C X d w) w (then r (given_parts C quiet d true))) (sym (variable_is C (types.array el rank) x qualified w there h.is u.plain))
       (ends_after K (GoodGiven (Some y)) (Leaves C X d w) w [] (after [] (given_address quiet there w))
-      (ends_after K (GoodGiven (Some y)) (Leaves C X d w) w [] (given_address quiet there w) (by h quiet (good h (flat_kinds y flat)))))
+      (ends_after K (GoodGiven (Some y)) (Leaves C X d w) w [] (given_address quiet there w) (by h quiet (kinds h (flat_kinds D y flat)))))
     where
       Left : Memory → Type 0
       Left w = Leaves C X (typed (types.array el rank) (variable x qualified)) w
 
       same : is_same_type y.ty (types.array el rank) ≡ true
-      same = fit_same y.ty (types.array el rank) (flat_known y flat) refl fit
+      same = fit_same y.ty (types.array el rank) (flat_known D y flat) refl fit
 
       of_array : (h : HasArray C F w x.0 el) (f : Ty) (other : ℕ) → y.ty ≡ types.array f other → IsGiven K w (Some y) (by_address (root (array (simple el) h.bounds) h.place))
       of_array h f other is =
@@ -150,13 +152,14 @@ module _ (C : Context) (F : Footprint) (X : SourceJob → Memory → Type 0) (ca
           let one : f ≡ el = same_as f el c (sym (ap (λ t. is_same_type t (types.array el rank)) is) ∙ same) in
           let ty : y.ty ≡ types.array el other = is ∙ ap (λ t. types.array t other) one in (
             reference,
-            subst (λ t. IsShapeOf t (array (simple el) h.bounds)) (sym ty) (array_shape el other h.bounds c),
-            subst (λ t. Stands K w h.place t) (sym ty) (stands_with_rank K w h.place el 0 other h.stands),
+            subst (λ t. IsShapeOf D t (array (simple el) h.bounds)) (sym ty) (array_shape el other h.bounds c),
+            (subst (λ t. Stands K w h.place t) (sym ty) (stands_with_rank K w h.place el 0 other h.stands), tt),
           )
 
-      good : (h : HasArray C F w x.0 el) → (covers_type y.ty ≡ true) ⊎ IsArray y → IsGiven K w (Some y) (by_address (root (array (simple el) h.bounds) h.place))
-      good h (inr a) = of_array h a.element a.rank a.is_type
-      good h (inl c) = absurd (no_scalar y.ty c same)
+      kinds : (h : HasArray C F w x.0 el) → FlatKind D y → IsGiven K w (Some y) (by_address (root (array (simple el) h.bounds) h.place))
+      kinds h (inr (inl a)) = of_array h a.element a.rank a.is_type
+      kinds h (inr (inr u)) = absurd (true≢false (sym (sym (ap (λ t. is_same_type t (types.array el rank)) u.is_type) ∙ same)))
+      kinds h (inl c) = absurd (no_scalar y.ty c same)
         where
           no_scalar : (ty : Ty) → covers_type ty ≡ true → is_same_type ty (types.array el rank) ≡ true → ⊥
           no_scalar (types.array f r) c h = true≢false (sym c)
@@ -175,7 +178,7 @@ module _ (C : Context) (F : Footprint) (X : SourceJob → Memory → Type 0) (ca
           subst (λ r. Ends K (GoodGiven (Some y)) (Left w) w (then r (λ x m. gives [] (by_address (root (array (simple el) h.bounds) h.place)) m)))
           (sym (array_read C F w x.0 el h).1) (keeps_self K w, good)
 
-  pub array_given : (w : Memory) → Fits C F w → (y : Variable) (e : Expr) (quiet : Bool) → NamesArray uses e → is_flat y ≡ true → fits_type y.ty (type_at e) ≡ true
+  pub array_given : (w : Memory) → Fits C F w → (y : Variable) (e : Expr) (quiet : Bool) → NamesArray uses e → is_flat D y ≡ true → fits_type y.ty (type_at e) ≡ true
       → is_reference_owner y.owner ≡ true → Ends K (GoodGiven (Some y)) (Leaves C X e w) w (argument_of C quiet (tree.by_reference e) w)
   array_given w fits y e quiet n flat fit reference =
       subst (λ d. Ends K (GoodGiven (Some y)) (Leaves C X d w) w (argument_of C quiet (tree.by_reference d) w)) (sym n.is)
@@ -195,7 +198,7 @@ module _ (C : Context) (F : Footprint) (X : SourceJob → Memory → Type 0) (ca
   reference_ends w fits y (typed ty (unary op e)) quiet covers passes typing referred same reference h = absurd (no_reference ty (unary op e) refl referred)
   reference_ends w fits y (typed ty (binary op d e)) quiet covers passes typing referred same reference h = absurd (no_reference ty (binary op d e) refl referred)
   reference_ends w fits y (typed ty (field e i)) quiet covers passes typing referred same reference h =
-      absurd (no_field (outer_uses C.runnable.program C.procedure mentions) ty e i covers)
+      field_given C F mentions X w y ty e i quiet covers h.1 same reference
   reference_ends w fits y (typed ty (element e i)) quiet covers passes typing referred same reference h =
       element_given C F X ty e i w (both_true (covers_type ty) (covers_array uses e && covers_exprs uses i) covers).0 h.1 quiet y same reference
   reference_ends w fits y (typed ty (new_object c)) quiet covers passes typing referred same reference h = absurd (no_reference ty (new_object c) refl referred)

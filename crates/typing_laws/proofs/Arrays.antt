@@ -3,7 +3,7 @@ use Rattle.std.proofs.Common.{◌≡◌, refl, sym, ap, ◌∙◌, subst, ℕ, �
 use Rattle.vb_tree.specs.BoundTree as types
 use Rattle.vb_tree.specs.BoundTree.{Ty}
 use Rattle.vb_tree.specs.declared.declared.VarId.{VarId}
-use Rattle.bound_tree.specs.Tree.{Variable, typed, variable}
+use Rattle.bound_tree.specs.Tree.{Declarations, Variable, typed, variable}
 use Rattle.run_base.specs.Outcomes.{found, gives, then}
 use Rattle.run_base.specs.Positions.{Position}
 use Rattle.vb6_run.specs.Expressions.{Context, address_of, declared, finished}
@@ -38,7 +38,7 @@ pub record HasArray (C : Context) (F : Footprint) (w : Memory) (v : ℕ) (e : Ty
   pub is : variable_address (declared C) C.frame v ≡ Some (root (array (simple e) bounds) place)
   pub stands : Stands (ground (declared C) F) w place (types.array e 0)
 
-array_bounds : (e : Ty) (rank : ℕ) (d : Shape) → IsShapeOf (types.array e rank) d → (bounds : List (ℤ × ℤ)) × (d ≡ array (simple e) bounds)
+array_bounds : {D : Declarations} (e : Ty) (rank : ℕ) (d : Shape) → IsShapeOf D (types.array e rank) d → (bounds : List (ℤ × ℤ)) × (d ≡ array (simple e) bounds)
 array_bounds e rank _ (array_shape f other bounds c) = (bounds, refl)
 array_bounds e rank _ (scalar_shape ty c) = absurd (true≢false (sym c))
 
@@ -52,12 +52,12 @@ array_place C F w f v e u =
     at : (x : Variable) (a : Address) → x.ty ≡ types.array e u.rank → variable_address (declared C) C.frame v.0 ≡ Some a → IsPlace C.runnable.program F w v.0 x a
         → HasArray C F w v.0 e
     at x (root d q) ty is h =
-        let b = array_bounds e u.rank d (subst (λ t. IsShapeOf t d) ty h.0) in
+        let b = array_bounds e u.rank d (subst (λ t. IsShapeOf (declared C) t d) ty h.0) in
         record {
           bounds = b.0;
           place = q;
           is = is ∙ ap (λ s. Some (root s q)) b.1;
-          stands = stands_with_rank (ground (declared C) F) w q e u.rank 0 (subst (λ t. Stands (ground (declared C) F) w q t) ty h.1);
+          stands = stands_with_rank (ground (declared C) F) w q e u.rank 0 (subst (λ t. Stands (ground (declared C) F) w q t) ty h.1.0);
         }
     at x (item s q j path) ty is h =
         absurd (no_array_element (ground (declared C) F) w q e u.rank (subst (λ t. Stands (ground (declared C) F) w q (types.array t 0)) ty h.1.2))

@@ -1,5 +1,5 @@
 -- Assignments keep a well-typed frame well typed, or leave.
-use Rattle.std.proofs.Common.{false, ◌≡◌, ◌⊎◌, inl, inr, sym, ap, ◌∙◌, subst, Bool, true, true≢false, List, [], Some}
+use Rattle.std.proofs.Common.{false, ◌≡◌, ◌⊎◌, inl, inr, sym, ap, ◌∙◌, subst, ℕ, Bool, true, true≢false, List, [], Some}
 use Rattle.up_base.proofs.Tests.{both_true}
 use Rattle.vb_tree.specs.BoundTree.{Ty}
 use Rattle.vb_tree.specs.declared.declared.VarId.{VarId}
@@ -8,26 +8,28 @@ use Rattle.bound_tree.specs.declared.body.Mention.{Mention}
 use Rattle.bound_tree.specs.Tree.{Declarations, Expr, Exprs, typed, variable, field, element, with_object}
 use Rattle.bound_facts.specs.Node.{type_at}
 use Rattle.row_laws.proofs.Composing.{then_assoc}
-use Rattle.run_base.specs.Outcomes.{Output, gives, then}
+use Rattle.run_base.specs.Outcomes.{Output, after, gives, then}
 use Rattle.vb6_run.specs.Expressions.{Context, address_of, declared, finished, value_of}
 use Rattle.vb6_run.specs.Lines.{goes_on, let_to, store_at}
 use Rattle.vb6_run.specs.Runnables.{variable_address}
-use Rattle.vb6_run.specs.Store.{Address, Memory, write}
+use Rattle.vb6_run.specs.Store.{Address, Held, Memory, single, with_held, write}
 use Rattle.vb6_run.specs.Values.{Value, scalar}
 use Rattle.run_matches.specs.CoveredVariables.{covers_type, is_loud}
 use Rattle.run_matches.specs.CoveredExprs.{Uses, is_changeable}
 use Rattle.run_matches.specs.CoveredLines.{is_ordered}
 use Rattle.typing_laws.specs.Calls.{CallsKeep, SourceJob}
-use Rattle.typing_laws.specs.Flat.{flat_uses, outer_uses}
+use Rattle.typing_laws.specs.Flat.{flat_uses}
 use Rattle.typing_laws.specs.Frames.{Footprint, Ground, Keeps, ground}
 use Rattle.typing_laws.specs.Leaving.{Leaves, at_gone}
-use Rattle.typing_laws.specs.Plain.{IsValue, Plain}
-use Rattle.typing_laws.proofs.Addresses.{IsConstant, IsSeat, IsUnwritten, IsWritten, no_constant, seat_of, write_seat}
+use Rattle.typing_laws.specs.Plain.{IsValue, Plain, holds_scalar}
+use Rattle.typing_laws.proofs.Addresses.{IsConstant, IsSeat, IsUnwritten, IsWritten, no_constant, root_written, seat_of, write_seat}
 use Rattle.typing_laws.proofs.Elements.{IsFound}
 use Rattle.typing_laws.proofs.Ends.{Ends, ends_after, ends_weaker, keeps_then, then_ends}
-use Rattle.typing_laws.proofs.Found.{never_gone, seat_found}
+use Rattle.typing_laws.proofs.Found.{IsFieldAt, never_gone, seat_found}
+use Rattle.typing_laws.proofs.Held.{Single, single_of}
+use Rattle.typing_laws.proofs.Places.{keeps_changed}
 use Rattle.typing_laws.proofs.Expressions.{IsTyped, same_type, variable_is, variable_place}
-use Rattle.typing_laws.proofs.Flat.{no_field, variable_used}
+use Rattle.typing_laws.proofs.Flat.{variable_used}
 use Rattle.typing_laws.proofs.Frames.{frame_at, frame_later}
 use Rattle.typing_laws.proofs.Lines.{Good, IsFine, IsIn, fine_address, fine_ends, fine_type, fits_in, in_later}
 use Rattle.typing_laws.proofs.Uses.{PlaceOf, Used, use_is}
@@ -76,6 +78,21 @@ module _ (C : Context) (F : Footprint) (X : SourceJob → Memory → Type 0) (ca
         (written_by ty p.0 m.0 m.2 p.1
         (write_seat K v ty C.frame.env m.0 m.2 p.0 (fine_type C F X calls mentions to fine) seat (no_constant C.runnable.program F v x.0 u.variable p.0 p.2 loud))))))
 
+  -- the value is written where the field stands
+  field_ends : (L : Type 0) (v : Memory) (ty : Ty) (d : Expr) (k : ℕ) → covers_type ty ≡ true → IsFieldAt C F ty d k v → IsIn C F v → (y : Value) → IsValue ty y
+      → Ends K (Good C F) L v (then (let_to C (typed ty (field d k)) y v) (λ (u : Unit {0}) m. goes_on C m))
+  field_ends L v ty d k c f i y m =
+      let to : Expr = typed ty (field d k) in
+      let one : Single ty (v.held f.position) = single_of ty (v.held f.position) c f.stands.holds in
+      let h : Held = single ty m.0 in
+      let u : Memory = with_held f.position h v in
+      let keeps : Keeps K v u = keeps_changed K v f.position ty h f.stands (holds_scalar ty m.0 m.2) in
+      let goes = λ (z : Unit {0}) (t : Memory). goes_on C t in
+      subst (λ z. Ends K (Good C F) L v (then (let_to C to z v) goes)) (sym m.1)
+      (subst (λ r. Ends K (Good C F) L v (then (then (then r finished) (store_at C to (scalar ty m.0))) goes)) (sym f.is)
+      (subst (λ r. Ends K (Good C F) L v (then (after [] r) goes)) (sym (root_written K v ty C.frame.env m.0 m.2 f.position one.value one.holds))
+      (keeps, frame_at F C.runnable C.procedure u C.frame (frame_later F C.runnable C.procedure v u C.frame keeps i.frame) C.aims.after)))
+
   -- the value is written where the element is
   module _ (L : Type 0) (v : Memory) (ty : Ty) (d : Expr) (indexes : Exprs) (fine : Fine (typed ty (element d indexes))) (i : IsIn C F v)
       (leaves : Leaves C X (typed ty (element d indexes)) v → L) where
@@ -120,7 +137,7 @@ module _ (C : Context) (F : Footprint) (X : SourceJob → Memory → Type 0) (ca
       changes : (to : Expr) → is_changeable uses to ≡ true → Fine to → (v : Memory) → IsIn C F v → (Leaves C X to v → L) → (y : Value) → IsValue (type_at to) y
           → Ends K (Good C F) L v (then (let_to C to y v) (λ (u : Unit {0}) m. goes_on C m))
       changes (typed ty (variable x qualified)) c target v i leaves y m = stored_ends L v ty x qualified target c i leaves y m
-      changes (typed ty (field d k)) c target v i leaves y m = absurd (no_field (outer_uses C.runnable.program C.procedure mentions) ty d k target.covers)
+      changes (typed ty (field d k)) c target v i leaves y m = field_ends L v ty d k (fine_type C F X calls mentions (typed ty (field d k)) target) (fine_address C F X calls mentions (typed ty (field d k)) target v i) i y m
       changes (typed ty (with_object r)) c target v i leaves y m = absurd (true≢false (sym (both_true (covers_type ty) false target.covers).1))
       changes (typed ty _) c target v i leaves y m = absurd (true≢false (sym c))
 

@@ -17,6 +17,9 @@ use Rattle.vb6_run.specs.Runnables.{Runnable}
 use Rattle.run_matches.specs.CoveredVariables.{has_extents, has_rank}
 use Rattle.run_matches.specs.Covered.{covers_callee, covers_calls, covers_method, covers_node, covers_use_of, is_method, suits, hands}
 use Rattle.run_matches.specs.Sites.{Site, site_of}
+use Rattle.run_matches.specs.CoveredLines.{covers_form}
+use Rattle.run_matches.specs.Formed.{is_formed}
+use Rattle.typing_laws.specs.Flat.{flat_uses, is_no_with, has_field_type, is_flat_line}
 use Rattle.typing_laws.specs.Calls.{CallsAreSuited, Each, IsReady, IsSuited}
 use Rattle.typing_laws.proofs.Places.{not_none, some_is}
 
@@ -86,7 +89,7 @@ chain_then : (pairs : List (ℕ × ℕ)) (a b c : ℕ) → Chain pairs a b → C
 chain_then pairs a _ _ x (empty b) = x
 chain_then pairs a b _ x (longer _ d c y h) = longer a d c (chain_then pairs a b d x y) h
 
-index_less : {A : Type 0} (xs : List A) (p : ℕ) (x : A) → slice_get xs p ≡ Some x → p < length xs
+pub index_less : {A : Type 0} (xs : List A) (p : ℕ) (x : A) → slice_get xs p ≡ Some x → p < length xs
 index_less [] p x e = absurd (not_none e)
 index_less (y ∷ ys) zero x e = omega arith
 index_less (y ∷ ys) (suc p) x e = let l = index_less ys p x e in omega (arith, l)
@@ -161,14 +164,19 @@ node_known P p s q (typed ty (call f qualified (of_object e) args)) h n =
 node_known P p s q (typed ty _) h n = absurd (not_none n)
 
 pub line_suited : (R : Runnable) (p k : ℕ) (x : Procedure) (lines : List Line) (l : Line) → slice_get R.program.declarations.procs p ≡ Some x
-    → slice_get R.program.bodies p ≡ Some lines → slice_get lines k ≡ Some l → covers_calls R.program p l ≡ true → IsReady R p
-    → Each (IsSuited R) (line_uses l)
-line_suited R p k x lines l is are_lines stands covers ready =
+    → slice_get R.program.bodies p ≡ Some lines → slice_get lines k ≡ Some l → covers_calls R.program p l ≡ true
+    → is_flat_line R.program p l ≡ true → IsReady R p → Each (IsSuited R) (line_uses l)
+line_suited R p k x lines l is are_lines stands covers flat ready =
     let D : Declarations = R.program.declarations in
     let P : Program = R.program in
     let b = both_true (list_all (covers_node P p (site_of D p)) (line_uses l)) (list_all (suits D) (line_uses l) && list_all (hands P) (line_uses l)) covers in
     let c = both_true (list_all (suits D) (line_uses l)) (list_all (hands P) (line_uses l)) b.1 in
+    let form = covers_form (flat_uses P p l.bindings.mentions) l.source.form l.bindings.exprs in
+    let fields = list_all (has_field_type D) (line_uses l) in
+    let f = both_true form (list_all is_formed l.bindings.exprs && (is_no_with l.source.form && fields)) flat in
+    let g = both_true (list_all is_formed l.bindings.exprs) (is_no_with l.source.form && fields) f.1 in
     each_of (IsSuited R) (line_uses l) (λ e m. record {
+      field = all_among (has_field_type D) (line_uses l) e (both_true (is_no_with l.source.form) fields g.1).1 m;
       suits = all_among (suits D) (line_uses l) e c.0 m;
       ready = λ q n.
           let call : Among (line_calls D p l) (p, q) =

@@ -156,7 +156,7 @@ module _ (C : Context) (F : Footprint) (X : SourceJob → Memory → Type 0) (ca
       let K1 = λ (b : Address) (v : Memory). then (write C.frame.env (scalar ty p.0) b v)
       (λ (z : Unit {0}) t. counted (keeping_limit C b y s) (Some C.aims.after) C.aims.otherwise (scalar ty p.0) y s t) in
       let K2 = λ (z : Unit {0}) (t : Memory). counted C2 (Some C.aims.after) C.aims.otherwise (scalar ty p.0) y s t in
-      let fits : IsShapeOf ty at.shape = subst (λ t. IsShapeOf t at.shape) (sym same) at.fits in
+      let fits : IsShapeOf D ty at.shape = subst (λ t. IsShapeOf D t at.shape) (sym same) at.fits in
       let at_variable : address_of C e w ≡ gives [] a w =
       ap (λ r. then r finished) (variable_is C ty id qualified w place.0 place.1 u.plain)
       ∙ ap (λ b. gives [] b w) (at.is ∙ ap (λ d. root d at.position) (simple_is ty at.shape covers fits)) in

@@ -1,21 +1,14 @@
 -- Computations that keep the types of what stands, one after another.
-use Rattle.std.proofs.Common.{◌≡◌, refl, sym, ◌∙◌, subst, ◌≤◌, ◌<◌, arith, List}
+use Rattle.std.proofs.Common.{◌≡◌, refl, sym, ◌∙◌, subst, ℕ, ◌≤◌, arith, List}
 use Rattle.vb_tree.specs.BoundTree.{Ty}
 use Rattle.run_base.specs.Outcomes.{Output, Outcome, gives, raises, spent, outside, after, then}
+use Rattle.vb6_run.specs.Shapes.{Shape, variable_shape}
 use Rattle.vb6_run.specs.Store.{Memory}
 use Rattle.typing_laws.specs.Plain.{Holds}
-use Rattle.typing_laws.specs.Frames.{Ground, IsBlankStatic, IsSound, Keeps, Stands, shared_place}
-use Rattle.run_base.specs.Positions.{Root, shared, made, field, Position}
+use Rattle.typing_laws.specs.Frames.{Fills, Ground, IsBlankStatic, IsSound, Keeps, Stands, shared_place}
+use Rattle.run_base.specs.Positions.{Position}
 use Rattle.run_matches.specs.Maps.{IsMade, mark}
-
--- what was made stays so
-pub made_later : (K : Ground) (w v : Memory) → Keeps K w v → (r : Root) → IsMade (mark w) r → IsMade (mark v) r
-made_later K w v k (shared key) m = tt
-made_later K w v k (made n) m =
-    let less : n < w.next = m in
-    let next = k.next in
-    omega (arith, less, next)
-made_later K w v k (field o key) m = subst (λ z. o < z) (sym k.objects) m
+use Rattle.typing_laws.proofs.Places.{at, fills_by, made_later}
 
 -- what nothing stands at holds what it held
 then_others : (K : Ground) (w v u : Memory) → Keeps K w v → Keeps K v u → (q : Position) → IsMade (mark w) q.root → ((ty : Ty) → Stands K w q ty → ⊥)
@@ -58,13 +51,23 @@ keeps_then K w v u h k =
       classes = k.classes ∙ h.classes;
     }
 
+pub fills_later : (K : Ground) (w v : Memory) → Keeps K w v → (q : Position) (ty : Ty) (d : Shape) → Fills K w q ty d → Fills K v q ty d
+fills_later K w v k q ty d f = fills_by K K w v q (λ path t s. k.places (at q.root path) t s) ty d f
+
 pub sound_later : (K : Ground) (w v : Memory) → Keeps K w v → IsSound K w → IsSound K v
 sound_later K w v k s = record {
-  modules = λ n x is m c. k.places (shared_place n) x.ty (s.modules n x is m c);
+  modules = λ n x is m c. fills_later K w v k (shared_place n) x.ty (variable_shape K.declarations n) (s.modules n x is m c);
   statics = λ n x is st c. k.statics n x is st c (s.statics n x is st c);
   shares = s.shares;
-  fresh = λ n l. (let next = k.next in s.fresh n (let e : w.next ≤ n = omega (arith, l, next) in e));
+  fresh = λ n l. s.fresh n (longer n l);
+  shared_parts = s.shared_parts;
+  fresh_parts = λ m x is user n path l. s.fresh_parts m x is user n path (longer n l);
 }
+  where
+    longer : (n : ℕ) → v.next ≤ n → w.next ≤ n
+    longer n l =
+        let next = k.next in
+        omega (arith, l, next)
 
 -- a value of which something holds in the memory behind it, an error, or no step; what is outside has a cause
 abbrev pub Ends : {A : Type 0} → Ground → (Memory → A → Type 0) → Type 0 → Memory → Outcome Memory A → Type 0

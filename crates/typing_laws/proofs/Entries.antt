@@ -80,7 +80,7 @@ module _ (R : Runnable) (p : ℕ) (parts : Parts R.program p) (me : Option ℕ) 
   statics = owned_from (is_static_of p) 0 Q.vars
 
   covered_by : (test : Owner → Bool) → ((o : Owner) → test o ≡ true → belongs_to p o ≡ true) → (k : ℕ) → list_any (nat_eq k) (owned_from test 0 Q.vars) ≡ true
-      → (y : Variable) × (slice_get Q.vars k ≡ Some y) × (is_flat y ≡ true) × (belongs_to p y.owner ≡ true) × (test y.owner ≡ true)
+      → (y : Variable) × (slice_get Q.vars k ≡ Some y) × (is_flat Q y ≡ true) × (belongs_to p y.owner ≡ true) × (test y.owner ≡ true)
   covered_by test belongs k h =
       let o : OwnedAt test Q k = owned_of test Q k h in
       let own = belongs o.variable.owner o.passes in
@@ -96,7 +96,7 @@ module _ (R : Runnable) (p : ℕ) (parts : Parts R.program p) (me : Option ℕ) 
   others_covered k h = by (any_append k (answer_in x.answer) (owned_from (is_local_of p) 0 Q.vars) h)
     where
       by : (list_any (nat_eq k) (answer_in x.answer) ≡ true) ⊎ (list_any (nat_eq k) (owned_from (is_local_of p) 0 Q.vars) ≡ true)
-          → (y : Variable) × (slice_get Q.vars k ≡ Some y) × (is_flat y ≡ true) × (belongs_to p y.owner ≡ true)
+          → (y : Variable) × (slice_get Q.vars k ≡ Some y) × (is_flat Q y ≡ true) × (belongs_to p y.owner ≡ true)
       by (inl a) =
           let c = covered_by (is_answer_of p) (answer_belongs p) k (subst (λ ks. list_any (nat_eq k) ks ≡ true) answers_same a) in
           (c.0, c.1, c.2, c.3)
@@ -121,7 +121,7 @@ module _ (R : Runnable) (p : ℕ) (parts : Parts R.program p) (me : Option ℕ) 
     of_lookup : (v : ℕ) (y : Variable) → variable_address Q frame v ≡ lookup (nat_eq v) (bs ++ cs) → Stood R.program F w v y (lookup (nat_eq v) (bs ++ cs)) → At v y
     of_lookup v y is h = (h.0, is ∙ h.1, h.2)
 
-    of_other : (v : ℕ) (y : Variable) → slice_get Q.vars v ≡ Some y → is_flat y ≡ true → list_any (nat_eq v) others ≡ true
+    of_other : (v : ℕ) (y : Variable) → slice_get Q.vars v ≡ Some y → is_flat Q y ≡ true → list_any (nat_eq v) others ≡ true
         → Stood R.program F w v y (lookup (nat_eq v) (bs ++ cs))
     of_other v y is cover any =
         let h : Stood R.program F w v y (lookup (nat_eq v) (cs ++ [])) = c.before v y any is cover [] in
@@ -133,12 +133,12 @@ module _ (R : Runnable) (p : ℕ) (parts : Parts R.program p) (me : Option ℕ) 
         by i (inl s) = s
         by i (inr e) = (i.0, e ∙ i.1, i.2)
 
-    of_param : (v : ℕ) (y : Variable) → slice_get Q.vars v ≡ Some y → is_flat y ≡ true → is_parameter_of p y.owner ≡ true
+    of_param : (v : ℕ) (y : Variable) → slice_get Q.vars v ≡ Some y → is_flat Q y ≡ true → is_parameter_of p y.owner ≡ true
         → Stood R.program F w v y (lookup (nat_eq v) (bs ++ cs))
     of_param v y is cover param =
         b.before v y (subst (λ ks. list_any (nat_eq v) ks ≡ true) (sym params_same) (owned_at (is_parameter_of p) Q v y is param)) is cover cs
 
-    own_in : (v : ℕ) (y : Variable) → slice_get Q.vars v ≡ Some y → is_flat y ≡ true → (o : Owner) → y.owner ≡ o → belongs_to p o ≡ true → At v y
+    own_in : (v : ℕ) (y : Variable) → slice_get Q.vars v ≡ Some y → is_flat Q y ≡ true → (o : Owner) → y.owner ≡ o → belongs_to p o ≡ true → At v y
     own_in v y is cover (owner.Local q) e h =
         of_lookup v y (ap (λ z. declared_address Q frame v z) is ∙ ap (λ z. owned_address Q frame v z) e)
         (of_other v y is cover (any_right v (answer_in x.answer) (owned_from (is_local_of p) 0 Q.vars)

@@ -47,13 +47,13 @@ use Rattle.typing_laws.specs.Typed.{is_typed_line, is_typed_procedure}
 --     Debug.Print i
 -- End Sub
 
-abbrev place : Place
+abbrev pub place : Place
 place = record { file = 1; line = 1 }
 
-abbrev main : ProcId
+abbrev pub main : ProcId
 main = record { 0 = 0 }
 
-abbrev variable_i : Variable
+abbrev pub variable_i : Variable
 variable_i = record {
   name = codes "i";
   place = place;
@@ -68,7 +68,7 @@ variable_i = record {
   preset = None;
 }
 
-abbrev procedure : Procedure
+abbrev pub procedure : Procedure
 procedure = record {
   name = codes "Main";
   place = place;
@@ -81,13 +81,13 @@ procedure = record {
   first = main;
 }
 
-abbrev line : Form → source.Line
+abbrev pub line : Form → source.Line
 line form = record { place = place; text = []; form = form }
 
-abbrev any : Exp
+abbrev pub any : Exp
 any = source.me
 
-abbrev id : VarId
+abbrev pub id : VarId
 id = record { 0 = 0 }
 
 -- the use of i, which is bound as one of a type
@@ -97,7 +97,7 @@ use_as ty = typed ty (variable id false)
 abbrev code : Form → List Expr → Line
 code f es = record { source = line f; bindings = record { exprs = es; rules = none; mentions = mention.Var id ∷ [] } }
 
-abbrev number : ℤ → Expr
+abbrev pub number : ℤ → Expr
 number z = typed integer (constant (v.Int z) Literal)
 
 abbrev lines : Ty → List Line
@@ -106,12 +106,12 @@ lines ty =
     ∷ code (source.debug_print [] false) (use_as ty ∷ [])
     ∷ []
 
-abbrev body : Nodes
+abbrev pub body : Nodes
 body =
     next_node (source.line (line (source.variables var_word.Dim [])))
     (next_node (source.line (line (source.assign any any))) (next_node (source.line (line (source.debug_print [] false))) no_nodes))
 
-abbrev program_of : List Line → Program
+abbrev pub program_of : List Line → Program
 program_of ls = record {
   declarations = record {
     project = record {
@@ -148,7 +148,7 @@ runs_lines ls = record { program = program_of ls; quiet = λ p i. false; low = �
 abbrev runnable : Ty → Runnable
 runnable ty = runs_lines (lines ty)
 
-abbrev is_outside : {A : Type 0} → Outcome Memory A → Bool
+abbrev pub is_outside : {A : Type 0} → Outcome Memory A → Bool
 is_outside (gives o a w) = false
 is_outside (raises o n w) = false
 is_outside (spent o w) = false

@@ -1,5 +1,5 @@
 -- All forms of covered lines.
-use Rattle.std.proofs.Common.{◌≡◌, refl, sym, ap, ◌∙◌, subst, ℕ, Bool, true, false, cond, ◌&&◌, true≢false, List, [], ◌∷◌, Option, Some, None}
+use Rattle.std.proofs.Common.{◌≡◌, refl, sym, ap, ◌∙◌, subst, ℕ, Bool, true, false, cond, ◌&&◌, true≢false, List, [], ◌∷◌, Option, Some, None, ◌⊎◌, inl, inr}
 use Rattle.std.specs.Prelude.{slice_get}
 use Rattle.std.specs.List.{flat_map, list_all}
 use Rattle.up_base.proofs.Lists.{all_first, all_rest}
@@ -31,11 +31,12 @@ use Rattle.run_matches.specs.CoveredExprs.{Uses, covers_expr, covers_value, is_v
 use Rattle.run_matches.specs.CoveredLines.{covers_called, covers_counter, covers_counting, covers_form, covers_items, covers_part, covers_step, head_line, is_comparison, is_counter}
 use Rattle.bound_facts.specs.Locks.{is_same_type}
 use Rattle.run_matches.specs.Formed.{is_formed}
-use Rattle.typing_laws.specs.Flat.{is_flat_line, flat_uses, outer_uses}
+use Rattle.typing_laws.specs.Flat.{is_no_with, has_field_type, is_flat_line, flat_uses, outer_uses}
 use Rattle.typing_laws.specs.Calls.{CallsAreSuited, CallsKeep, Each, IsAimed, IsSuited, SourceJob}
 use Rattle.typing_laws.specs.Frames.{code_line, numbered}
 use Rattle.typing_laws.specs.Leaving.{Leaves, LineLeaves, ResizesLeave, in_assigned, in_target, in_items, at_print, in_call, in_invoked, in_condition, in_redim, erases_fixed, unopened, exit_outside, no_label, resumes_at_head, has_condition, jumps_to, resumes}
 use Rattle.typing_laws.specs.Typed.{assigns_typed, bounds_typed, exprs_typed, fits_type, is_typed, is_typed_line, tests_typed}
+use Rattle.typing_laws.proofs.Copies.{copy_ends}
 use Rattle.typing_laws.proofs.Assigning.{assign_ends}
 use Rattle.typing_laws.proofs.Callees.{exprs_suited, line_ranks}
 use Rattle.typing_laws.proofs.Choices.{case_ends, select_ends}
@@ -45,7 +46,7 @@ use Rattle.typing_laws.proofs.Frames.{frame_handling, frame_keeping, frame_later
 use Rattle.typing_laws.proofs.Lines.{Good, IsFine, IsIn, KeepsAt, call_statement, condition_ends, goes_by, in_later, leads, never_nowhere, print_ends, taken_same, fine_type}
 use Rattle.typing_laws.proofs.Places.{keeps_same}
 use Rattle.typing_laws.proofs.Extents.{line_resizes}
-use Rattle.typing_laws.proofs.Flat.{Stored, array_named, stored_of, no_set, no_with}
+use Rattle.typing_laws.proofs.Flat.{Stored, array_named, stored_of, no_set, Copied}
 use Rattle.typing_laws.proofs.Resizing.{erase_ends, redim_ends}
 use Rattle.typing_laws.specs.Frames.{Footprint, Ground, ground}
 
@@ -221,87 +222,91 @@ module _ (C : Context) (F : Footprint) (X : SourceJob → Memory → Type 0) (ca
       (call_statement C F X calls mentions w h e covers (all_first is_formed e [] formed) (all_first (is_typed D) e [] typed) suited.0))
       (λ o p v one k t. leads C F (L f (e ∷ [])) v C.aims.after (in_later C F w v k h))
 
-  form_ends : (f : Form) (es : List Expr) → covers_form uses f es ≡ true → assigns_typed f es ≡ true → tests_typed f es ≡ true → bounds_typed D f es ≡ true
+  form_ends : (f : Form) (es : List Expr) → covers_form uses f es ≡ true → is_no_with f ≡ true → assigns_typed f es ≡ true → tests_typed f es ≡ true → bounds_typed D f es ≡ true
       → list_all has_rank (flat_map (resize_rank D) (resized_by f es)) ≡ true → list_all is_formed es ≡ true
       → exprs_typed D f es ≡ true → Each (IsSuited C.runnable) (used_nodes f es)
       → covers_part C.runnable.program C.procedure f es (head_line lines C.aims.own) ≡ true → IsAimed C f → KeepsAt C F f es → Ok f es
-  form_ends (source.assign target value) (to ∷ e ∷ []) c a t bt rk f ty s p g k =
-      let x : Stored all_uses to e = stored_of all_uses to e c in
-      let fine = fine_of (to ∷ e ∷ []) (and_true (covers_expr uses to) (covers_expr uses e && true) x.target (and_true (covers_expr uses e) true x.value refl)) f ty
-      (exprs_suited C.runnable (to ∷ e ∷ []) s) in
-      assign_ends C F X calls mentions w h (L (source.assign target value) (to ∷ e ∷ [])) to e x.kind fine.0 fine.1.0
-      (taken_same (type_at to) (type_at e) (fine_type C F X calls mentions to fine.0) (fine_type C F X calls mentions e fine.1.0) a)
-      (λ l. in_assigned target value to e w l) (λ o y v one l. in_target target value to e w v o y one l)
-  form_ends (source.set target value) es c a t bt rk f ty s p g k = absurd (no_set all_uses es c)
-  form_ends (source.call callee) (e ∷ []) c a t bt rk f ty s p g k =
+  form_ends (source.assign target value) (to ∷ e ∷ []) c b a t bt rk f ty s p g k =
+      assigned (stored_of all_uses to e c)
+    where
+      assigned : Stored all_uses to e ⊎ Copied all_uses to e → Ok (source.assign target value) (to ∷ e ∷ [])
+      assigned (inr x) = copy_ends C F X calls mentions w h (L (source.assign target value) (to ∷ e ∷ [])) to e x.user x.same x.target x.value
+      assigned (inl x) =
+          let fine = fine_of (to ∷ e ∷ []) (and_true (covers_expr uses to) (covers_expr uses e && true) x.target (and_true (covers_expr uses e) true x.value refl)) f ty
+          (exprs_suited C.runnable (to ∷ e ∷ []) s) in
+          assign_ends C F X calls mentions w h (L (source.assign target value) (to ∷ e ∷ [])) to e x.kind fine.0 fine.1.0
+          (taken_same (type_at to) (type_at e) (fine_type C F X calls mentions to fine.0) (fine_type C F X calls mentions e fine.1.0) a)
+          (λ l. in_assigned target value to e w l) (λ o y v one l. in_target target value to e w v o y one l)
+  form_ends (source.set target value) es c b a t bt rk f ty s p g k = absurd (no_set all_uses es c)
+  form_ends (source.call callee) (e ∷ []) c b a t bt rk f ty s p g k =
       call_ends (source.call callee) e c f ty (exprs_suited C.runnable (e ∷ []) s) (λ l. in_call callee e w l)
-  form_ends (source.invoke callee args) (e ∷ []) c a t bt rk f ty s p g k =
+  form_ends (source.invoke callee args) (e ∷ []) c b a t bt rk f ty s p g k =
       call_ends (source.invoke callee args) e c f ty (exprs_suited C.runnable (e ∷ []) s) (λ l. in_invoked callee args e w l)
-  form_ends (source.debug_print items ended) es c a t bt rk f ty s p g k =
+  form_ends (source.debug_print items ended) es c b a t bt rk f ty s p g k =
       print_ends C F X calls mentions w h (L (source.debug_print items ended) es) ended es (fine_of es c f ty (exprs_suited C.runnable es s))
       (λ l. in_items items ended es w l) (λ o r v one long. at_print items ended es w v o r one long)
-  form_ends (source.if_head x) (e ∷ []) c a t bt rk f ty s p g k =
+  form_ends (source.if_head x) (e ∷ []) c b a t bt rk f ty s p g k =
       test_ends (source.if_head x) e (Some C.aims.after) C.aims.otherwise refl c f ty (exprs_suited C.runnable (e ∷ []) s) t (some_line C.aims.after _)
       (λ o. never_nowhere C (source.if_head x) _ g refl o)
-  form_ends (source.line_if x) (e ∷ []) c a t bt rk f ty s p g k =
+  form_ends (source.line_if x) (e ∷ []) c b a t bt rk f ty s p g k =
       test_ends (source.line_if x) e (Some C.aims.after) C.aims.otherwise refl c f ty (exprs_suited C.runnable (e ∷ []) s) t (some_line C.aims.after _)
       (λ o. never_nowhere C (source.line_if x) _ g refl o)
-  form_ends (source.else_if x) (e ∷ []) c a t bt rk f ty s p g k =
+  form_ends (source.else_if x) (e ∷ []) c b a t bt rk f ty s p g k =
       test_ends (source.else_if x) e (Some C.aims.after) C.aims.otherwise refl c f ty (exprs_suited C.runnable (e ∷ []) s) t (some_line C.aims.after _)
       (λ o. never_nowhere C (source.else_if x) _ g refl o)
-  form_ends source.else_line es c a t bt rk f ty s p g k = on_ends source.else_line es
-  form_ends source.end_if es c a t bt rk f ty s p g k = on_ends source.end_if es
-  form_ends (source.select x) (e ∷ []) c a t bt rk f ty s p g k =
+  form_ends source.else_line es c b a t bt rk f ty s p g k = on_ends source.else_line es
+  form_ends source.end_if es c b a t bt rk f ty s p g k = on_ends source.end_if es
+  form_ends (source.select x) (e ∷ []) c b a t bt rk f ty s p g k =
       select_ends C F X calls mentions w h x e (fine_of (e ∷ []) (and_true (covers_expr uses e) true c refl) f ty (exprs_suited C.runnable (e ∷ []) s)).0 k
-  form_ends (source.case_line items) es c a t bt rk f ty s p g k =
+  form_ends (source.case_line items) es c b a t bt rk f ty s p g k =
       case_ends C F X calls mentions w h items es g c (fine_of es (items_covered uses items es c) f ty (exprs_suited C.runnable es s)) lines are_lines p
-  form_ends source.case_else es c a t bt rk f ty s p g k = on_ends source.case_else es
-  form_ends source.end_select es c a t bt rk f ty s p g k = on_ends source.end_select es
-  form_ends (source.for_head counter first last step) es c a t bt rk f ty s p g k =
+  form_ends source.case_else es c b a t bt rk f ty s p g k = on_ends source.case_else es
+  form_ends source.end_select es c b a t bt rk f ty s p g k = on_ends source.end_select es
+  form_ends (source.for_head counter first last step) es c b a t bt rk f ty s p g k =
       for_ends C F X calls mentions counter first last step w h es c (fine_of es (counting_covered uses es c) f ty (exprs_suited C.runnable es s)) p g k
-  form_ends (source.next name) es c a t bt rk f ty s p g k = next_ends C F X calls mentions name es w h g lines are_lines p
-  form_ends source.do_head es c a t bt rk f ty s p g k = on_ends source.do_head es
-  form_ends (source.do_while x) (e ∷ []) c a t bt rk f ty s p g k =
+  form_ends (source.next name) es c b a t bt rk f ty s p g k = next_ends C F X calls mentions name es w h g lines are_lines p
+  form_ends source.do_head es c b a t bt rk f ty s p g k = on_ends source.do_head es
+  form_ends (source.do_while x) (e ∷ []) c b a t bt rk f ty s p g k =
       test_ends (source.do_while x) e (Some C.aims.after) C.aims.otherwise refl c f ty (exprs_suited C.runnable (e ∷ []) s) t (some_line C.aims.after _)
       (λ o. never_nowhere C (source.do_while x) _ g refl o)
-  form_ends (source.do_until x) (e ∷ []) c a t bt rk f ty s p g k =
+  form_ends (source.do_until x) (e ∷ []) c b a t bt rk f ty s p g k =
       test_ends (source.do_until x) e C.aims.otherwise (Some C.aims.after) refl c f ty (exprs_suited C.runnable (e ∷ []) s) t
       (λ o. never_nowhere C (source.do_until x) _ g refl o) (some_line C.aims.after _)
-  form_ends source.loop es c a t bt rk f ty s p g k = goes_by C F (L source.loop es) w h C.aims.back (λ o. unopened source.loop es w refl o)
-  form_ends (source.loop_while x) (e ∷ []) c a t bt rk f ty s p g k =
+  form_ends source.loop es c b a t bt rk f ty s p g k = goes_by C F (L source.loop es) w h C.aims.back (λ o. unopened source.loop es w refl o)
+  form_ends (source.loop_while x) (e ∷ []) c b a t bt rk f ty s p g k =
       test_ends (source.loop_while x) e C.aims.back (Some C.aims.after) refl c f ty (exprs_suited C.runnable (e ∷ []) s) t
       (λ o. unopened (source.loop_while x) (e ∷ []) w refl o) (some_line C.aims.after _)
-  form_ends (source.loop_until x) (e ∷ []) c a t bt rk f ty s p g k =
+  form_ends (source.loop_until x) (e ∷ []) c b a t bt rk f ty s p g k =
       test_ends (source.loop_until x) e (Some C.aims.after) C.aims.back refl c f ty (exprs_suited C.runnable (e ∷ []) s) t (some_line C.aims.after _)
       (λ o. unopened (source.loop_until x) (e ∷ []) w refl o)
-  form_ends (source.while_head x) (e ∷ []) c a t bt rk f ty s p g k =
+  form_ends (source.while_head x) (e ∷ []) c b a t bt rk f ty s p g k =
       test_ends (source.while_head x) e (Some C.aims.after) C.aims.otherwise refl c f ty (exprs_suited C.runnable (e ∷ []) s) t (some_line C.aims.after _)
       (λ o. never_nowhere C (source.while_head x) _ g refl o)
-  form_ends source.wend es c a t bt rk f ty s p g k = goes_by C F (L source.wend es) w h C.aims.back (λ o. unopened source.wend es w refl o)
-  form_ends (source.with_head x) es c a t bt rk f ty s p g k = absurd (no_with all_uses es c)
-  form_ends source.end_with es c a t bt rk f ty s p g k = on_ends source.end_with es
-  form_ends (source.goto l) es c a t bt rk f ty s p g k =
+  form_ends source.wend es c b a t bt rk f ty s p g k = goes_by C F (L source.wend es) w h C.aims.back (λ o. unopened source.wend es w refl o)
+  form_ends (source.with_head x) es c b a t bt rk f ty s p g k = absurd (true≢false (sym b))
+  form_ends source.end_with es c b a t bt rk f ty s p g k = on_ends source.end_with es
+  form_ends (source.goto l) es c b a t bt rk f ty s p g k =
       label_ends (source.goto l) es l refl (goes_to C) (λ n. leads C F (L (source.goto l) es) w n h)
-  form_ends (source.label l) es c a t bt rk f ty s p g k = on_ends (source.label l) es
-  form_ends (source.on_error_goto l) es c a t bt rk f ty s p g k =
+  form_ends (source.label l) es c b a t bt rk f ty s p g k = on_ends (source.label l) es
+  form_ends (source.on_error_goto l) es c b a t bt rk f ty s p g k =
       label_ends (source.on_error_goto l) es l refl (λ n v. handles_by C (at_line n) v) (λ n. handles_end (source.on_error_goto l) es (at_line n))
-  form_ends source.on_error_goto_zero es c a t bt rk f ty s p g k = handles_end source.on_error_goto_zero es none
-  form_ends source.on_error_resume_next es c a t bt rk f ty s p g k = handles_end source.on_error_resume_next es next_line
-  form_ends source.resume es c a t bt rk f ty s p g k = resume_ends source.resume es refl (λ l. C.frame.resume)
-  form_ends source.resume_next es c a t bt rk f ty s p g k = resume_ends source.resume_next es refl (λ l. l.aims.after)
-  form_ends (source.resume_at l) es c a t bt rk f ty s p g k =
+  form_ends source.on_error_goto_zero es c b a t bt rk f ty s p g k = handles_end source.on_error_goto_zero es none
+  form_ends source.on_error_resume_next es c b a t bt rk f ty s p g k = handles_end source.on_error_resume_next es next_line
+  form_ends source.resume es c b a t bt rk f ty s p g k = resume_ends source.resume es refl (λ l. C.frame.resume)
+  form_ends source.resume_next es c b a t bt rk f ty s p g k = resume_ends source.resume_next es refl (λ l. l.aims.after)
+  form_ends (source.resume_at l) es c b a t bt rk f ty s p g k =
       label_ends (source.resume_at l) es l refl (λ n v. resume_at (idle_machine C.runnable) n C.frame v) (λ n. resume_to_label (source.resume_at l) es n)
-  form_ends (source.exit kind) es c a t bt rk f ty s p g k = exits kind es
-  form_ends (source.redim preserve items) es c a t bt rk f ty s p g k =
+  form_ends (source.exit kind) es c b a t bt rk f ty s p g k = exits kind es
+  form_ends (source.redim preserve items) es c b a t bt rk f ty s p g k =
       arrays_end (L (source.redim preserve items) es) (redim_does C preserve (resizes items es) w)
       (ends_weaker K (λ v u. Unit {0}) (ResizesLeave C X preserve (resizes items es) w) (L (source.redim preserve items) es) w (redim_does C preserve (resizes items es) w)
       (in_redim preserve items es w)
       (redim_ends C F X calls mentions preserve (resizes items es)
       (line_resizes C F X calls mentions preserve items es c bt rk f (exprs_suited C.runnable es s)) w h))
-  form_ends (source.erase target) (e ∷ []) c a t bt rk f ty s p g k =
+  form_ends (source.erase target) (e ∷ []) c b a t bt rk f ty s p g k =
       arrays_end (L (source.erase target) (e ∷ [])) (then (address_of C e w) (erase C.frame.env))
       (erase_ends C F X calls mentions e (array_named uses e c) w h (L (source.erase target) (e ∷ [])) (λ b one fixed. erases_fixed target e w b one fixed))
-  form_ends _ es c a t bt rk f ty s p g k = absurd (true≢false (sym c))
+  form_ends _ es c b a t bt rk f ty s p g k = absurd (true≢false (sym c))
 
 pub line_ends : (C : Context) (F : Footprint) (X : SourceJob → Memory → Type 0) → CallsKeep C F X → (l : tree.Line) (lines : List tree.Line)
     → slice_get C.runnable.program.bodies C.procedure ≡ Some lines → code_line C.runnable.program C.procedure C.frame.line ≡ Some l → (w : Memory) → IsIn C F w
@@ -313,11 +318,13 @@ line_ends C F X calls l lines are_lines stands w h covers typing suited part ext
     let f : Form = l.source.form in
     let es : List Expr = l.bindings.exprs in
     let uses : Uses = flat_uses C.runnable.program C.procedure l.bindings.mentions in
-    let a = both_true (covers_form uses f es) (list_all is_formed es) covers in
+    let fields = list_all (has_field_type D) (line_uses l) in
+    let a = both_true (covers_form uses f es) (list_all is_formed es && (is_no_with f && fields)) covers in
+    let e = both_true (list_all is_formed es) (is_no_with f && fields) a.1 in
     let b = both_true (assigns_typed f es) (tests_typed f es && (bounds_typed D f es && exprs_typed D f es)) typing in
     let c = both_true (tests_typed f es) (bounds_typed D f es && exprs_typed D f es) b.1 in
     let d = both_true (bounds_typed D f es) (exprs_typed D f es) c.1 in
     let line : nth_line lines C.frame.line ≡ Some l = sym (ap (λ (o : Option (List tree.Line)). numbered o C.frame.line) are_lines) ∙ stands in
-    form_ends C F X calls l.bindings.mentions w h lines are_lines f es a.0 b.0 c.0 d.0
-    (line_ranks C.runnable.program C.procedure C.frame.line lines l are_lines line extents) a.1 d.1 suited part aimed
+    form_ends C F X calls l.bindings.mentions w h lines are_lines f es a.0 (both_true (is_no_with f) fields e.1).0 b.0 c.0 d.0
+    (line_ranks C.runnable.program C.procedure C.frame.line lines l are_lines line extents) e.0 d.1 suited part aimed
     (λ v k n t i. frame_keeping F C.runnable C.procedure v C.frame t k n l stands i)

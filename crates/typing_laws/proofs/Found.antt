@@ -1,20 +1,21 @@
 -- Elements that are found: their values, and elements as arguments by reference.
-use Rattle.std.proofs.Common.{◌≡◌, ◌⊎◌, inl, inr, refl, sym, ap, ◌∙◌, subst, Bool, true, false, [], Some}
+use Rattle.std.proofs.Common.{◌≡◌, ◌⊎◌, inl, inr, refl, sym, ap, ◌∙◌, subst, ℕ, Bool, true, false, [], Some}
 use Rattle.vb_tree.specs.BoundTree.{Ty}
-use Rattle.bound_tree.specs.Tree.{Declarations, Expr, Exprs, Variable, element, no_exprs, next_expr, typed, variable}
+use Rattle.bound_tree.specs.Tree.{Declarations, Expr, Exprs, Variable, element, field, no_exprs, next_expr, typed, variable}
 use Rattle.bound_tree.specs.Tree as tree
 use Rattle.bound_facts.specs.Node.{is_array_type, type_at}
 use Rattle.row_laws.proofs.Composing.{then_assoc}
 use Rattle.run_base.specs.Frames.{by_address}
 use Rattle.run_base.specs.Outcomes.{Outcome, after, gives, then}
+use Rattle.run_base.specs.Positions.{Position}
 use Rattle.written_trees.specs.Arguments.{is_reference_owner}
-use Rattle.vb6_run.specs.Expressions.{Context, Parts, address_of, argument_of, declared, finished, given_address, given_parts, parts_of, type_shape, value_of}
+use Rattle.vb6_run.specs.Expressions.{Context, Parts, at_address, address_of, argument_of, declared, finished, given_address, given_parts, parts_of, type_shape, value_of}
 use Rattle.vb6_run.specs.Shapes.{simple}
-use Rattle.vb6_run.specs.Store.{Address, Memory, provided, read}
+use Rattle.vb6_run.specs.Store.{Address, Memory, provided, read, root}
 use Rattle.vb6_run.specs.Values.{Value, is_of_shape, scalar}
 use Rattle.run_matches.specs.CoveredVariables.{covers_type}
 use Rattle.typing_laws.specs.Calls.{SourceJob}
-use Rattle.typing_laws.specs.Frames.{Footprint, Ground, IsElement, IsGiven, IsGone, ground}
+use Rattle.typing_laws.specs.Frames.{Footprint, Ground, IsElement, IsGiven, IsGone, Stands, ground}
 use Rattle.typing_laws.specs.Leaving.{Leaves}
 use Rattle.typing_laws.proofs.Addresses.{IsRead, IsSeat, IsUnread, read_seat}
 use Rattle.typing_laws.proofs.Ends.{Ends, keeps_self, then_ends}
@@ -25,10 +26,17 @@ use Rattle.typing_laws.proofs.Elements.{IsFound}
 
 -- ---- what is found
 
--- the value of an expression, and the place of an element
+-- where a scalar field of a user type stands
+pub record IsFieldAt (C : Context) (F : Footprint) (ty : Ty) (d : Expr) (k : ℕ) (w : Memory) : Type 0 where
+  pub position : Position
+  pub is : parts_of C (typed ty (field d k)) w ≡ gives [] (at_address (root (simple ty) position)) w
+  pub stands : Stands (ground (declared C) F) w position ty
+
+-- the value of an expression, and the place of an element or a field
 abbrev pub HasAddress : Context → Footprint → (SourceJob → Memory → Type 0) → Expr → Memory → Type 0
 HasAddress C F X (typed ty (element d indexes)) w =
     Ends (ground (declared C) F) (IsFound (ground (declared C) F) ty) (Leaves C X (typed ty (element d indexes)) w) w (address_of C (typed ty (element d indexes)) w)
+HasAddress C F X (typed ty (field d k)) w = IsFieldAt C F ty d k w
 HasAddress C F X e w = Unit {0}
 
 abbrev pub IsRight : Context → Footprint → (SourceJob → Memory → Type 0) → Expr → Memory → Type 0

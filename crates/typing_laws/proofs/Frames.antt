@@ -21,7 +21,7 @@ use Rattle.vb6_run.specs.Store.{Address, Memory, SourceFrame, root, item, consta
 use Rattle.vb6_run.specs.Values.{Value}
 use Rattle.typing_laws.specs.Frames.{HasOwn, IsKeptBy, IsLimit, IsPlace, IsTypedFrame, Keeps, code_line}
 use Rattle.typing_laws.proofs.Addresses.{place_later}
-use Rattle.typing_laws.proofs.Places.{some_is}
+use Rattle.typing_laws.proofs.Places.{at, fills_by, some_is}
 use Rattle.typing_laws.specs.Frames.{Footprint, Ground, Stands, anywhere, ground}
 use Rattle.run_base.specs.Positions.{Position}
 
@@ -120,7 +120,8 @@ frame_anywhere F R p w f t = record {
     stands_anywhere q ty s = record { holds = s.holds; made = s.made; allowed = refl }
 
     place_anywhere : (v : ℕ) (x : Variable) (a : Address) → IsPlace R.program F w v x a → IsPlace R.program anywhere w v x a
-    place_anywhere v x (root d q) h = (h.0, stands_anywhere q x.ty h.1)
+    place_anywhere v x (root d q) h =
+        (h.0, fills_by (ground (declarations_of R) F) (ground (declarations_of R) anywhere) w w q (λ path ty s. stands_anywhere (at q.root path) ty s) x.ty d h.1)
     place_anywhere v x (item e q j path) h = (h.0, (h.1.0, h.1.1, stands_anywhere q (types.array x.ty 0) h.1.2))
     place_anywhere v x (constant y) h = h
 

@@ -1,22 +1,27 @@
 pub mod Plain
 pub mod Held
+pub mod Places
+pub mod UserTypes
 pub mod Made
+pub mod Laid
 pub mod Sizes
+pub mod Ends
 pub mod Addresses
 pub mod Edges
 pub mod Outside
 pub mod Rows
 pub mod Library
-pub mod Ends
-pub mod Places
 pub mod Uses
 pub mod Flat
 pub mod Callees
+pub mod Wholes
 pub mod Procedures
 pub mod Expressions
 pub mod Arrays
 pub mod Elements
 pub mod Found
+pub mod Fields
+pub mod Groups
 pub mod Bounds
 pub mod Values
 pub mod Arguments
@@ -25,6 +30,7 @@ pub mod Trees
 pub mod Frames
 pub mod Lines
 pub mod Assigning
+pub mod Copies
 pub mod Resizing
 pub mod Extents
 pub mod Choices
@@ -37,6 +43,7 @@ pub mod Entries
 pub mod Runs
 pub mod Joined
 mod Examples
+mod UserExamples
 pub mod Loud
 pub mod Stores
 pub mod Starts

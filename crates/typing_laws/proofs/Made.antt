@@ -1,4 +1,5 @@
--- What variables begin with: a scalar with its first value, and an array with as many first values as its bounds say, or none.
+-- What variables begin with: a scalar with its first value, an array with as many first values as its bounds say, or none, and a user type with the
+-- first values of its fields.
 use Rattle.std.proofs.Common.{◌≡◌, ◌⊎◌, inl, inr, refl, sym, ap, ◌∙◌, subst, ℕ, zero, suc, ◌<◌, ◌*◌, ℤ, pos, negsuc, ◌-ℤ◌, Bool, true, false, not, ◌&&◌, ◌||◌, List, [], ◌∷◌, map, Some, true≢false, arith, lt-ltb}
 use Rattle.std.proofs.lemmas.Bool.{lt-leb}
 use Rattle.std.proofs.lemmas.Int.{ints}
@@ -14,12 +15,14 @@ use Rattle.written_trees.specs.Types.{element_type}
 use Rattle.vb6_run.specs.Shapes.{Shape, simple, group, array, endless, declared_shape, shape_by, user_shapes, variable_shape}
 use Rattle.vb6_run.specs.Store.{Held, Memory, blank, laid, parts, single, table, with_held}
 use Rattle.vb6_run.specs.Values.{Value, count_from, count_values, dimension_of, first_scalar, first_value, is_makeable, is_within_limits, product, repeated, scalar, size}
-use Rattle.run_matches.specs.CoveredVariables.{covers_array_owner, covers_array_variable, covers_bounds, covers_type, is_array_of, is_in_order}
+use Rattle.run_matches.specs.CoveredVariables.{covers_array_owner, covers_array_variable, covers_bounds, covers_type, covers_user, is_array_of, is_in_order}
+use Rattle.run_matches.specs.UserTypes.{is_user, is_user_of}
 use Rattle.run_matches.specs.Typed.{IsSized, no_elements, sized}
-use Rattle.typing_laws.specs.Flat.{is_flat}
+use Rattle.typing_laws.specs.Flat.{is_flat, is_flat_user}
 use Rattle.typing_laws.specs.Typed.{is_unknown}
-use Rattle.typing_laws.specs.Plain.{EachPlain, Holds, IsShapeOf, Plain, array_shape, holds_array, holds_scalar, next_plain, none_plain, scalar_shape}
+use Rattle.typing_laws.specs.Plain.{EachPlain, Holds, IsShapeOf, Plain, array_shape, holds_array, holds_parts, holds_scalar, next_plain, none_plain, scalar_shape, user_shape}
 use Rattle.typing_laws.proofs.Plain.{first_plain, same_as, shape_is}
+use Rattle.typing_laws.proofs.UserTypes.{shape_of_user}
 
 -- ---- flat variables
 
@@ -80,53 +83,72 @@ array_type x e h =
     by (types.array f rank) is c a = (rank, is ∙ ap (λ t. types.array t rank) (second e f c a))
     by _ is c a = absurd (true≢false (sym a))
 
-pub array_flat : (x : Variable) (e : Ty) → covers_array_variable e x ≡ true → is_flat x ≡ true
-array_flat x e h =
+pub array_flat : (D : Declarations) (x : Variable) (e : Ty) → covers_array_variable e x ≡ true → is_flat D x ≡ true
+array_flat D x e h =
     let t = array_type x e h in
-    ap (λ b. covers_type x.ty || b) (ap (λ s. covers_array_variable (element_type s) x) t.1 ∙ h) ∙ or_true (covers_type x.ty)
+    ap (λ b. covers_type x.ty || (b || is_flat_user D x)) (ap (λ s. covers_array_variable (element_type s) x) t.1 ∙ h) ∙ or_true (covers_type x.ty)
   where
     or_true : (b : Bool) → b || true ≡ true
     or_true true = refl
     or_true false = refl
 
--- a flat variable is a scalar or an array
-pub flat_kinds : (x : Variable) → is_flat x ≡ true → (covers_type x.ty ≡ true) ⊎ IsArray x
-flat_kinds x h = by (either (covers_type x.ty) (covers_array_variable (element_type x.ty) x) h)
+-- a user type
+pub record IsUserVariable (D : Declarations) (x : Variable) : Type 0 where
+  pub user_type : ℕ
+  pub is_type : x.ty ≡ types.user user_type
+  pub covers : covers_user D user_type ≡ true
+
+user_of : (D : Declarations) (x : Variable) → is_flat_user D x ≡ true → IsUserVariable D x
+user_of D x h = by x.ty refl h
   where
-    by : (covers_type x.ty ≡ true) ⊎ (covers_array_variable (element_type x.ty) x ≡ true) → (covers_type x.ty ≡ true) ⊎ IsArray x
+    by : (ty : Ty) → x.ty ≡ ty → is_user_of (covers_user D) ty ≡ true → IsUserVariable D x
+    by (types.user t) is c = record { user_type = t; is_type = is; covers = c }
+    by _ is c = absurd (true≢false (sym c))
+
+-- a flat variable is a scalar, an array or of a user type
+abbrev pub FlatKind : Declarations → Variable → Type 0
+FlatKind D x = (covers_type x.ty ≡ true) ⊎ (IsArray x ⊎ IsUserVariable D x)
+
+pub flat_kinds : (D : Declarations) (x : Variable) → is_flat D x ≡ true → FlatKind D x
+flat_kinds D x h = by (either (covers_type x.ty) (covers_array_variable (element_type x.ty) x || is_flat_user D x) h)
+  where
+    more : (covers_array_variable (element_type x.ty) x ≡ true) ⊎ (is_flat_user D x ≡ true) → FlatKind D x
+    more (inl a) = inr (inl (array_of x (element_type x.ty) a))
+    more (inr u) = inr (inr (user_of D x u))
+
+    by : (covers_type x.ty ≡ true) ⊎ (covers_array_variable (element_type x.ty) x || is_flat_user D x ≡ true) → FlatKind D x
     by (inl c) = inl c
-    by (inr a) = inr (array_of x (element_type x.ty) a)
+    by (inr a) = more (either (covers_array_variable (element_type x.ty) x) (is_flat_user D x) a)
 
 -- no such variable is without a type
-pub flat_known : (x : Variable) → is_flat x ≡ true → is_unknown x.ty ≡ false
-flat_known x h = by (flat_kinds x h)
+pub flat_known : (D : Declarations) (x : Variable) → is_flat D x ≡ true → is_unknown x.ty ≡ false
+flat_known D x h = by (flat_kinds D x h)
   where
     known : (ty : Ty) → covers_type ty ≡ true → is_unknown ty ≡ false
     known types.unknown c = absurd (true≢false (sym c))
     known _ c = refl
 
-    by : (covers_type x.ty ≡ true) ⊎ IsArray x → is_unknown x.ty ≡ false
+    by : FlatKind D x → is_unknown x.ty ≡ false
     by (inl c) = known x.ty c
-    by (inr a) = ap is_unknown a.is_type
+    by (inr (inl a)) = ap is_unknown a.is_type
+    by (inr (inr u)) = ap is_unknown u.is_type
 
-pub scalar_flat : (x : Variable) → covers_type x.ty ≡ true → is_flat x ≡ true
-scalar_flat x c = ap (λ b. b || covers_array_variable (element_type x.ty) x) c
+pub scalar_flat : (D : Declarations) (x : Variable) → covers_type x.ty ≡ true → is_flat D x ≡ true
+scalar_flat D x c = ap (λ b. b || (covers_array_variable (element_type x.ty) x || is_flat_user D x)) c
 
 -- ---- shapes
 
-pub shape_kind : (users : ℕ → Shape) (x : Variable) → is_flat x ≡ true → IsShapeOf x.ty (shape_by users x.bounds x.ty)
-shape_kind users x h = by (flat_kinds x h)
-  where
-    by : (covers_type x.ty ≡ true) ⊎ IsArray x → IsShapeOf x.ty (shape_by users x.bounds x.ty)
-    by (inl c) = subst (λ s. IsShapeOf x.ty s) (sym (shape_is users x.bounds x.ty c)) (scalar_shape x.ty c)
-    by (inr a) =
-        subst (λ t. IsShapeOf t (shape_by users x.bounds t)) (sym a.is_type)
-        (subst (λ s. IsShapeOf (types.array a.element a.rank) (array s x.bounds)) (sym (shape_is users [] a.element a.covers))
-        (array_shape a.element a.rank x.bounds a.covers))
-
-pub shape_of_variable : (D : Declarations) (v : ℕ) (x : Variable) → slice_get D.vars v ≡ Some x → is_flat x ≡ true → IsShapeOf x.ty (variable_shape D v)
+pub shape_of_variable : (D : Declarations) (v : ℕ) (x : Variable) → slice_get D.vars v ≡ Some x → is_flat D x ≡ true → IsShapeOf D x.ty (variable_shape D v)
 shape_of_variable D v x is h =
-    subst (λ o. IsShapeOf x.ty (declared_shape (user_shapes D) o)) (sym is) (shape_kind (user_shapes D) x h)
+    subst (λ o. IsShapeOf D x.ty (declared_shape (user_shapes D) o)) (sym is) (by (flat_kinds D x h))
+  where
+    by : FlatKind D x → IsShapeOf D x.ty (shape_by (user_shapes D) x.bounds x.ty)
+    by (inl c) = subst (λ s. IsShapeOf D x.ty s) (sym (shape_is (user_shapes D) x.bounds x.ty c)) (scalar_shape x.ty c)
+    by (inr (inl a)) =
+        subst (λ t. IsShapeOf D t (shape_by (user_shapes D) x.bounds t)) (sym a.is_type)
+        (subst (λ s. IsShapeOf D (types.array a.element a.rank) (array s x.bounds)) (sym (shape_is (user_shapes D) [] a.element a.covers))
+        (array_shape a.element a.rank x.bounds a.covers))
+    by (inr (inr u)) = subst (λ t. IsShapeOf D t (shape_by (user_shapes D) x.bounds t)) (sym u.is_type) (shape_of_user D u.user_type u.covers)
 
 -- ---- first values
 
@@ -136,9 +158,10 @@ first_held (group t fs) = parts
 first_held (array e bounds) = table e (map dimension_of bounds) (repeated (size (map dimension_of bounds)) (first_value e))
 first_held endless = blank
 
-pub laid_is : (ty : Ty) (s : Shape) (q : Position) (w : Memory) → IsShapeOf ty s → laid s q w ≡ with_held q (first_held s) w
-laid_is _ _ q w (scalar_shape ty c) = refl
-laid_is _ _ q w (array_shape e rank bounds c) = refl
+pub laid_is : (D : Declarations) (ty : Ty) (s : Shape) (q : Position) (w : Memory) → IsShapeOf D ty s → is_user ty ≡ false → laid s q w ≡ with_held q (first_held s) w
+laid_is D _ _ q w (scalar_shape ty c) flat = refl
+laid_is D _ _ q w (array_shape e rank bounds c) flat = refl
+laid_is D _ _ q w (user_shape t d fs is of) flat = absurd (true≢false flat)
 
 pub each_repeated : (ty : Ty) (z : _) → Plain ty z → (n : ℕ) → EachPlain ty (repeated n (scalar ty z))
 each_repeated ty z p zero = none_plain ty
@@ -177,13 +200,24 @@ first_sized (b ∷ bs) x o within =
     (lt-ltb 0 (size (map dimension_of (b ∷ bs))) (some_in (b ∷ bs) o)) within (count_repeated (size (map dimension_of (b ∷ bs))) x)
 
 -- what is laid for a variable
-pub first_holds : (users : ℕ → Shape) (x : Variable) → is_flat x ≡ true → is_makeable (shape_by users x.bounds x.ty) ≡ true
-    → Holds x.ty (first_held (shape_by users x.bounds x.ty))
-first_holds users x h = by (flat_kinds x h)
+pub first_of_variable : (D : Declarations) (v : ℕ) (x : Variable) → slice_get D.vars v ≡ Some x → is_flat D x ≡ true → is_makeable (variable_shape D v) ≡ true
+    → Holds x.ty (first_held (variable_shape D v))
+first_of_variable D v x is h =
+    subst (λ o. is_makeable (declared_shape (user_shapes D) o) ≡ true → Holds x.ty (first_held (declared_shape (user_shapes D) o))) (sym is)
+    (by (flat_kinds D x h))
   where
-    by : (covers_type x.ty ≡ true) ⊎ IsArray x → is_makeable (shape_by users x.bounds x.ty) ≡ true → Holds x.ty (first_held (shape_by users x.bounds x.ty))
+    users : ℕ → Shape
+    users = user_shapes D
+
+    of_parts : (t : ℕ) (d : Shape) → IsShapeOf D (types.user t) d → Holds (types.user t) (first_held d)
+    of_parts _ _ (user_shape t d fs is of) = holds_parts t
+    of_parts t _ (scalar_shape ty c) = absurd (true≢false (sym c))
+
+    by : FlatKind D x → is_makeable (shape_by users x.bounds x.ty) ≡ true → Holds x.ty (first_held (shape_by users x.bounds x.ty))
     by (inl c) m = subst (λ s. Holds x.ty (first_held s)) (sym (shape_is users x.bounds x.ty c)) (holds_scalar x.ty (first_scalar x.ty) (first_plain x.ty c))
-    by (inr a) m =
+    by (inr (inr u)) m =
+        subst (λ t. Holds t (first_held (shape_by users x.bounds t))) (sym u.is_type) (of_parts u.user_type (users u.user_type) (shape_of_user D u.user_type u.covers))
+    by (inr (inl a)) m =
         let s : Shape = array (simple a.element) x.bounds in
         let is : shape_by users x.bounds x.ty ≡ s =
         ap (λ t. shape_by users x.bounds t) a.is_type ∙ ap (λ d. array d x.bounds) (shape_is users [] a.element a.covers) in
@@ -193,9 +227,3 @@ first_holds users x h = by (flat_kinds x h)
         (holds_array a.element a.rank (map dimension_of x.bounds) (repeated (size (map dimension_of x.bounds)) (first_value (simple a.element))) a.covers
         (first_sized x.bounds (first_value (simple a.element)) a.bounds (both_true true (is_within_limits (map dimension_of x.bounds)) within).1)
         (each_repeated a.element (first_scalar a.element) (first_plain a.element a.covers) (size (map dimension_of x.bounds)))))
-
-pub first_of_variable : (D : Declarations) (v : ℕ) (x : Variable) → slice_get D.vars v ≡ Some x → is_flat x ≡ true → is_makeable (variable_shape D v) ≡ true
-    → Holds x.ty (first_held (variable_shape D v))
-first_of_variable D v x is h =
-    subst (λ o. is_makeable (declared_shape (user_shapes D) o) ≡ true → Holds x.ty (first_held (declared_shape (user_shapes D) o))) (sym is)
-    (first_holds (user_shapes D) x h)

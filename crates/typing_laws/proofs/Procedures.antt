@@ -1,9 +1,9 @@
 -- The parts of covered procedures.
-use Rattle.std.proofs.Common.{◌≡◌, refl, sym, ap, subst, ◌∙◌, ℕ, true, cond, not, ◌&&◌, nat_eq, true≢false, List, Option, Some, None}
+use Rattle.std.proofs.Common.{◌≡◌, refl, sym, ap, subst, ◌∙◌, ℕ, true, cond, not, ◌&&◌, nat_eq, true≢false, List, Option, Some, None, ◌⊎◌}
 use Rattle.std.specs.Prelude.{slice_get, map, is_some}
 use Rattle.std.specs.List.{list_all}
 use Rattle.std.specs.Cmp.Lexicographic.{pointwise}
-use Rattle.up_base.proofs.Tests.{both_true, not_true}
+use Rattle.up_base.proofs.Tests.{both_true, not_true, either}
 use Rattle.vb_tree.specs.declared.declared.Owner.{Owner}
 use Rattle.vb_tree.specs.declared.declared.Owner.TheVariants as owner
 use Rattle.vb_tree.specs.declared.declared.ProcKind.{ProcKind}
@@ -15,7 +15,7 @@ use Rattle.bound_facts.specs.Locks.{is_same_type}
 use Rattle.vb6_run.specs.Forms.{body_of}
 use Rattle.vb6_run.specs.Programs.{answer_in, owned_from}
 use Rattle.vb6_run.specs.Runnables.{Runnable, is_class_file}
-use Rattle.run_matches.specs.CoveredVariables.{belongs_to, covers_declared, has_extents}
+use Rattle.run_matches.specs.CoveredVariables.{belongs_to, covers_declared, has_extents, covers_type, is_loud, is_loud_owner}
 use Rattle.run_matches.specs.CoveredLines.{covers_in_block, covers_line}
 use Rattle.run_matches.specs.Covered.{covers_all_calls, covers_body, covers_calls, covers_head, covers_joined, covers_names, covers_parameter, covers_procedure, covers_result, covers_site, covers_variables, has_answer, has_result, is_answer_of, is_parameter_of, is_plain, is_plain_kind, is_result_in, is_scalar_or_loud, is_taken_in}
 use Rattle.run_matches.specs.Shared.{is_outer}
@@ -110,7 +110,9 @@ pub record Parameter (P : Program) (p : ℕ) (v : VarId) : Type 0 where
   pub variable : Variable
   pub is_variable : slice_get P.declarations.vars v.0 ≡ Some variable
   pub is_parameter : is_parameter_of p variable.owner ≡ true
-  pub flat : is_flat variable ≡ true
+  pub flat : is_flat P.declarations variable ≡ true
+  -- what is no scalar runs as none that is quiet
+  pub loud : (covers_type variable.ty ≡ true) ⊎ (is_loud P v.0 (Some variable) ≡ true)
 
 parameter_belongs : (p : ℕ) (o : Owner) → is_parameter_of p o ≡ true → belongs_to p o ≡ true
 parameter_belongs p (owner.Value q) h = h
@@ -126,7 +128,7 @@ parameter_in : (P : Program) (p : ℕ) (v : VarId) (o : Option Variable) → sli
 parameter_in P p v None is c h = absurd (true≢false (sym h))
 parameter_in P p v (Some y) is c h =
     let b = both_true (is_parameter_of p y.owner) (is_scalar_or_loud P v.0 y) h in
-    record { variable = y; is_variable = is; is_parameter = b.0; flat = own_flat P p v.0 y c is (parameter_belongs p y.owner b.0) }
+    record { variable = y; is_variable = is; is_parameter = b.0; flat = own_flat P p v.0 y c is (parameter_belongs p y.owner b.0); loud = either (covers_type y.ty) (is_loud_owner P v.0 y.owner) b.1 }
 
 pub parameter_of : (P : Program) (p : ℕ) (v : VarId) → has_flat_variables P p ≡ true → covers_parameter P p v ≡ true → Parameter P p v
 parameter_of P p v c h = parameter_in P p v (slice_get P.declarations.vars v.0) refl c h

@@ -1,5 +1,5 @@
 -- A program starts in a memory in which the variables of its standard modules have values of their types.
-use Rattle.std.proofs.Common.{◌≡◌, inl, refl, sym, ap, ◌∙◌, subst, ℕ, suc, Bool, true, false, cond, ◌||◌, nat_eq, true≢false, List, [], ◌∷◌, Some, eqb-true, eq-eqb}
+use Rattle.std.proofs.Common.{◌≡◌, inl, refl, sym, ap, ◌∙◌, subst, ℕ, suc, Bool, true, false, ◌||◌, nat_eq, true≢false, List, [], ◌∷◌, Some, eqb-true, eq-eqb}
 use Rattle.std.specs.Prelude.{slice_get}
 use Rattle.std.specs.List.{list_any}
 use Rattle.up_base.proofs.Tests.{neither}
@@ -7,39 +7,18 @@ use Rattle.vb_tree.specs.declared.declared.Owner.{Owner}
 use Rattle.vb_tree.specs.declared.declared.Owner.TheVariants as owner
 use Rattle.bound_tree.specs.Tree.{Declarations, Variable}
 use Rattle.run_base.specs.Outcomes.{Output, Outcome, gives, raises, spent, outside, after, then}
-use Rattle.run_base.specs.Positions.{Root, shared, made, field, Position, inner, is_same_position, updated}
+use Rattle.run_base.specs.Positions.{Root, shared, made, field}
 use Rattle.vb6_run.specs.Programs.{empty_memory, is_module_variable, lay_module_variables, owned_from}
-use Rattle.vb6_run.specs.Shapes.{Shape, simple, group, array, endless, Shapes, no_shapes, next_shape, variable_shape}
-use Rattle.vb6_run.specs.Store.{Held, Memory, all_laid, blank, laid, parts, provided, single, with_held}
-use Rattle.vb6_run.specs.Values.{first_scalar, is_makeable}
+use Rattle.vb6_run.specs.Shapes.{variable_shape}
+use Rattle.vb6_run.specs.Store.{Memory, blank, laid, provided}
+use Rattle.vb6_run.specs.Values.{is_makeable}
 use Rattle.run_matches.specs.Typed.{EndsIn}
 use Rattle.typing_laws.specs.Flat.{is_flat}
 use Rattle.typing_laws.specs.Plain.{Holds}
-use Rattle.typing_laws.specs.Frames.{Ground, IsSound, Stands, anywhere, ground, is_static, shared_place}
+use Rattle.typing_laws.specs.Frames.{Fills, Ground, IsSound, anywhere, ground, is_static, shared_place}
 use Rattle.typing_laws.proofs.Owned.{OwnedAt, owned_at, owned_of}
-use Rattle.typing_laws.proofs.Made.{first_held, first_of_variable, laid_is, shape_of_variable}
-use Rattle.typing_laws.proofs.Places.{same_position, self_same, some_is}
-
--- ---- what is laid elsewhere
-
-put_elsewhere : (q r : Position) (h : Held) (w : Memory) → (q.root ≡ r.root → ⊥) → (with_held q h w).held r ≡ w.held r
-put_elsewhere q r h w apart = by (is_same_position q r) refl
-  where
-    by : (b : Bool) → is_same_position q r ≡ b → updated w.held q h r ≡ w.held r
-    by true e = absurd (apart (ap (λ (z : Position). z.root) (same_position q r e)))
-    by false e = ap (λ b. cond b h (w.held r)) e
-
-mutual
-  laid_elsewhere : (s : Shape) (q r : Position) (w : Memory) → (q.root ≡ r.root → ⊥) → (laid s q w).held r ≡ w.held r
-  laid_elsewhere (simple ty) q r w apart = put_elsewhere q r (single ty (first_scalar ty)) w apart
-  laid_elsewhere (group t fs) q r w apart = all_elsewhere fs q 0 r (with_held q parts w) apart ∙ put_elsewhere q r parts w apart
-  laid_elsewhere (array e bounds) q r w apart = put_elsewhere q r _ w apart
-  laid_elsewhere endless q r w apart = refl
-
-  all_elsewhere : (fs : Shapes) (q : Position) (k : ℕ) (r : Position) (w : Memory) → (q.root ≡ r.root → ⊥) → (all_laid fs q k w).held r ≡ w.held r
-  all_elsewhere no_shapes q k r w apart = refl
-  all_elsewhere (next_shape s rest) q k r w apart =
-      all_elsewhere rest q (suc k) r (laid s (inner q k) w) apart ∙ laid_elsewhere s (inner q k) r w apart
+use Rattle.typing_laws.proofs.Laid.{laid_apart, laid_fills, root_apart}
+use Rattle.typing_laws.proofs.Places.{at, fills_by, some_is}
 
 -- ---- one variable after another
 
@@ -76,25 +55,24 @@ module _ (D : Declarations) where
       by true e = ends_after P [] (lay_module_variables D ks (laid (variable_shape D j) (shared_place j) w)) (h e)
       by false e = tt
 
-  module _ (k : ℕ) (x : Variable) (is : slice_get D.vars k ≡ Some x) (c : is_flat x ≡ true) where
+  module _ (k : ℕ) (x : Variable) (is : slice_get D.vars k ≡ Some x) (c : is_flat D x ≡ true) where
     abbrev Here : Memory → Type 0
-    Here w = Stands K w (shared_place k) x.ty
+    Here w = Fills K w (shared_place k) x.ty (variable_shape D k)
 
     laid_here : (w : Memory) → is_makeable (variable_shape D k) ≡ true → Here (laid (variable_shape D k) (shared_place k) w)
-    laid_here w m =
-        let h : Held = first_held (variable_shape D k) in
-        subst Here (sym (laid_is x.ty (variable_shape D k) (shared_place k) w (shape_of_variable D k x is c))) (record {
-          holds = subst (λ z. Holds x.ty z) (sym (ap (λ b. cond b h (w.held (shared_place k))) (self_same (shared_place k)))) (first_of_variable D k x is c m);
-          made = tt;
-          allowed = refl;
-        })
+    laid_here w m = laid_fills K k x is c m (shared (k ∷ [])) w tt refl (λ user path. refl)
 
     still_here : (j : ℕ) (w : Memory) → nat_eq k j ≡ false → Here w → Here (laid (variable_shape D j) (shared_place j) w)
-    still_here j w e s = record {
-      holds = subst (λ z. Holds x.ty z) (sym (laid_elsewhere (variable_shape D j) (shared_place j) (shared_place k) w (apart_by j k e))) s.holds;
-      made = tt;
-      allowed = refl;
-    }
+    still_here j w e f =
+        fills_by K K w (laid (variable_shape D j) (shared_place j) w) (shared_place k)
+        (λ path ty z. record {
+          holds =
+              subst (λ h. Holds ty h)
+              (sym (laid_apart (variable_shape D j) (shared_place j) (at (shared (k ∷ [])) path) w (root_apart (shared_place j) (at (shared (k ∷ [])) path) (apart_by j k e))))
+              z.holds;
+          made = tt;
+          allowed = refl;
+        }) x.ty (variable_shape D k) f
 
     -- the variable itself, which may be laid again
     laid_as : (j : ℕ) (w : Memory) → nat_eq k j ≡ true → is_makeable (variable_shape D j) ≡ true → Here (laid (variable_shape D j) (shared_place j) w)
@@ -123,7 +101,7 @@ module _ (D : Declarations) where
 
   -- what isn't laid is blank
   abbrev IsBlank : ℕ → Memory → Type 0
-  IsBlank k w = w.held (shared_place k) ≡ blank
+  IsBlank k w = (path : List ℕ) → w.held (at (shared (k ∷ [])) path) ≡ blank
 
   stays_blank : (k : ℕ) (ks : List ℕ) (w : Memory) → list_any (nat_eq k) ks ≡ false → IsBlank k w → EndsIn (IsBlank k) (lay_module_variables D ks w)
   stays_blank k [] w h b = b
@@ -131,7 +109,9 @@ module _ (D : Declarations) where
       let both = neither (nat_eq k j) (list_any (nat_eq k) ks) h in
       behind_one (IsBlank k) j ks w
       (λ m. stays_blank k ks (laid (variable_shape D j) (shared_place j) w) both.1
-      (laid_elsewhere (variable_shape D j) (shared_place j) (shared_place k) w (apart_by j k both.0) ∙ b))
+      (λ path.
+      laid_apart (variable_shape D j) (shared_place j) (at (shared (k ∷ [])) path) w (root_apart (shared_place j) (at (shared (k ∷ [])) path) (apart_by j k both.0))
+      ∙ b path))
 
   -- ---- the start
 
@@ -163,11 +143,14 @@ module _ (D : Declarations) where
   pub start_is_sound : (o : List Output) (w : Memory) → lay_module_variables D module_variables empty_memory ≡ gives o tt w → IsSound K w
   start_is_sound o w e = record {
     modules = λ v x is m c.
-        ended (λ u. Stands K u (shared_place v) x.ty) o (lay_module_variables D module_variables empty_memory) w e
+        ended (λ u. Fills K u (shared_place v) x.ty (variable_shape D v)) o (lay_module_variables D module_variables empty_memory) w e
         (made_here v x is c module_variables empty_memory (owned_at (is_module_variable D) D v x is m));
     statics = λ v x is st c.
-        inl (ended (IsBlank v) o (lay_module_variables D module_variables empty_memory) w e
-        (stays_blank v module_variables empty_memory (static_unlaid v x is st) refl));
+        let blank_there = ended (IsBlank v) o (lay_module_variables D module_variables empty_memory) w e
+        (stays_blank v module_variables empty_memory (static_unlaid v x is st) (λ path. refl)) in
+        inl (record { whole = blank_there []; parts = λ user path. blank_there path });
     shares = λ v. refl;
     fresh = λ n l. refl;
+    shared_parts = λ v x is user path. refl;
+    fresh_parts = λ v x is user n path l. refl;
   }

@@ -19,25 +19,28 @@ use Rattle.written_trees.specs.Arguments.{is_property, is_reference_owner, takes
 use Rattle.vb6_run.specs.Expressions.{Context, declared, value_of, scalar_value, scalar_in, long_in, whole_number, parts_of, indexes_of, argument_of, library_call, values_of}
 use Rattle.vb6_run.specs.Store.{Memory}
 use Rattle.run_matches.specs.CoveredVariables.{covers_type}
-use Rattle.run_matches.specs.CoveredExprs.{Uses, covers_argument, covers_array, covers_dimension, covers_expr, covers_exprs, covers_library, covers_term, is_bound}
+use Rattle.run_matches.specs.CoveredExprs.{Uses, covers_argument, covers_array, covers_dimension, covers_expr, covers_exprs, covers_library, covers_place, covers_term, is_bound}
 use Rattle.run_matches.specs.Covered.{is_referred, suits_argument, suits_array, suits_group, takes_address}
 use Rattle.run_matches.specs.Formed.{are_longs, has_elements, is_row_of_call, types_of}
 use Rattle.typing_laws.specs.Flat.{has_flat_variables, flat_uses, outer_uses}
+use Rattle.run_matches.specs.UserTypes.{is_user}
 use Rattle.typing_laws.specs.Calls.{CallsKeep, SourceJob}
 use Rattle.typing_laws.specs.Frames.{IsGiven}
 use Rattle.typing_laws.specs.Leaving.{Leaves, ExprsLeave, passed_value}
-use Rattle.typing_laws.specs.Typed.{fits_parameter, fits_type, is_typed_argument}
+use Rattle.typing_laws.specs.Typed.{fits_parameter, fits_type, is_typed_argument, is_unknown}
 use Rattle.typing_laws.proofs.Ends.{Ends}
-use Rattle.typing_laws.proofs.Expressions.{Fits, IsTerm, IsTyped, fitting, value_call_ends}
+use Rattle.typing_laws.proofs.Expressions.{Fits, IsTerm, IsTyped, fit_same, fitting, value_call_ends}
 use Rattle.typing_laws.proofs.Library.{ArePlain}
 use Rattle.typing_laws.proofs.Plain.{same_as}
 use Rattle.typing_laws.proofs.Procedures.{Parameter}
-use Rattle.typing_laws.proofs.Flat.{NamesArray, Referred, array_named, reference_covered, value_covered}
+use Rattle.typing_laws.proofs.Fields.{same_users}
+use Rattle.typing_laws.proofs.Groups.{place_by_reference, place_by_value}
+use Rattle.typing_laws.proofs.Flat.{NamesArray, ReferenceKind, array_named, place_user, reference_covered, value_covered}
 use Rattle.typing_laws.proofs.Arguments.{array_given, by_value_ends, reference_ends}
 use Rattle.typing_laws.proofs.Bounds.{bounds_end}
 use Rattle.typing_laws.proofs.Elements.{AreIndexes, found_ends}
 use Rattle.typing_laws.proofs.Found.{HasAddress, IsRight}
-use Rattle.typing_laws.proofs.Made.{flat_known}
+use Rattle.typing_laws.proofs.Made.{FlatKind, flat_kinds, flat_known}
 use Rattle.typing_laws.proofs.Uses.{UsedArray, array_use_is}
 use Rattle.typing_laws.proofs.Values.{Callee, covered_type, input_ends, no_arguments, reference_at}
 use Rattle.typing_laws.specs.Frames.{Footprint, Ground, ground}
@@ -126,6 +129,24 @@ first_place i = omega arith
 pub next_place : (i j : ℕ) → i + suc j ≡ suc i + j
 next_place i j = omega arith
 
+scalar_apart : (s t : Ty) → covers_type s ≡ true → is_user t ≡ true → is_same_type s t ≡ true → ⊥
+scalar_apart types.boolean (types.user t) c u h = true≢false (sym h)
+scalar_apart types.byte (types.user t) c u h = true≢false (sym h)
+scalar_apart types.integer (types.user t) c u h = true≢false (sym h)
+scalar_apart types.long (types.user t) c u h = true≢false (sym h)
+scalar_apart types.currency (types.user t) c u h = true≢false (sym h)
+scalar_apart types.str (types.user t) c u h = true≢false (sym h)
+scalar_apart _ (types.user t) c u h = true≢false (sym c)
+scalar_apart s _ c u h = true≢false (sym u)
+
+array_apart : (e : Ty) (rank : ℕ) (t : Ty) → is_user t ≡ true → is_same_type (types.array e rank) t ≡ true → ⊥
+array_apart e rank (types.user t) u h = true≢false (sym h)
+array_apart e rank _ u h = true≢false (sym u)
+
+user_known : (t : Ty) → is_user t ≡ true → is_unknown t ≡ false
+user_known (types.user t) h = refl
+user_known _ h = absurd (true≢false (sym h))
+
 -- ---- all expressions
 
 module _ (C : Context) (F : Footprint) (X : SourceJob → Memory → Type 0) (calls : CallsKeep C F X) (mentions : List Mention) where
@@ -197,16 +218,34 @@ module _ (C : Context) (F : Footprint) (X : SourceJob → Memory → Type 0) (ca
   abbrev pub StandFrom : Procedure → (place : ℕ) → List VarId → Type 0
   StandFrom x i vs = (j : ℕ) → slice_get vs j ≡ slice_get x.params (i + j)
 
+  -- a parameter that is given a user type is of that type
+  user_parameter : (q : ℕ) (p : VarId) (y : Parameter C.runnable.program q p) (ty : Ty) → is_user ty ≡ true → fits_type y.variable.ty ty ≡ true → ty ≡ y.variable.ty
+  user_parameter q p y ty user fit = by (flat_kinds D y.variable y.flat)
+    where
+      same : is_same_type y.variable.ty ty ≡ true
+      same = fit_same y.variable.ty ty (flat_known D y.variable y.flat) (user_known ty user) fit
+
+      by : FlatKind D y.variable → ty ≡ y.variable.ty
+      by (inl c) = absurd (scalar_apart y.variable.ty ty c user same)
+      by (inr (inl a)) = absurd (array_apart a.element a.rank ty user (sym (ap (λ t. is_same_type t ty) a.is_type) ∙ same))
+      by (inr (inr u)) = sym (same_users y.variable.ty ty (ap is_user u.is_type) same)
+
   pub given_ends : (q i : ℕ) (k : Called C q) (p : VarId) (y : Parameter C.runnable.program q p) → slice_get k.procedure.params i ≡ Some p → (a : Argument)
       → covers_argument uses a ≡ true → is_typed_argument D a ≡ true → fits_parameter a (slice_get D.vars p.0) ≡ true → suits_argument D q i a ≡ true
       → (w : Memory) → Fits C F w → (covers_expr uses (passed_value a) ≡ true → Right (passed_value a) w)
       → Ends K (λ v g. IsGiven K v (slice_get D.vars p.0) g) (Leaves C X (passed_value a) w) w (argument_of C (C.runnable.quiet q i) a w)
   given_ends q i k p y at (tree.by_value e) covers typing fit suit w fits h =
-      let c : covers_expr uses e ≡ true = value_covered all_uses e covers in
       subst (λ o. Ends K (λ v g. IsGiven K v o g) (Leaves C X e w) w (argument_of C (C.runnable.quiet q i) (tree.by_value e) w)) (sym y.is_variable)
-      (by_value_ends C F X calls mentions w y.variable e (C.runnable.quiet q i)
-      (fitting y.variable.ty (type_at e) (flat_known y.variable y.flat) (covered_type C F X calls mentions e c)
-      (sym (ap (λ o. fits_parameter (tree.by_value e) o) y.is_variable) ∙ fit)) (h c).0)
+      (by (value_covered all_uses e covers) (sym (ap (λ o. fits_parameter (tree.by_value e) o) y.is_variable) ∙ fit))
+    where
+      by : (covers_expr uses e ≡ true) ⊎ (covers_place uses e ≡ true) → fits_type y.variable.ty (type_at e) ≡ true
+          → Ends K (λ v g. IsGiven K v (Some y.variable) g) (Leaves C X e w) w (argument_of C (C.runnable.quiet q i) (tree.by_value e) w)
+      by (inl c) fit =
+          by_value_ends C F X calls mentions w y.variable e (C.runnable.quiet q i)
+          (fitting y.variable.ty (type_at e) (flat_known D y.variable y.flat) (covered_type C F X calls mentions e c) fit) (h c).0
+      by (inr c) fit =
+          let user = place_user all_uses e c in
+          place_by_value C F mentions (Leaves C X e w) w fits y.variable e (C.runnable.quiet q i) c user (user_parameter q p y (type_at e) user fit)
   given_ends q i k p y at (tree.by_reference e) covers typing fit suit w fits h =
       let b = both_true (takes_address D q i) (is_referred e && (suits_array D q i e && suits_group D q i e)) suit in
       let r = both_true (is_referred e) (suits_array D q i e && suits_group D q i e) b.1 in
@@ -214,13 +253,16 @@ module _ (C : Context) (F : Footprint) (X : SourceJob → Memory → Type 0) (ca
       (by (reference_covered all_uses e covers) r.0 (sym (ap (λ o. fits_parameter (tree.by_reference e) o) y.is_variable) ∙ fit)
       (reference_at D q i k.procedure p y.variable k.is_procedure at y.is_variable (both_true (not (is_property D q)) (takes_reference D q i) b.0).1) h)
     where
-      by : Referred all_uses e ⊎ NamesArray uses e → is_referred e ≡ true → fits_type y.variable.ty (type_at e) ≡ true → is_reference_owner y.variable.owner ≡ true
+      by : ReferenceKind all_uses e → is_referred e ≡ true → fits_type y.variable.ty (type_at e) ≡ true → is_reference_owner y.variable.owner ≡ true
           → (covers_expr uses e ≡ true → Right e w)
           → Ends K (λ v g. IsGiven K v (Some y.variable) g) (Leaves C X e w) w (argument_of C (C.runnable.quiet q i) (tree.by_reference e) w)
       by (inl c) referred fit reference h =
           reference_ends C F X calls mentions w fits y.variable e (C.runnable.quiet q i) c.covers c.passes typing referred
-          (fitting y.variable.ty (type_at e) (flat_known y.variable y.flat) (covered_type C F X calls mentions e c.covers) fit) reference (h c.covers)
-      by (inr n) referred fit reference h = array_given C F X calls mentions w fits y.variable e (C.runnable.quiet q i) n y.flat fit reference
+          (fitting y.variable.ty (type_at e) (flat_known D y.variable y.flat) (covered_type C F X calls mentions e c.covers) fit) reference (h c.covers)
+      by (inr (inr c)) referred fit reference h =
+          let user = place_user all_uses e c in
+          place_by_reference C F mentions (Leaves C X e w) w fits y.variable e (C.runnable.quiet q i) c user (user_parameter q p y (type_at e) user fit) reference
+      by (inr (inl n)) referred fit reference h = array_given C F X calls mentions w fits y.variable e (C.runnable.quiet q i) n y.flat fit reference
 
   -- the value of an index
   pub long_then : {B : Type 0} (e : Expr) (w : Memory) (k : ℤ → Memory → Outcome Memory B)

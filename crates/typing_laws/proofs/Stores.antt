@@ -3,6 +3,7 @@ use Rattle.std.proofs.Common.{◌≡◌, ◌⊎◌, inl, inr, refl, sym, ap, ◌
 use Rattle.std.specs.Prelude.{slice_get}
 use Rattle.vb_tree.specs.BoundTree.{Ty}
 use Rattle.vb_tree.specs.BoundTree as types
+use Rattle.vb_tree.specs.declared.declared.VarId.{VarId}
 use Rattle.vb_tree.specs.declared.value.Value6.{Value6}
 use Rattle.vb_tree.specs.declared.value.Value6.TheVariants as v
 use Rattle.bound_tree.specs.Tree.{Procedure, Variable}
@@ -12,24 +13,25 @@ use Rattle.run_base.specs.Outcomes.{Outcome, gives, raises, spent, outside}
 use Rattle.run_base.specs.Positions.{Root, shared, made, field, Position, whole, inner}
 use Rattle.vb6_run.specs.Programs.{run6}
 use Rattle.vb6_run.specs.Shapes.{Shape, simple, group, array, endless, Shapes, no_shapes, next_shape, is_same_shape, variable_shape}
-use Rattle.vb6_run.specs.Store.{Held, Memory, SourceGiven, blank, parts, single, table}
+use Rattle.vb6_run.specs.Store.{Held, Memory, SourceGiven, blank, single, table}
 use Rattle.vb6_run.specs.Values.{Dimension, Value, Values, next_value, scalar}
 use Rattle.run_matches.specs.CoveredVariables.{covers_type}
 use Rattle.run_matches.specs.Maps.{IsMade, Map, mark, root_variable}
 use Rattle.run_matches.specs.Typed.{AllHeld, AreOf, EachOf, EndsIn, FieldsHeld, IsHeld, IsObjectOf, IsOf, IsScalar, IsSized, SourceTyped, held_parts, held_single, held_table, next_each, next_of, none_each, none_of, of_elements, of_fields, of_scalar}
 use Rattle.run_matches.specs.Upgrades.{Upgrade, runnable_of}
 use Rattle.typing_laws.specs.Calls.{IsReady, SourceJob}
-use Rattle.typing_laws.specs.Frames.{AreGiven, Ground, IsBlankStatic, IsSound, Keeps, MayStand, Stands, anywhere, footprint_of, ground, is_static, shared_place}
+use Rattle.typing_laws.specs.Frames.{AreGiven, AreInside, Fills, Ground, IsBlankStatic, IsPartOf, IsSound, Keeps, MayStand, Stands, anywhere, footprint_of, ground, is_static, shared_place}
 use Rattle.typing_laws.specs.Flat.{is_flat}
 use Rattle.typing_laws.specs.Leaving.{started}
-use Rattle.typing_laws.specs.Plain.{EachPlain, Holds, IsShapeOf, array_shape, holds_array, holds_scalar, next_plain, none_plain, scalar_shape}
+use Rattle.typing_laws.specs.Plain.{AreShapesOf, EachPlain, Holds, IsShapeOf, array_shape, holds_array, holds_parts, holds_scalar, next_field, next_plain, no_fields, none_plain, scalar_shape, user_shape}
 use Rattle.typing_laws.specs.Results.{IsRunResult}
 use Rattle.typing_laws.proofs.Ends.{keeps_then}
-use Rattle.typing_laws.proofs.Held.{Single, Table, single_of, table_of}
+use Rattle.typing_laws.proofs.Held.{Single, Table, parts_of, single_of, table_of}
 use Rattle.typing_laws.proofs.Made.{shape_of_variable}
 use Rattle.typing_laws.proofs.Places.{held_blank, keeps_same, some_is}
 use Rattle.typing_laws.proofs.Plain.{is_covered, plain_of, same_as, scalar_of, self}
-use Rattle.typing_laws.proofs.Runs.{run_result}
+use Rattle.typing_laws.proofs.Runs.{run_result, sound_within}
+use Rattle.typing_laws.proofs.UserTypes.{shape_type}
 
 -- ---- values by objects that are the same
 
@@ -98,18 +100,11 @@ standing_table _ d _ _ _ same (holds_array e rank dims xs c n p) = element_cover
 not_single : (ty : Ty) (x : Value6) → single ty x ≡ blank → ⊥
 not_single ty x e = cc e
 
-no_parts : (t : Ty) → Holds t parts → ⊥
-no_parts t h = by t parts h refl
-  where
-    by : (t : Ty) (g : Held) → Holds t g → g ≡ parts → ⊥
-    by _ _ (holds_scalar ty z p) e = cc e
-    by _ _ (holds_array e rank dims xs c n p) i = cc i
-
 -- a scalar that stands is of its own type
 standing_single : (t ty : Ty) (x : Value6) → Holds t (single ty x) → covers_type ty ≡ true
 standing_single _ _ _ (holds_scalar ty z p) = is_covered ty z p
 
-module _ (K : Ground) (w u : Memory) (keeps : Keeps K w u) (shares : (k : ℕ) → K.footprint (shared_place k) ≡ true) where
+module _ (K : Ground) (w u : Memory) (keeps : Keeps K w u) (sound : IsSound K w) where
   -- where nothing of a covered type stands
   same_there : (q : Position) → IsMade (mark w) q.root → ((ty : Ty) → Stands K w q ty → ⊥) → (w.held q ≡ blank → ⊥) → u.held q ≡ w.held q
   same_there q m s b = keeps.others q m s (λ z. b z.is_blank)
@@ -127,6 +122,23 @@ module _ (K : Ground) (w u : Memory) (keeps : Keeps K w u) (shares : (k : ℕ) �
       let t : Table e (u.held q) = table_of e rank (u.held q) s.holds in
       subst (λ z. IsHeld u (array (simple e) bounds) z) (sym t.holds)
       (held_table (simple e) (simple e) bounds t.dims t.values (self e t.covers) t.sized (each_of u e t.values t.plain))
+
+  group_held : (t : ℕ) (fs : Shapes) (q : Position) → Stands K u q (types.user t) → IsHeld u (group t fs) (u.held q)
+  group_held t fs q s = subst (λ z. IsHeld u (group t fs) z) (sym (parts_of t (u.held q) s.holds)) (held_parts t fs)
+
+  mutual
+    -- a variable that fills its place is held there
+    filled_held : (ty : Ty) (d : Shape) → IsShapeOf K.declarations ty d → (q : Position) → Fills K u q ty d → AllHeld u d q
+    filled_held _ _ (scalar_shape ty c) q f = single_held ty q c f.0
+    filled_held _ _ (array_shape e rank bounds c) q f = table_held e rank bounds q f.0
+    filled_held _ _ (user_shape t d fs is of) q f = (group_held t fs q f.0, parts_held d.fields fs of q 0 f.1)
+
+    parts_held : (vs : List VarId) (fs : Shapes) → AreShapesOf K.declarations vs fs → (q : Position) (k : ℕ) → AreInside K u fs q k → FieldsHeld u fs q k
+    parts_held _ _ no_fields q k h = tt
+    parts_held _ _ (next_field v vs x s fs is flat of rest) q k h = (
+      filled_held x.ty s of (inner q k) (subst (λ t. Stands K u (inner q k) t) (shape_type K.declarations x.ty s of flat) h.0, h.1),
+      parts_held vs fs rest q (suc k) h.2,
+    )
 
   single_later : (ty : Ty) (x : Value6) (q : Position) → IsMade (mark w) q.root → w.held q ≡ single ty x → IsScalar w ty x → IsHeld u (simple ty) (u.held q)
   single_later ty x q m e h = by (covers_type ty) refl (K.footprint q) refl
@@ -192,9 +204,14 @@ module _ (K : Ground) (w u : Memory) (keeps : Keeps K w u) (shares : (k : ℕ) �
   here : (d : Shape) (h : Held) (q : Position) → IsMade (mark w) q.root → w.held q ≡ h → IsHeld w d h → IsHeld u d (u.held q)
   here _ _ q m e (held_single ty x h) = single_later ty x q m e h
   here _ _ q m e (held_table d f bounds dims xs same size h) = table_later d f bounds dims xs q m e same size h
-  here _ _ q m e (held_parts t fs) =
-      by_same (group t fs) q (subst (λ z. IsHeld w (group t fs) z) (sym e) (held_parts t fs))
-      (same_there q m (λ ty s. no_parts ty (subst (λ z. Holds ty z) e s.holds)) (λ b. absurd (cc (sym e ∙ b))))
+  here _ _ q m e (held_parts t fs) = by (K.footprint q) refl
+    where
+      by : (f : Bool) → K.footprint q ≡ f → IsHeld u (group t fs) (u.held q)
+      by true f =
+          group_held t fs q (keeps.places q (types.user t) (record { holds = subst (λ z. Holds (types.user t) z) (sym e) (holds_parts t); made = m; allowed = f }))
+      by false f =
+          by_same (group t fs) q (subst (λ z. IsHeld w (group t fs) z) (sym e) (held_parts t fs))
+          (same_there q m (λ ty s. true≢false (sym s.allowed ∙ f)) (λ b. absurd (cc (sym e ∙ b))))
 
   mutual
     all_in : (d : Shape) (q : Position) → IsMade (mark w) q.root → AllHeld w d q → AllHeld u d q
@@ -222,6 +239,10 @@ module _ (K : Ground) (w u : Memory) (keeps : Keeps K w u) (shares : (k : ℕ) �
   more_at (made n) = false
   more_at (field o key) = false
 
+  root_of_part : (v : ℕ) (ty : Ty) (q : Position) → IsPartOf v ty q → q.root ≡ shared (v ∷ [])
+  root_of_part v ty q (inl e) = ap (λ (p : Position). p.root) e
+  root_of_part v ty q (inr h) = h.1
+
   -- a Static may be made now
   abbrev Later : ℕ → Root → Type 0
   Later x r = (u.held (whole r) ≡ blank) ⊎ AllHeld u (variable_shape K.declarations x) (whole r)
@@ -237,38 +258,32 @@ module _ (K : Ground) (w u : Memory) (keeps : Keeps K w u) (shares : (k : ℕ) �
       stays_blank k (shared (k ∷ [])) tt e (λ z. absurd (cc (sym is ∙ ap (λ n. slice_get K.declarations.vars n) (same_number k z) ∙ z.is_variable)))
     where
       same_number : (k : ℕ) (z : IsBlankStatic K w (shared_place k)) → k ≡ z.number
-      same_number k z = let n : suc k ≡ suc z.number = ap (λ (q : Position). number_at q.root) z.place in cc n
-  static_later k e (Some y) is = by (is_static y.owner) refl (is_flat y) refl
+      same_number k z = let n : suc k ≡ suc z.number = ap number_at (root_of_part z.number z.variable.ty (shared_place k) z.place) in cc n
+  static_later k e (Some y) is = by (is_static y.owner) refl (is_flat K.declarations y) refl
     where
       same_variable : (z : IsBlankStatic K w (shared_place k)) → y ≡ z.variable
       same_variable z =
-          let n : suc k ≡ suc z.number = ap (λ (q : Position). number_at q.root) z.place in
+          let n : suc k ≡ suc z.number = ap number_at (root_of_part z.number z.variable.ty (shared_place k) z.place) in
           let i : k ≡ z.number = cc n in
           some_is (sym is ∙ ap (λ n. slice_get K.declarations.vars n) i ∙ z.is_variable)
 
-      stood : (d : Shape) → IsShapeOf y.ty d → Stands K u (shared_place k) y.ty → AllHeld u d (shared_place k)
-      stood d g t = by y.ty d g t
-        where
-          by : (ty : Ty) (d : Shape) → IsShapeOf ty d → Stands K u (shared_place k) ty → AllHeld u d (shared_place k)
-          by _ _ (scalar_shape ty c) s = single_held ty (shared_place k) c s
-          by _ _ (array_shape e rank bounds c) s = table_held e rank bounds (shared_place k) s
+      standing : is_flat K.declarations y ≡ true → MayStand K u k y → Later k (shared (k ∷ []))
+      standing c (inl n) = inl n.whole
+      standing c (inr f) =
+          inr (filled_held y.ty (variable_shape K.declarations k) (shape_of_variable K.declarations k y is c) (shared_place k) f)
 
-      standing : is_flat y ≡ true → MayStand K u (shared_place k) y.ty → Later k (shared (k ∷ []))
-      standing c (inl b) = inl b
-      standing c (inr s) = inr (stood (variable_shape K.declarations k) (shape_of_variable K.declarations k y is c) s)
-
-      by : (a : Bool) → is_static y.owner ≡ a → (c : Bool) → is_flat y ≡ c → Later k (shared (k ∷ []))
-      by true a true c = standing c (keeps.statics k y is a c (inl e))
+      by : (a : Bool) → is_static y.owner ≡ a → (c : Bool) → is_flat K.declarations y ≡ c → Later k (shared (k ∷ []))
+      by true a true c = standing c (keeps.statics k y is a c (sound.statics k y is a c))
       by true a false c =
-          stays_blank k (shared (k ∷ [])) tt e (λ z. true≢false (sym z.flat ∙ ap is_flat (sym (same_variable z)) ∙ c))
+          stays_blank k (shared (k ∷ [])) tt e (λ z. true≢false (sym z.flat ∙ ap (is_flat K.declarations) (sym (same_variable z)) ∙ c))
       by false a b c =
           stays_blank k (shared (k ∷ [])) tt e (λ z. true≢false (sym z.static ∙ ap (λ (x : Variable). is_static x.owner) (sym (same_variable z)) ∙ a))
 
   blank_later : (m : Map) (x : ℕ) (r : Root) → IsMade (mark w) r → root_variable m r ≡ Some x → w.held (whole r) ≡ blank → Later x r
   blank_later m x (made n) i known e =
-      stays_blank x (made n) i e (λ z. no_number z.number (ap (λ (q : Position). number_at q.root) z.place))
+      stays_blank x (made n) i e (λ z. no_number z.number (ap number_at (root_of_part z.number z.variable.ty (whole (made n)) z.place)))
   blank_later m x (field o key) i known e =
-      stays_blank x (field o key) i e (λ z. no_number z.number (ap (λ (q : Position). number_at q.root) z.place))
+      stays_blank x (field o key) i e (λ z. no_number z.number (ap number_at (root_of_part z.number z.variable.ty (whole (field o key)) z.place)))
   blank_later m x (shared []) i known e = absurd (cc known)
   blank_later m x (shared (k ∷ j ∷ more)) i known e = absurd (cc known)
   blank_later m x (shared (k ∷ [])) i known e =
@@ -276,26 +291,26 @@ module _ (K : Ground) (w u : Memory) (keeps : Keeps K w u) (shares : (k : ℕ) �
 
 -- ---- stores
 
-stays_typed : (U : Upgrade) (K : Ground) (m : Map) (s u : Memory) → K.declarations ≡ U.program.declarations → ((k : ℕ) → K.footprint (shared_place k) ≡ true)
+stays_typed : (U : Upgrade) (K : Ground) (m : Map) (s u : Memory) → K.declarations ≡ U.program.declarations → IsSound K s
     → Keeps K s u → SourceTyped U m (mark s) s → SourceTyped U m (mark s) u
-stays_typed U K m s u same shares keeps t = record { held = λ r x there known. by r x there known (t.held r x there known) }
+stays_typed U K m s u same sound keeps t = record { held = λ r x there known. by r x there known (t.held r x there known) }
   where
     by : (r : Root) (x : ℕ) → IsMade (mark s) r → root_variable m r ≡ Some x
         → (s.held (whole r) ≡ blank) ⊎ AllHeld s (variable_shape U.program.declarations x) (whole r)
         → (u.held (whole r) ≡ blank) ⊎ AllHeld u (variable_shape U.program.declarations x) (whole r)
     by r x there known (inl e) =
-        subst (λ D. (u.held (whole r) ≡ blank) ⊎ AllHeld u (variable_shape D x) (whole r)) same (blank_later K s u keeps shares m x r there known e)
-    by r x there known (inr a) = inr (all_in K s u keeps shares (variable_shape U.program.declarations x) (whole r) there a)
+        subst (λ D. (u.held (whole r) ≡ blank) ⊎ AllHeld u (variable_shape D x) (whole r)) same (blank_later K s u keeps sound m x r there known e)
+    by r x there known (inr a) = inr (all_in K s u keeps sound (variable_shape U.program.declarations x) (whole r) there a)
 
 ends_typed : (U : Upgrade) (m : Map) (s : Memory) (x : Procedure) (gs : List SourceGiven) (job : SourceJob) (inputs : List (List ℕ)) (n : ℕ)
-    (r : Outcome Memory (Option Value)) → SourceTyped U m (mark s) s → IsRunResult (runnable_of U) (suc n) x gs job (started inputs n s) r
+    (r : Outcome Memory (Option Value)) → IsSound (ground U.program.declarations anywhere) s → SourceTyped U m (mark s) s → IsRunResult (runnable_of U) (suc n) x gs job (started inputs n s) r
     → EndsIn (SourceTyped U m (mark s)) r
-ends_typed U m s x gs job inputs n r t h = by r h
+ends_typed U m s x gs job inputs n r sound t h = by r h
   where
     ends : (u : Memory) → Keeps (ground U.program.declarations (footprint_of (started inputs n s) gs)) (started inputs n s) u → SourceTyped U m (mark s) u
     ends u k =
         let K : Ground = ground U.program.declarations (footprint_of (started inputs n s) gs) in
-        stays_typed U K m s u refl (λ k. refl) (keeps_then K s (started inputs n s) u (keeps_same K s (started inputs n s) refl refl refl refl) k) t
+        stays_typed U K m s u refl (sound_within U.program.declarations s gs sound) (keeps_then K s (started inputs n s) u (keeps_same K s (started inputs n s) refl refl refl refl) k) t
 
     by : (r : Outcome Memory (Option Value)) → IsRunResult (runnable_of U) (suc n) x gs job (started inputs n s) r → EndsIn (SourceTyped U m (mark s)) r
     by (gives o y u) h = ends u h.0
@@ -308,5 +323,5 @@ pub run_keeps_types : (U : Upgrade) (p n : ℕ) (x : Procedure) (m : Map) (me : 
     → AreGiven (ground U.program.declarations anywhere) s x.params args → SourceTyped U m (mark s) s
     → EndsIn (SourceTyped U m (mark s)) (run6 (runnable_of U) p me args inputs n s)
 run_keeps_types U p n x m me args inputs s ready is sound given t =
-    ends_typed U m s x args (enters p me [] args) inputs n (run6 (runnable_of U) p me args inputs n s) t
+    ends_typed U m s x args (enters p me [] args) inputs n (run6 (runnable_of U) p me args inputs n s) sound t
     (run_result (runnable_of U) p n x me args inputs s ready is sound given)

@@ -35,9 +35,10 @@ use Rattle.typing_laws.proofs.Expressions.{Fits, IsScalarOf, IsTyped, binary_end
 use Rattle.typing_laws.proofs.Library.{ArePlain}
 use Rattle.typing_laws.proofs.Plain.{Plain, constant_plain, long_value, same_as}
 use Rattle.typing_laws.proofs.Procedures.{Parameter, parameter_of}
-use Rattle.typing_laws.proofs.Flat.{array_named, no_field, no_object_covered, operand_nothing, variable_used}
+use Rattle.typing_laws.proofs.Flat.{array_named, no_object_covered, operand_nothing, variable_used}
 use Rattle.typing_laws.proofs.Elements.{AreIndexes}
-use Rattle.typing_laws.proofs.Found.{HasAddress, IsRight, element_value}
+use Rattle.typing_laws.proofs.Fields.{field_place, field_value}
+use Rattle.typing_laws.proofs.Found.{HasAddress, IsFieldAt, IsRight, element_value}
 use Rattle.typing_laws.proofs.Values.{Callee, call_ends, call_value, callee_of, covered_type, given_later}
 use Rattle.typing_laws.specs.Frames.{Footprint, Ground, ground}
 use Rattle.typing_laws.proofs.Steps.{Called, StandFrom, all_longs, called_of, element_found, first_place, given_ends, library_right, long_then, longs_all, more_indexes, next_place, no_library, no_place}
@@ -131,7 +132,9 @@ module _ (C : Context) (F : Footprint) (X : SourceJob → Memory → Type 0) (ca
         let both = both_true (covers_type ty) (uses.gives q.0 && (covers_object uses e && covers_passed uses args)) covers in
         let given = both_true (uses.gives q.0) (covers_object uses e && covers_passed uses args) both.1 in
         absurd (no_object_covered all_uses e (both_true (covers_object uses e) (covers_passed uses args) given.1).0)
-    right_ends (typed ty (field e i)) covers formed typing suited w fits = absurd (no_field all_uses ty e i covers)
+    right_ends (typed ty (field e i)) covers formed typing suited w fits =
+        let f : IsFieldAt C F ty e i w = field_place C F mentions w fits ty e i covers suited.0.field in
+        (field_value C F mentions X w ty e i (both_true (covers_type ty) (covers_term uses (field e i)) covers).0 f, f)
     right_ends (typed ty (element a indexes)) covers formed typing suited w fits =
         let both = both_true (covers_type ty) (covers_array uses a && covers_exprs uses indexes) covers in
         let operands = both_true (covers_array uses a) (covers_exprs uses indexes) both.1 in

@@ -33,9 +33,11 @@ use Rattle.typing_laws.specs.Frames.{AreGiven, IsGiven, IsReturned, Keeps}
 use Rattle.typing_laws.specs.Leaving.{Leaves, PassedLeave, in_library, in_arguments, at_call, in_first}
 use Rattle.typing_laws.specs.Typed.{fits_call, fits_parameters, gives_what_it_has}
 use Rattle.typing_laws.proofs.Addresses.{seat_later}
-use Rattle.typing_laws.proofs.Ends.{Ends, ends_after, ends_weaker, keeps_self, then_ends}
+use Rattle.typing_laws.proofs.Ends.{Ends, ends_after, ends_weaker, fills_later, keeps_self, then_ends}
 use Rattle.typing_laws.proofs.Expressions.{Fits, IsScalarOf, IsTerm, IsTyped, asked_ends, first_text, fits_later, scalar_ends, text_of}
 use Rattle.typing_laws.proofs.Plain.{Plain, same_as}
+use Rattle.typing_laws.specs.Plain.{IsValue, IsValueOf}
+use Rattle.typing_laws.proofs.Wholes.{scalar_of}
 use Rattle.typing_laws.proofs.Procedures.{Parts as ProcedureParts, parts_of as procedure_parts}
 use Rattle.typing_laws.specs.Frames.{Footprint, Ground, ground}
 
@@ -44,7 +46,7 @@ use Rattle.typing_laws.specs.Frames.{Footprint, Ground, ground}
 pub given_later : (K : Ground) (w v : Memory) (o : Option Variable) (g : SourceGiven) → Keeps K w v → IsGiven K w o g → IsGiven K v o g
 given_later K w v None g k h = h
 given_later K w v (Some y) (by_value x) k h = h
-given_later K w v (Some y) (by_address (root d q)) k h = (h.0, h.1, k.places q y.ty h.2)
+given_later K w v (Some y) (by_address (root d q)) k h = (h.0, h.1, fills_later K w v k q y.ty d h.2)
 given_later K w v (Some y) (by_address (store.item e q j path)) k h = (h.0, seat_later K w v y.ty (store.item e q j path) k h.1)
 given_later K w v (Some y) (by_address (store.constant x)) k h = h
 
@@ -173,11 +175,11 @@ module _ (C : Context) (F : Footprint) (X : SourceJob → Memory → Type 0) (ca
 
   -- what the parts of a call are
   abbrev pub IsCalled : Procedure → Memory → Parts → Type 0
-  IsCalled x w p = (o : Option Value) × (p ≡ result_parts o) × IsReturned x o
+  IsCalled x w p = (o : Option Value) × (p ≡ result_parts o) × IsReturned D x o
 
   outcome_ends : (x : Procedure) (E : Type 0) (w : Memory) (q : ℕ) (gs : List SourceGiven) (r : Outcome Memory (Option Value))
       → (X (enters q C.frame.me C.frame.env gs) w → E) → EndsAsCall K X x (enters q C.frame.me C.frame.env gs) w r
-      → Ends K (λ v o. IsReturned x o) E w r
+      → Ends K (λ v o. IsReturned D x o) E w r
   outcome_ends x E w q gs (gives o y v) leads h = h
   outcome_ends x E w q gs (raises o n v) leads h = h
   outcome_ends x E w q gs (spent o v) leads h = h
@@ -197,17 +199,18 @@ module _ (C : Context) (F : Footprint) (X : SourceJob → Memory → Type 0) (ca
       (ends_weaker K (λ v gs. AreGiven K v x.params gs) (PassedLeave C X q.0 0 args w) L w (args_of C q.0 0 args w)
       (λ l. in_arguments ty q qualified no_object args w l) h)
       (λ o gs v one k given.
-      then_ends K (λ u o. IsReturned x o) (IsCalled x) L v (entered C q.0 caller gs v) (λ o u. gives [] (result_parts o) u)
+      then_ends K (λ u o. IsReturned D x o) (IsCalled x) L v (entered C q.0 caller gs v) (λ o u. gives [] (result_parts o) u)
       (outcome_ends x L v q.0 gs (entered C q.0 caller gs v) (λ l. at_call ty q qualified no_object args w v o gs one l)
       (calls q.0 x gs v callee.ready callee.parts.head.is_procedure (fits_later C F w v k fits).sound given))
       (λ o2 y u two l returned. (keeps_self K u, (y, refl, returned)))))
 
   -- a call of a Function as a value
   returned_value : (x : Procedure) (ty : Ty) → covers_type ty ≡ true → is_same_type ty x.result ≡ true → gives_what_it_has (Some x) ≡ true → (o : Option Value)
-      → IsReturned x o → (z : Value6) × (o ≡ Some (scalar ty z)) × Plain ty z
+      → IsReturned D x o → (z : Value6) × (o ≡ Some (scalar ty z)) × Plain ty z
   returned_value x ty c same has (Some y) h =
       let e : ty ≡ x.result = sym (second ty x.result c same) in
-      (h.0, ap Some (h.1 ∙ ap (λ t. scalar t h.0) (sym e)), subst (λ t. Plain t h.0) (sym e) h.2)
+      let v : IsValue ty y = scalar_of D ty y c (subst (λ t. IsValueOf D t y) (sym e) h) in
+      (v.0, ap Some v.1, v.2)
     where
       second : (s t : Ty) → covers_type s ≡ true → is_same_type s t ≡ true → t ≡ s
       second types.boolean types.boolean d e = refl

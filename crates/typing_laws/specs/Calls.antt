@@ -19,7 +19,7 @@ use Rattle.run_matches.specs.CoveredVariables.{has_extents, is_loud}
 use Rattle.run_matches.specs.CoveredLines.{covers_part, head_line}
 use Rattle.run_matches.specs.Covered.{IsCovered, suits}
 use Rattle.typing_laws.specs.Frames.{AreGiven, Footprint, Ground, IsReturned, IsSound, Keeps, code_line, ground}
-use Rattle.typing_laws.specs.Flat.{is_flat_line, is_flat_procedure}
+use Rattle.typing_laws.specs.Flat.{has_field_type, is_flat_line, is_flat_procedure}
 use Rattle.typing_laws.specs.Typed.{gives_what_it_has, is_typed_line, is_typed_procedure}
 
 abbrev pub SourceJob : Type 0
@@ -55,10 +55,11 @@ abbrev pub Each : {A : Type 0} → (A → Type 0) → List A → Type 0
 Each Q [] = Unit {0}
 Each Q (x ∷ xs) = Q x × Each Q xs
 
--- an expression whose call, if it is one, has arguments that suit a procedure that can be run
+-- an expression whose call, if it is one, has arguments that suit a procedure that can be run, and which has the type of its field, if it is one
 pub record IsSuited (R : Runnable) (e : Expr) : Type 0 where
   pub suits : suits (declarations_of R) e ≡ true
   pub ready : (q : ℕ) → called e ≡ Some q → IsReady R q
+  pub field : has_field_type (declarations_of R) e ≡ true
 
 -- the same of all its parts
 abbrev pub CallsAreSuited : Runnable → Expr → Type 0
@@ -66,7 +67,7 @@ CallsAreSuited R e = Each (IsSuited R) (nodes e)
 
 -- how calls end from a memory: what is outside has a cause
 abbrev pub EndsAsCall : Ground → (SourceJob → Memory → Type 0) → Procedure → SourceJob → Memory → Outcome Memory (Option Value) → Type 0
-EndsAsCall K X x job w (gives o y v) = Keeps K w v × IsReturned x y
+EndsAsCall K X x job w (gives o y v) = Keeps K w v × IsReturned K.declarations x y
 EndsAsCall K X x job w (raises o n v) = Keeps K w v
 EndsAsCall K X x job w (spent o v) = Keeps K w v
 EndsAsCall K X x job w (outside o) = X job w

@@ -1,5 +1,6 @@
--- Memories and frames in which each scalar of a covered type holds a value of its type, and each array of such a type elements of it.
-use Rattle.std.specs.Prelude.{◌≡◌, ◌⊎◌, ℕ, ◌≤◌, Bool, true, false, List, [], ◌∷◌, Option, Some, None, slice_get, is_some, nat_le, ◌||◌}
+-- Memories and frames in which each scalar of a covered type holds a value of its type, each array of such a type elements of it, and each user type
+-- fields that do.
+use Rattle.std.specs.Prelude.{◌≡◌, ◌⊎◌, ℕ, suc, ◌≤◌, Bool, true, false, List, [], ◌∷◌, Option, Some, None, slice_get, is_some, nat_le, ◌&&◌, ◌||◌}
 use Rattle.vb_tree.specs.BoundTree as types
 use Rattle.vb_tree.specs.BoundTree.{Ty}
 use Rattle.vb_tree.specs.declared.declared.Owner.{Owner}
@@ -14,17 +15,19 @@ use Rattle.written_trees.specs.Arguments.{is_reference_owner}
 use Rattle.run_base.specs.Frames.{by_value, by_address, Kept, keeps_nothing, keeps_limit, keeps_value, keeps_address}
 use Rattle.run_base.specs.Machines.{line_at, nth_line}
 use Rattle.std.specs.List.{list_any}
-use Rattle.run_base.specs.Positions.{Root, shared, made, field, Position, is_same_position, whole}
+use Rattle.run_base.specs.Positions.{Root, shared, made, field, Position, inner, is_same_path, is_same_position, is_same_root, whole}
 use Rattle.vb6_run.specs.Forms.{SourceLine}
 use Rattle.vb6_run.specs.Programs.{is_module_variable, machine_of}
 use Rattle.vb6_run.specs.Runnables.{Runnable, declarations_of, variable_address}
-use Rattle.vb6_run.specs.Shapes.{Shape, simple}
+use Rattle.vb6_run.specs.Shapes.{Shape, simple, group, array, endless, Shapes, no_shapes, next_shape, variable_shape}
 use Rattle.vb6_run.specs.Store.{Address, blank, root, item, item_in, constant, Memory, SourceFrame, SourceGiven}
 use Rattle.vb6_run.specs.Values.{Value}
 use Rattle.run_matches.specs.CoveredVariables.{belongs_to, is_loud}
 use Rattle.run_matches.specs.Maps.{IsMade, mark}
+use Rattle.run_matches.specs.Pledges.{type_of_shape}
+use Rattle.run_matches.specs.UserTypes.{is_user}
 use Rattle.typing_laws.specs.Flat.{is_flat}
-use Rattle.typing_laws.specs.Plain.{Holds, IsShapeOf, IsValue}
+use Rattle.typing_laws.specs.Plain.{Holds, IsShapeOf, IsValue, IsValueOf}
 
 -- ---- places
 
@@ -57,41 +60,73 @@ abbrev pub is_static : Owner → Bool
 is_static (owner.Static p) = true
 is_static _ = false
 
--- a Static holds nothing until its procedure is entered
-abbrev pub MayStand : Ground → Memory → Position → Ty → Type 0
-MayStand K w q ty = (w.held q ≡ blank) ⊎ Stands K w q ty
+-- what stands at the parts of a place of a shape
+abbrev mutual
+  pub Inside : Ground → Memory → Shape → Position → Type 0
+  Inside K w (simple ty) q = Unit {0}
+  Inside K w (group t fs) q = AreInside K w fs q 0
+  Inside K w (array e bounds) q = Unit {0}
+  Inside K w endless q = Unit {0}
 
+  pub AreInside : Ground → Memory → Shapes → Position → (field : ℕ) → Type 0
+  AreInside K w no_shapes q k = Unit {0}
+  AreInside K w (next_shape s rest) q k = Stands K w (inner q k) (type_of_shape s) × Inside K w s (inner q k) × AreInside K w rest q (suc k)
+
+-- a variable stands at a place, and so do its parts
+abbrev pub Fills : Ground → Memory → Position → Ty → Shape → Type 0
+Fills K w q ty d = Stands K w q ty × Inside K w d q
+
+-- nothing is held at a place, nor at its parts where it is one of a user type
+pub record IsUnlaid (w : Memory) (q : Position) (ty : Ty) : Type 0 where
+  pub whole : w.held q ≡ blank
+  pub parts : is_user ty ≡ true → (path : List ℕ) → w.held (record { root = q.root; path = path }) ≡ blank
+
+-- a Static holds nothing until its procedure is entered
+abbrev pub MayStand : Ground → Memory → (variable : ℕ) → Variable → Type 0
+MayStand K w v x = IsUnlaid w (shared_place v) x.ty ⊎ Fills K w (shared_place v) x.ty (variable_shape K.declarations v)
+
+-- a variable of a standard module or a Static, or a part of one of a user type
+abbrev pub IsPartOf : (variable : ℕ) → Ty → Position → Type 0
+IsPartOf v ty q = (q ≡ shared_place v) ⊎ ((is_user ty ≡ true) × (q.root ≡ (shared_place v).root))
+
+-- where a Static may be made now
 pub record IsBlankStatic (K : Ground) (w : Memory) (q : Position) : Type 0 where
   pub number : ℕ
   pub variable : Variable
   pub is_variable : slice_get K.declarations.vars number ≡ Some variable
   pub static : is_static variable.owner ≡ true
-  pub flat : is_flat variable ≡ true
-  pub place : q ≡ shared_place number
+  pub flat : is_flat K.declarations variable ≡ true
+  pub place : IsPartOf number variable.ty q
   pub is_blank : w.held q ≡ blank
 
 -- ---- memories
 
--- Each scalar and each array of scalars of a standard module holds what it is declared for, and each Static that or nothing. The footprint
--- has their positions, and all that isn't made yet.
+-- Each scalar, each array of scalars and each variable of a user type of a standard module holds what it is declared for, and each Static that or
+-- nothing. The footprint has their positions, and all that isn't made yet.
 pub record IsSound (K : Ground) (w : Memory) : Type 0 where
   pub modules :
-      (v : ℕ) (x : Variable) → slice_get K.declarations.vars v ≡ Some x → is_module_variable K.declarations x.owner ≡ true → is_flat x ≡ true
-      → Stands K w (shared_place v) x.ty
+      (v : ℕ) (x : Variable) → slice_get K.declarations.vars v ≡ Some x → is_module_variable K.declarations x.owner ≡ true → is_flat K.declarations x ≡ true
+      → Fills K w (shared_place v) x.ty (variable_shape K.declarations v)
   pub statics :
-      (v : ℕ) (x : Variable) → slice_get K.declarations.vars v ≡ Some x → is_static x.owner ≡ true → is_flat x ≡ true
-      → MayStand K w (shared_place v) x.ty
+      (v : ℕ) (x : Variable) → slice_get K.declarations.vars v ≡ Some x → is_static x.owner ≡ true → is_flat K.declarations x ≡ true → MayStand K w v x
   pub shares : (v : ℕ) → K.footprint (shared_place v) ≡ true
   pub fresh : (n : ℕ) → w.next ≤ n → K.footprint (whole (made n)) ≡ true
+  -- where there are user types, also their parts
+  pub shared_parts :
+      (v : ℕ) (x : Variable) → slice_get K.declarations.vars v ≡ Some x → is_user x.ty ≡ true → (path : List ℕ)
+      → K.footprint (record { root = shared (v ∷ []); path = path }) ≡ true
+  pub fresh_parts :
+      (v : ℕ) (x : Variable) → slice_get K.declarations.vars v ≡ Some x → is_user x.ty ≡ true → (n : ℕ) (path : List ℕ) → w.next ≤ n
+      → K.footprint (record { root = made n; path = path }) ≡ true
 
 -- Between two memories each position of the footprint that holds a scalar of a covered type goes on to hold one of the same type, and each
--- that holds an array of such elements goes on to hold one, allocated or not. What else was made holds what it held, but for Statics that
--- are made now.
+-- that holds an array of such elements goes on to hold one, allocated or not; what holds a user type goes on to do so. What else was made holds
+-- what it held, but for Statics that are made now.
 pub record Keeps (K : Ground) (w v : Memory) : Type 0 where
   pub places : (q : Position) (ty : Ty) → Stands K w q ty → Stands K v q ty
   pub statics :
-      (k : ℕ) (x : Variable) → slice_get K.declarations.vars k ≡ Some x → is_static x.owner ≡ true → is_flat x ≡ true
-      → MayStand K w (shared_place k) x.ty → MayStand K v (shared_place k) x.ty
+      (k : ℕ) (x : Variable) → slice_get K.declarations.vars k ≡ Some x → is_static x.owner ≡ true → is_flat K.declarations x ≡ true
+      → MayStand K w k x → MayStand K v k x
   pub others :
       (q : Position) → IsMade (mark w) q.root → ((ty : Ty) → Stands K w q ty → ⊥) → (IsBlankStatic K w q → ⊥) → v.held q ≡ w.held q
   pub next : w.next ≤ v.next
@@ -113,14 +148,14 @@ IsGone (constant y) w = ⊥
 -- An address at which a variable stands: a position; an element to which a parameter by reference is bound; or a value, to which a quiet
 -- one is bound.
 abbrev pub IsPlace : Program → Footprint → Memory → (variable : ℕ) → Variable → Address → Type 0
-IsPlace P F w v x (root d q) = IsShapeOf x.ty d × Stands (ground P.declarations F) w q x.ty
+IsPlace P F w v x (root d q) = IsShapeOf P.declarations x.ty d × Fills (ground P.declarations F) w q x.ty d
 IsPlace P F w v x (item e q j path) = (is_reference_owner x.owner ≡ true) × IsElement (ground P.declarations F) w x.ty e q path
 IsPlace P F w v x (constant y) = (is_loud P v (Some x) ≡ false) × IsValue x.ty y
 
--- each scalar and each array of scalars of a procedure stands at an address of the frame
+-- each flat variable of a procedure stands at an address of the frame
 abbrev pub HasOwn : Program → Footprint → (procedure : ℕ) → Memory → SourceFrame → Type 0
 HasOwn P F p w f =
-    (v : ℕ) (x : Variable) → slice_get P.declarations.vars v ≡ Some x → belongs_to p x.owner ≡ true → is_flat x ≡ true
+    (v : ℕ) (x : Variable) → slice_get P.declarations.vars v ≡ Some x → belongs_to p x.owner ≡ true → is_flat P.declarations x ≡ true
     → (a : Address) × (variable_address P.declarations f v ≡ Some a) × IsPlace P F w v x a
 
 -- what a For keeps of its counter: the address, the limit and the step; a Select Case keeps its value
@@ -171,8 +206,8 @@ pub record IsTypedFrame (F : Footprint) (R : Runnable) (p : ℕ) (w : Memory) (f
 -- a value of the parameter's type; or, by reference, the address of a variable that holds what the parameter stands for, or of an element
 abbrev pub IsGiven : Ground → Memory → Option Variable → SourceGiven → Type 0
 IsGiven K w None g = ⊥
-IsGiven K w (Some y) (by_value x) = IsValue y.ty x
-IsGiven K w (Some y) (by_address (root d q)) = (is_reference_owner y.owner ≡ true) × IsShapeOf y.ty d × Stands K w q y.ty
+IsGiven K w (Some y) (by_value x) = IsValueOf K.declarations y.ty x
+IsGiven K w (Some y) (by_address (root d q)) = (is_reference_owner y.owner ≡ true) × IsShapeOf K.declarations y.ty d × Fills K w q y.ty d
 IsGiven K w (Some y) (by_address (item e q j path)) = (is_reference_owner y.owner ≡ true) × IsElement K w y.ty e q path
 IsGiven K w (Some y) (by_address (constant x)) = ⊥
 
@@ -184,9 +219,9 @@ AreGiven K w [] (g ∷ gs) = ⊥
 AreGiven K w (v ∷ vs) [] = ⊥
 
 -- a Function gives a value of its type
-abbrev pub IsReturned : Procedure → Option Value → Type 0
-IsReturned x None = is_some x.answer ≡ false
-IsReturned x (Some y) = IsValue x.result y
+abbrev pub IsReturned : Declarations → Procedure → Option Value → Type 0
+IsReturned D x None = is_some x.answer ≡ false
+IsReturned D x (Some y) = IsValueOf D x.result y
 
 -- ---- footprints of runs
 
@@ -196,9 +231,19 @@ is_open next (shared k) = true
 is_open next (made n) = nat_le next n
 is_open next (field o k) = false
 
+-- a path of fields that goes on from an outer one
+abbrev pub goes_on_from : (outer path : List ℕ) → Bool
+goes_on_from p [] = is_same_path p []
+goes_on_from p (k ∷ q) = is_same_path p (k ∷ q) || goes_on_from p q
+
+-- the place of a variable of a shape, with its parts where it is a user type
+abbrev pub is_place_of : Shape → (place : Position) → Position → Bool
+is_place_of (group t fs) r q = is_same_root r.root q.root && goes_on_from r.path q.path
+is_place_of d r q = is_same_position r q
+
 abbrev pub is_given_at : Position → SourceGiven → Bool
 is_given_at q (by_value x) = false
-is_given_at q (by_address (root d r)) = is_same_position r q
+is_given_at q (by_address (root d r)) = is_place_of d r q
 is_given_at q (by_address (item e r j path)) = is_same_position r q
 is_given_at q (by_address (constant x)) = false
 

@@ -1,5 +1,5 @@
 -- When a computation leaves what the tables of values have, what arrays may be, or the lines of its procedure. Of covered expressions, lines
--- and runs without user types these are the only ways to lie outside. What calls do that leave is told by X.
+-- and runs that are flat these are the only ways to lie outside. What calls do that leave is told by X.
 use Rattle.std.specs.Prelude.{◌≡◌, ℕ, zero, suc, ℤ, pos, negsuc, ◌-ℤ◌, Bool, true, false, ◌&&◌, nat_lt, List, [], ◌∷◌, Option, Some, None, slice_get}
 use Rattle.std.specs.List.{list_all}
 use Rattle.vb_tree.specs.BoundTree.{Ty}

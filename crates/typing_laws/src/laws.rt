@@ -45,9 +45,9 @@ pub fn library_edges_are_outside()
     ensures { (f : LibCall) (xs : List Value6) → IsLibraryEdge f xs → call f xs ≡ outside }
 {}
 
-/// A law: in a frame whose variables stand a covered expression over scalars and arrays of scalars that is well typed gives a value of its type,
-/// raises an error or runs out of steps, and keeps the types of what stands, where its calls do. It is outside only where it leaves the tables, where
-/// an array isn't as its ties and indexes want it, or where a run that it calls leaves.
+/// A law: in a frame whose variables stand a covered expression over scalars, arrays of scalars and fields of user types that is well typed gives a
+/// value of its type, raises an error or runs out of steps, and keeps the types of what stands, where its calls do. It is outside only where it leaves
+/// the tables, where an array isn't as its ties and indexes want it, or where a run that it calls leaves.
 #[tactic(auto, using(crate::proofs::Joined::expression_has_type))]
 pub fn expressions_have_types()
     ensures { (C : Context) (F : Footprint) (n : ℕ) (mentions : List Mention) (e : Expr) (w : Memory) → CallsKeep C F (RunLeaves C.runnable n)
@@ -63,8 +63,8 @@ pub fn inert_expressions_change_nothing()
         → covers_expr (uses_in C.runnable.program C.procedure mentions) e ≡ true → is_inert e ≡ true → ChangesNothing w (scalar_value C e w) }
 {}
 
-/// A law: a covered line over scalars and arrays of scalars that is well typed leaves a well-typed frame well typed and keeps the types of what stands,
-/// where its calls do. It is outside only where it leaves.
+/// A law: a covered line over scalars, arrays of scalars and user types that is well typed leaves a well-typed frame well typed and keeps
+/// the types of what stands, where its calls do. It is outside only where it leaves.
 #[tactic(auto, using(crate::proofs::Joined::line_keeps_types))]
 pub fn lines_keep_types()
     ensures { (C : Context) (F : Footprint) (n : ℕ) (l : Line) (w : Memory) → CallsKeep C F (RunLeaves C.runnable n) → IsAt C l → IsSound (ground (declared C) F) w
@@ -77,16 +77,17 @@ pub fn no_loud_is_quiet()
     ensures { (U : Upgrade) (p : ℕ) → AreFacts U.program U.known → AreLoud (runnable_of U) p }
 {}
 
-/// A law: a program starts in a memory in which the scalars and the arrays of scalars of its standard modules have values of their types.
+/// A law: a program starts in a memory in which the scalars, the arrays of scalars and the user types of its standard modules have values of their types.
 pub fn starts_are_sound()
     ensures { (D : Declarations) (o : List Output) (w : Memory)
         → lay_module_variables D (owned_from (is_module_variable D) 0 D.vars) empty_memory ≡ gives o tt w → IsSound (ground D anywhere) w }
 {}
 
-/// A law: a run of a covered procedure that is flat, which is to say a Sub or a Function of a standard module over scalars and arrays of scalars, and
-/// well typed with all that it reaches, from any memory in which the variables of modules have values of their types, with arguments of the types of its
-/// parameters and any number of steps, writes to variables of modules, Statics, what it is given by reference and what it makes alone, keeps the types of
-/// what stands there, gives a value of its own type, and is outside only where one of the lines or entries that it goes over leaves.
+/// A law: a run of a covered procedure that is flat, which is to say a Sub or a Function of a standard module over scalars, arrays of scalars and
+/// user types of scalars, and well typed with all that it reaches, from any memory in which the variables of modules have values of their
+/// types, with arguments of the types of its parameters and any number of steps, writes to variables of modules, Statics, what it is given by reference
+/// and what it makes alone, keeps the types of what stands there, gives a value of its own type, and is outside only where one of the lines or entries
+/// that it goes over leaves.
 #[tactic(auto, using(crate::proofs::Runs::run_result))]
 pub fn runs_leave_at_edges()
     ensures { (R : Runnable) (p n : ℕ) (x : Procedure) (me : Option ℕ) (args : List SourceGiven) (inputs : List (List ℕ)) (w : Memory) → IsReady R p

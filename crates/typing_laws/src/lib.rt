@@ -1,5 +1,5 @@
-//! That the source's meaning has a value for each covered procedure over scalars and arrays of scalars whose lines are well typed, up to where
-//! it leaves the tables.
+//! That the source's meaning has a value for each covered procedure over scalars, arrays of scalars and user types whose lines are well
+//! typed, up to where it leaves the tables.
 #![tactic(auto)]
 
 mod laws;
