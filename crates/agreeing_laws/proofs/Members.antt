@@ -4,7 +4,7 @@ use Rattle.vb_tree.specs.BoundTree.{Ty}
 use Rattle.bound_tree.specs.Tree.{Expr, typed, field, with_object}
 use Rattle.bound_tree.specs.Tree as bound
 use Rattle.bound_tree.specs.declared.expression.Root as expression
-use Rattle.net_tree.specs.Tree.{Exp, path, dot, with_dot, me}
+use Rattle.net_tree.specs.Tree.{Exp, Exps, call_of, path, dot, with_dot, me}
 use Rattle.run_base.specs.Outcomes.{Outcome, gives, then}
 use Rattle.net_run.specs.Expressions.{address_from, finished, members_from, own_object, parts_by, reach, started}
 use Rattle.net_run.specs.Making.{Jobs}
@@ -75,32 +75,45 @@ module _ (S : Scope) (oracle : Jobs) where
     LeadsTo e b = Reaches e (λ t. gives [] (at_place b) t)
 
     -- an expression that is written as a path
+    pub path_reaches : (e : Expr) (z : Reached) (names : List (List ℕ)) → exp_of T e ≡ path names
+        → ((name : List ℕ) → member_of e (path names) name ≡ path (names ++ name ∷ []))
+        → ((more : List (List ℕ)) (t : Memory) → started S oracle (path_start S false (names ++ more)) t ≡ members_from S oracle z more t)
+        → Reaches e (λ t. gives [] z t)
+    path_reaches e z names is behind leads = record {
+      reached = λ alone t.
+          ap (λ y. reach S oracle false y t) is ∙ ap (λ y. started S oracle (path_start S false y) t) (sym (append-nil names)) ∙ leads [] t;
+      members = λ name more t.
+          ap (λ y. reach S oracle false (members (member_of e y name) more) t) is ∙ ap (λ y. reach S oracle false (members y more) t) (behind name)
+          ∙ ap (λ y. reach S oracle false y t) (path_members (names ++ name ∷ []) more)
+          ∙ ap (λ y. started S oracle (path_start S false y) t) (append_assoc names (name ∷ []) more) ∙ leads (name ∷ more) t
+          ∙ sym (after_nil (members_from S oracle z (name ∷ more) t));
+    }
+
     pub path_leads : (e : Expr) (b : Address) (names : List (List ℕ)) → exp_of T e ≡ path names
         → ((name : List ℕ) → member_of e (path names) name ≡ path (names ++ name ∷ []))
         → ((more : List (List ℕ)) (t : Memory) → started S oracle (path_start S false (names ++ more)) t ≡ members_from S oracle (at_place b) more t)
         → LeadsTo e b
-    path_leads e b names is behind leads = record {
-      reached = λ alone t.
-          ap (λ z. reach S oracle false z t) is ∙ ap (λ z. started S oracle (path_start S false z) t) (sym (append-nil names)) ∙ leads [] t;
-      members = λ name more t.
-          ap (λ z. reach S oracle false (members (member_of e z name) more) t) is ∙ ap (λ z. reach S oracle false (members z more) t) (behind name)
-          ∙ ap (λ z. reach S oracle false z t) (path_members (names ++ name ∷ []) more)
-          ∙ ap (λ z. started S oracle (path_start S false z) t) (append_assoc names (name ∷ []) more) ∙ leads (name ∷ more) t
-          ∙ sym (after_nil (members_from S oracle (at_place b) (name ∷ more) t));
-    }
+    path_leads e b names is behind leads = path_reaches e (at_place b) names is behind leads
 
     pub member_reached : (e : Expr) (r : Memory → Outcome Memory Reached) → Reaches e r → (name : List ℕ) (t : Memory)
         → reach S oracle false (member_of e (exp_of T e) name) t ≡ member_behind r name t
     member_reached e r x name t = x.members name [] t ∙ sym (member_then (r t) name []) ∙ then_gives (member_behind r name t)
 
     -- what a member reaches is the member of what is reached
-    pub member_reaches : (e : Expr) (r : Memory → Outcome Memory Reached) → Reaches e r → (ty : Ty) (k : ℕ) (name : List ℕ)
-        → exp_of T (typed ty (field e k)) ≡ member_of e (exp_of T e) name → Reaches (typed ty (field e k)) (member_behind r name)
-    member_reaches e r x ty k name is = record {
+    pub behind_reaches : (e : Expr) (r : Memory → Outcome Memory Reached) → Reaches e r → (d : Expr) (name : List ℕ)
+        → exp_of T d ≡ member_of e (exp_of T e) name
+        → ((next : List ℕ) → member_of d (member_of e (exp_of T e) name) next ≡ member (member_of e (exp_of T e) name) next)
+        → Reaches d (member_behind r name)
+    behind_reaches e r x d name is behind = record {
       reached = λ alone t. ap (λ z. reach S oracle false z t) is ∙ member_reached e r x name t;
       members = λ next more t.
-          ap (λ z. reach S oracle false (members (member z next) more) t) is ∙ x.members name (next ∷ more) t ∙ sym (member_then (r t) name (next ∷ more));
+          ap (λ z. reach S oracle false (members (member_of d z next) more) t) is ∙ ap (λ z. reach S oracle false (members z more) t) (behind next)
+          ∙ x.members name (next ∷ more) t ∙ sym (member_then (r t) name (next ∷ more));
     }
+
+    pub member_reaches : (e : Expr) (r : Memory → Outcome Memory Reached) → Reaches e r → (ty : Ty) (k : ℕ) (name : List ℕ)
+        → exp_of T (typed ty (field e k)) ≡ member_of e (exp_of T e) name → Reaches (typed ty (field e k)) (member_behind r name)
+    member_reaches e r x ty k name is = behind_reaches e r x (typed ty (field e k)) name is (λ next. refl)
 
     -- a member of what leads to an address
     pub member_leads : (e : Expr) (a b : Address) → LeadsTo e a → (ty : Ty) (k : ℕ) (name : List ℕ)
@@ -116,6 +129,17 @@ module _ (S : Scope) (oracle : Jobs) where
       members = λ name more t.
           with_members name more t ∙ sym (after_nil (members_from S oracle (member_at S S.around name t) more t))
           ∙ sym (after_nil (members_from S oracle (at_place S.around) (name ∷ more) t));
+    }
+
+    -- what is written as a call
+    pub call_leads : (e : Expr) (a : Exp) (args : Exps) → exp_of T e ≡ call_of a args
+        → ((name : List ℕ) → member_of e (call_of a args) name ≡ dot (call_of a args) name)
+        → Reaches e (λ t. reach S oracle false (call_of a args) t)
+    call_leads e a args is behind = record {
+      reached = λ alone t. ap (λ z. reach S oracle false z t) is;
+      members = λ name more t.
+          ap (λ z. reach S oracle false (members (member_of e z name) more) t) is ∙ ap (λ z. reach S oracle false (members z more) t) (behind name)
+          ∙ dot_members (call_of a args) name more t ∙ member_then (reach S oracle false (call_of a args) t) name more;
     }
 
     -- Me

@@ -1,9 +1,11 @@
 -- The objects of procedures of classes go on to be of their class.
-use Rattle.std.proofs.Common.{◌≡◌, ap, sym, subst, ◌∙◌, ℕ, zero, suc, Bool, true, false, cond, ◌&&◌, ◌||◌, nat_eq, List, [], ◌∷◌, map, Option, Some, slice_get, eq-eqb, true≢false}
+use Rattle.std.proofs.Common.{◌≡◌, ◌⊎◌, inl, inr, refl, ap, sym, subst, ◌∙◌, ℕ, zero, suc, Bool, true, false, cond, ◌&&◌, ◌||◌, nat_eq, List, [], ◌∷◌, map, Option, Some, slice_get, eq-eqb, true≢false}
 use Rattle.std.proofs.lemmas.Bool.{or_right}
 use Rattle.std.specs.List.{filter, list_any}
 use Rattle.vb_tree.specs.Tree.{Module}
 use Rattle.bound_facts.specs.SelfMade.{module_of}
+use Rattle.run_base.specs.Positions.{field, shared}
+use Rattle.vb6_run.specs.Runnables.{is_class_file, object_root, static_root}
 use Rattle.run_matches.specs.Frames.{HasOwnObject, OwnObject}
 use Rattle.run_matches.specs.Maps.{World}
 use Rattle.run_matches.specs.Pledges.{Pledge, Later, stands_in_class}
@@ -52,3 +54,28 @@ own_object_later U K w0 w1 p me l h file of class =
       is_class = l.same_classes x.object x.is_made ∙ x.is_class;
       is_file = x.is_file;
     }
+
+-- ---- where a Static stands
+
+-- in its standard module, or in the object that its procedure is called for
+pub static_place : (U : Upgrade) (w : World) (p v file : ℕ) (me : Option ℕ) → module_of (slice_get U.program.declarations.procs p) ≡ Some file
+    → HasOwnObject U w p me
+    → ((is_class_file U.program.declarations file ≡ false)
+    × (static_root U.program.declarations me v (module_of (slice_get U.program.declarations.procs p)) ≡ Some (shared (v ∷ []))))
+    ⊎ ((x : OwnObject U w file me)
+    × (static_root U.program.declarations me v (module_of (slice_get U.program.declarations.procs p)) ≡ Some (field x.object (v ∷ []))))
+static_place U w p v file me of h = by (is_class_file U.program.declarations file) refl
+  where
+    stands : (b : Bool) → is_class_file U.program.declarations file ≡ b
+        → static_root U.program.declarations me v (module_of (slice_get U.program.declarations.procs p)) ≡ cond b (object_root me v) (Some (shared (v ∷ [])))
+    stands b e = ap (static_root U.program.declarations me v) of ∙ ap (λ c. cond c (object_root me v) (Some (shared (v ∷ [])))) e
+
+    by : (b : Bool) → is_class_file U.program.declarations file ≡ b
+        → ((is_class_file U.program.declarations file ≡ false)
+        × (static_root U.program.declarations me v (module_of (slice_get U.program.declarations.procs p)) ≡ Some (shared (v ∷ []))))
+        ⊎ ((x : OwnObject U w file me)
+        × (static_root U.program.declarations me v (module_of (slice_get U.program.declarations.procs p)) ≡ Some (field x.object (v ∷ []))))
+    by true e =
+        let x : OwnObject U w file me = h file of e in
+        inr (x, stands true e ∙ ap (λ m. object_root m v) x.is_me)
+    by false e = inl (e, stands false e)

@@ -16,7 +16,8 @@ use Rattle.written_trees.specs.Prologues.{declares, is_statement, variables_from
 use Rattle.vb6_run.specs.Programs.{answer_in, is_local_of, owned_from, is_static_of}
 use Rattle.run_matches.specs.Callees.{answer_owns, frame_owns, own_of_some, parameter_owns}
 use Rattle.run_matches.specs.CoveredVariables.{are_different, belongs_to, covers_declared, covers_owner, has_extents, is_named_in}
-use Rattle.run_matches.specs.Covered.{has_no_static, covers_body, covers_all_calls, covers_head, covers_joined, covers_names, covers_own, covers_owns, covers_parameter, covers_procedure, covers_result, covers_site, covers_variables, has_result, is_answer_of, is_parameter_of}
+use Rattle.net_run.specs.Members.{is_same_flag}
+use Rattle.run_matches.specs.Covered.{has_no_static, is_class_number, covers_body, covers_all_calls, covers_head, covers_joined, covers_names, covers_own, covers_owns, covers_parameter, covers_procedure, covers_result, covers_site, covers_variables, has_result, is_answer_of, is_parameter_of}
 use Rattle.run_matches.specs.Sites.{Own, own_variable, own_constant, own_name, own_variables, own_constants, statement_owns, owns_from, owns_of, Site, site_of, site_lines, first_statement, local_numbers, static_numbers}
 use Rattle.correspondence.specs.Lists.{In}
 use Rattle.correspondence.specs.Uses.{IsAlone}
@@ -182,8 +183,8 @@ covered_parts P p s e h =
     let d = both_true (covers_variables P p) (covers_body P p (slice_get P.bodies p)) c.1 in
     let site : covers_site D p (Some s) ≡ true = sym (ap (covers_site D p) e) ∙ c.0 in
     let names = are_different (map own_name (frame_owns D (slice_get D.procs p) s)) in
-    let outer = not s.source_module.class || list_all has_no_static os in
-    let f = both_true (covers_owns D p os) names (both_true outer (covers_owns D p os && names) site).1 in
+    let alike = list_all has_no_static os || is_same_flag (is_class_number D (slice_get D.procs p)) s.source_module.class in
+    let f = both_true (covers_owns D p os) names (both_true alike (covers_owns D p os && names) site).1 in
     let locals = pointwise nat_eq (local_numbers os) (owned_from (is_local_of p) 0 D.vars) in
     let statics = pointwise nat_eq (static_numbers os) (owned_from (is_static_of p) 0 D.vars) in
     let g = both_true (locals && statics) (list_all (covers_own D p) os) f.0 in

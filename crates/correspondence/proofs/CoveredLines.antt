@@ -25,7 +25,7 @@ use Rattle.written_trees.specs.Names.{Scope, Path, module_name, support}
 use Rattle.written_trees.specs.Puts.{order_shows, put_type, rank_of, store_by, stored_value, target_rank}
 use Rattle.written_trees.specs.Types.{element_type, written_type}
 use Rattle.run_matches.specs.CoveredVariables.{covers_type, is_reached}
-use Rattle.run_matches.specs.UserTypes.{is_group_type}
+use Rattle.run_matches.specs.UserTypes.{is_class_type, is_group_type}
 use Rattle.run_matches.specs.CoveredExprs.{Uses, covers_group, covers_object, covers_place, is_changeable, covers_expr, covers_term, covers_value, is_variable, covers_library, covers_exprs, uses_in, is_bound, covers_bounded}
 use Rattle.run_matches.specs.CoveredLines.{covers_copy, covers_property, covers_stored, is_member_ordered, is_ordered, covers_condition, covers_counter, covers_counting, covers_items, covers_step, covers_store, covers_form, covers_line, is_comparison, is_counter, covers_box, covers_call, covers_called_in, is_box, covers_erased, covers_resizes, covers_set, covers_with}
 use Rattle.run_matches.specs.Formed.{is_formed, is_row_of_call, are_formed}
@@ -35,8 +35,9 @@ use Rattle.correspondence.proofs.Among.{or_cases}
 use Rattle.correspondence.proofs.NamedArrays.{IsRight}
 use Rattle.correspondence.proofs.Resizes.{erased_names, resizes_all, resizes_names}
 use Rattle.correspondence.proofs.Naming.{expr_names, items_names, assigned_names, box_names, copied_names, raised_names, term_names, group_names}
-use Rattle.correspondence.proofs.GroupLines.{copy_parts, covers_set_of, set_parts, set_target, with_parts}
-use Rattle.correspondence.proofs.Places.{object_of, path_counted, place_names}
+use Rattle.correspondence.proofs.GroupLines.{IsSettable, auto_target, copy_parts, covers_set_of, set_parts, set_target, with_parts}
+use Rattle.correspondence.proofs.Objects.{object_counted}
+use Rattle.correspondence.proofs.Places.{place_names}
 use Rattle.correspondence.proofs.PropertyNames.{taken_names}
 use Rattle.correspondence.proofs.StoredValues.{IsValueType, TakesValue, copied_value, formed_names, property_target, stored_plain, takes_value, target_type}
 use Rattle.correspondence.proofs.Rights.{any_either, is_shared_test, own_right, shared_right}
@@ -155,15 +156,27 @@ module _ (P : Program) (S : Scope) (same : S.declarations ≡ P.declarations) (p
           let cover = uses_in P p mentions in
           by (or_cases (is_stored cover to e && (covers_expr cover to && covers_expr cover e)) (covers_copy cover to e) c)
 
+  -- what is set
+  target_names : (v : ℕ) (count : Path → ℕ) (test : Expr → Bool) (right : IsRight P S p mentions v count test) (to : Expr) → is_class_type (type_at to) ≡ true
+      → IsSettable (uses_in P p mentions) to → list_any test (nodes to) ≡ false → uses v to ≡ names count (target_exp S to)
+  target_names v count test right to is (inl h) free =
+      place_names P S same p mentions v count test right to h free ∙ sym (ap (names count) (set_target P S same p mentions to is (inl h)))
+  target_names v count test right (typed ty t) is (inr (inl h)) free =
+      object_counted P S same p mentions v count test right ty t h.0 free []
+      ∙ sym (ap (names count) (set_target P S same p mentions (typed ty t) is (inr h)))
+  target_names v count test right to is (inr (inr h)) free =
+      let found = auto_target P S same p mentions to h in
+      subst (λ (d : Expr). uses v d ≡ names count (exp_of S d)) (sym found.is_use)
+      (right.used found.root found.qualified found.root_type (inr (inr (inr (found.root_type, found.covers)))))
+      ∙ found.counted count right.no_support
+
   set_names : (v : ℕ) (count : Path → ℕ) (test : Expr → Bool) (right : IsRight P S p mentions v count test) (to e : Expr)
-      → (covers_place (uses_in P p mentions) to ≡ true) ⊎ (covers_object (uses_in P p mentions) to ≡ true) → covers_group (uses_in P p mentions) e ≡ true
-      → is_formed e ≡ true → list_any test (flat_map nodes (to ∷ e ∷ [])) ≡ false
-      → total (uses v) (to ∷ e ∷ []) ≡ total (names count) (exp_of S to ∷ exp_of S e ∷ [])
-  set_names v count test right to e (inl h) k f free = copied_names P S same p v count test mentions right to e h k f free (exp_of S e) refl
-  set_names v count test right (typed ty t) e (inr h) k f free =
-      let parted = none_of_both test (nodes (typed ty t)) (flat_map nodes (e ∷ [])) free in
+      → is_class_type (type_at to) ≡ true → IsSettable (uses_in P p mentions) to → covers_group (uses_in P p mentions) e ≡ true → is_formed e ≡ true
+      → list_any test (flat_map nodes (to ∷ e ∷ [])) ≡ false → total (uses v) (to ∷ e ∷ []) ≡ total (names count) (target_exp S to ∷ exp_of S e ∷ [])
+  set_names v count test right to e is h k f free =
+      let parted = none_of_both test (nodes to) (flat_map nodes (e ∷ [])) free in
       let last = none_of_both test (nodes e) [] parted.1 in
-      let left = path_counted P S same p mentions v count test right ty t (object_of P S same p mentions ty t h) parted.0 in
+      let left = target_names v count test right to is h parted.0 in
       let value = group_names P S same p v count test mentions right e k f last.0 in
       omega (arith, left, value)
 
@@ -183,9 +196,8 @@ module _ (P : Program) (S : Scope) (same : S.declarations ≡ P.declarations) (p
       kept : covers_set_of (uses_in P p mentions) to e ≡ true → SameUses S p (to ∷ e ∷ []) (target_exp S to ∷ exp_of S e ∷ [])
       kept c =
           let parts = set_parts (uses_in P p mentions) to e c in
-          subst (λ (t : Exp). SameUses S p (to ∷ e ∷ []) (t ∷ exp_of S e ∷ [])) (sym (set_target P S same p mentions to parts.0 parts.1))
-          (same_uses (to ∷ e ∷ []) (exp_of S to ∷ exp_of S e ∷ [])
-          (λ v count test right free. set_names v count test right to e parts.1 parts.2 form free))
+          same_uses (to ∷ e ∷ []) (target_exp S to ∷ exp_of S e ∷ [])
+          (λ v count test right free. set_names v count test right to e parts.0 parts.1 parts.2 form free)
 
       property : TakesValue (uses_in P p mentions) to e → SameUses S p (to ∷ e ∷ []) (target_exp S to ∷ exp_of S e ∷ [])
       property T =
@@ -229,7 +241,7 @@ module _ (P : Program) (S : Scope) (same : S.declarations ≡ P.declarations) (p
           ⊎ ((covers_object (uses_in P p mentions) (typed ty t) ≡ true) ⊎ (covers_group (uses_in P p mentions) (typed ty t) ≡ true))
           → uses v (typed ty t) ≡ names count (exp_of S (typed ty t))
       by (inl c) = place_names P S same p mentions v count test right (typed ty t) c none
-      by (inr (inl c)) = path_counted P S same p mentions v count test right ty t (object_of P S same p mentions ty t c) none
+      by (inr (inl c)) = object_counted P S same p mentions v count test right ty t c none []
       by (inr (inr c)) = group_names P S same p v count test mentions right (typed ty t) c (both_true (is_formed (typed ty t)) true f).0 none
   with_uses (e ∷ d ∷ es) h f v count test right free = absurd (cc h)
 

@@ -1,10 +1,13 @@
 mod Heads
 mod Numbers
 mod Variables
+mod OwnVariables
 mod SharedVariables
 mod NamedCalls
 mod NamedArrays
+mod PlainFields
 mod Places
+mod Objects
 mod Naming
 mod Resizes
 mod Rights

@@ -1,5 +1,6 @@
 -- What is written for uses of arrays names each variable as often as the source uses it: elements and bounds.
-use Rattle.std.proofs.Common.{◌≡◌, ℕ, zero, suc, ℤ, Bool, true, false, cond, List, ◌++◌, refl, arith, nat_eq, codes, inl, inr}
+use Rattle.std.proofs.Common.{◌≡◌, ℕ, zero, suc, ℤ, Bool, true, false, cond, List, ◌++◌, Some, refl, arith, nat_eq, codes, inl, inr}
+use Rattle.std.specs.Prelude.{slice_get}
 use Rattle.up_base.proofs.Lists.{both_true}
 use Rattle.vb_tree.specs.BoundTree as types
 use Rattle.vb_tree.specs.BoundTree.{Ty}
@@ -8,7 +9,7 @@ use Rattle.vb_tree.specs.declared.bound.LibCall.TheVariants as lib
 use Rattle.vb_tree.specs.declared.declared.ProcId.{ProcId}
 use Rattle.vb_tree.specs.declared.declared.VarId.{VarId}
 use Rattle.bound_tree.specs.declared.body.Mention.{Mention}
-use Rattle.bound_tree.specs.Tree.{Variable, Program, Expr, typed, constant, variable, Exprs, no_exprs, next_expr, call, no_object, Passed}
+use Rattle.bound_tree.specs.Tree.{Variable, Program, Expr, typed, constant, variable, Exprs, no_exprs, next_expr, call, no_object, no_passed, Passed, Procedure}
 use Rattle.net_tree.specs.Tree.{Exp}
 use Rattle.written_trees.specs.Conversions.{support_call, two}
 use Rattle.written_trees.specs.Exprs.{exp_of, exps_of, index_at, indexes_of, is_zero, library_of}
@@ -35,6 +36,10 @@ pub record IsRight (P : Program) (S : Scope) (p : ℕ) (mentions : List Mention)
   pub uncalled :
       (ty : Ty) (q : ProcId) (qualified : Bool) (args : Passed) → test (typed ty (call q qualified no_object args)) ≡ false
       → count (procedure_path S qualified q.0) ≡ 0
+  -- nor do members of what a procedure gives
+  pub behind_call :
+      (ty : Ty) (q : ProcId) (qualified : Bool) (y : Procedure) (rest : List (List ℕ)) → slice_get S.declarations.procs q.0 ≡ Some y
+      → is_group_type ty ≡ true → test (typed ty (call q qualified no_object no_passed)) ≡ false → count (procedure_path S qualified q.0 ++ rest) ≡ 0
 
 -- a dimension that is a constant uses nothing
 dimension_unused : (v : ℕ) (rest : Exprs) → covers_dimension rest ≡ true → exprs_uses v rest ≡ 0

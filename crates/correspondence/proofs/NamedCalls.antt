@@ -1,5 +1,5 @@
 -- What is written for a call names what its arguments name, where the path of its procedure is no variable's.
-use Rattle.std.proofs.Common.{◌≡◌, ℕ, ◌+◌, Bool, true, false, not, ◌&&◌, cond, List, [], ◌∷◌, ◌++◌, Option, Some, None, refl, sym, ap, subst, ◌∙◌, arith, nat_eq, append-nil, eqb-true, inl}
+use Rattle.std.proofs.Common.{◌≡◌, ℕ, ◌+◌, Bool, true, false, not, ◌&&◌, cond, List, [], ◌∷◌, ◌++◌, Option, Some, None, refl, sym, ap, subst, ◌∙◌, arith, nat_eq, eqb-true, ◌⊎◌, inl, inr}
 use Rattle.std.specs.List.{list_any}
 use Rattle.std.specs.Prelude.{slice_get, ◌||◌}
 use Rattle.up_base.specs.Names.{is_same_name, lower_case}
@@ -42,20 +42,27 @@ NoModule fielded D name = (file : ℕ) → fielded ≡ true → is_same_name (mo
 
 -- that of a procedure of another name
 pub path_other : (D : Declarations) (S : Scope) → S.declarations ≡ D → (fielded : Bool) (name : List ℕ) → NoModule fielded D name → (q : Bool) (p : ℕ)
-    → is_same_name (procedure_name D p) name ≡ false → path_names fielded name (procedure_path S q p) ≡ 0
-path_other D S same fielded name apart q p h =
-    by (slice_get S.declarations.procs p) (ap (λ (d : Declarations). is_same_name (procedure_name d p) name) same ∙ h)
+    (rest : List (List ℕ)) → (rest ≡ []) ⊎ ((y : Procedure) × (slice_get S.declarations.procs p ≡ Some y))
+    → is_same_name (procedure_name D p) name ≡ false → path_names fielded name (procedure_path S q p ++ rest) ≡ 0
+path_other D S same fielded name apart q p rest known h =
+    by (slice_get S.declarations.procs p) known (ap (λ (d : Declarations). is_same_name (procedure_name d p) name) same ∙ h)
   where
+    alone : (n : List ℕ) (rest : List (List ℕ)) → is_same_name n name ≡ false → path_names fielded name (n ∷ rest) ≡ 0
+    alone n [] e = ap {B = ℕ} (λ c. cond c 1 0) e
+    alone n (m ∷ more) e = one_of fielded (is_same_name n name) (λ a b. cc (sym e ∙ b))
+
     either : (b : Bool) (file : ℕ) (n : List ℕ) → is_same_name n name ≡ false
-        → path_names fielded name (cond b (module_name S.declarations file ∷ n ∷ []) (n ∷ [])) ≡ 0
+        → path_names fielded name (cond b (module_name S.declarations file ∷ n ∷ []) (n ∷ []) ++ rest) ≡ 0
     either true file n e =
         one_of fielded (is_same_name (module_name S.declarations file) name)
         (λ a b. apart file a (subst (λ (d : Declarations). is_same_name (module_name d file) name ≡ true) same b))
-    either false file n e = ap {B = ℕ} (λ c. cond c 1 0) e
+    either false file n e = alone n rest e
 
-    by : (o : Option Procedure) → is_same_name (first_name S.declarations o) name ≡ false → path_names fielded name (procedure_path_of S q o) ≡ 0
-    by None e = refl
-    by (Some y) e = either (q || is_foreign S.declarations S.file y.module_number) y.module_number (first_name S.declarations (Some y)) e
+    by : (o : Option Procedure) → (rest ≡ []) ⊎ ((y : Procedure) × (o ≡ Some y)) → is_same_name (first_name S.declarations o) name ≡ false
+        → path_names fielded name (procedure_path_of S q o ++ rest) ≡ 0
+    by None (inl none) e = ap (path_names fielded name) none
+    by None (inr (y, is)) e = absurd (cc is)
+    by (Some y) k e = either (q || is_foreign S.declarations S.file y.module_number) y.module_number (first_name S.declarations (Some y)) e
 
 apart : (a b c : Bool) → (a && not (b && not c)) ≡ false → a ≡ true → (b ≡ true) × (c ≡ false)
 apart true true true h e = absurd (cc h)
@@ -63,8 +70,8 @@ apart true true false h e = (refl, refl)
 apart true false c h e = absurd (cc h)
 apart false b c h e = absurd (cc e)
 
--- and of one of another name or of another standard module
-module _ (S : Scope) (fielded : Bool) (file : ℕ) (name : List ℕ) (q : Bool) (no_module : NoModule fielded S.declarations name) where
+-- and of one of another name or of another standard module, behind which nothing stands where it has the name of the module
+module _ (S : Scope) (fielded : Bool) (file : ℕ) (name : List ℕ) (q : Bool) (rest : List (List ℕ)) (no_module : NoModule fielded S.declarations name) where
   abbrev D : Declarations
   D = S.declarations
 
@@ -74,43 +81,57 @@ module _ (S : Scope) (fielded : Bool) (file : ℕ) (name : List ℕ) (q : Bool) 
   abbrev count : Path → ℕ
   count = shared_names fielded (nat_eq S.file file) of name
 
-  unnamed : (behind : Bool) (home : ℕ) (n : List ℕ) → is_same_name n name ≡ false → count (cond behind (module_name D home ∷ n ∷ []) (n ∷ [])) ≡ 0
-  unnamed true home n e =
-      behind_none fielded (nat_eq S.file file) of name (module_name D home) n [] (λ s t. cc (sym e ∙ t)) (no_module home)
-  unnamed false home n e = alone_none fielded (nat_eq S.file file) of name n [] (λ s t. cc (sym e ∙ t)) (inl refl)
+  abbrev Suits : List ℕ → Type 0
+  Suits n = (rest ≡ []) ⊎ (is_same_name n of ≡ false)
 
-  elsewhere : (y : Procedure) → is_standard_module (module_at D.project y.module_number) ≡ true → is_same_name (module_name D y.module_number) of ≡ false
-      → count (procedure_path_of S q (Some y)) ≡ 0
-  elsewhere y standard differs =
+  unnamed : (behind : Bool) (home : ℕ) (n : List ℕ) → Suits n → is_same_name n name ≡ false
+      → count (cond behind (module_name D home ∷ n ∷ []) (n ∷ []) ++ rest) ≡ 0
+  unnamed true home n suits e =
+      behind_none fielded (nat_eq S.file file) of name (module_name D home) n rest (λ s t. cc (sym e ∙ t)) (no_module home)
+  unnamed false home n suits e = alone_none fielded (nat_eq S.file file) of name n rest (λ s t. cc (sym e ∙ t)) suits
+
+  elsewhere : (y : Procedure) → Suits (first_name D (Some y)) → is_standard_module (module_at D.project y.module_number) ≡ true
+      → is_same_name (module_name D y.module_number) of ≡ false → count (procedure_path_of S q (Some y) ++ rest) ≡ 0
+  elsewhere y suits standard differs =
       let n : List ℕ = first_name D (Some y) in
       let m : List ℕ = module_name D y.module_number in
-      ap {B = ℕ} (λ b. count (cond (q || (not (nat_eq S.file y.module_number) && b)) (m ∷ n ∷ []) (n ∷ []))) standard
-      ∙ ap count (sym (append-nil (cond (q || (not (nat_eq S.file y.module_number) && true)) (m ∷ n ∷ []) (n ∷ []))))
-      ∙ shared_other fielded (nat_eq S.file file) of name q (nat_eq S.file y.module_number) m n [] (λ s t. cc (sym differs ∙ s))
+      ap {B = ℕ} (λ b. count (cond (q || (not (nat_eq S.file y.module_number) && b)) (m ∷ n ∷ []) (n ∷ []) ++ rest)) standard
+      ∙ shared_other fielded (nat_eq S.file file) of name q (nat_eq S.file y.module_number) m n rest (λ s t. cc (sym differs ∙ s))
       (λ s t u.
       let here : is_same_name (module_name D y.module_number) of ≡ true =
       subst (λ i. is_same_name (module_name D i) of ≡ true) (sym (eqb-true S.file file t) ∙ eqb-true S.file y.module_number s)
       (same_itself (lower_case of)) in
       cc (sym differs ∙ here))
-      (no_module y.module_number) (inl refl)
+      (no_module y.module_number) suits
 
-  of_other : (o : Option Procedure) → (is_same_name (first_name D o) name && not (stands_elsewhere D of o)) ≡ false → count (procedure_path_of S q o) ≡ 0
-  of_other None e = refl
-  of_other (Some y) e =
-      by_test (is_same_name (first_name D (Some y)) name) (λ c. count (procedure_path_of S q (Some y)) ≡ 0)
+  of_procedure : (y : Procedure) → Suits (first_name D (Some y))
+      → (is_same_name (first_name D (Some y)) name && not (stands_elsewhere D of (Some y))) ≡ false → count (procedure_path_of S q (Some y) ++ rest) ≡ 0
+  of_procedure y suits e =
+      by_test (is_same_name (first_name D (Some y)) name) (λ c. count (procedure_path_of S q (Some y) ++ rest) ≡ 0)
       (λ s.
       let parts = apart (is_same_name (first_name D (Some y)) name) (is_standard_module (module_at D.project y.module_number))
       (is_same_name (module_name D y.module_number) of) e s in
-      elsewhere y parts.0 parts.1)
-      (λ s. unnamed (q || is_foreign D S.file y.module_number) y.module_number (first_name D (Some y)) s)
+      elsewhere y suits parts.0 parts.1)
+      (λ s. unnamed (q || is_foreign D S.file y.module_number) y.module_number (first_name D (Some y)) suits s)
+
+  of_other : (o : Option Procedure) → (rest ≡ []) ⊎ ((y : Procedure) × (o ≡ Some y) × (is_same_name (first_name D o) of ≡ false))
+      → (is_same_name (first_name D o) name && not (stands_elsewhere D of o)) ≡ false → count (procedure_path_of S q o ++ rest) ≡ 0
+  of_other None (inl none) e = ap count none
+  of_other None (inr (y, is, s)) e = absurd (cc is)
+  of_other (Some y) (inl none) e = of_procedure y (inl none) e
+  of_other (Some y) (inr (z, is, s)) e = of_procedure y (inr s) e
 
 pub shared_path_other : (D : Declarations) (S : Scope) → S.declarations ≡ D → (fielded : Bool) (file : ℕ) (name : List ℕ) (q : Bool) (p : ℕ)
+    (rest : List (List ℕ))
+    → (rest ≡ []) ⊎ ((y : Procedure) × (slice_get S.declarations.procs p ≡ Some y) × (is_same_name (procedure_name D p) (module_name D file) ≡ false))
     → NoModule fielded D name → is_named_there D (module_name D file) name (Some p) ≡ false
-    → shared_names fielded (nat_eq S.file file) (module_name D file) name (procedure_path S q p) ≡ 0
-shared_path_other D S same fielded file name q p no_module h =
-    subst (λ (d : Declarations). NoModule fielded d name → is_named_there d (module_name d file) name (Some p) ≡ false
-    → shared_names fielded (nat_eq S.file file) (module_name d file) name (procedure_path S q p) ≡ 0) same
-    (λ m e. of_other S fielded file name q m (slice_get S.declarations.procs p) e) no_module h
+    → shared_names fielded (nat_eq S.file file) (module_name D file) name (procedure_path S q p ++ rest) ≡ 0
+shared_path_other D S same fielded file name q p rest known no_module h =
+    subst (λ (d : Declarations).
+    (rest ≡ []) ⊎ ((y : Procedure) × (slice_get S.declarations.procs p ≡ Some y) × (is_same_name (procedure_name d p) (module_name d file) ≡ false))
+    → NoModule fielded d name → is_named_there d (module_name d file) name (Some p) ≡ false
+    → shared_names fielded (nat_eq S.file file) (module_name d file) name (procedure_path S q p ++ rest) ≡ 0) same
+    (λ k m e. of_other S fielded file name q rest m (slice_get S.declarations.procs p) k e) known no_module h
 
 -- ---- arguments
 

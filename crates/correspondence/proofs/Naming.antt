@@ -32,7 +32,7 @@ use Rattle.bound_facts.specs.Folded.{converted_value}
 use Rattle.written_trees.specs.Literals.{Piece, quoted, unit, piece_exp, text, joined, pieces_of, constant_exp, written_constant, literal_as, literal_of, spelt, takes_literals, is_whole, is_hexadecimal}
 use Rattle.written_trees.specs.Names.{Path, Scope, support, strings, procedure_name, procedure_path}
 use Rattle.written_trees.specs.Operators.{signed, checked, is_text, typed_operator, typed_unary, operand, is_product_in_currency, variant_operator, variant_unary}
-use Rattle.run_matches.specs.CoveredVariables.{covers_type, covers_use, is_named_so}
+use Rattle.run_matches.specs.CoveredVariables.{covers_auto_use, covers_type, covers_use, is_named_so}
 use Rattle.run_matches.specs.CoveredExprs.{covers_library, covers_operator, covers_expr, covers_term, covers_exprs, covers_passed, covers_array, covers_base, covers_object, has_member, covers_group, covers_group_term, covers_place, covers_place_term, covers_bounded, has_scalar, is_bound, is_nothing, uses_in, is_passable, covers_operand}
 use Rattle.run_matches.specs.Formed.{are_longs, has_elements, is_formed, is_formed_term, is_row_of_one, is_row_of_two, is_row_of_call, is_conversion_to, types_of, are_formed, passed_are_formed}
 use Rattle.bound_facts.specs.Locks.{is_same_type}
@@ -41,7 +41,8 @@ use Rattle.correspondence.specs.Uses.{uses, term_uses, exprs_uses, passed_uses, 
 use Rattle.correspondence.proofs.Among.{or_cases}
 use Rattle.correspondence.proofs.Variables.{passed_cases}
 use Rattle.correspondence.proofs.NamedArrays.{IsRight, array_names, bound_names, indexes_names}
-use Rattle.correspondence.proofs.Places.{Based, behind_names, member_place, object_of, path_counted, place_names, place_of, scalar_place}
+use Rattle.correspondence.proofs.Objects.{behind_names, member_names, object_counted}
+use Rattle.correspondence.proofs.Places.{path_counted, place_names, place_of, scalar_place}
 use Rattle.correspondence.proofs.NamedCalls.{argument_names, bare_names, covered_type, full_names, neither, none_before, none_of_both, reference_names}
 
 module _ (count : Path → ℕ) (no_support : (name : List ℕ) → count (support name) ≡ 0) (no_strings : (name : List ℕ) → count (strings name) ≡ 0) where
@@ -244,20 +245,20 @@ module _ (P : Program) (S : Scope) (same : S.declarations ≡ P.declarations) (p
   given_names e (inr (inl c)) free scalar = array_names P S p v count test mentions right e c
   given_names e (inr (inr c)) free scalar = place_names P S same p mentions v count test right e c free
 
-  -- a scalar field of a place, or a scalar that an object has
-  field_place : (ty : Ty) (e : Expr) (k : ℕ)
-      → ((has_scalar (uses_in P p mentions) (type_at e) k && covers_base (uses_in P p mentions) e) ≡ true)
-      ⊎ ((has_member (uses_in P p mentions) (type_at e) k covers_type && covers_object (uses_in P p mentions) e) ≡ true)
-      → Based P S same p mentions ty (field e k)
-  field_place ty e k (inl h) =
-      let both = both_true (has_scalar (uses_in P p mentions) (type_at e) k) (covers_base (uses_in P p mentions) e) h in
-      scalar_place P S same p mentions ty e k both.0 both.1
-  field_place ty e k (inr h) =
-      let both = both_true (has_member (uses_in P p mentions) (type_at e) k covers_type) (covers_object (uses_in P p mentions) e) h in
-      member_place P S same p mentions ty e k covers_type both.0 both.1
-
   abbrev IsNamed : Ty → Term → Type 0
   IsNamed ty t = term_uses v t ≡ names count (term_exp S ty t)
+
+  -- a scalar field of a place, or a scalar that an object has
+  field_names : (ty : Ty) (e : Expr) (k : ℕ)
+      → ((has_scalar (uses_in P p mentions) (type_at e) k && covers_base (uses_in P p mentions) e) ≡ true)
+      ⊎ ((has_member (uses_in P p mentions) (type_at e) k covers_type && covers_object (uses_in P p mentions) e) ≡ true)
+      → Free (nodes (typed ty (field e k))) → IsNamed ty (field e k)
+  field_names ty e k (inl h) free =
+      let both = both_true (has_scalar (uses_in P p mentions) (type_at e) k) (covers_base (uses_in P p mentions) e) h in
+      path_counted P S same p mentions v count test right ty (field e k) (scalar_place P S same p mentions ty e k both.0 both.1) free
+  field_names ty e k (inr h) free =
+      let both = both_true (has_member (uses_in P p mentions) (type_at e) k covers_type) (covers_object (uses_in P p mentions) e) h in
+      member_names P S same p mentions v count test right ty e k covers_type both.0 both.1 (neither (test (typed ty (field e k))) (list_any test (nodes e)) free).1
 
   -- Nothing names nothing
   nothing_names : (e : Expr) → is_nothing e ≡ true → uses v e ≡ names count (exp_of S e)
@@ -270,9 +271,10 @@ module _ (P : Program) (S : Scope) (same : S.declarations ≡ P.declarations) (p
   -- what a Function gives is covered as other calls are
   given_group : (ty : Ty) (t : Term) → covers_group_term (uses_in P p mentions) ty t ≡ true → Free (nodes (typed ty t))
       → (covers_term (uses_in P p mentions) t ≡ true → IsNamed ty t) → IsNamed ty t
-  given_group ty (field e k) h free other =
-      path_counted P S same p mentions v count test right ty (field e k) (object_of P S same p mentions ty (field e k) h) free
-  given_group ty me h free other = path_counted P S same p mentions v count test right ty me (object_of P S same p mentions ty me h) free
+  given_group ty (field e k) h free other = object_counted P S same p mentions v count test right ty (field e k) h free []
+  given_group ty (variable k q) h free other =
+      right.used k q ty (inr (inr (inr (ty, (both_true (covers_auto_use P p mentions k ty) (is_named_so P.declarations k q) h).0))))
+  given_group ty me h free other = object_counted P S same p mentions v count test right ty me h free []
   given_group ty (call q qualified of args) h free other =
       other (both_true ((uses_in P p mentions).given ty) (covers_term (uses_in P p mentions) (call q qualified of args)) h).1
   given_group ty (convert to e) h free other =
@@ -336,9 +338,8 @@ module _ (P : Program) (S : Scope) (same : S.declarations ≡ P.declarations) (p
         omega (arith, array, places, written)
     term_names ty (field e k) h f own free =
         let cover = uses_in P p mentions in
-        path_counted P S same p mentions v count test right ty (field e k)
-        (field_place ty e k
-        (or_cases (has_scalar cover (type_at e) k && covers_base cover e) (has_member cover (type_at e) k covers_type && covers_object cover e) h))
+        field_names ty e k
+        (or_cases (has_scalar cover (type_at e) k && covers_base cover e) (has_member cover (type_at e) k covers_type && covers_object cover e) h)
         (none_first (test (typed ty (field e k))) (list_any test (nodes e)) own free)
     term_names ty (library g args) h f own free =
         let forms = both_true (is_row_of_call g (types_of args) ty) (are_formed args) f in

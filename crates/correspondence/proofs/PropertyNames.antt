@@ -16,7 +16,7 @@ use Rattle.correspondence.specs.Uses.{names, term_uses, total, uses}
 use Rattle.correspondence.proofs.NamedArrays.{IsRight}
 use Rattle.correspondence.proofs.NamedCalls.{bare_names, neither, none_of_both}
 use Rattle.correspondence.proofs.Naming.{called_for, expr_names, group_names}
-use Rattle.correspondence.proofs.Places.{behind_names}
+use Rattle.correspondence.proofs.Objects.{behind_names}
 use Rattle.correspondence.proofs.StoredValues.{IsValue}
 
 module _ (P : Program) (S : Scope) (same : S.declarations ≡ P.declarations) (p v : ℕ) (count : Path → ℕ) (test : Expr → Bool) (mentions : List Mention)

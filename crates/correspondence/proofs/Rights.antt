@@ -1,19 +1,20 @@
 -- The counts by which a variable's names are counted are right: for one of the procedure, and for one of a standard module.
-use Rattle.std.proofs.Common.{◌≡◌, ℕ, Bool, true, false, ◌&&◌, List, [], ◌∷◌, Some, refl, sym, ap, ◌∙◌, nat_eq, codes, inr}
+use Rattle.std.proofs.Common.{◌≡◌, ℕ, Bool, true, false, ◌&&◌, List, [], ◌∷◌, Some, refl, sym, ap, ◌∙◌, nat_eq, codes, inl, inr, append-nil}
 use Rattle.std.specs.List.{list_any}
 use Rattle.std.specs.Prelude.{◌||◌, slice_get}
 use Rattle.up_base.specs.Names.{is_same_name}
 use Rattle.vb_tree.specs.declared.declared.Owner.TheVariants as owner
 use Rattle.bound_tree.specs.declared.body.Mention.{Mention}
-use Rattle.bound_tree.specs.Tree.{Declarations, Expr, typed, call, no_object, Program, Variable}
-use Rattle.written_trees.specs.Names.{Scope, module_name, variable_name_of}
+use Rattle.bound_tree.specs.Tree.{Declarations, Expr, typed, call, no_object, no_passed, Program, Variable}
+use Rattle.written_trees.specs.Names.{Scope, module_name, procedure_name, procedure_path, variable_name_of}
 use Rattle.run_matches.specs.UserTypes.{is_group_type}
 use Rattle.run_matches.specs.CoveredVariables.{belongs_to, is_reached}
 use Rattle.correspondence.specs.Uses.{stands_outside, IsAlone, IsFirst, IsSharedAlone, is_call_in, is_call_of, is_group_named, is_named_there, path_names, shared_names}
 use Rattle.correspondence.proofs.NamedArrays.{IsRight}
 use Rattle.correspondence.proofs.NamedCalls.{neither, path_other, shared_path_other}
 use Rattle.correspondence.proofs.SharedVariables.{shared_named, shared_reserved, shared_use}
-use Rattle.correspondence.proofs.Variables.{module_outer, own_named, own_reserved, own_use}
+use Rattle.correspondence.proofs.OwnVariables.{own_named, own_reserved, own_use}
+use Rattle.correspondence.proofs.Variables.{module_outer}
 
 -- neither of two tests finds an item
 pub any_either : {A : Type 0} (f g : A → Bool) (xs : List A) → list_any f xs ≡ false → list_any g xs ≡ false → list_any (λ (x : A). f x || g x) xs ≡ false
@@ -43,7 +44,12 @@ module _ (P : Program) (S : Scope) (same : S.declarations ≡ P.declarations) (p
     used = own_use P S same p v x at own alone first mentions;
     fields = λ k q ty y rest is group of_group free. own_named P S same p v x at own alone first k.0 y q rest is (inr group);
     uncalled = λ ty q qualified args e.
-        path_other S.declarations S refl (is_group_type x.ty) x.name (λ file a b. module_outer P.declarations file x.name (first a) (named file b)) qualified q.0 e;
+        ap (path_names (is_group_type x.ty) x.name) (sym (append-nil (procedure_path S qualified q.0)))
+        ∙ path_other S.declarations S refl (is_group_type x.ty) x.name (λ file a b. module_outer P.declarations file x.name (first a) (named file b)) qualified q.0
+        [] (inl refl) e;
+    behind_call = λ ty q qualified y rest is group e.
+        path_other S.declarations S refl (is_group_type x.ty) x.name (λ file a b. module_outer P.declarations file x.name (first a) (named file b)) qualified q.0
+        rest (inr (y, is)) e;
   }
     where
       named : (file : ℕ) → is_same_name (module_name S.declarations file) x.name ≡ true → is_same_name (module_name P.declarations file) x.name ≡ true
@@ -65,7 +71,17 @@ module _ (P : Program) (S : Scope) (same : S.declarations ≡ P.declarations) (p
         ∙ sym (ap {B = Bool} (λ b. b && named) of_group) ∙ (neither false (is_group_type ty && named) free).1 in
         shared_named P S same p v x file at of outside reached alone first k.0 y q rest is (inr (group, other));
     uncalled = λ ty q qualified args e.
-        shared_path_other P.declarations S same (is_group_type x.ty) file x.name qualified q.0 (λ f a b. module_outer P.declarations f x.name (first a) b)
+        ap (shared_names (is_group_type x.ty) (nat_eq S.file file) (module_name P.declarations file) x.name) (sym (append-nil (procedure_path S qualified q.0)))
+        ∙ shared_path_other P.declarations S same (is_group_type x.ty) file x.name qualified q.0 [] (inl refl)
+        (λ f a b. module_outer P.declarations f x.name (first a) b)
         (neither (is_named_there P.declarations (module_name P.declarations file) x.name (Some q.0))
         (is_group_named P.declarations (module_name P.declarations file) (typed ty (call q qualified no_object args))) e).0;
+    behind_call = λ ty q qualified y rest is group e.
+        let tests = neither (is_named_there P.declarations (module_name P.declarations file) x.name (Some q.0))
+        (is_group_named P.declarations (module_name P.declarations file) (typed ty (call q qualified no_object no_passed))) e in
+        let named : Bool = is_same_name (procedure_name P.declarations q.0) (module_name P.declarations file) in
+        let other : is_same_name (procedure_name P.declarations q.0) (module_name P.declarations file) ≡ false =
+        sym (ap {B = Bool} (λ b. b && named) group) ∙ tests.1 in
+        shared_path_other P.declarations S same (is_group_type x.ty) file x.name qualified q.0 rest (inr (y, is, other))
+        (λ f a b. module_outer P.declarations f x.name (first a) b) tests.0;
   }

@@ -1,6 +1,6 @@
 -- The written path of a covered variable names a variable of a standard module where it is that one, and else none.
 use Rattle.std.proofs.Common.{◌≡◌, ℕ, Bool, true, false, not, ◌&&◌, cond, List, [], ◌∷◌, ◌++◌, Some, refl, sym, ap, subst, ◌∙◌, nat_eq, append-nil, eq-eqb, eqb-true, inl, inr, Option, None}
-use Rattle.std.specs.Prelude.{slice_get, ◌||◌, ◌⊎◌, position, option_and_then}
+use Rattle.std.specs.Prelude.{codes, slice_get, ◌||◌, ◌⊎◌, position, option_and_then}
 use Rattle.up_base.specs.Names.{is_same_name, lower_case}
 use Rattle.up_base.proofs.Lists.{both_true, by_test}
 use Rattle.vb_tree.specs.BoundTree.{Ty}
@@ -20,7 +20,7 @@ use Rattle.run_matches.specs.CoveredVariables.{covers_owner, belongs_to, is_fore
 use Rattle.run_matches.specs.CoveredExprs.{IsUsed, uses_in}
 use Rattle.run_matches.specs.Shared.{names_lead, leads_to_home, is_alone_static, field_leads, is_alone_field, is_free_from, is_free_in, is_of_module, keeps_alone, others_differ, placed_module}
 use Rattle.correspondence.specs.Uses.{shared_names, names, IsFirst, IsSharedAlone, stands_outside}
-use Rattle.correspondence.proofs.Variables.{IsCoveredAt, foreign_name, module_free, module_outer, name_reserved, one_of, reserved_outer, same_itself, some_same, used_at, variable_exp}
+use Rattle.correspondence.proofs.Variables.{IsCoveredAt, foreign_name, module_free, module_outer, name_reserved, one_of, reserved_outer, same_itself, some_same, use_counted, used_at}
 use Rattle.vb6_run.specs.Runnables.{is_class_file}
 use Rattle.run_matches.specs.Sites.{Site, site_of}
 use Rattle.correspondence.proofs.Among.{or_cases}
@@ -237,5 +237,5 @@ module _ (P : Program) (S : Scope) (same : S.declarations ≡ P.declarations) (p
         → one_if (nat_eq v k.0) ≡ names count (exp_of S (typed ty (variable k q)))
     shared_use k q ty h =
         let found = used_at P p mentions k h in
-        shared_named k.0 found.0 q [] found.1 (inl refl) ∙ ap count (append-nil (owner_path S q found.0.name found.0.owner))
-        ∙ sym (ap (names count) (variable_exp P S same p k q ty found.0 found.1))
+        shared_named k.0 found.variable q [] found.covered (inl refl) ∙ ap count (append-nil (owner_path S q found.variable.name found.variable.owner))
+        ∙ sym (use_counted P S same p k q found.variable found.covered ty found.made count (λ n. shared_reserved (codes "UpgradeSupport") n [] refl))

@@ -5,6 +5,7 @@ use Rattle.std.specs.List.{filter, flat_map, fold}
 use Rattle.std.specs.Prelude.{codes}
 use Rattle.bound_tree.specs.Labels.{Label}
 use Rattle.bound_tree.specs.Tree.{Program}
+use Rattle.bound_facts.specs.Members.{class_files}
 use Rattle.net_tree.specs.Blocks.{is_code}
 use Rattle.net_tree.specs.FlatLines as net_flat
 use Rattle.net_tree.specs.Spelling.{is_same_text}
@@ -15,7 +16,7 @@ use Rattle.support_text.specs.Needs.{is_path}
 use Rattle.written_trees.specs.Facts.{Facts}
 use Rattle.written_trees.specs.Names.{Path, Scope, support}
 use Rattle.written_trees.specs.Prologues as prologues
-use Rattle.written_trees.specs.Supports.{all_functions, fixed_functions, function_name, is_used, met}
+use Rattle.written_trees.specs.Supports.{all_functions, autos_from, fixed_functions, function_name, is_used, met, types_from}
 use Rattle.correspondence.specs.Lists.{In, Pairwise}
 use Rattle.correspondence.specs.Paths.{Each, NamesFunction, paths_of_dim, paths_of_line, paths_of_member, paths_of_module, paths_of_part, paths_of_procedure}
 use Rattle.correspondence.specs.Support.{LineIsSupported, SupportCorresponds}
@@ -23,7 +24,7 @@ use Rattle.correspondence.specs.Variants.{LineCorresponds}
 use Rattle.correspondence.proofs.Among.{from_filter, in_filter, in_either, in_flat, in_left, in_map, in_right, or_left, or_right}
 use Rattle.run_matches.specs.CoveredVariables.{covers_user}
 use Rattle.correspondence.proofs.KnownLines.{covered_known, flagged_known}
-use Rattle.correspondence.proofs.KnownPaths.{AreKnown, IsKnown, in_place}
+use Rattle.correspondence.proofs.KnownPaths.{AreKnown, IsKnown, functions, in_place}
 use Rattle.correspondence.proofs.WalkedPaths.{modules_met}
 
 -- ---- the paths of a procedure are paths of its module
@@ -96,7 +97,7 @@ both_same outer name h =
     ∙ ap {B = Bool} (λ c. c && true) ((bytes_decides name name).1 refl)
 
 module _ (P : Program) (F : Facts) (N : net.Project) (w : Module) (s : SupportCorresponds P.declarations F N.modules w) where
-  path_named : (q : Path) → In q (flat_map paths_of_module N.modules) → IsKnown q → NamesFunction w q
+  path_named : (q : Path) → In q (flat_map paths_of_module N.modules) → IsKnown P.declarations q → NamesFunction w q
   path_named [] i k = tt
   path_named (name ∷ []) i k = tt
   path_named (outer ∷ name ∷ more) i k = λ h.
@@ -111,10 +112,20 @@ module _ (P : Program) (F : Facts) (N : net.Project) (w : Module) (s : SupportCo
       let all = all_functions P.declarations F in
       (f, subst (In (net.proc f)) (sym s.members) (in_map net.proc (filter s.set all) f (in_filter s.set all f (in_all f found.0.among) stands)), found.0.named, found.1)
     where
-      in_all : (f : Procedure) → In f fixed_functions → In f (all_functions P.declarations F)
-      in_all f j = in_left fixed_functions _ f j
+      autos : List Procedure
+      autos = autos_from P.declarations 0 (class_files P.declarations.project)
 
-  each_named : (ps : List Path) → ((q : Path) → In q ps → In q (flat_map paths_of_module N.modules)) → AreKnown ps → Each (NamesFunction w) ps
+      types : List Procedure
+      types = types_from P.declarations F 0 P.declarations.types
+
+      in_all : (f : Procedure) → In f (functions P.declarations) → In f (all_functions P.declarations F)
+      in_all f j = by (in_either fixed_functions autos f j)
+        where
+          by : In f fixed_functions ⊎ In f autos → In f (all_functions P.declarations F)
+          by (inl h) = in_left fixed_functions (autos ++ types) f h
+          by (inr h) = in_right fixed_functions (autos ++ types) f (in_left autos types f h)
+
+  each_named : (ps : List Path) → ((q : Path) → In q ps → In q (flat_map paths_of_module N.modules)) → AreKnown P.declarations ps → Each (NamesFunction w) ps
   each_named [] h k = tt
   each_named (p ∷ ps) h k = (path_named p (h p (inl refl)) k.0, each_named ps (λ q i. h q (inr i)) k.1)
 
@@ -138,7 +149,8 @@ lines_supported P S same p labels F N w s n c e code flat h =
     line d l i k = (
       λ r. let flagged = k.replaced r in
           each_named P F N w s (paths_of_line l) (λ q j. line_has N n c l q e i j)
-          (subst (λ (m : net.Line). AreKnown (paths_of_line m)) (sym flagged.3) (flagged_known flagged.0 flagged.1 d.1.source.form)),
+          (subst (λ (m : net.Line). AreKnown P.declarations (paths_of_line m)) (sym flagged.3)
+          (flagged_known P.declarations flagged.0 flagged.1 d.1.source.form)),
       λ r free covers. each_named P F N w s (paths_of_line l) (λ q j. line_has N n c l q e i j)
-          (subst (λ (m : net.Line). AreKnown (paths_of_line m)) (sym (k.whole r)) (covered_known P S same free flat p labels d.1 covers)),
+          (subst (λ (m : net.Line). AreKnown P.declarations (paths_of_line m)) (sym (k.whole r)) (covered_known P S same free flat p labels d.1 covers)),
     )

@@ -1,10 +1,11 @@
--- The written path of a covered variable names a variable of the procedure where it is that one, and else none.
-use Rattle.std.proofs.Common.{◌≡◌, ℕ, zero, suc, Bool, true, false, not, ◌&&◌, cond, List, [], ◌∷◌, Option, Some, None, refl, sym, ap, subst, ◌∙◌, nat_eq, unwrap_or, eq-eqb, eqb-true, append-nil, ◌++◌, inl, inr}
+-- Covered variables, what is written for their uses, and the names by which their paths begin.
+use Rattle.std.proofs.Common.{◌≡◌, ℕ, zero, suc, Bool, true, false, not, ◌&&◌, cond, List, [], ◌∷◌, Option, Some, None, refl, sym, ap, ◌∙◌, arith, nat_eq, unwrap_or, eq-eqb, eqb-true, inl, inr}
 use Rattle.std.specs.List.{list_all, list_any}
 use Rattle.std.specs.Prelude.{slice_get, ◌||◌, ◌⊎◌, codes, find, position}
 use Rattle.std.specs.Cmp.Lexicographic.{bytes_decides, pointwise}
 use Rattle.up_base.specs.Names.{is_same_name, lower_case}
 use Rattle.up_base.proofs.Lists.{both_true, by_test}
+use Rattle.vb_tree.specs.BoundTree as types
 use Rattle.vb_tree.specs.BoundTree.{Ty}
 use Rattle.vb_tree.specs.declared.declared.Owner.{Owner}
 use Rattle.vb_tree.specs.declared.declared.Owner.TheVariants as owner
@@ -17,16 +18,17 @@ use Rattle.bound_tree.specs.Tree.{Expr, Variable, Program, typed, variable, Cons
 use Rattle.bound_facts.specs.Locks.{is_same_type}
 use Rattle.bound_facts.specs.Node.{auto_class, class_in}
 use Rattle.net_tree.specs.Tree as net
-use Rattle.written_trees.specs.Exprs.{exp_of, made_if}
-use Rattle.written_trees.specs.Names.{Path, Scope, module_at, is_standard_module, module_name, name_in, is_foreign, variable_path_of, owner_path}
-use Rattle.written_trees.specs.Prologues.{one_if}
+use Rattle.written_trees.specs.Conversions.{one, support_call}
+use Rattle.written_trees.specs.Exprs.{exp_of, made_if, target_exp}
+use Rattle.written_trees.specs.Names.{Path, Scope, auto_name, support, module_at, is_standard_module, module_name, name_in, is_foreign, variable_path_of, owner_path}
 use Rattle.written_trees.specs.Types.{element_type}
-use Rattle.run_matches.specs.CoveredVariables.{covers_type, covers_owner, covers_variable, belongs_to, is_foreign_name, is_reached, covers_some, is_mention_of, is_loud, covers_array_owner, covers_array_variable, covers_bounds, covers_declared, covers_group_type, covers_group_use, covers_group_variable, covers_some_array, covers_some_group, is_array_of, is_named_apart}
+use Rattle.run_matches.specs.CoveredVariables.{covers_type, covers_owner, covers_variable, belongs_to, is_reached, covers_some, is_mention_of, is_loud, covers_array_owner, covers_array_variable, covers_auto_owner, covers_auto_use, covers_auto_variable, covers_bounds, covers_declared, covers_group_type, covers_group_use, covers_group_variable, covers_made, covers_some_array, covers_some_group, is_array_of, is_named_apart}
 use Rattle.run_matches.specs.UserTypes.{is_group_type}
 use Rattle.run_matches.specs.CoveredExprs.{Uses, covers_expr, covers_array, covers_place, is_passable, IsUsed, uses_in}
-use Rattle.run_matches.specs.Shared.{names_lead, leads_to_home, is_alone_static, field_leads}
+use Rattle.run_matches.specs.Shared.{names_lead, leads_to_home}
+use Rattle.name_laws.proofs.Autos.{auto_parts, auto_use}
 use Rattle.correspondence.proofs.Among.{or_cases}
-use Rattle.correspondence.specs.Uses.{path_names, names, is_outer, IsAlone, IsFirst}
+use Rattle.correspondence.specs.Uses.{names, is_outer}
 use Rattle.run_matches.specs.Covered.{covers_names, is_free_name}
 
 pub some_same : {A : Type 0} (x y : A) → Some x ≡ Some y → x ≡ y
@@ -35,22 +37,31 @@ some_same x y e = ap (λ o. unwrap_or o x) e
 -- the covered variable y, which stands at the number k
 abbrev pub IsCoveredAt : (P : Program) (p k : ℕ) → Variable → Type 0
 IsCoveredAt P p k y =
-    (slice_get P.declarations.vars k ≡ Some y) × (is_reached P.declarations p k y.name y.owner ≡ true) × (covers_owner y.owner ≡ true) × (y.auto ≡ false)
+    (slice_get P.declarations.vars k ≡ Some y) × (is_reached P.declarations p k y.name y.owner ≡ true) × (covers_owner y.owner ≡ true)
+
+-- its use makes no object, or may make one of a class
+abbrev pub IsMadeOf : Program → Variable → Type 0
+IsMadeOf P y = (y.auto ≡ false) ⊎ ((class : ℕ) × (y.ty ≡ types.class class) × (y.auto ≡ true) × (covers_made P class ≡ true))
+
+pub record UsedAt (P : Program) (p k : ℕ) : Type 0 where
+  pub variable : Variable
+  pub covered : IsCoveredAt P p k variable
+  pub made : IsMadeOf P variable
 
 pub not_true : (c : Bool) → not c ≡ true → c ≡ false
 not_true true e = absurd (cc e)
 not_true false e = refl
 
-pub covered_at : (P : Program) (p k : ℕ) → covers_some P.declarations p k (slice_get P.declarations.vars k) ≡ true → (y : Variable) × IsCoveredAt P p k y
+pub covered_at : (P : Program) (p k : ℕ) → covers_some P.declarations p k (slice_get P.declarations.vars k) ≡ true → UsedAt P p k
 covered_at P p k h = by (slice_get P.declarations.vars k) refl h
   where
-    by : (o : Option Variable) → slice_get P.declarations.vars k ≡ o → covers_some P.declarations p k o ≡ true → (y : Variable) × IsCoveredAt P p k y
+    by : (o : Option Variable) → slice_get P.declarations.vars k ≡ o → covers_some P.declarations p k o ≡ true → UsedAt P p k
     by None e c = absurd (cc c)
     by (Some y) e c =
         let f = both_true (is_reached P.declarations p k y.name y.owner) (covers_variable y) c in
         let g = both_true (covers_owner y.owner) (covers_type y.ty && not y.auto) f.1 in
         let i = both_true (covers_type y.ty) (not y.auto) g.1 in
-        (y, (e, f.0, g.0, not_true y.auto i.1))
+        record { variable = y; covered = (e, f.0, g.0); made = inl (not_true y.auto i.1) }
 
 array_owner : (o : Owner) → covers_array_owner o ≡ true → covers_owner o ≡ true
 array_owner (owner.Module file) h = refl
@@ -74,36 +85,49 @@ group_parts D y h =
     let b = both_true (covers_group_type D y.ty) (not y.auto) a.1 in
     (a.0, not_true y.auto b.1, b.0)
 
--- a declared scalar, an array or a variable of a user type or a class
+auto_owner : (o : Owner) → covers_auto_owner o ≡ true → covers_owner o ≡ true
+auto_owner (owner.Module file) h = refl
+auto_owner (owner.Local p) h = refl
+auto_owner (owner.Static p) h = refl
+auto_owner _ h = absurd (cc h)
+
+-- a declared scalar, an array or a variable of a user type or a class, which may be As New
 pub declared_owner : (D : tree.Declarations) (x : Variable) → covers_declared D x ≡ true → covers_owner x.owner ≡ true
 declared_owner D x h =
-    by (or_cases (covers_variable x) (covers_array_variable (element_type x.ty) x || covers_group_variable D x) h)
+    by (or_cases (covers_variable x) (covers_array_variable (element_type x.ty) x || object) h)
   where
-    other : (covers_array_variable (element_type x.ty) x ≡ true) ⊎ (covers_group_variable D x ≡ true) → covers_owner x.owner ≡ true
-    other (inl c) = (array_parts (element_type x.ty) x c).0
-    other (inr c) = (group_parts D x c).0
+    object : Bool
+    object = covers_group_variable D x || covers_auto_variable D x
 
-    by : (covers_variable x ≡ true) ⊎ ((covers_array_variable (element_type x.ty) x || covers_group_variable D x) ≡ true) → covers_owner x.owner ≡ true
+    of_class : (covers_group_variable D x ≡ true) ⊎ (covers_auto_variable D x ≡ true) → covers_owner x.owner ≡ true
+    of_class (inl c) = (group_parts D x c).0
+    of_class (inr c) = auto_owner x.owner (auto_parts D x c).owner
+
+    other : (covers_array_variable (element_type x.ty) x ≡ true) ⊎ (object ≡ true) → covers_owner x.owner ≡ true
+    other (inl c) = (array_parts (element_type x.ty) x c).0
+    other (inr c) = of_class (or_cases (covers_group_variable D x) (covers_auto_variable D x) c)
+
+    by : (covers_variable x ≡ true) ⊎ ((covers_array_variable (element_type x.ty) x || object) ≡ true) → covers_owner x.owner ≡ true
     by (inl c) = (both_true (covers_owner x.owner) (covers_type x.ty && not x.auto) c).0
-    by (inr c) = other (or_cases (covers_array_variable (element_type x.ty) x) (covers_group_variable D x) c)
+    by (inr c) = other (or_cases (covers_array_variable (element_type x.ty) x) object c)
 
 array_at : (P : Program) (p k : ℕ) (element : Ty) → covers_some_array P.declarations p k element (slice_get P.declarations.vars k) ≡ true
-    → (y : Variable) × IsCoveredAt P p k y
+    → UsedAt P p k
 array_at P p k element h = by (slice_get P.declarations.vars k) refl h
   where
-    by : (o : Option Variable) → slice_get P.declarations.vars k ≡ o → covers_some_array P.declarations p k element o ≡ true
-        → (y : Variable) × IsCoveredAt P p k y
+    by : (o : Option Variable) → slice_get P.declarations.vars k ≡ o → covers_some_array P.declarations p k element o ≡ true → UsedAt P p k
     by None e c = absurd (cc c)
     by (Some y) e c =
         let apart = is_named_apart (slice_get P.declarations.procs p) y.name in
         let f = both_true (is_reached P.declarations p k y.name y.owner) (covers_array_variable element y && apart) c in
         let g = array_parts element y (both_true (covers_array_variable element y) apart f.1).0 in
-        (y, (e, f.0, g.0, g.1))
+        record { variable = y; covered = (e, f.0, g.0); made = inl g.1 }
 
 -- a variable of a user type or a class
 pub record IsGroupAt (P : Program) (p k : ℕ) (ty : Ty) : Type 0 where
   pub variable : Variable
   pub covered : IsCoveredAt P p k variable
+  pub plain : variable.auto ≡ false
   pub same : is_same_type ty variable.ty ≡ true
   pub covers : covers_group_type P.declarations variable.ty ≡ true
 
@@ -116,7 +140,7 @@ group_at P p k ty h = by (slice_get P.declarations.vars k) refl h
         let f = both_true (is_reached P.declarations p k y.name y.owner) (is_same_type ty y.ty && covers_group_variable P.declarations y) c in
         let g = both_true (is_same_type ty y.ty) (covers_group_variable P.declarations y) f.1 in
         let i = group_parts P.declarations y g.1 in
-        record { variable = y; covered = (e, f.0, i.0, i.1); same = g.0; covers = i.2 }
+        record { variable = y; covered = (e, f.0, i.0); plain = i.1; same = g.0; covers = i.2 }
 
 pub group_use_at : (P : Program) (p : ℕ) (mentions : List Mention) (k : VarId) (ty : Ty) → covers_group_use P p mentions k ty ≡ true → IsGroupAt P p k.0 ty
 group_use_at P p mentions k ty h =
@@ -124,8 +148,31 @@ group_use_at P p mentions k ty h =
     let both = both_true (list_any (is_mention_of k) mentions) (covers_some_group P.declarations p k.0 ty o && is_loud P k.0 o) h in
     group_at P p k.0 ty (both_true (covers_some_group P.declarations p k.0 ty o) (is_loud P k.0 o) both.1).0
 
--- a scalar, an array or a variable of a user type or a class
-pub used_at : (P : Program) (p : ℕ) (mentions : List Mention) (k : VarId) → IsUsed (uses_in P p mentions) k → (y : Variable) × IsCoveredAt P p k.0 y
+-- an As New variable of a class
+pub record UsedAuto (P : Program) (p k : ℕ) (ty : Ty) : Type 0 where
+  pub variable : Variable
+  pub covered : IsCoveredAt P p k variable
+  pub class : ℕ
+  pub of_class : variable.ty ≡ types.class class
+  pub is_auto : variable.auto ≡ true
+  pub made : covers_made P class ≡ true
+  pub is_type : ty ≡ types.class class
+
+pub auto_use_at : (P : Program) (p : ℕ) (mentions : List Mention) (k : VarId) (ty : Ty) → covers_auto_use P p mentions k ty ≡ true → UsedAuto P p k.0 ty
+auto_use_at P p mentions k ty h =
+    let found = (auto_use P p mentions k ty h).1 in
+    record {
+      variable = found.used;
+      covered = (found.is_used, found.reached, auto_owner found.used.owner found.parts.owner);
+      class = found.parts.class;
+      of_class = found.parts.is_type;
+      is_auto = found.parts.is_auto;
+      made = found.made;
+      is_type = found.is_type;
+    }
+
+-- a scalar, an array or a variable of a user type or a class, which may be As New
+pub used_at : (P : Program) (p : ℕ) (mentions : List Mention) (k : VarId) → IsUsed (uses_in P p mentions) k → UsedAt P p k.0
 used_at P p mentions k (inl h) =
     let o : Option Variable = slice_get P.declarations.vars k.0 in
     covered_at P p k.0 (both_true (list_any (is_mention_of k) mentions) (covers_some P.declarations p k.0 o) h).1
@@ -133,7 +180,12 @@ used_at P p mentions k (inr (inl h)) =
     let o : Option Variable = slice_get P.declarations.vars k.0 in
     let both = both_true (list_any (is_mention_of k) mentions) (covers_some_array P.declarations p k.0 h.0 o && is_loud P k.0 o) h.1 in
     array_at P p k.0 h.0 (both_true (covers_some_array P.declarations p k.0 h.0 o) (is_loud P k.0 o) both.1).0
-used_at P p mentions k (inr (inr h)) = let found = group_use_at P p mentions k h.0 h.1 in (found.variable, found.covered)
+used_at P p mentions k (inr (inr (inl h))) =
+    let found = group_use_at P p mentions k h.0 h.1 in
+    record { variable = found.variable; covered = found.covered; made = inl found.plain }
+used_at P p mentions k (inr (inr (inr h))) =
+    let found = auto_use_at P p mentions k h.0 h.1 in
+    record { variable = found.variable; covered = found.covered; made = inr (found.class, found.of_class, found.is_auto, found.made) }
 
 -- what is given by reference: a scalar, an array or a place of a user type
 pub passed_cases : (uses : Uses) (e : Expr) → ((is_passable uses e && covers_expr uses e) || (covers_array uses e || covers_place uses e)) ≡ true
@@ -145,14 +197,40 @@ passed_cases uses e h = by (or_cases (is_passable uses e && covers_expr uses e) 
     by (inl c) = inl (both_true (is_passable uses e) (covers_expr uses e) c).1
     by (inr c) = inr (or_cases (covers_array uses e) (covers_place uses e) c)
 
--- a use of it is written as its path
-pub variable_exp : (P : Program) (S : Scope) → S.declarations ≡ P.declarations → (p : ℕ) (v : VarId) (q : Bool) (ty : Ty) (y : Variable) → IsCoveredAt P p v.0 y
-    → exp_of S (typed ty (variable v q)) ≡ net.path (owner_path S q y.name y.owner)
-variable_exp P S same p v q ty y is =
-    let at : slice_get S.declarations.vars v.0 ≡ Some y = ap (λ (d : tree.Declarations). slice_get d.vars v.0) same ∙ is.0 in
-    let auto : auto_class (Some y) ≡ None = ap (λ (c : Bool). cond c (class_in y.ty) None) is.3 in
-    ap (λ (o : Option Variable). made_if S.declarations (auto_class o) (net.path (variable_path_of S q o))) at
-    ∙ ap (λ (o : Option ℕ). made_if S.declarations o (net.path (owner_path S q y.name y.owner))) auto
+module _ (P : Program) (S : Scope) (same : S.declarations ≡ P.declarations) (p : ℕ) (v : VarId) (q : Bool) (y : Variable) (is : IsCoveredAt P p v.0 y) where
+  abbrev path_of : Path
+  path_of = owner_path S q y.name y.owner
+
+  at : slice_get S.declarations.vars v.0 ≡ Some y
+  at = ap (λ (d : tree.Declarations). slice_get d.vars v.0) same ∙ is.0
+
+  -- where a variable is set, it is written as its path
+  pub target_path : (ty : Ty) → target_exp S (typed ty (variable v q)) ≡ net.path path_of
+  target_path ty = ap (λ (o : Option Variable). net.path (variable_path_of S q o)) at
+
+  exp_by : (ty : Ty) (o : Option ℕ) → auto_class (Some y) ≡ o → exp_of S (typed ty (variable v q)) ≡ made_if S.declarations o (net.path path_of)
+  exp_by ty o auto =
+      ap (λ (o : Option Variable). made_if S.declarations (auto_class o) (net.path (variable_path_of S q o))) at
+      ∙ ap (λ (o : Option ℕ). made_if S.declarations o (net.path path_of)) auto
+
+  -- a use of it is written so too, where it makes no object
+  pub variable_exp : (ty : Ty) → y.auto ≡ false → exp_of S (typed ty (variable v q)) ≡ net.path path_of
+  variable_exp ty plain = exp_by ty None (ap (λ (c : Bool). cond c (class_in y.ty) None) plain)
+
+  -- and else as a call of the function of its class with the path
+  pub auto_exp : (ty : Ty) (class : ℕ) → y.ty ≡ types.class class → y.auto ≡ true
+      → exp_of S (typed ty (variable v q)) ≡ support_call (auto_name S.declarations class) (one (net.path path_of))
+  auto_exp ty class of_class auto =
+      exp_by ty (Some class) (ap (λ (c : Bool). cond c (class_in y.ty) None) auto ∙ ap class_in of_class)
+
+  -- so it names what its path does
+  pub use_counted : (ty : Ty) → IsMadeOf P y → (count : Path → ℕ) → ((name : List ℕ) → count (support name) ≡ 0)
+      → names count (exp_of S (typed ty (variable v q))) ≡ count path_of
+  use_counted ty (inl plain) count no_support = ap (names count) (variable_exp ty plain)
+  use_counted ty (inr auto) count no_support =
+      let none = no_support (auto_name S.declarations auto.0) in
+      let written = ap (names count) (auto_exp ty auto.0 auto.1 auto.2) in
+      omega (arith, none, written)
 
 -- a name alone, or one behind the name of a module that isn't reserved
 abbrev pub IsVariablePath : Path → Type 0
@@ -245,7 +323,7 @@ foreign_name p name (y ∷ ys) (suc i) x h e own =
     foreign_name p name ys i x
     (both_true (not (belongs_to p y.owner && is_same_name y.name name)) (list_all (λ (x : Variable). not (belongs_to p x.owner && is_same_name x.name name)) ys) h).1 e own
 
-turned_false : (a b : List ℕ) → is_same_name a b ≡ false → is_same_name b a ≡ false
+pub turned_false : (a b : List ℕ) → is_same_name a b ≡ false → is_same_name b a ≡ false
 turned_false a b h =
     by_test (is_same_name b a) (λ c. c ≡ false) (λ c. absurd (cc (sym (same_turned (lower_case b) (lower_case a) c) ∙ h))) (λ c. refl)
 
@@ -285,88 +363,3 @@ name_reserved word name h e =
     let lower : lower_case name ≡ lower_case word = sym (same_units (lower_case word) (lower_case name) e) in
     ap (λ (l : List ℕ). pointwise nat_eq l (lower_case (codes "UpgradeSupport")) || pointwise nat_eq l (lower_case (codes "System"))
     || pointwise nat_eq l (lower_case (codes "Microsoft"))) lower ∙ h
-
--- ---- a variable of the procedure
-
-module _ (P : Program) (S : Scope) (same : S.declarations ≡ P.declarations) (p v : ℕ) (x : Variable) (at : slice_get P.declarations.vars v ≡ Some x)
-    (own : belongs_to p x.owner ≡ true) (alone : IsAlone P.declarations p v x) (first : IsFirst P.declarations x) where
-  abbrev own_count : Path → ℕ
-  own_count = path_names (is_group_type x.ty) x.name
-
-  -- a name that differs, with fields or without
-  differing_named : (n : List ℕ) (rest : List (List ℕ)) → is_same_name n x.name ≡ false → own_count (n ∷ rest) ≡ 0
-  differing_named n [] h = ap {B = ℕ} (λ c. cond c 1 0) h
-  differing_named n (f ∷ rest) h = one_of (is_group_type x.ty) (is_same_name n x.name) (λ a b. cc (sym h ∙ b))
-
-  -- what stands behind the name of a module
-  behind_module : (file : ℕ) (n : List ℕ) (rest : List (List ℕ)) → own_count (module_name S.declarations file ∷ n ∷ rest) ≡ 0
-  behind_module file n rest =
-      one_of (is_group_type x.ty) (is_same_name (module_name S.declarations file) x.name)
-      (λ a b. module_outer P.declarations file x.name (first a) (subst (λ (d : tree.Declarations). is_same_name (module_name d file) x.name ≡ true) same b))
-
-  path_named : (b : Bool) (file : ℕ) (name : List ℕ) (rest : List (List ℕ)) → is_same_name name x.name ≡ false
-      → own_count (cond b (module_name S.declarations file ∷ name ∷ []) (name ∷ []) ++ rest) ≡ 0
-  path_named true file name rest h = behind_module file name rest
-  path_named false file name rest h = differing_named name rest h
-
-  other_own : (k : ℕ) (y : Variable) (rest : List (List ℕ)) → slice_get P.declarations.vars k ≡ Some y → belongs_to p y.owner ≡ true → nat_eq v k ≡ false
-      → own_count (y.name ∷ rest) ≡ 0
-  other_own k y rest is h n =
-      differing_named y.name rest
-      (by_test (is_same_name y.name x.name) (λ c. c ≡ false)
-      (λ s. absurd (cc (sym n ∙ eq-eqb v k (sym (alone k y is h s)))))
-      (λ s. refl))
-
-  other : (k : ℕ) (y : Variable) (q : Bool) (rest : List (List ℕ)) → slice_get P.declarations.vars k ≡ Some y → (o : Owner) → y.owner ≡ o
-      → is_reached P.declarations p k y.name o ≡ true → covers_owner o ≡ true → nat_eq v k ≡ false → own_count (owner_path S q y.name o ++ rest) ≡ 0
-  other k y q rest is (owner.Module file) e h c n =
-      let leads = both_true (names_lead P.declarations p k y.name file || field_leads P.declarations p k y.name file) (is_foreign_name P.declarations p y.name) h in
-      path_named (q || is_foreign S.declarations S.file file) file y.name rest
-      (turned_false x.name y.name (foreign_name p y.name P.declarations.vars v x leads.1 at own))
-  other k y q rest is (owner.Local r) e h c n = other_own k y rest is (ap (belongs_to p) e ∙ h) n
-  other k y q rest is (owner.Static r) e h c n =
-      other_own k y rest is (ap (belongs_to p) e ∙ (both_true (nat_eq p r.0) (is_alone_static P.declarations p k y.name) h).0) n
-  other k y q rest is (owner.Value r) e h c n = other_own k y rest is (ap (belongs_to p) e ∙ h) n
-  other k y q rest is (owner.Reference r) e h c n = other_own k y rest is (ap (belongs_to p) e ∙ h) n
-  other k y q rest is (owner.Answer r) e h c n = other_own k y rest is (ap (belongs_to p) e ∙ h) n
-  other k y q rest is (owner.Field t) e h c n = absurd (cc c)
-
-  -- its own name, alone or with fields
-  own_name : (rest : List (List ℕ)) → Suits x rest → own_count (x.name ∷ rest) ≡ 1
-  own_name [] s = ap {B = ℕ} (λ c. cond c 1 0) (same_itself (lower_case x.name))
-  own_name (f ∷ rest) (inl e) = absurd (cc e)
-  own_name (f ∷ rest) (inr u) =
-      ap {B = ℕ} (λ c. cond (c && is_same_name x.name x.name) 1 0) u ∙ ap {B = ℕ} (λ c. cond c 1 0) (same_itself (lower_case x.name))
-
-  itself : (q : Bool) (rest : List (List ℕ)) → Suits x rest → (o : Owner) → belongs_to p o ≡ true → own_count (owner_path S q x.name o ++ rest) ≡ 1
-  itself q rest s (owner.Module file) h = absurd (cc h)
-  itself q rest s (owner.Local r) h = own_name rest s
-  itself q rest s (owner.Static r) h = own_name rest s
-  itself q rest s (owner.Value r) h = own_name rest s
-  itself q rest s (owner.Reference r) h = own_name rest s
-  itself q rest s (owner.Answer r) h = own_name rest s
-  itself q rest s (owner.Field t) h = absurd (cc h)
-
-  pub own_named : (k : ℕ) (y : Variable) (q : Bool) (rest : List (List ℕ)) → IsCoveredAt P p k y → Suits y rest
-      → one_if (nat_eq v k) ≡ own_count (owner_path S q y.name y.owner ++ rest)
-  own_named k y q rest is s =
-      by_test (nat_eq v k) (λ c. one_if c ≡ own_count (owner_path S q y.name y.owner ++ rest))
-      (λ e.
-      let found : x ≡ y = some_same x y (sym at ∙ ap (slice_get P.declarations.vars) (eqb-true v k e) ∙ is.0) in
-      sym (itself q rest (subst (λ (z : Variable). Suits z rest) (sym found) s) x.owner own)
-      ∙ ap (λ (z : Variable). own_count (owner_path S q z.name z.owner ++ rest)) found)
-      (λ e. sym (other k y q rest is.0 y.owner refl is.1 is.2 e))
-
-  module _ (mentions : List Mention) where
-    pub own_use : (k : VarId) (q : Bool) (ty : Ty) → IsUsed (uses_in P p mentions) k
-        → one_if (nat_eq v k.0) ≡ names (path_names (is_group_type x.ty) x.name) (exp_of S (typed ty (variable k q)))
-    own_use k q ty h =
-        let found = used_at P p mentions k h in
-        own_named k.0 found.0 q [] found.1 (inl refl)
-        ∙ ap own_count (append-nil (owner_path S q found.0.name found.0.owner))
-        ∙ sym (ap (names (path_names (is_group_type x.ty) x.name)) (variable_exp P S same p k q ty found.0 found.1))
-
-  -- no name of the support module or of the run-time library
-  pub own_reserved : (word n : List ℕ) (rest : List (List ℕ)) → is_reserved word ≡ true → own_count (word ∷ n ∷ rest) ≡ 0
-  own_reserved word n rest h =
-      one_of (is_group_type x.ty) (is_same_name word x.name) (λ a b. reserved_outer P.declarations x.name (first a) (name_reserved word x.name h b))

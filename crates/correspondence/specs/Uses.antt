@@ -149,9 +149,10 @@ is_call_in D of name e = is_named_there D of name (called e)
 
 abbrev pub is_group_named_in : Declarations → List ℕ → Ty → Term → Bool
 is_group_named_in D name ty (variable v qualified) = is_group_type ty && is_same_name (variable_name_of (slice_get D.vars v.0)) name
+is_group_named_in D name ty (call q qualified no_object no_passed) = is_group_type ty && is_same_name (procedure_name D q.0) name
 is_group_named_in D name ty t = false
 
--- whether a node is a variable of a user type or a class that has the name
+-- whether a node is a variable of a user type or a class that has the name, or a call of a procedure that gives such and has it
 abbrev pub is_group_named : Declarations → List ℕ → Expr → Bool
 is_group_named D name (typed ty t) = is_group_named_in D name ty t
 
@@ -165,7 +166,7 @@ stands_outside D (Some q) = not (is_class_file D q.module_number)
 
 -- Expressions use each variable of the procedure, and, in a procedure of a standard module, each of a standard module to which names lead, as
 -- often as written ones name it, where they call no procedure of its name: a result variable has that of its procedure. What has the name of a module breaks U20 itself; a variable
--- of a user type or a class with such a name might be taken for the module, since fields stand behind it.
+-- of a user type or a class with such a name, or a property that gives an object, might be taken for the module, since fields stand behind it.
 pub record SameUses (S : Scope) (p : ℕ) (es : List Expr) (ws : List Exp) : Type 0 where
   pub own :
       (v : ℕ) (x : Variable) → slice_get S.declarations.vars v ≡ Some x → belongs_to p x.owner ≡ true → IsAlone S.declarations p v x

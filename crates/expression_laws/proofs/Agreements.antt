@@ -21,13 +21,13 @@ use Rattle.run_matches.specs.Pledges.{Pledge}
 use Rattle.run_matches.specs.Upgrades.{Upgrade}
 use Rattle.run_statements.specs.Elements.{IndexesAgree}
 use Rattle.run_statements.specs.Groups.{GroupsAgree, PlacesAgree}
-use Rattle.run_statements.specs.Members.{MembersAgree}
+use Rattle.run_statements.specs.Members.{MembersAgree, ObjectsAgree}
 use Rattle.run_statements.specs.Objects.{ClassesAreWritten}
 use Rattle.run_statements.specs.Frames.{ArraysAgree, ElementsAgree, AnyParts, CallsAreMade, context_of, ExpressionsAgree}
 use Rattle.run_matches.specs.Formed.{are_formed, are_longs, has_elements, types_of}
 use Rattle.agreeing_laws.proofs.Agreeing.{agrees_weaker}
 use Rattle.expression_laws.specs.Calls.{GivenMatch}
-use Rattle.expression_laws.specs.Statements.{ArraysAgreeBy, ElementsAgreeBy, IndexesAgreeBy, FormedExpressionsAgreeBy, FormedScalarsAgreeBy, FormedScalarsAgree, GroupsAgreeBy, MembersAgreeBy, ParametersAreSound, PlacesAgreeBy}
+use Rattle.expression_laws.specs.Statements.{ArraysAgreeBy, ElementsAgreeBy, IndexesAgreeBy, FormedExpressionsAgreeBy, FormedScalarsAgreeBy, FormedScalarsAgree, GroupsAgreeBy, MembersAgreeBy, ObjectsAgreeBy, ParametersAreSound, PlacesAgreeBy}
 use Rattle.expression_laws.proofs.Types.{both_true}
 use Rattle.expression_laws.proofs.Checks.{plain_agrees}
 use Rattle.expression_laws.proofs.Arguments.{stands_now}
@@ -36,9 +36,10 @@ use Rattle.expression_laws.proofs.Elements.{array_agrees}
 use Rattle.expression_laws.proofs.ElementValues.{element_agrees}
 use Rattle.expression_laws.proofs.ArrayUses.{all_long, from_none, indexed_by}
 use Rattle.expression_laws.proofs.Callees.{called_apart}
-use Rattle.expression_laws.proofs.CallsGiven.{call_placed, from_first}
+use Rattle.expression_laws.proofs.CallsGiven.{from_first}
+use Rattle.expression_laws.proofs.PlacedCalls.{call_placed}
 use Rattle.expression_laws.proofs.Expressions.{expression_agrees, group_agrees, indexes_agree, passed_agree}
-use Rattle.expression_laws.proofs.Objects.{members_agree_by}
+use Rattle.expression_laws.proofs.KeptObjects.{members_agree_by, objects_agree_by}
 use Rattle.expression_laws.proofs.Places.{places_agree_by}
 use Rattle.expression_laws.proofs.Withs.{HavePlaces, places_now}
 
@@ -105,8 +106,11 @@ groups_agree U sound classes K = groups_agree_by U sound classes K
 pub places_agree : (U : Upgrade) → PlacesAgree U
 places_agree U K = places_agree_by U K
 
-pub members_agree : (U : Upgrade) → MembersAgree U
-members_agree U K = members_agree_by U K
+pub members_agree : (U : Upgrade) → ClassesAreWritten U → MembersAgree U
+members_agree U classes K = members_agree_by U classes K
+
+pub objects_agree : (U : Upgrade) → ClassesAreWritten U → ObjectsAgree U
+objects_agree U classes K = objects_agree_by U classes K
 
 -- a covered call is made on both sides
 pub calls_are_made : (U : Upgrade) → ParametersAreSound U → ClassesAreWritten U → CallsAreMade U
@@ -115,9 +119,9 @@ calls_are_made U sound classes K w p f g oracle net_oracle l k c T uses ty q qua
     let giving_one : is_giving (slice_get U.program.declarations.procs q.0) ≡ true = readable.gives q.0 gives in
     let C : Context = context_of U oracle p f l in
     let S : net_names.Scope = scope_of U.written c g k in
-    agrees_weaker U K w (GivenMatch U) AnyParts (source.term_parts C ty (call q qualified of args) w.src)
+    agrees_weaker U K w (GivenMatch U can.0.number) AnyParts (source.term_parts C ty (call q qualified of args) w.src)
     (target.address_of S net_oracle (call_of (callee_of T q.0 qualified of) (passed_of T q.0 0 args)) w.net) (λ v x a l m. tt)
-    (call_placed U p f g oracle net_oracle l k c T agree uses declarations readable K ty q qualified of args w start
+    (call_placed U p f g oracle net_oracle l k c T agree uses declarations readable opened classes K ty q qualified of args w start
     (places_now U p f g oracle net_oracle l k c T uses K w frames start declarations readable placed) (stands_now U K w p f g frames) can false
     (called_apart U S T q.0 qualified of args can.0.way can.0.is_way giving_one) receiver
     (λ v match there now asked.
@@ -149,9 +153,12 @@ frame_arrays_agree U p w f = arrays_agree_by U (frame_pledge U p w f)
 pub frame_places_agree : (U : Upgrade) (p : ℕ) (w : World) (f : SourceFrame) → PlacesAgreeBy U (frame_pledge U p w f)
 frame_places_agree U p w f = places_agree_by U (frame_pledge U p w f)
 
-pub frame_members_agree : (U : Upgrade) (p : ℕ) (w : World) (f : SourceFrame) → MembersAgreeBy U (frame_pledge U p w f)
-frame_members_agree U p w f = members_agree_by U (frame_pledge U p w f)
+pub frame_members_agree : (U : Upgrade) (classes : ClassesAreWritten U) (p : ℕ) (w : World) (f : SourceFrame) → MembersAgreeBy U (frame_pledge U p w f)
+frame_members_agree U classes p w f = members_agree_by U classes (frame_pledge U p w f)
 
 pub frame_groups_agree : (U : Upgrade) (sound : ParametersAreSound U) (classes : ClassesAreWritten U) (p : ℕ) (w : World) (f : SourceFrame)
     → GroupsAgreeBy U (frame_pledge U p w f)
 frame_groups_agree U sound classes p w f = groups_agree_by U sound classes (frame_pledge U p w f)
+
+pub frame_objects_agree : (U : Upgrade) (classes : ClassesAreWritten U) (p : ℕ) (w : World) (f : SourceFrame) → ObjectsAgreeBy U (frame_pledge U p w f)
+frame_objects_agree U classes p w f = objects_agree_by U classes (frame_pledge U p w f)

@@ -31,7 +31,7 @@ use Rattle.expression_laws.proofs.GroupCalls.{group_value_agrees}
 
 module _ (U : Upgrade) (K : Pledge) (p : ℕ) (f : SourceFrame) (g : NetFrame) (oracle : SourceCalls) (net_oracle : Jobs) (l : SourceLine) (k : NetLine)
     (c : Code) (T : Scope) (agree : CallsAgree U (Passes U) oracle net_oracle)
-    (ty : Ty) (q : ProcId) (qualified : Bool) (of : Object) (args : Passed) (w : World) (start : MemoryMatch U w) where
+    (ty : Ty) (q : ProcId) (qualified : Bool) (of : Object) (args : Passed) (number : ℕ) (w : World) (start : MemoryMatch U w) where
   abbrev C : Context
   C = context_of U oracle p f l
 
@@ -42,16 +42,16 @@ module _ (U : Upgrade) (K : Pledge) (p : ℕ) (f : SourceFrame) (g : NetFrame) (
   e = typed ty (call q qualified of args)
 
   abbrev IsGiven : Type 0
-  IsGiven = Agrees U K w (GivenMatch U) (source.term_parts C ty (call q qualified of args) w.src) (target.address_of S net_oracle (exp_of T e) w.net)
+  IsGiven = Agrees U K w (GivenMatch U number) (source.term_parts C ty (call q qualified of args) w.src) (target.address_of S net_oracle (exp_of T e) w.net)
 
   pub call_value : covers_type ty ≡ true → IsGiven
       → Agrees U K w (ScalarMatch U ty) (source.value_of C e w.src) (target.value_of S net_oracle (exp_of T e) w.net)
   call_value covers given =
       let r' = target.address_of S net_oracle (exp_of T e) w.net in
-      call_value_agrees U K p f g oracle net_oracle l k c T agree ty q qualified of args covers w r' start given
+      call_value_agrees U K p f g oracle net_oracle l k c T agree ty q qualified of args number covers w r' start given
 
   -- of a user type or a class
   pub call_gives : is_group_type ty ≡ true → IsGiven
       → Agrees U K w (ValueMatch U (type_shape U ty)) (source.value_of C e w.src) (target.value_of S net_oracle (exp_of T e) w.net)
   call_gives grouped given =
-      group_value_agrees U K p f oracle l ty grouped q qualified of args w (target.address_of S net_oracle (exp_of T e) w.net) start given
+      group_value_agrees U K p f oracle l ty grouped q qualified of args number w (target.address_of S net_oracle (exp_of T e) w.net) start given

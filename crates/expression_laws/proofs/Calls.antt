@@ -24,11 +24,11 @@ use Rattle.vb6_run.specs.Objects.{is_class}
 use Rattle.vb6_run.specs.Store.{Memory, SourceCalls, SourceFrame, SourceGiven, provided, Address}
 use Rattle.vb6_run.specs.Values.{Value, is_of_shape, scalar}
 use Rattle.net_run.specs.Calls as net_calls
-use Rattle.net_run.specs.Calls.{Arguments, passings_at, procedure_does, result_address, result_shape_of}
+use Rattle.net_run.specs.Calls.{Arguments, passings_at, procedure_does, result_address}
 use Rattle.net_run.specs.Expressions as target
 use Rattle.net_run.specs.Lines.{NetFrame, NetLine, scope_of}
 use Rattle.net_run.specs.Making.{Jobs}
-use Rattle.net_run.specs.Members.{Code, code_at}
+use Rattle.net_run.specs.Members.{Code}
 use Rattle.net_run.specs.Names as net_names
 use Rattle.net_run.specs.Names.{Scope}
 use Rattle.net_run.specs.Shapes as shape
@@ -48,6 +48,7 @@ use Rattle.run_matches.specs.Match.{MemoryMatch}
 use Rattle.run_matches.specs.Pledges.{Later, NetGiven, Pledge}
 use Rattle.run_matches.specs.Runs.{CallsAgree, IsObject, call_pledge}
 use Rattle.run_matches.specs.Upgrades.{Upgrade}
+use Rattle.run_statements.specs.Members.{ObjectMatch}
 use Rattle.run_statements.specs.Frames.{CanCall, ScalarMatch, context_of}
 use Rattle.run_statements.specs.Written.{Passes}
 use Rattle.row_laws.proofs.Composing.{then_assoc}
@@ -58,13 +59,14 @@ use Rattle.agreeing_laws.proofs.Lasting.{later_now}
 use Rattle.agreeing_laws.proofs.Members.{member_reached}
 use Rattle.agreeing_laws.proofs.Moves.{address_later, locks_promised}
 use Rattle.agreeing_laws.proofs.Scalars.{scalar_later}
-use Rattle.expression_laws.specs.Calls.{ArgumentsMatch, GivenMatch, Stands, next_address}
+use Rattle.expression_laws.specs.Calls.{ArgumentsMatch, GivenMatch, Stands, next_address, result_shape}
 use Rattle.expression_laws.proofs.Arguments.{arguments_ok, callee_is_weaker, stands_later}
 use Rattle.expression_laws.proofs.Callees.{IsCalled, back, call_address, enters_with, member_address, named_does, object_parts, takes}
 use Rattle.expression_laws.proofs.LastingImages.{plain_later}
 use Rattle.expression_laws.proofs.Checks.{value_checked}
-use Rattle.expression_laws.proofs.Objects.{ObjectMatch, no_value, reached}
-use Rattle.expression_laws.proofs.Receivers.{ReceiverIs, caller_received, class_is, for_none, for_object, object_received}
+use Rattle.expression_laws.proofs.ObjectMatches.{no_value, reached}
+use Rattle.expression_laws.proofs.Entered.{caller_received, class_is, object_received}
+use Rattle.expression_laws.proofs.Receivers.{ReceiverIs, for_none, for_object}
 use Rattle.expression_laws.proofs.Types.{both_true}
 
 -- ---- what is written for an argument
@@ -121,42 +123,41 @@ module _ (U : Upgrade) (K : Pledge) (p : ℕ) (f : SourceFrame) (g : NetFrame) (
   pub entered_agrees : (q : ℕ) (qualified : Bool) (of : Object) (args : Passed) (can : CanCall U K S T p q qualified of args) (w : World) (me me' : Option ℕ)
       (xs : List SourceGiven) (ys : List NetGiven) → me' ≡ option_map w.map.objects me → IsObject w me → HasOwnObject U w q me
       → AllLocked U K w f.env → MemoryMatch U w → ArgumentsMatch U K q 0 w xs ys
-      → Agrees U K w (GivenMatch U) (then (oracle (enters q me f.env xs) w.src) back) (net_calls.entered S net_oracle can.number me' ys w.net)
+      → Agrees U K w (GivenMatch U can.number) (then (oracle (enters q me f.env xs) w.src) back) (net_calls.entered S net_oracle can.number me' ys w.net)
   entered_agrees q qualified of args can w me me' xs ys same object own locks start h =
       let L : Pledge = call_pledge U q (mark w.src) me xs ys in
       let weaker : Weaker w K L = callee_is_weaker U K S T p q qualified of args w me xs ys can h in
-      let shaped = result_shape_of U.written (code_at U.written can.number) in
-      then_agrees U K w (ResultMatch U) (GivenMatch U) (oracle (enters q me f.env xs) w.src) (net_oracle (enters can.number me' tt ys) w.net) back
-      (λ r w. gives [] (result_address shaped r) w) start
+      then_agrees U K w (ResultMatch U) (GivenMatch U can.number) (oracle (enters q me f.env xs) w.src) (net_oracle (enters can.number me' tt ys) w.net) back
+      (λ r w. gives [] (result_address (result_shape U can.number) r) w) start
       (agrees_promised U K L w (ResultMatch U) (oracle (enters q me f.env xs) w.src) (net_oracle (enters can.number me' tt ys) w.net) start weaker
       (subst (λ m. Agrees U L w (ResultMatch U) (oracle (enters q me f.env xs) w.src) (net_oracle (enters can.number m tt ys) w.net)) (sym same)
       (agree q can.number me (mark w.src) f.env xs ys w can.passes can.is_number (below_self (mark w.src)) object own
       (locks_promised U K L w w f.env weaker locks) (arguments_ok U K L w q xs ys weaker h) start)))
-      (λ x r v m later. agrees_gives U K v (GivenMatch U) (result_parts x) (result_address shaped r) later.match
-      (record { given = x; net_given = r; shape = shaped; is_given = refl; is_net_given = refl; match = m }))
+      (λ x r v m later. agrees_gives U K v (GivenMatch U can.number) (result_parts x) (result_address (result_shape U can.number) r) later.match
+      (record { given = x; net_given = r; is_given = refl; is_net_given = refl; match = m }))
 
   -- the object of a call is looked at behind the arguments: it is one of the class, or both raise 91
   module _ (q : ℕ) (qualified : Bool) (d : ℕ) (t : Term) (args : Passed)
       (can : CanCall U K (scope_of U.written c g k) T p q qualified (of_object (typed (types.class d) t)) args) (w : World) (xs : List SourceGiven)
       (ys : List NetGiven) (locks : AllLocked U K w f.env) (start : MemoryMatch U w) (h : ArgumentsMatch U K q 0 w xs ys) where
     class_entered : (o j : ℕ) → o < w.src.next_object → w.map.objects o ≡ j → (b : Bool) → is_class d (w.src.class_of o) ≡ b
-        → Agrees U K w (GivenMatch U) (then (provided b (λ s. oracle (enters q (Some o) f.env xs) s) w.src) back)
+        → Agrees U K w (GivenMatch U can.number) (then (provided b (λ s. oracle (enters q (Some o) f.env xs) s) w.src) back)
         (net_calls.entered S net_oracle can.number (Some j) ys w.net)
     class_entered o j is_made goes true e =
         entered_agrees q qualified (of_object (typed (types.class d) t)) args can w (Some o) (Some j) xs ys (ap (λ n. Some n) (sym goes)) is_made
         (object_received U w p q d t o can.receives is_made (class_is d (w.src.class_of o) e)) locks start h
-    class_entered o j is_made goes false e = agrees_outside U K w (GivenMatch U) (net_calls.entered S net_oracle can.number (Some j) ys w.net)
+    class_entered o j is_made goes false e = agrees_outside U K w (GivenMatch U can.number) (net_calls.entered S net_oracle can.number (Some j) ys w.net)
 
     scalar_entered : (x : Value6) (y : ValueN) → Matches (are_same w) (types.class d) x y
-        → Agrees U K w (GivenMatch U) (then (source.entered C q (receiver (Some d) (scalar (types.class d) x)) xs w.src) back)
+        → Agrees U K w (GivenMatch U can.number) (then (source.entered C q (receiver (Some d) (scalar (types.class d) x)) xs w.src) back)
         (procedure_does S net_oracle (Some (net_value.single y)) can.number ys w.net)
-    scalar_entered _ _ (no_object_of _) = agrees_raises U K w (GivenMatch U) 91 start
+    scalar_entered _ _ (no_object_of _) = agrees_raises U K w (GivenMatch U can.number) 91 start
     scalar_entered _ _ (objects_of _ o j e) =
         let both = both_true (nat_lt o w.src.next_object) (nat_eq (w.map.objects o) j) e in
         class_entered o j (ltb-true o w.src.next_object both.0) (eqb-true (w.map.objects o) j both.1) (is_class d (w.src.class_of o)) refl
 
     pub object_entered : (x : Value6) (y : net_value.Value) → LikeV U w (scalar (types.class d) x) y
-        → Agrees U K w (GivenMatch U) (then (source.entered C q (receiver (Some d) (scalar (types.class d) x)) xs w.src) back)
+        → Agrees U K w (GivenMatch U can.number) (then (source.entered C q (receiver (Some d) (scalar (types.class d) x)) xs w.src) back)
         (procedure_does S net_oracle (Some y) can.number ys w.net)
     object_entered _ _ (like_scalar _ x y m) = scalar_entered x y m
 
@@ -166,64 +167,67 @@ module _ (U : Upgrade) (K : Pledge) (p : ℕ) (f : SourceFrame) (g : NetFrame) (
         Agrees U K v (ArgumentsMatch U K q.0 0) (source.args_of (context_of U oracle p f l) q.0 0 args v.src)
         (target.args_of (scope_of U.written c g k) net_oracle (passings_at U.written (Some n)) (passed_of T q.0 0 args) v.net)
 
-    -- a call whose arguments agree where they are evaluated
-    pub call_agrees : (of : Object) (can : CanCall U K S T p q.0 qualified of args) (bare : Bool) → IsCalled S T can.way bare q.0 qualified of args
-        → (w : World) → ReceiverIs U K C S net_oracle T w of → Stands U K w p f g → MemoryMatch U w
-        → ((v : World) → Later U K w v → Takes can.number v)
-        → Agrees U K w (GivenMatch U) (source.term_parts C ty (call q qualified of args) w.src)
+    -- A call whose arguments agree where they are evaluated.
+    -- its object is found under another pledge, which is kept too
+    pub call_agrees : (L : Pledge) → ((v : World) → Weaker v L K) → (of : Object) (can : CanCall U K S T p q.0 qualified of args) (bare : Bool)
+        → IsCalled S T can.way bare q.0 qualified of args → (w : World) → ReceiverIs U L C S net_oracle T w of
+        → ((v : World) → Later U L w v → Stands U K v p f g) → MemoryMatch U w → ((v : World) → Later U L w v → Takes can.number v)
+        → Agrees U L w (GivenMatch U can.number) (source.term_parts C ty (call q qualified of args) w.src)
         (target.address_of S net_oracle (called bare (callee_of T q.0 qualified of) (passed_of T q.0 0 args)) w.net)
-    call_agrees _ can bare is w for_none stands start given =
+    call_agrees L weaker _ can bare is w for_none stands start given =
         let r = source.args_of C q.0 0 args w.src in
         let r' = target.args_of S net_oracle (passings_at U.written (Some can.number)) (passed_of T q.0 0 args) w.net in
         let go = λ (gs : List SourceGiven) (w : Memory). then (oracle (enters q.0 f.me f.env gs) w) back in
         let go' = λ (gs : Arguments) (w : net.Memory). procedure_does S net_oracle None can.number gs w in
-        subst (λ z. Agrees U K w (GivenMatch U) (after [] (then r go)) z)
+        subst (λ z. Agrees U L w (GivenMatch U can.number) (after [] (then r go)) z)
         (sym (call_address S net_oracle T q.0 qualified args can.way bare is can.number can.found w.net))
-        (left_alone U K w (GivenMatch U) (then r go) (then r' go')
-        (then_agrees U K w (ArgumentsMatch U K q.0 0) (GivenMatch U) r r' go go' start (given w (later_now U K w start))
+        (left_alone U L w (GivenMatch U can.number) (then r go) (then r' go')
+        (agrees_promised U L K w (GivenMatch U can.number) (then r go) (then r' go') start (weaker w)
+        (then_agrees U K w (ArgumentsMatch U K q.0 0) (GivenMatch U can.number) r r' go go' start (given w (later_now U L w start))
         (λ xs ys v m later.
-        let now : Stands U K v p f g = stands_later U K w v p f g later stands in
+        let now : Stands U K v p f g = stands_later U K w v p f g later (stands w (later_now U L w start)) in
         entered_agrees q.0 qualified no_object args can v f.me g.me xs ys now.me now.object (caller_received U v p q.0 f.me can.receives now.own_object)
-        now.locks later.match m)))
-    call_agrees _ can bare is w (for_object d t (no_value none)) stands start given =
+        now.locks later.match m))))
+    call_agrees L weaker _ can bare is w (for_object d t (no_value none)) stands start given =
         let r' =
         target.address_of S net_oracle (called bare (callee_of T q.0 qualified (of_object (typed (types.class d) t))) (passed_of T q.0 0 args)) w.net in
-        subst (λ z. Agrees U K w (GivenMatch U) z r')
+        subst (λ z. Agrees U L w (GivenMatch U can.number) z r')
         (sym (object_parts C ty q qualified (typed (types.class d) t) args w.src
         ∙ ap (λ z. then z (λ x s. enters_with C q.0 args (receiver (Some d) x) s)) none))
-        (agrees_outside U K w (GivenMatch U) r')
-    call_agrees _ can bare is w (for_object d t (reached r leads before agrees)) stands start given =
+        (agrees_outside U L w (GivenMatch U can.number) r')
+    call_agrees L weaker _ can bare is w (for_object d t (reached r leads before agrees)) stands start given =
         let e : Expr = typed (types.class d) t in
         let name = procedure_name T.declarations q.0 in
         let callee : Exp = callee_of T q.0 qualified (of_object e) in
-        let G = GivenMatch U in
+        let G = GivenMatch U can.number in
         let take = takes S net_oracle bare (passed_of T q.0 0 args) in
         let r' = λ (v : World). target.args_of S net_oracle (passings_at U.written (Some can.number)) (passed_of T q.0 0 args) v.net in
-        subst (λ z. Agrees U K w G z (target.address_of S net_oracle (called bare callee (passed_of T q.0 0 args)) w.net))
+        subst (λ z. Agrees U L w G z (target.address_of S net_oracle (called bare callee (passed_of T q.0 0 args)) w.net))
         (sym (object_parts C ty q qualified e args w.src))
-        (subst (λ z. Agrees U K w G (then (source.value_of C e w.src) (λ x s. enters_with C q.0 args (receiver (Some d) x) s)) z)
+        (subst (λ z. Agrees U L w G (then (source.value_of C e w.src) (λ x s. enters_with C q.0 args (receiver (Some d) x) s)) z)
         (sym (member_address S net_oracle T q.0 qualified args bare callee r name w.net (before name w.net)
         (member_reached S net_oracle T e r leads name w.net)))
-        (then_agrees U K w (ObjectMatch U d) G (source.value_of C e w.src) (target.address_from S net_oracle (r w.net))
+        (then_agrees U L w (ObjectMatch U d) G (source.value_of C e w.src) (target.address_from S net_oracle (r w.net))
         (λ x s. enters_with C q.0 args (receiver (Some d) x) s) (λ a s. take (net_names.member_at S a name s) s) start agrees
         (λ x a v o later.
         let y : net_value.Value = net.looked_up a v.net in
         let does = λ (gs : Arguments) (s : net.Memory). procedure_does S net_oracle (Some y) can.number gs s in
-        subst (λ z. Agrees U K v G (enters_with C q.0 args (receiver (Some d) x) v.src) z)
+        subst (λ z. Agrees U L v G (enters_with C q.0 args (receiver (Some d) x) v.src) z)
         (sym (ap (λ b. take (net_names.member_by S a b name v.net) v.net) o.shaped ∙ ap (λ z. take z v.net) (can.found d o.home y refl o.is_home)
         ∙ named_does S net_oracle T q.0 qualified args (of_object e) can.way bare is (Some y) can.number v.net))
-        (subst (λ z. Agrees U K v G (enters_with C q.0 args (receiver (Some d) z) v.src) (then (r' v) does)) (sym o.like.1)
+        (subst (λ z. Agrees U L v G (enters_with C q.0 args (receiver (Some d) z) v.src) (then (r' v) does)) (sym o.like.1)
+        (agrees_promised U L K v G (enters_with C q.0 args (receiver (Some d) (scalar (types.class d) o.like.0)) v.src) (then (r' v) does) later.match
+        (weaker v)
         (then_agrees U K v (ArgumentsMatch U K q.0 0) G (source.args_of C q.0 0 args v.src) (r' v)
         (λ gs s. then (source.entered C q.0 (receiver (Some d) (scalar (types.class d) o.like.0)) gs s) back) does later.match (given v later)
         (λ xs ys u m behind.
-        let then_now : Stands U K v p f g = stands_later U K w v p f g later stands in
-        let now : Stands U K u p f g = stands_later U K v u p f g behind then_now in
+        let now : Stands U K u p f g = stands_later U K v u p f g behind (stands v later) in
         object_entered q.0 qualified d t args can u xs ys now.locks behind.match m o.like.0 y
-        (scalar_later U K v u (types.class d) o.like.0 y behind o.like.2)))))))
+        (scalar_later U K v u (types.class d) o.like.0 y behind o.like.2))))))))
 
   -- ---- what it gives, as a value
 
-  module _ (ty : Ty) (q : ProcId) (qualified : Bool) (of : Object) (args : Passed) (covers : covers_type ty ≡ true) where
+  module _ (ty : Ty) (q : ProcId) (qualified : Bool) (of : Object) (args : Passed) (number : ℕ) (covers : covers_type ty ≡ true) where
     abbrev e : Expr
     e = typed ty (call q qualified of args)
 
@@ -242,14 +246,14 @@ module _ (U : Upgrade) (K : Pledge) (p : ℕ) (f : SourceFrame) (g : NetFrame) (
 
     -- a call that gives what matches gives a value that does
     pub call_value_agrees : (w : World) (r' : Outcome net.Memory net.Address) → MemoryMatch U w
-        → Agrees U K w (GivenMatch U) (source.term_parts C ty (call q qualified of args) w.src) r'
+        → Agrees U K w (GivenMatch U number) (source.term_parts C ty (call q qualified of args) w.src) r'
         → Agrees U K w (ScalarMatch U ty) (source.value_of C e w.src) (then r' target.read)
     call_value_agrees w r' start h =
         let r = source.term_parts C ty (call q qualified of args) w.src in
         subst (λ z. Agrees U K w (ScalarMatch U ty) z (then r' target.read))
         (sym (then_assoc r (source.as_new C (call q qualified of args)) (source.value_in C e)))
-        (then_agrees U K w (GivenMatch U) (ScalarMatch U ty) r r' behind target.read start h
+        (then_agrees U K w (GivenMatch U number) (ScalarMatch U ty) r r' behind target.read start h
         (λ x a v m later.
         subst (λ z. Agrees U K v (ScalarMatch U ty) (behind z v.src) (target.read a v.net)) (sym m.is_given)
         (subst (λ z. Agrees U K v (ScalarMatch U ty) (behind (result_parts m.given) v.src) (target.read z v.net)) (sym m.is_net_given)
-        (result_agrees v m.given m.net_given m.shape later.match m.match))))
+        (result_agrees v m.given m.net_given (result_shape U number) later.match m.match))))

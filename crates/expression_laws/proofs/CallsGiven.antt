@@ -1,11 +1,11 @@
 -- Calls while the arrays of the elements that they are given are kept.
 use Rattle.vb_tree.specs.declared.declared.ProcId.{ProcId}
 use Rattle.run_matches.specs.Keeping.{given_types}
-use Rattle.expression_laws.proofs.Giving.{called_giving_for, can_giving, giving, giving_more, stands_giving}
+use Rattle.expression_laws.proofs.Giving.{can_giving, giving, giving_more, stands_giving}
 use Rattle.std.proofs.Common.{◌≡◌, ◌∙◌, ap, ℕ, ◌+◌, Bool, true, Some}
 use Rattle.std.specs.Prelude.{slice_get}
 use Rattle.vb_tree.specs.BoundTree.{Ty}
-use Rattle.bound_tree.specs.Tree.{Expr, typed, call, Object, Passed}
+use Rattle.bound_tree.specs.Tree.{Expr, call, Object, Passed}
 use Rattle.run_base.specs.Outcomes.{Outcome}
 use Rattle.vb6_run.specs.Expressions as source
 use Rattle.vb6_run.specs.Expressions.{Context}
@@ -23,22 +23,20 @@ use Rattle.written_trees.specs.Arguments.{takes_reference}
 use Rattle.written_trees.specs.Exprs.{called, callee_of, exp_of, passed_of}
 use Rattle.written_trees.specs.Names.{Scope}
 use Rattle.run_matches.specs.Agreeing.{Agrees}
-use Rattle.run_matches.specs.CoveredExprs.{Uses, covers_receiver, is_giving}
+use Rattle.run_matches.specs.CoveredExprs.{is_giving}
 use Rattle.run_matches.specs.Maps.{World}
 use Rattle.run_matches.specs.Match.{MemoryMatch}
 use Rattle.run_matches.specs.Pledges.{Later, Pledge}
 use Rattle.run_matches.specs.Upgrades.{Upgrade}
 use Rattle.run_matches.specs.Runs.{CallsAgree}
-use Rattle.run_statements.specs.Frames.{AllCalled, AllCalledFor, AreReadable, CanCall, Demands, demands, context_of, passing_at, passing_by}
+use Rattle.run_statements.specs.Frames.{CanCall, Demands, demands, context_of, passing_at, passing_by}
 use Rattle.run_statements.specs.Written.{Passes}
-use Rattle.agreeing_laws.proofs.Agreeing.{agrees_promised}
 use Rattle.expression_laws.specs.Calls.{ArgumentsMatch, GivenMatch, Stands}
 use Rattle.expression_laws.proofs.Arguments.{stands_later}
 use Rattle.expression_laws.proofs.Callees.{IsCalled}
 use Rattle.expression_laws.proofs.Calls.{call_agrees}
-use Rattle.expression_laws.proofs.Receivers.{ReceiverIs, receiver_called, receiver_is}
+use Rattle.expression_laws.proofs.Receivers.{ReceiverIs}
 use Rattle.expression_laws.proofs.References.{first}
-use Rattle.expression_laws.proofs.Withs.{HavePlaces, places_giving, places_later}
 
 module _ (U : Upgrade) (p : ℕ) (f : SourceFrame) (g : NetFrame) (oracle : SourceCalls) (net_oracle : Jobs)
     (l : SourceLine) (k : NetLine) (c : Code) (T : Scope) (agree : CallsAgree U (Passes U) oracle net_oracle) where
@@ -75,35 +73,11 @@ module _ (U : Upgrade) (p : ℕ) (f : SourceFrame) (g : NetFrame) (oracle : Sour
 
   pub call_made : (K : Pledge) (ty : Ty) (q : ProcId) (qualified : Bool) (of : Object) (args : Passed) (w : World) → MemoryMatch U w → Stands U K w p f g
       → (can : Can K q.0 qualified of args) → (bare : Bool) → IsCalled S T can.way bare q.0 qualified of args
-      → ReceiverIs U (kept_with K args) C S net_oracle T w of
-      → ((v : World) → Later U (kept_with K args) w v → ArgumentsAgree K q args can.number v)
-      → Agrees U K w (GivenMatch U) (source.term_parts C ty (call q qualified of args) w.src)
+      → ReceiverIs U K C S net_oracle T w of → ((v : World) → Later U K w v → ArgumentsAgree K q args can.number v)
+      → Agrees U K w (GivenMatch U can.number) (source.term_parts C ty (call q qualified of args) w.src)
       (target.address_of S net_oracle (called bare (callee_of T q.0 qualified of) (passed_of T q.0 0 args)) w.net)
   call_made K ty q qualified of args w start stands can bare by_way is given =
       let ts = given_types args in
-      agrees_promised U K (giving K ts) w (GivenMatch U) (source.term_parts C ty (call q qualified of args) w.src)
-      (target.address_of S net_oracle (called bare (callee_of T q.0 qualified of) (passed_of T q.0 0 args)) w.net) start (giving_more K ts w)
-      (call_agrees U (giving K ts) p f g oracle net_oracle l k c T agree ty q qualified args of
-      (can_giving U K S T ts p q.0 qualified of args can.given can) bare by_way w is (stands_giving U K ts w start p f g stands) start given)
-
-  -- so it is where its uses are placed
-  module _ (uses : Uses) (same_declarations : T.declarations ≡ U.program.declarations) (readable : AreReadable U T uses) where
-    abbrev Have : Pledge → World → Type 0
-    Have K w = HavePlaces U p f g oracle net_oracle l k c T uses K w
-
-    pub call_placed : (K : Pledge) (ty : Ty) (q : ProcId) (qualified : Bool) (of : Object) (args : Passed) (w : World) → MemoryMatch U w → Have K w
-        → Stands U K w p f g → (can : AllCalled (Asked K) (typed ty (call q qualified of args))) → (bare : Bool)
-        → IsCalled S T can.0.way bare q.0 qualified of args → covers_receiver uses of ≡ true
-        → ((v : World) → MemoryMatch U v → Have (kept_with K args) v → Stands U (kept_with K args) v p f g
-        → AllCalledFor (Asked (kept_with K args)) args → ArgumentsAgree K q args can.0.number v)
-        → Agrees U K w (GivenMatch U) (source.term_parts C ty (call q qualified of args) w.src)
-        (target.address_of S net_oracle (called bare (callee_of T q.0 qualified of) (passed_of T q.0 0 args)) w.net)
-    call_placed K ty q qualified of args w start have stands can bare by_way covers given =
-        let ts = given_types args in
-        let M : Pledge = giving K ts in
-        let there : Have M w = places_giving U p f g oracle net_oracle l k c T uses K ts w start have in
-        call_made K ty q qualified of args w start stands can.0 bare by_way
-        (receiver_is U M p f g oracle net_oracle l k c T uses same_declarations readable w start there of (receiver_called (Asked K) (Asked M) (λ ty r x. x) uses of covers can.2) covers)
-        (λ v later.
-        given v later.match (places_later U p f g oracle net_oracle l k c T uses M w v start later there)
-        (stands_later U M w v p f g later (stands_giving U K ts w start p f g stands)) (called_giving_for U K S T ts p l k args can.0.inside can.1))
+      call_agrees U (giving K ts) p f g oracle net_oracle l k c T agree ty q qualified args K (giving_more K ts) of
+      (can_giving U K S T ts p q.0 qualified of args can.given can) bare by_way w is
+      (λ v later. stands_giving U K ts v later.match p f g (stands_later U K w v p f g later stands)) start given

@@ -51,7 +51,7 @@ use Rattle.run_statements.specs.Frames.{ArrayMatch, IsArray, LeadsBefore, PlainM
 use Rattle.agreeing_laws.proofs.Agreeing.{agrees_gives, agrees_outside, left_alone, then_agrees}
 use Rattle.agreeing_laws.proofs.Moves.{address_later}
 use Rattle.expression_laws.specs.Images.{HasImage}
-use Rattle.expression_laws.proofs.UsedShapes.{array_stands}
+use Rattle.expression_laws.proofs.UsedShapes.{array_stands, not_auto}
 use Rattle.expression_laws.proofs.LastingImages.{plain_later}
 use Rattle.expression_laws.proofs.IndexRows.{IndexLike, IndexRow}
 use Rattle.expression_laws.proofs.Types.{both_true}
@@ -267,7 +267,7 @@ module _ (U : Upgrade) (K : Pledge) (p : ℕ) (f : SourceFrame) (g : NetFrame) (
             stands = stands.1;
             same = (x.image r.exact).same;
             target = (x.image r.exact).target;
-            plain = (x.image r.exact).plain;
+            plain = (x.image r.exact).plain (not_auto U v.0 r.known);
             ranked = ap (λ z. shape.rank_of (net.shape_at z)) there.stands ∙ (x.image r.exact).ranked there.element there.rank (ap net.shape_at there.stands);
           }))
 
@@ -287,7 +287,8 @@ module _ (U : Upgrade) (K : Pledge) (p : ℕ) (f : SourceFrame) (g : NetFrame) (
         written = there.element;
         array = there.array;
         is_matched = there.is_matched;
-        plain = plain_later U K w u a x.address later (x.image r.exact).same (x.image r.exact).plain (x.image r.exact).position (ap position_of stands.1);
+        plain =
+            plain_later U K w u a x.address later (x.image r.exact).same ((x.image r.exact).plain (not_auto U v.0 r.known)) (x.image r.exact).position (ap position_of stands.1);
         has = record { dims = there.dims; values = there.values; held = there.held; cell = there.cell };
         same = there.same;
         net_indexes = ys;

@@ -53,17 +53,16 @@ use Rattle.row_laws.proofs.Stated as rows
 use Rattle.run_matches.specs.Formed.{are_formed, are_longs, has_elements, types_of, is_row_of_one, is_row_of_two, passed_are_formed, is_formed}
 use Rattle.agreeing_laws.proofs.Agreeing.{agrees_gives}
 use Rattle.expression_laws.specs.Calls.{ArgumentsMatch, Stands, no_arguments}
-use Rattle.expression_laws.proofs.Types.{both_true, covered_type, covered_typed, or_false}
+use Rattle.expression_laws.proofs.Types.{both_true, covered_type, covered_typed}
 use Rattle.expression_laws.proofs.Checks.{TermMatch, term_agrees, plain_agrees}
 use Rattle.expression_laws.proofs.Conversions.{formed_constant, constant_agrees, conversion_agrees}
 use Rattle.expression_laws.proofs.Arguments.{stands_later}
 use Rattle.expression_laws.proofs.Calls.{no_copy}
 use Rattle.expression_laws.proofs.CallValues.{call_gives, call_value}
-use Rattle.expression_laws.proofs.FieldValues.{place_value_agrees}
 use Rattle.expression_laws.proofs.GroupArguments.{group_goes, grouped}
 use Rattle.expression_laws.proofs.FieldReferences.{field_passed}
 use Rattle.expression_laws.proofs.Is.{is_agrees}
-use Rattle.expression_laws.proofs.MemberValues.{field_agrees, group_field_agrees, me_agrees}
+use Rattle.expression_laws.proofs.MemberValues.{field_agrees, group_field_agrees, group_variable_agrees, me_agrees}
 use Rattle.expression_laws.proofs.NewValues.{new_agrees}
 use Rattle.expression_laws.proofs.Nothings.{nothing_agrees, nothing_converted, operand_agrees, operand_reference}
 use Rattle.expression_laws.specs.Statements.{ParametersAreSound}
@@ -85,7 +84,8 @@ use Rattle.expression_laws.proofs.Operators.{binary_agrees, formed_held, same_op
 use Rattle.expression_laws.proofs.ArrayUses.{AllLead, AllLong, all_long, bounded_by, from_none, in_two, in_two_more, indexed_by}
 use Rattle.expression_laws.proofs.ItemArguments.{ItemAgrees, item_passed}
 use Rattle.expression_laws.proofs.Callees.{called_as_written}
-use Rattle.expression_laws.proofs.CallsGiven.{call_placed, from_first}
+use Rattle.expression_laws.proofs.CallsGiven.{from_first}
+use Rattle.expression_laws.proofs.PlacedCalls.{call_placed}
 
 one_left : (xs ys : List Ty) (t : Ty) → IsOne xs t → IsOne (xs ++ ys) t
 one_left [] ys t o = absurd o
@@ -119,15 +119,16 @@ module _ (U : Upgrade) (p : ℕ) (f : SourceFrame) (g : NetFrame) (oracle : Sour
   abbrev Written : World → Expr → Type 0
   Written w e = has_address T.declarations (kept e) ≡ false → Handles S (IsSeen C S net_oracle w e) (exp_of T e)
 
-  handles : (K : Pledge) (e : Expr) (w : World) → MemoryMatch U w → Have K w → AllCalled (Asked K) e → covers_expr uses e ≡ true → is_formed e ≡ true
-      → Written w e
-  handles K e w start have can covers formed none =
-      exp_handles U K p f g oracle net_oracle l k c T uses same_declarations opened readable w start have e can covers formed
+  handles : (K : Pledge) (e : Expr) (w : World) → MemoryMatch U w → Have K w → Stands U K w p f g → AllCalled (Asked K) e → covers_expr uses e ≡ true
+      → is_formed e ≡ true → Written w e
+  handles K e w start have stands can covers formed none =
+      exp_handles U K p f g oracle net_oracle l k c T uses same_declarations opened readable w start have agree classes stands e can covers formed
       (ap (λ E. has_address E (kept e)) (sym same_declarations) ∙ none)
 
-  handles_group : (K : Pledge) (e : Expr) (w : World) → MemoryMatch U w → Have K w → AllCalled (Asked K) e → covers_group uses e ≡ true → Written w e
-  handles_group K e w start have can covers none =
-      group_handles U K p f g oracle net_oracle l k c T uses same_declarations opened readable w start have e can covers
+  handles_group : (K : Pledge) (e : Expr) (w : World) → MemoryMatch U w → Have K w → Stands U K w p f g → AllCalled (Asked K) e
+      → covers_group uses e ≡ true → Written w e
+  handles_group K e w start have stands can covers none =
+      group_handles U K p f g oracle net_oracle l k c T uses same_declarations opened readable w start have agree classes stands e can covers
       (ap (λ E. has_address E (kept e)) (sym same_declarations) ∙ none)
 
   mutual
@@ -184,7 +185,7 @@ module _ (U : Upgrade) (p : ℕ) (f : SourceFrame) (g : NetFrame) (oracle : Sour
         (conversion_agrees U K S net_oracle opened C from to t (exp_of T (typed from t)) w (covered_type uses (typed from t) operand.1) forms.1 forms.0 start
         (plain_agrees U K C (typed from t) from w (written (typed from t) w) start (expression_agrees K (typed from t) w start have stands can operand.1 forms.1)))
     expression_agrees K (typed ty (field e i)) w start have stands can covers formed =
-        field_agrees U K p f g oracle net_oracle l k c T uses same_declarations readable w have start ty e i can covers
+        field_agrees U K p f g oracle net_oracle l k c T uses same_declarations readable w have start opened agree classes stands ty e i can covers
     expression_agrees K (typed ty (element e indexes)) w start have stands can covers formed =
         let both = both_true (covers_type ty) (covers_array uses e && covers_exprs uses indexes) covers in
         let inner = both_true (covers_array uses e) (covers_exprs uses indexes) both.1 in
@@ -200,8 +201,8 @@ module _ (U : Upgrade) (p : ℕ) (f : SourceFrame) (g : NetFrame) (oracle : Sour
         let called = both_true (uses.gives q.0) (covers_receiver uses of && covers_passed uses args) both.1 in
         let parts = both_true (covers_receiver uses of) (covers_passed uses args) called.1 in
         let giving_one : is_giving (slice_get U.program.declarations.procs q.0) ≡ true = readable.gives q.0 called.0 in
-        call_value U K p f g oracle net_oracle l k c T agree ty q qualified of args w start both.0
-        (call_placed U p f g oracle net_oracle l k c T agree uses same_declarations readable K ty q qualified of args w start have stands can
+        call_value U K p f g oracle net_oracle l k c T agree ty q qualified of args can.0.number w start both.0
+        (call_placed U p f g oracle net_oracle l k c T agree uses same_declarations readable opened classes K ty q qualified of args w start have stands can
         (is_bare T q.0 qualified of args) (called_as_written U S T q.0 qualified of args same_declarations can.0.way can.0.is_way giving_one) parts.0
         (λ v start_there there now asked.
         passed_agree (giving K (given_types args)) q.0 0 can.0.passes args (passings_at U.written (Some can.0.number)) v
@@ -262,22 +263,22 @@ module _ (U : Upgrade) (p : ℕ) (f : SourceFrame) (g : NetFrame) (oracle : Sour
         → covers_group uses e ≡ true → is_formed e ≡ true
         → Agrees U K w (ValueMatch U (type_shape U (type_at e))) (source.value_of C e w.src) (written e w)
     group_agrees K (typed ty (variable v qualified)) w start have stands can covers formed =
-        place_value_agrees U K p f g oracle net_oracle l k c T uses same_declarations readable w have start ty (variable v qualified) can
-        (or_false (covers_place uses (typed ty (variable v qualified))) covers)
+        group_variable_agrees U K p f g oracle net_oracle l k c T uses same_declarations readable w have start opened agree classes stands ty v qualified can
+        covers
     group_agrees K (typed ty (field d j)) w start have stands can covers formed =
-        group_field_agrees U K p f g oracle net_oracle l k c T uses same_declarations readable w have start ty d j can covers
+        group_field_agrees U K p f g oracle net_oracle l k c T uses same_declarations readable w have start opened agree classes stands ty d j can covers
     group_agrees K (typed ty (new_object class)) w start have stands can covers formed =
         new_agrees U K p f g oracle net_oracle l k c T agree w start stands uses readable classes ty class can covers
     group_agrees K (typed ty me) w start have stands can covers formed =
-        me_agrees U K p f g oracle net_oracle l k c T uses same_declarations readable w have start ty covers
+        me_agrees U K p f g oracle net_oracle l k c T uses same_declarations readable w have start opened agree classes stands ty covers
     group_agrees K (typed ty (call q qualified of args)) w start have stands can covers formed =
         let both = both_true (uses.given ty) (uses.gives q.0 && (covers_receiver uses of && covers_passed uses args)) covers in
         let called = both_true (uses.gives q.0) (covers_receiver uses of && covers_passed uses args) both.1 in
         let parts = both_true (covers_receiver uses of) (covers_passed uses args) called.1 in
         let giving_one : is_giving (slice_get U.program.declarations.procs q.0) ≡ true = readable.gives q.0 called.0 in
-        call_gives U K p f g oracle net_oracle l k c T agree ty q qualified of args w start
+        call_gives U K p f g oracle net_oracle l k c T agree ty q qualified of args can.0.number w start
         (grouped U T uses readable (typed ty (call q qualified of args)) covers)
-        (call_placed U p f g oracle net_oracle l k c T agree uses same_declarations readable K ty q qualified of args w start have stands can
+        (call_placed U p f g oracle net_oracle l k c T agree uses same_declarations readable opened classes K ty q qualified of args w start have stands can
         (is_bare T q.0 qualified of args) (called_as_written U S T q.0 qualified of args same_declarations can.0.way can.0.is_way giving_one) parts.0
         (λ v start_there there now asked.
         passed_agree (giving K (given_types args)) q.0 0 can.0.passes args (passings_at U.written (Some can.0.number)) v
@@ -363,8 +364,8 @@ module _ (U : Upgrade) (p : ℕ) (f : SourceFrame) (g : NetFrame) (oracle : Sour
         (target.reach S net_oracle false (argument_exp T (takes_reference T.declarations q i) (by_reference e) (exp_of T e)) w.net))
         (source.args_of C q (suc i) rest) (target.args_of S net_oracle (target.rest_passings modes) (passed_of T q (suc i) rest))
         (conversion_given C ((runnable_of U).quiet q i) e w.src covered is_one)
-        (conversion_goes C S net_oracle T e (no_copy T.facts (type_at e) (is_copied e) covered) w (handles K e w start have can.0 scalar forms.0) (target.first_passing modes)
-        (takes_reference T.declarations q i) covered mode is_one)
+        (conversion_goes C S net_oracle T e (no_copy T.facts (type_at e) (is_copied e) covered) w (handles K e w start have stands can.0 scalar forms.0)
+        (target.first_passing modes) (takes_reference T.declarations q i) covered mode is_one)
         start
         (expression_agrees K e w start have stands can.0 scalar forms.0)
         (λ v later.
@@ -407,8 +408,8 @@ module _ (U : Upgrade) (p : ℕ) (f : SourceFrame) (g : NetFrame) (oracle : Sour
         (target.given S net_oracle (target.first_passing modes)
         (target.reach S net_oracle false (argument_exp T (takes_reference T.declarations q i) (by_value e) (exp_of T e)) w.net))
         (source.args_of C q (suc i) rest) (target.args_of S net_oracle (target.rest_passings modes) (passed_of T q (suc i) rest)) refl
-        (value_goes C S net_oracle T e (no_copy T.facts (type_at e) (is_copied e) (covered_type uses e scalar)) w (handles K e w start have can.0 scalar forms.0)
-        (takes_reference D q i) (target.first_passing modes) (takes_reference T.declarations q i) mode (ap (λ E. takes_reference E q i) same_declarations))
+        (value_goes C S net_oracle T e (no_copy T.facts (type_at e) (is_copied e) (covered_type uses e scalar)) w
+        (handles K e w start have stands can.0 scalar forms.0) (takes_reference D q i) (target.first_passing modes) (takes_reference T.declarations q i) mode (ap (λ E. takes_reference E q i) same_declarations))
         start (expression_agrees K e w start have stands can.0 scalar forms.0) more)
         (λ of_group.
         let is_group = grouped U T uses readable e of_group in
@@ -416,5 +417,5 @@ module _ (U : Upgrade) (p : ℕ) (f : SourceFrame) (g : NetFrame) (oracle : Sour
         (source.args_of C q (suc i) rest) (target.args_of S net_oracle (target.rest_passings modes) (passed_of T q (suc i) rest)) mode
         (sound q i (type_at e) passes is_group
         (suited (is_group_type (type_at e)) (is_type_at D (type_at e) (slice_get (params_at (slice_get D.procs q)) i)) is_group fit.0))
-        (handles_group K e w start have can.0 of_group)
+        (handles_group K e w start have stands can.0 of_group)
         (group_agrees K e w start have stands can.0 of_group forms.0) more)

@@ -1,7 +1,8 @@
 -- While a call with elements by reference is evaluated, their arrays are kept.
-use Rattle.std.proofs.Common.{◌≡◌, ◌⊎◌, inl, inr, refl, ℕ, Bool, not, Option, Some, None, List, [], ◌∷◌, ◌++◌}
+use Rattle.std.proofs.Common.{◌≡◌, ◌⊎◌, inl, inr, refl, ap, ◌∙◌, ℕ, Bool, not, Option, Some, None, List, [], ◌∷◌, ◌++◌}
 use Rattle.vb_tree.specs.BoundTree.{Ty}
 use Rattle.bound_tree.specs.Tree.{Expr, typed, constant, variable, field, element, call, library, unary, binary, convert, new_object, me, with_object, err_number, err_raise, err_clear, is_same, loose, Exprs, no_exprs, next_expr, Object, no_object, of_object, Passed, no_passed, next_passed, by_value, by_reference}
+use Rattle.bound_facts.specs.Calls.{initializer_of}
 use Rattle.bound_facts.specs.Facts.{is_quiet}
 use Rattle.bound_facts.specs.Locks.{Keeps}
 use Rattle.bound_facts.specs.Members.{initializer}
@@ -53,6 +54,7 @@ module _ (U : Upgrade) (K : Pledge) (ts : List Ty) (w : World) (start : MemoryMa
     target = x.target;
     plain = x.plain;
     position = x.position;
+    auto = x.auto;
     stands = x.stands;
     ranked = x.ranked;
   }
@@ -112,6 +114,7 @@ module _ (U : Upgrade) (K : Pledge) (S : net_names.Scope) (T : Scope) (ts : List
     ranks = c.ranks;
     passings = c.passings;
     found = c.found;
+    result = c.result;
   }
 
   -- a new object can be made then, where its Class_Initialize keeps them
@@ -150,7 +153,9 @@ module _ (U : Upgrade) (K : Pledge) (S : net_names.Scope) (T : Scope) (ts : List
     mutual
       called_giving : (e : Expr) → Keep (nodes e) → AllCalled Q e → AllCalled R e
       called_giving (typed ty (constant x origin)) s h = tt
-      called_giving (typed ty (variable v qualified)) s h = tt
+      called_giving (typed ty (variable v qualified)) s h = λ class is made.
+          let can = h class is made in
+          (make_giving class (λ q e. s.0.1 q (ap (initializer_of U.program.declarations) is ∙ e)) can.0, can.1)
       called_giving (typed ty (field e k)) s h = called_giving e s.1 h
       called_giving (typed ty (element e indexes)) s h = (h.0, called_giving_all indexes (nodes_right U ts (nodes e) (nodes_of_all indexes) s.1) h.1)
       called_giving (typed ty (call q qualified of args)) s h = (

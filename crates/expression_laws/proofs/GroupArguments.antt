@@ -46,11 +46,12 @@ use Rattle.expression_laws.specs.Statements.{IsSoundType}
 use Rattle.expression_laws.proofs.Arguments.{no_arrays}
 use Rattle.expression_laws.proofs.Handed.{Lasts, taken_agrees}
 use Rattle.expression_laws.proofs.Handled.{Handles}
+use Rattle.expression_laws.proofs.Library.{by_either}
 use Rattle.expression_laws.proofs.Me.{me_class}
 use Rattle.expression_laws.proofs.Nothings.{nothing_converted}
 use Rattle.expression_laws.proofs.Seen.{IsSeen}
 use Rattle.expression_laws.proofs.Temporaries.{value_goes}
-use Rattle.expression_laws.proofs.Types.{both_true, is_group, or_false}
+use Rattle.expression_laws.proofs.Types.{both_true, is_group}
 
 -- ---- values of user types and objects
 
@@ -112,7 +113,9 @@ uncopied U T uses readable _ copied covers = absurd (true≢false (sym covers))
 -- what is given as a user type or an object is of one
 pub grouped : (U : Upgrade) (T : Scope) (uses : Uses) → AreReadable U T uses → (e : Expr) → covers_group uses e ≡ true → is_group_type (type_at e) ≡ true
 grouped U T uses readable (typed ty (variable v qualified)) h =
-    is_group U.program.declarations ty (readable.groups v ty (both_true (uses.group v ty) (uses.named v qualified) (or_false (uses.group v ty && uses.named v qualified) h)).0).covers
+    by_either (uses.group v ty && uses.named v qualified) (uses.auto v ty && uses.named v qualified) h
+    (λ group. is_group U.program.declarations ty (readable.groups v ty (both_true (uses.group v ty) (uses.named v qualified) group).0).covers)
+    (λ auto. ap is_group_type (readable.autos v ty (both_true (uses.auto v ty) (uses.named v qualified) auto).0).1)
 grouped U T uses readable (typed (types.user t) (field e j)) h = refl
 grouped U T uses readable (typed (types.class d) (field e j)) h = refl
 grouped U T uses readable (typed _ (field e j)) h = absurd (true≢false (sym h))

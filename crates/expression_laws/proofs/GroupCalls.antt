@@ -30,7 +30,7 @@ use Rattle.run_statements.specs.Frames.{context_of, type_shape}
 use Rattle.run_statements.specs.Groups.{ValueMatch}
 use Rattle.row_laws.proofs.Composing.{then_assoc}
 use Rattle.agreeing_laws.proofs.Agreeing.{agrees_gives, agrees_outside, left_alone, then_agrees}
-use Rattle.expression_laws.specs.Calls.{GivenMatch}
+use Rattle.expression_laws.specs.Calls.{GivenMatch, result_shape}
 use Rattle.expression_laws.proofs.Checks.{provided_agrees}
 use Rattle.expression_laws.proofs.Types.{both_true, same_class}
 
@@ -84,7 +84,7 @@ group_value U _ x grouped ok whole = absurd (true≢false (sym grouped))
 -- ---- what a call gives
 
 module _ (U : Upgrade) (K : Pledge) (p : ℕ) (f : SourceFrame) (oracle : SourceCalls) (l : SourceLine) (ty : Ty) (grouped : is_group_type ty ≡ true)
-    (q : ProcId) (qualified : Bool) (of : Object) (args : Passed) where
+    (q : ProcId) (qualified : Bool) (of : Object) (args : Passed) (number : ℕ) where
   abbrev C : Context
   C = context_of U oracle p f l
 
@@ -111,15 +111,15 @@ module _ (U : Upgrade) (K : Pledge) (p : ℕ) (f : SourceFrame) (oracle : Source
 
   -- a call that gives what matches gives a value of the type that does
   pub group_value_agrees : (w : World) (r' : Outcome net.Memory net.Address) → MemoryMatch U w
-      → Agrees U K w (GivenMatch U) (source.term_parts (context_of U oracle p f l) ty (call q qualified of args) w.src) r'
+      → Agrees U K w (GivenMatch U number) (source.term_parts (context_of U oracle p f l) ty (call q qualified of args) w.src) r'
       → Agrees U K w (ValueMatch U (type_shape U ty))
       (source.value_of (context_of U oracle p f l) (typed ty (call q qualified of args)) w.src) (then r' target.read)
   group_value_agrees w r' start h =
       let r = source.term_parts C ty (call q qualified of args) w.src in
       subst (λ z. Agrees U K w R z (then r' target.read))
       (sym (then_assoc r (source.as_new C (call q qualified of args)) (source.value_in C e)))
-      (then_agrees U K w (GivenMatch U) R r r' behind target.read start h
+      (then_agrees U K w (GivenMatch U number) R r r' behind target.read start h
       (λ x a v m later.
       subst (λ z. Agrees U K v R (behind z v.src) (target.read a v.net)) (sym m.is_given)
       (subst (λ z. Agrees U K v R (behind (result_parts m.given) v.src) (target.read z v.net)) (sym m.is_net_given)
-      (result_agrees v m.given m.net_given m.shape later.match m.match))))
+      (result_agrees v m.given m.net_given (result_shape U number) later.match m.match))))

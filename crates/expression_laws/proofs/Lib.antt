@@ -26,8 +26,14 @@ pub mod Seen
 pub mod Temporaries
 pub mod Nothings
 pub mod BeforeArguments
+pub mod ObjectMatches
+pub mod Entered
+pub mod Autos
+pub mod AutoUses
 pub mod Objects
 pub mod Receivers
+pub mod GivenObjects
+pub mod KeptObjects
 pub mod MemberValues
 pub mod NewValues
 pub mod Is
@@ -46,6 +52,7 @@ pub mod Operators
 pub mod ArrayUses
 pub mod ItemArguments
 pub mod CallsGiven
+pub mod PlacedCalls
 pub mod Expressions
 pub mod Agreements
 mod Examples

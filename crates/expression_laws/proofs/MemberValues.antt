@@ -1,8 +1,9 @@
 -- The values of fields of user types and of variables of objects.
-use Rattle.std.proofs.Common.{◌≡◌, refl, sym, ap, subst, inl, ℕ, Bool, true, ◌&&◌, ◌||◌, true≢false, []}
+use Rattle.std.proofs.Common.{◌≡◌, ◌∙◌, refl, sym, ap, subst, inl, ℕ, Bool, true, false, ◌&&◌, ◌||◌, true≢false, []}
 use Rattle.vb_tree.specs.BoundTree as types
 use Rattle.vb_tree.specs.BoundTree.{Ty}
-use Rattle.bound_tree.specs.Tree.{Expr, typed, Term, field, me}
+use Rattle.vb_tree.specs.declared.declared.VarId.{VarId}
+use Rattle.bound_tree.specs.Tree.{Expr, typed, Term, variable, field, me}
 use Rattle.bound_facts.specs.Node.{type_at}
 use Rattle.run_base.specs.Outcomes.{gives, then}
 use Rattle.vb6_run.specs.Expressions as source
@@ -29,21 +30,33 @@ use Rattle.run_matches.specs.Maps.{World}
 use Rattle.run_matches.specs.Match.{MemoryMatch}
 use Rattle.run_matches.specs.Pledges.{Pledge}
 use Rattle.run_matches.specs.Upgrades.{Upgrade}
-use Rattle.run_statements.specs.Frames.{AllCalled, AreReadable, ScalarMatch, context_of, demands, type_shape}
+use Rattle.run_statements.specs.Members.{ObjectMatch}
+use Rattle.run_statements.specs.Frames.{AllCalled, AreReadable, IsOpen, ScalarMatch, context_of, demands, type_shape}
 use Rattle.run_statements.specs.Groups.{ValueMatch}
 use Rattle.row_laws.proofs.Composing.{after_nil, then_gives}
 use Rattle.agreeing_laws.proofs.Agreeing.{agrees_gives, agrees_outside, then_agrees}
 use Rattle.agreeing_laws.proofs.Members.{is_alone}
+use Rattle.run_matches.specs.Runs.{CallsAgree}
+use Rattle.run_statements.specs.Objects.{ClassesAreWritten}
+use Rattle.run_statements.specs.Written.{Passes}
+use Rattle.expression_laws.specs.Calls.{Stands}
 use Rattle.expression_laws.proofs.FieldValues.{place_value_agrees, scalar_field_agrees}
-use Rattle.expression_laws.proofs.Objects.{ObjectIs, ObjectMatch, member_declared, member_read, no_value, object_is, reached}
+use Rattle.expression_laws.proofs.ObjectMatches.{ObjectIs, no_value, reached}
+use Rattle.expression_laws.proofs.KeptObjects.{object_is}
+use Rattle.expression_laws.proofs.Objects.{member_declared, member_read}
 use Rattle.expression_laws.proofs.Library.{by_either}
 use Rattle.expression_laws.proofs.Types.{both_true}
 use Rattle.expression_laws.proofs.Variables.{Checked, same_agrees}
 use Rattle.expression_laws.proofs.Withs.{HavePlaces}
 
+or_one : (b : Bool) → (b || true) ≡ true
+or_one true = refl
+or_one false = refl
+
 module _ (U : Upgrade) (K : Pledge) (p : ℕ) (f : SourceFrame) (g : NetFrame) (oracle : SourceCalls) (net_oracle : Jobs) (l : SourceLine) (k : NetLine)
     (c : Code) (T : Scope) (uses : Uses) (same_declarations : T.declarations ≡ U.program.declarations) (readable : AreReadable U T uses) (w : World)
-    (have : HavePlaces U p f g oracle net_oracle l k c T uses K w) (start : MemoryMatch U w) where
+    (have : HavePlaces U p f g oracle net_oracle l k c T uses K w) (start : MemoryMatch U w) (opened : IsOpen (scope_of U.written c g k))
+    (agree : CallsAgree U (Passes U) oracle net_oracle) (classes : ClassesAreWritten U) (stands : Stands U K w p f g) where
   abbrev C : Context
   C = context_of U oracle p f l
 
@@ -56,7 +69,8 @@ module _ (U : Upgrade) (K : Pledge) (p : ℕ) (f : SourceFrame) (g : NetFrame) (
   member_scalar_agrees ty (typed (types.class d) t) j can covers has object =
       let x = member_declared U T uses readable covers_type d j (uses.member_type d j) refl has in
       member_read U K p f g oracle net_oracle l k c T same_declarations w start d j t x.0 x.2 ty (inl x.1)
-      (object_is U K p f g oracle net_oracle l k c T same_declarations w start uses readable have d t can object) (ScalarMatch U ty) target.read
+      (object_is U K p f g oracle net_oracle l k c T uses same_declarations readable w start have opened agree classes stands d t can
+      object) (ScalarMatch U ty) target.read
       (λ a b v found match.
       subst (λ z. Agrees U K v (ScalarMatch U ty) (then z (Checked C ty)) (target.read b v.net)) (after_nil (store.read a v.src))
       (same_agrees U K C ty a b v (inl (ap is_element found.stands)) covers match found.same))
@@ -66,7 +80,8 @@ module _ (U : Upgrade) (K : Pledge) (p : ℕ) (f : SourceFrame) (g : NetFrame) (
   object_value : (d : ℕ) (t : Term) → AllCalled (demands U K p l k S T) (typed (types.class d) t) → is_alone (typed (types.class d) t) ≡ true → covers_object uses (typed (types.class d) t) ≡ true
       → Agrees U K w (ValueMatch U (simple (types.class d))) (source.value_of C (typed (types.class d) t) w.src)
       (target.value_of S net_oracle (exp_of T (typed (types.class d) t)) w.net)
-  object_value d t can alone covers = by (object_is U K p f g oracle net_oracle l k c T same_declarations w start uses readable have d t can covers)
+  object_value d t can alone covers =
+      by (object_is U K p f g oracle net_oracle l k c T uses same_declarations readable w start have opened agree classes stands d t can covers)
     where
       whole : Expr
       whole = typed (types.class d) t
@@ -85,6 +100,28 @@ module _ (U : Upgrade) (K : Pledge) (p : ℕ) (f : SourceFrame) (g : NetFrame) (
           agrees
           (λ x a v m later.
           agrees_gives U K v R x (net.looked_up a v.net) later.match (subst (λ z. R v z (net.looked_up a v.net)) (sym m.like.1) (refl, m.like.2)))))
+
+  -- a variable: what is of a user type or an object, or an As New one, whose use is an object
+  pub group_variable_agrees : (ty : Ty) (v : VarId) (qualified : Bool)
+      → AllCalled (demands U K p l k (scope_of U.written c g k) T) (typed ty (variable v qualified)) → covers_group uses (typed ty (variable v qualified)) ≡ true
+      → Agrees U K w (ValueMatch U (type_shape U ty)) (source.value_of (context_of U oracle p f l) (typed ty (variable v qualified)) w.src)
+      (target.value_of (scope_of U.written c g k) net_oracle (exp_of T (typed ty (variable v qualified))) w.net)
+  group_variable_agrees ty v qualified can covers =
+      by_either (uses.group v ty && uses.named v qualified) (uses.auto v ty && uses.named v qualified) covers
+      (place_value_agrees U K p f g oracle net_oracle l k c T uses same_declarations readable w have start ty (variable v qualified) can)
+      (λ auto.
+      let both = both_true (uses.auto v ty) (uses.named v qualified) auto in
+      used ty (readable.autos v ty both.0).0 (readable.autos v ty both.0).1 can both.0 both.1)
+    where
+      used : (ty : Ty) (d : ℕ) → ty ≡ types.class d → AllCalled (demands U K p l k S T) (typed ty (variable v qualified)) → uses.auto v ty ≡ true
+          → uses.named v qualified ≡ true
+          → Agrees U K w (ValueMatch U (type_shape U ty)) (source.value_of C (typed ty (variable v qualified)) w.src)
+          (target.value_of S net_oracle (exp_of T (typed ty (variable v qualified))) w.net)
+      used (types.class d) e is can auto named =
+          object_value d (variable v qualified) can refl
+          (ap (λ b. (uses.group v (types.class d) || b) && uses.named v qualified) auto
+          ∙ ap (λ b. b && uses.named v qualified) (or_one (uses.group v (types.class d))) ∙ named)
+      used _ e is can auto named = absurd (cc is)
 
   -- one that an object has
   member_object_agrees : (ty : Ty) (e : Expr) (j : ℕ) → AllCalled (demands U K p l k S T) e → covers_object uses (typed ty (field e j)) ≡ true

@@ -23,9 +23,9 @@ use Rattle.run_matches.specs.Maps.{World, IsMatched, is_auto_root, key_or_none, 
 use Rattle.run_matches.specs.Match.{is_class_variable, StoreMatch}
 use Rattle.run_matches.specs.Pledges.{Pledge}
 use Rattle.run_matches.specs.Upgrades.{Upgrade, is_that, variable_key}
-use Rattle.run_statements.specs.Frames.{HasRankOf, IsKnown, IsOwnField, IsShared}
+use Rattle.run_statements.specs.Frames.{HasRankOf, IsOwnField, IsShared}
 use Rattle.expression_laws.specs.Images.{HasImage}
-use Rattle.expression_laws.proofs.UsedShapes.{UsedShape, declared_all, declared_ranked, is_laid, not_auto, stands_as}
+use Rattle.expression_laws.proofs.UsedShapes.{IsDeclared, UsedShape, declared_all, declared_ranked, is_laid, stands_as}
 
 pub exactly : (U : Upgrade) (K : Pledge) (w : World) (v : ℕ) (a : Address) (b : net.Address) → Same U K w a b
     → Bound U K w (not (is_quiet U.program.declarations U.known v)) a b
@@ -56,14 +56,14 @@ field_address D f v x file object is of class me =
     ap (declared_address D f v) is ∙ ap (owned_address D f v) of
     ∙ (ap (λ b. root_address D v (cond b (object_root f.me v) (Some (shared (v ∷ []))))) class ∙ ap (λ m. root_address D v (object_root m v)) me)
 
-shared_matched : (U : Upgrade) (w : World) (v : ℕ) (x : IsKnown U v) → variable_key U v ≡ Some (key_or_none (variable_key U v)) → IsMatched U w (at_key v)
+shared_matched : (U : Upgrade) (w : World) (v : ℕ) (x : IsDeclared U v) → variable_key U v ≡ Some (key_or_none (variable_key U v)) → IsMatched U w (at_key v)
 shared_matched U w v x e = record {
   is_made = tt;
   counterpart = ap is_some e;
   sound = ap not x.sound;
 }
 
-module _ (U : Upgrade) (K : Pledge) (w : World) (start : StoreMatch U w) (f : SourceFrame) (S : net_names.Scope) (T : Scope) (v : ℕ) (r : IsKnown U v)
+module _ (U : Upgrade) (K : Pledge) (w : World) (start : StoreMatch U w) (f : SourceFrame) (S : net_names.Scope) (T : Scope) (v : ℕ) (r : IsDeclared U v)
     (used : UsedShape U v (variable_shape U.program.declarations v)) (s : IsShared U S T v) where
   abbrev D : Declarations
   D = U.program.declarations
@@ -109,9 +109,9 @@ module _ (U : Upgrade) (K : Pledge) (w : World) (start : StoreMatch U w) (f : So
                 is_key = s.is_key;
                 differs = s.differs;
               })));
-          plain = λ q e.
-              subst (λ (z : Position). is_auto_root U w.map z.root ≡ false) (some_is (at_key v) q (sym (ap position_of stands) ∙ e)) (not_auto U v r);
+          plain = λ plain q e. subst (λ (z : Position). is_auto_root U w.map z.root ≡ false) (some_is (at_key v) q (sym (ap position_of stands) ∙ e)) plain;
           position = at_key v;
+          auto = λ auto. auto;
           stands = stands_as (variable_shape D v) a (at_key v) stands;
           ranked = λ e rank is. subst (λ d. HasRankOf U v d) is s.ranked;
         };
@@ -128,7 +128,7 @@ named_alone U p S T v s true h =
 named_alone U p S T v s false h = refl
 
 module _ (U : Upgrade) (K : Pledge) (w : World) (start : StoreMatch U w) (p : ℕ) (f : SourceFrame) (S : net_names.Scope) (T : Scope) (v : ℕ)
-    (r : IsKnown U v) (used : UsedShape U v (variable_shape U.program.declarations v)) (s : IsOwnField U p S T v)
+    (r : IsDeclared U v) (used : UsedShape U v (variable_shape U.program.declarations v)) (s : IsOwnField U p S T v)
     (x : OwnObject U w s.file f.me) (me : S.me ≡ option_map w.map.objects f.me) where
   abbrev here : Position
   here = at_field x.object v
@@ -187,9 +187,9 @@ module _ (U : Upgrade) (K : Pledge) (w : World) (start : StoreMatch U w) (p : �
                 is_key = s.is_key;
                 differs = s.differs;
               })));
-          plain = λ q e.
-              subst (λ (z : Position). is_auto_root U w.map z.root ≡ false) (some_is here q (sym (ap position_of stands) ∙ e)) (not_auto U v r);
+          plain = λ plain q e. subst (λ (z : Position). is_auto_root U w.map z.root ≡ false) (some_is here q (sym (ap position_of stands) ∙ e)) plain;
           position = here;
+          auto = λ auto. auto;
           stands = stands_as (variable_shape U.program.declarations v) a here stands;
           ranked = λ e rank is. subst (λ d. HasRankOf U v d) is s.ranked;
         };

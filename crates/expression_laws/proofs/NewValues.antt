@@ -56,7 +56,7 @@ use Rattle.memory_laws.proofs.Objects.{objects_are_made}
 use Rattle.expression_laws.specs.Calls.{Stands, no_arguments}
 use Rattle.expression_laws.proofs.Arguments.{arguments_ok, loose_in_none, stands_later}
 use Rattle.expression_laws.proofs.Checks.{provided_agrees, source_then}
-use Rattle.expression_laws.proofs.Receivers.{object_stands}
+use Rattle.expression_laws.proofs.Entered.{object_stands}
 use Rattle.expression_laws.proofs.Types.{both_true}
 
 -- ---- what a Class_Initialize promises
@@ -160,7 +160,8 @@ module _ (U : Upgrade) (K : Pledge) (p : ℕ) (f : SourceFrame) (g : NetFrame) (
         ap (λ t. provided (is_none t) (some_of (class_variables D (slice_get (class_files D.project) class)) go) w.src) m.no_terminator
         ∙ ap (λ file. some_of (class_variables D file) go w.src) m.is_file
 
-    created_agrees : Agrees U K w R (objects.created D oracle f.env class w.src) (making.created U.written net_oracle m.home w.net)
+    pub created_agrees : Agrees U K w (ValueMatch U (simple (types.class class))) (objects.created U.program.declarations oracle f.env class w.src)
+        (making.created U.written net_oracle m.home w.net)
     created_agrees =
         subst (λ z. Agrees U K w R z (making.created U.written net_oracle m.home w.net)) (sym created_is)
         (then_agrees U K w (MadeObject U w class) R (lay_fields D o (variables_from m.file 0 D.vars) (with_new_object class o w.src))

@@ -9,18 +9,17 @@ use Rattle.vb_tree.specs.declared.declared.VarId.{VarId}
 use Rattle.vb_tree.specs.declared.value.Value6.TheVariants as v6
 use Rattle.bound_tree.specs.Tree.{Declarations, Expr, typed, Term, variable, field, me, with_object}
 use Rattle.bound_tree.specs.declared.expression.Root as expression
-use Rattle.bound_facts.specs.Locks.{is_same_type}
 use Rattle.bound_facts.specs.Members.{field_of}
-use Rattle.bound_facts.specs.Node.{auto_class, type_at, variable_number}
+use Rattle.bound_facts.specs.Node.{auto_class, variable_number}
 use Rattle.net_meaning.specs.declared.value.ValueN.TheVariants as n
 use Rattle.net_meaning.specs.ValueMatch.{objects_of}
-use Rattle.run_base.specs.Outcomes.{Outcome, after, gives, raises, spent, outside, then, some_of}
+use Rattle.run_base.specs.Outcomes.{Outcome, after, gives, outside, then, some_of}
 use Rattle.run_base.specs.Positions as position
 use Rattle.run_base.specs.Positions.{Position, whole}
 use Rattle.vb6_run.specs.Expressions as source
-use Rattle.vb6_run.specs.Expressions.{Context, at_address, at_field, declared}
+use Rattle.vb6_run.specs.Expressions.{Context, at_field, declared}
 use Rattle.vb6_run.specs.Forms.{SourceLine}
-use Rattle.vb6_run.specs.Shapes.{Shape, simple, variable_shape}
+use Rattle.vb6_run.specs.Shapes.{simple, variable_shape}
 use Rattle.vb6_run.specs.Store as store
 use Rattle.vb6_run.specs.Store.{Address, root, Memory, SourceCalls, SourceFrame}
 use Rattle.vb6_run.specs.Values.{Value, is_of_shape, scalar}
@@ -34,99 +33,41 @@ use Rattle.net_run.specs.Shapes as shape
 use Rattle.net_run.specs.Store as net
 use Rattle.net_run.specs.Values as net_value
 use Rattle.written_trees.specs.Exprs.{exp_of, made_if, member_of}
-use Rattle.written_trees.specs.Names.{Scope, variable_name, variable_name_of}
-use Rattle.run_matches.specs.Addresses.{Same, same_root}
+use Rattle.net_tree.specs.Tree.{call_of, path}
+use Rattle.written_trees.specs.Conversions.{one}
+use Rattle.written_trees.specs.Names.{Scope, auto_name, support, variable_name, variable_name_of, variable_path}
+use Rattle.run_matches.specs.Addresses.{Same}
 use Rattle.run_matches.specs.Agreeing.{Agrees}
-use Rattle.run_matches.specs.CoveredExprs.{Uses, covers_object, covers_place, has_member, is_passing}
-use Rattle.run_matches.specs.CoveredVariables.{covers_type}
-use Rattle.run_matches.specs.Likeness as likeness
-use Rattle.run_matches.specs.Likeness.{SameShape, like_scalar}
+use Rattle.run_matches.specs.CoveredExprs.{Uses, covers_place, is_passing}
+use Rattle.run_matches.specs.CoveredVariables.{covers_made, covers_type}
+use Rattle.run_matches.specs.Likeness.{like_scalar}
 use Rattle.run_matches.specs.Maps.{World}
 use Rattle.run_matches.specs.Match.{MemoryMatch}
 use Rattle.run_matches.specs.Pledges.{Pledge}
 use Rattle.run_matches.specs.SoundShapes.{IsSoundShape}
-use Rattle.run_matches.specs.Upgrades.{Upgrade, class_home}
+use Rattle.run_matches.specs.Upgrades.{Upgrade}
 use Rattle.run_matches.specs.UserTypes.{is_class_type}
-use Rattle.run_statements.specs.Frames.{AllCalled, AreReadable, IsKnown, IsMember, ScalarMatch, context_of, demands}
-use Rattle.run_statements.specs.Groups.{ValueMatch}
-use Rattle.run_statements.specs.Members.{MemberFound, ReachedMember}
+use Rattle.run_statements.specs.Frames.{AreReadable, CanMake, CanMakeAt, IsAutoOf, IsKnown, IsMember, IsOpen, LeadsToClass, context_of}
+use Rattle.run_statements.specs.Members.{MemberFound, ReachedMember, ObjectMatch}
 use Rattle.row_laws.proofs.Composing.{then_assoc, then_gives}
 use Rattle.agreeing_laws.proofs.Agreeing.{agrees_gives, agrees_outside, left_alone, right_alone, then_agrees}
-use Rattle.agreeing_laws.proofs.Members.{Reaches, me_leads, member_behind, member_reaches, with_leads}
-use Rattle.memory_laws.proofs.Groups.{groups_are_read}
+use Rattle.agreeing_laws.proofs.Members.{Reaches, call_leads, me_leads, member_behind, member_reaches, with_leads}
 use Rattle.memory_laws.proofs.Members.{member_shape, member_sound, members_are_found}
-use Rattle.expression_laws.specs.Statements.{MembersAgreeBy}
-use Rattle.expression_laws.proofs.BeforeArguments.{IsBefore, field_before, me_before, variable_before, with_before}
-use Rattle.expression_laws.proofs.Checks.{provided_agrees, source_then}
-use Rattle.expression_laws.proofs.Me.{IsMe, numbered}
-use Rattle.expression_laws.proofs.Nothings.{as_scalar}
+use Rattle.run_matches.specs.Runs.{CallsAgree}
+use Rattle.run_statements.specs.Objects.{ClassesAreWritten}
+use Rattle.run_statements.specs.Written.{Passes}
+use Rattle.expression_laws.specs.Calls.{Stands}
+use Rattle.expression_laws.proofs.AutoUses.{auto_exp, use_agrees}
+use Rattle.expression_laws.proofs.Autos.{AutoIs, auto_is, auto_used, here, no_variable}
+use Rattle.expression_laws.proofs.ObjectMatches.{ObjectIs, no_value, object_read, reached, value_by_address}
+use Rattle.expression_laws.proofs.UsedShapes.{auto_made}
+use Rattle.expression_laws.proofs.BeforeArguments.{auto_before, field_before, me_before, variable_before, with_before}
+use Rattle.expression_laws.proofs.Checks.{provided_agrees}
+use Rattle.expression_laws.proofs.Me.{IsMe}
 use Rattle.expression_laws.proofs.Places.{place_is}
-use Rattle.expression_laws.proofs.Types.{both_true, same_class}
+use Rattle.expression_laws.proofs.Types.{both_true}
 use Rattle.expression_laws.proofs.Variables.{Checked, known_none}
-use Rattle.expression_laws.proofs.Withs.{HavePlaces, ObjectKept, PlaceIs, kept, missing, none_kept, placed, places_now}
-
--- an object, and an address at which what stands for it is looked up
-pub record ObjectMatch (U : Upgrade) (of_class : ℕ) (w : World) (x : Value) (a : net.Address) : Type 0 where
-  pub like : ScalarMatch U (types.class of_class) w x (net.looked_up a w.net)
-  pub home : ℕ
-  pub is_home : class_home U of_class ≡ Some home
-  pub shaped : net.shape_at a ≡ shape.class home
-
--- the source is outside, or what is written reaches the object that the source finds
-pub data ObjectIs (U : Upgrade) (K : Pledge) (C : Context) (S : net_names.Scope) (oracle : Jobs) (T : Scope) (w : World) (of_class : ℕ) (t : Term) : Type 0 where
-  no_value : source.value_of C (typed (types.class of_class) t) w.src ≡ outside [] → ObjectIs U K C S oracle T w of_class t
-  reached :
-      (r : net.Memory → Outcome net.Memory net_names.Reached) → Reaches S oracle T (typed (types.class of_class) t) r
-      → IsBefore S oracle T (typed (types.class of_class) t)
-      → Agrees U K w (ObjectMatch U of_class) (source.value_of C (typed (types.class of_class) t) w.src) (target.address_from S oracle (r w.net))
-      → ObjectIs U K C S oracle T w of_class t
-
--- ---- what is read
-
--- a value is read at its address
-value_by_address : (C : Context) (e : Expr) (s : Memory)
-    → source.value_of C e s ≡ then (source.address_of C e s) (λ a v. then (store.read a v) (Checked C (type_at e)))
-value_by_address C e s =
-    let r = source.parts_of C e s in
-    ap (λ j. then r j) (λ i x v. then_assoc (source.finished x v) store.read (Checked C (type_at e)) i)
-    ∙ sym (then_assoc r source.finished (λ a v. then (store.read a v) (Checked C (type_at e))))
-
--- what is read at an address is looked up there
-looked_up : {A : Type 0} (U : Upgrade) (K : Pledge) (w : World) (R : World → A → net_value.Value → Type 0) (r : Outcome Memory A) (b : net.Address)
-    → Agrees U K w R r (target.read b w.net) → Agrees U K w (λ v x a. (a ≡ b) × R v x (net.looked_up b v.net)) r (gives [] b w.net)
-looked_up U K w R (gives o x s) b h = (h.0, h.1, (refl, h.2), h.3)
-looked_up U K w R (raises o e s) b h = absurd h
-looked_up U K w R (spent o s) b h = absurd h
-looked_up U K w R (outside o) b h = h
-
--- a class is written as one
-class_shaped : (U : Upgrade) (c : ℕ) (d : shape.Shape) → SameShape U (simple (types.class c)) d
-    → (home : ℕ) × (class_home U c ≡ Some home) × (d ≡ shape.class home)
-class_shaped U c _ (likeness.same_scalar _ t word) = absurd (cc word)
-class_shaped U c _ (likeness.same_class _ home is) = (home, is, refl)
-
-image_shaped : (U : Upgrade) (K : Pledge) (w : World) (c : ℕ) (q : Position) (b : net.Address) → Same U K w (root (simple (types.class c)) q) b
-    → (home : ℕ) × (class_home U c ≡ Some home) × (net.shape_at b ≡ shape.class home)
-image_shaped U K w c q _ (same_root _ d _ sh m r) = class_shaped U c d sh
-
--- an object is read where it stands
-object_read : (U : Upgrade) (K : Pledge) (C : Context) (c : ℕ) (q : Position) (b : net.Address) (w : World) → IsSoundShape U (simple (types.class c))
-    → MemoryMatch U w → Same U K w (root (simple (types.class c)) q) b
-    → Agrees U K w (ObjectMatch U c) (then (store.read (root (simple (types.class c)) q) w.src) (Checked C (types.class c))) (gives [] b w.net)
-object_read U K C c q b w sound start same =
-    let s : Shape = simple (types.class c) in
-    let there = image_shaped U K w c q b same in
-    source_then U K w (λ v x a. (a ≡ b) × ValueMatch U s v x (net.looked_up b v.net)) (ObjectMatch U c) (store.read (root s q) w.src) (gives [] b w.net)
-    (Checked C (types.class c)) start
-    (looked_up U K w (ValueMatch U s) (store.read (root s q) w.src) b (groups_are_read U K w s q b sound start same))
-    (λ x a v m later.
-    provided_agrees U K v (ObjectMatch U c) (is_of_shape (source.type_shape (declared C) (types.class c)) x) x (gives [] a v.net) (λ ok.
-    agrees_gives U K v (ObjectMatch U c) x a later.match (record {
-      like = subst (λ z. ScalarMatch U (types.class c) v x (net.looked_up z v.net)) (sym m.0) (as_scalar U c v x (net.looked_up b v.net) m.1);
-      home = there.0;
-      is_home = there.1;
-      shaped = ap net.shape_at m.0 ∙ there.2;
-    })))
+use Rattle.expression_laws.proofs.Withs.{HavePlaces, ObjectKept, PlaceIs, kept, missing, none_kept, placed}
 
 -- ---- variables of objects
 
@@ -274,7 +215,8 @@ module _ (U : Upgrade) (K : Pledge) (p : ℕ) (f : SourceFrame) (g : NetFrame) (
         (object_read U K C d q b v (subst (λ s. IsSoundShape U s) shaped (member_sound U of_class i (types.class d) m (inr refl))) match
         (subst (λ z. Same U K v z b) is found.same))
 
-    member_is : Is of_class t → Is d (field inner i)
+    pub member_is : ObjectIs U K (context_of U oracle p f l) (scope_of U.written c g k) net_oracle T w of_class t
+        → ObjectIs U K (context_of U oracle p f l) (scope_of U.written c g k) net_oracle T w d (field (typed (types.class of_class) t) i)
     member_is (no_value none) = no_value (ap (λ z. then z (source.value_in C whole_object)) (absent of_class i t (types.class d) m (types.class d) none))
     member_is (reached r leads before agrees) =
         let name = m.known.variable.name in
@@ -288,12 +230,45 @@ module _ (U : Upgrade) (K : Pledge) (p : ℕ) (f : SourceFrame) (g : NetFrame) (
 
   -- ---- what keeps an object
 
-  module _ (uses : Uses) (readable : AreReadable U T uses) (have : HavePlaces U p f g oracle net_oracle l k c T uses K w) where
-    -- a variable
-    variable_is : (d : ℕ) (v : VarId) (qualified : Bool) → covers_place uses (typed (types.class d) (variable v qualified)) ≡ true → Is d (variable v qualified)
-    variable_is d v qualified covers =
+  module _ (uses : Uses) (readable : AreReadable U T uses) (have : HavePlaces U p f g oracle net_oracle l k c T uses K w)
+      (opened : IsOpen (scope_of U.written c g k)) (agree : CallsAgree U (Passes U) oracle net_oracle) (classes : ClassesAreWritten U)
+      (stands : Stands U K w p f g) where
+    -- an As New variable, whose use makes an object
+    pub auto_use : (d : ℕ) (v : VarId) (qualified : Bool) → CanMakeAt U K (scope_of U.written c g k) T v.0 → uses.auto v (types.class d) ≡ true
+        → uses.named v qualified ≡ true
+        → ObjectIs U K (context_of U oracle p f l) (scope_of U.written c g k) net_oracle T w d (variable v qualified)
+    auto_use d v qualified can used named = by (auto_is U K p f g oracle net_oracle l k c T uses readable w have.variables d v qualified used named)
+      where
+        the_variable : Expr
+        the_variable = typed (types.class d) (variable v qualified)
+
+        one_of : IsAutoOf U v.0 d × (covers_made U.program d ≡ true)
+        one_of = auto_used U T uses readable d v used
+
+        making : CanMake U K S T d × LeadsToClass U S T d
+        making = can d (auto_made U v.0 d one_of.0) one_of.1
+
+        by : AutoIs U K C S net_oracle T w d v qualified → Is d (variable v qualified)
+        by (no_variable none) =
+            no_value (ap (λ z. then (then z (source.as_new C (variable v qualified))) (source.value_in C the_variable)) (none w.src))
+        by (here x) =
+            let is =
+            auto_exp U K p f g oracle net_oracle l k c T same_declarations opened agree w start stands d v qualified one_of.0 (classes d one_of.1) making.0
+            making.1 x in
+            let makes = path (support (auto_name T.declarations d)) in
+            let to = one (path (variable_path T qualified v.0)) in
+            reached (λ t. target.reach S net_oracle false (call_of makes to) t) (call_leads S net_oracle T the_variable makes to is (λ name. refl))
+            (auto_before S net_oracle T (types.class d) v qualified makes to is)
+            (use_agrees U K p f g oracle net_oracle l k c T same_declarations opened agree w start stands d v qualified one_of.0 (classes d one_of.1) making.0
+            making.1 x)
+
+    -- another variable
+    pub variable_is : (d : ℕ) (v : VarId) (qualified : Bool) → covers_place uses (typed (types.class d) (variable v qualified)) ≡ true
+        → CanMakeAt U K (scope_of U.written c g k) T v.0
+        → ObjectIs U K (context_of U oracle p f l) (scope_of U.written c g k) net_oracle T w d (variable v qualified)
+    variable_is d v qualified covers can =
         by
-        (place_is U K p f g oracle net_oracle l k c T uses same_declarations readable w have (types.class d) (variable v qualified) tt covers)
+        (place_is U K p f g oracle net_oracle l k c T uses same_declarations readable w have (types.class d) (variable v qualified) can covers)
       where
         the_variable : Expr
         the_variable = typed (types.class d) (variable v qualified)
@@ -316,7 +291,8 @@ module _ (U : Upgrade) (K : Pledge) (p : ℕ) (f : SourceFrame) (g : NetFrame) (
             (object_read U K C d x.position x.address w x.sound start x.same)))
 
     -- Me
-    mine_is : (d : ℕ) → IsMe U f S w d → Is d me
+    pub mine_is : (d : ℕ) → IsMe U f (scope_of U.written c g k) w d
+        → ObjectIs U K (context_of U oracle p f l) (scope_of U.written c g k) net_oracle T w d me
     mine_is d x =
         reached (λ t. gives [] (at_place (target.own_object S)) t) (me_leads S net_oracle T (types.class d)) (me_before S net_oracle T (types.class d)) agrees
       where
@@ -358,7 +334,9 @@ module _ (U : Upgrade) (K : Pledge) (p : ℕ) (f : SourceFrame) (g : NetFrame) (
             (λ ok. agrees_gives U K w (ObjectMatch U d) z b start there)))))
 
     -- what a With keeps
-    with_is : (d : ℕ) (r : expression.Root) → ObjectKept U C S w d (typed (types.class d) (with_object r)) → Is d (with_object r)
+    pub with_is : (d : ℕ) (r : expression.Root)
+        → ObjectKept U (context_of U oracle p f l) (scope_of U.written c g k) w d (typed (types.class d) (with_object r))
+        → ObjectIs U K (context_of U oracle p f l) (scope_of U.written c g k) net_oracle T w d (with_object r)
     with_is d r (none_kept none) = no_value (ap (λ z. then z (source.value_in C (typed (types.class d) (with_object r)))) (none w.src))
     with_is d r (kept x) =
         reached (λ t. gives [] (at_place S.around) t) (with_leads S net_oracle T (types.class d) r) (with_before S net_oracle T (types.class d) r) agrees
@@ -386,24 +364,3 @@ module _ (U : Upgrade) (K : Pledge) (p : ℕ) (f : SourceFrame) (g : NetFrame) (
             (left_alone U K w (ObjectMatch U d) is (gives [] b w.net)
             (provided_agrees U K w (ObjectMatch U d) (is_of_shape (source.type_shape (declared C) (types.class d)) z) z (gives [] b w.net)
             (λ ok. agrees_gives U K w (ObjectMatch U d) z b start there)))))
-
-    pub object_is : (d : ℕ) (t : Term) → AllCalled (demands U K p l k (scope_of U.written c g k) T) (typed (types.class d) t)
-        → covers_object uses (typed (types.class d) t) ≡ true
-        → ObjectIs U K (context_of U oracle p f l) (scope_of U.written c g k) net_oracle T w d t
-    object_is d (variable v qualified) can covers = variable_is d v qualified covers
-    object_is d (field (typed (types.class of_class) t) i) can covers =
-        let both = both_true (has_member uses (types.class of_class) i (is_same_type (types.class d))) (covers_object uses (typed (types.class of_class) t)) covers in
-        let x = member_declared U T uses readable (is_same_type (types.class d)) of_class i (uses.member_type of_class i) refl both.0 in
-        member_is of_class i t d (subst (λ z. IsMember U of_class i z) (same_class d x.0 x.1) x.2) (object_is of_class t can both.1)
-    object_is d (field (typed _ t) i) can covers = absurd (true≢false (sym covers))
-    object_is d me can covers = mine_is d (have.me d (numbered d uses.me covers))
-    object_is d (with_object r) can covers = with_is d r (have.objects d r can)
-    object_is d _ can covers = absurd (true≢false (sym covers))
-
--- ---- the law
-
-pub members_agree_by : (U : Upgrade) (K : Pledge) → MembersAgreeBy U K
-members_agree_by U K w p f g oracle net_oracle l k c T uses ty of_class i tm member_type m start frames declarations readable stands can covers =
-    member_parts U K p f g oracle net_oracle l k c T declarations w start of_class i tm member_type m ty
-    (object_is U K p f g oracle net_oracle l k c T declarations w start uses readable
-    (places_now U p f g oracle net_oracle l k c T uses K w frames start declarations readable stands) of_class tm can covers)

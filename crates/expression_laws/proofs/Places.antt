@@ -1,5 +1,5 @@
 -- Places: variables of user types and of classes, and fields of these that are of user types themselves.
-use Rattle.std.proofs.Common.{◌≡◌, refl, sym, ap, subst, ◌∙◌, inr, ℕ, Bool, true, false, List, [], ◌++◌, Option, Some, None, eqb-true, true≢false}
+use Rattle.std.proofs.Common.{◌≡◌, refl, sym, ap, subst, ◌∙◌, inl, inr, ℕ, Bool, true, false, List, [], ◌++◌, Option, Some, None, eqb-true, true≢false}
 use Rattle.std.proofs.lemmas.Bool.{or_right}
 use Rattle.std.specs.Prelude.{slice_get}
 use Rattle.vb_tree.specs.BoundTree.{Ty}
@@ -40,7 +40,7 @@ use Rattle.agreeing_laws.proofs.Agreeing.{agrees_gives, agrees_outside}
 use Rattle.expression_laws.specs.Images.{HasImage, HaveImages, IsImage}
 use Rattle.expression_laws.specs.Statements.{PlacesAgreeBy}
 use Rattle.expression_laws.proofs.Withs.{HavePlaces, PlaceIs, missing, placed, places_now, root_plain}
-use Rattle.expression_laws.proofs.UsedShapes.{group_stands}
+use Rattle.expression_laws.proofs.UsedShapes.{group_stands, not_auto}
 use Rattle.expression_laws.proofs.Types.{both_true}
 use Rattle.expression_laws.proofs.Variables.{known_exp, known_none}
 use Rattle.agreeing_laws.proofs.FieldPaths.{path_more}
@@ -113,7 +113,7 @@ module _ (U : Upgrade) (K : Pledge) (p : ℕ) (f : SourceFrame) (g : NetFrame) (
 
       module _ (a : Address) (at : variable_address D f v.0 ≡ Some a) where
         image : HasImage U K w S T (uses.named v) v.0 a
-        image = have v a (inr (inr (ty, used))) at
+        image = have v a (inr (inr (inl (ty, used)))) at
 
         exact : IsImage U K w v.0 a image.address
         exact = image.image of_type.exact
@@ -151,7 +151,7 @@ module _ (U : Upgrade) (K : Pledge) (p : ℕ) (f : SourceFrame) (g : NetFrame) (
         }
 
         variable_placed : Is w ty the_variable
-        variable_placed = placed exact.position.root (exact.plain q (ap position_of stands)) variable_found
+        variable_placed = placed exact.position.root (exact.plain (not_auto U v.0 of_type.known) q (ap position_of stands)) variable_found
 
       variable_is : Is w ty the_variable
       variable_is = by (variable_address D f v.0) refl

@@ -53,7 +53,7 @@ use Rattle.expression_laws.specs.Calls.{ArgumentsMatch}
 use Rattle.expression_laws.specs.Images.{HasImage, HaveImages, IsImage}
 use Rattle.expression_laws.proofs.Calls.{address_agrees}
 use Rattle.expression_laws.proofs.Elements.{ArrayThere, array_there, sound_array}
-use Rattle.expression_laws.proofs.UsedShapes.{array_stands, group_stands, known_used, no_root_item, scalar_stands}
+use Rattle.expression_laws.proofs.UsedShapes.{array_stands, group_stands, known_scalar, not_auto, no_root_item, scalar_stands}
 use Rattle.expression_laws.proofs.Types.{both_true, either_true}
 use Rattle.expression_laws.proofs.Variables.{known_exp, known_none}
 
@@ -125,7 +125,18 @@ used_by uses ty v qualified (inl h) =
 used_by uses ty v qualified (inr (inl h)) =
     let used = array_used uses ty v qualified h in
     inr (inl (used.0, used.1))
-used_by uses ty v qualified (inr (inr h)) = inr (inr (ty, (both_true (uses.group v ty) (uses.named v qualified) h).0))
+used_by uses ty v qualified (inr (inr h)) = inr (inr (inl (ty, (both_true (uses.group v ty) (uses.named v qualified) h).0)))
+
+-- it is no As New variable
+passed_known : (U : Upgrade) (T : Scope) (uses : Uses) → AreReadable U T uses → (ty : Ty) (v : VarId) (qualified : Bool)
+    → IsPassed uses (typed ty (variable v qualified)) → IsKnown U v.0
+passed_known U T uses readable ty v qualified (inl h) =
+    known_scalar U v.0 (readable.scalars v (scalar_used uses ty v qualified (scalar_of_passed uses (typed ty (variable v qualified)) h)).0)
+passed_known U T uses readable ty v qualified (inr (inl h)) =
+    let used = array_used uses ty v qualified h in
+    (readable.arrays v used.0 used.1).known
+passed_known U T uses readable ty v qualified (inr (inr h)) =
+    (readable.groups v ty (both_true (uses.group v ty) (uses.named v qualified) h).0).known
 
 -- it is named as it may be
 named_by : (uses : Uses) (ty : Ty) (v : VarId) (qualified : Bool) → IsPassed uses (typed ty (variable v qualified)) → uses.named v qualified ≡ true
@@ -321,7 +332,7 @@ module _ (U : Upgrade) (K : Pledge) (p : ℕ) (f : SourceFrame) (g : NetFrame) (
   reference_agrees w quiet mode referred (typed ty (variable v qualified)) rest rest' takes is passed fits suits hands addresses start have more =
       let e : Expr = typed ty (variable v qualified) in
       let used : IsUsed uses v = used_by uses ty v qualified passed in
-      let r : IsKnown U v.0 = known_used U T uses readable v used in
+      let r : IsKnown U v.0 = passed_known U T uses readable ty v qualified passed in
       let D : Declarations = U.program.declarations in
       let goes = λ (z : Outcome Memory SourceGiven). then z (λ g w. then (rest w) (λ gs w. gives [] (g ∷ gs) w)) in
       let goes' = λ (z : Outcome net.Memory (Given net_value.Value net.Address)). then z (λ g w. then (rest' w) (λ gs w. gives [] (g ∷ gs) w)) in
@@ -356,7 +367,8 @@ module _ (U : Upgrade) (K : Pledge) (p : ℕ) (f : SourceFrame) (g : NetFrame) (
           (then z (λ g w. then (rest' w) (λ gs w. gives [] (g ∷ gs) w))))
           (sym (target_given (scope_of U.written c g k) net_oracle mode (variable_path T qualified v.0) x.address w.net takes (x.found qualified (named_by uses ty v qualified passed))
           (image_given U K w a x.address y.same)))
-          (given_agrees w quiet a x.address rest rest' start y.same y.target (λ e. x.whole (handed_whole U.program q i ty v qualified hands e)) y.plain (
+          (given_agrees w quiet a x.address rest rest' start y.same y.target (λ e. x.whole (handed_whole U.program q i ty v qualified hands e))
+          (y.plain (not_auto U v.0 (passed_known U T uses readable ty v qualified passed))) (
             parameter_ranked U K w T uses readable q i ty v qualified passed fits suits a x.address y,
             (parameter_declared U K w T uses readable ty v qualified passed a x.address y, addresses),
           ) more)

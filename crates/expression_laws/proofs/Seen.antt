@@ -26,6 +26,7 @@ use Rattle.run_matches.specs.Agreeing.{Agrees}
 use Rattle.run_matches.specs.Maps.{World}
 use Rattle.run_matches.specs.Pledges.{Pledge}
 use Rattle.run_matches.specs.Upgrades.{Upgrade}
+use Rattle.run_statements.specs.Members.{ObjectMatch}
 use Rattle.run_statements.specs.Frames.{CanCall}
 use Rattle.run_statements.specs.Ways.{callee_by}
 use Rattle.agreeing_laws.specs.Promises.{Yields}
@@ -34,7 +35,7 @@ use Rattle.agreeing_laws.proofs.Outputs.{outputs_then}
 use Rattle.expression_laws.proofs.Callees.{callee_is, enters_with, object_parts, way_of_procedure}
 use Rattle.expression_laws.proofs.Handled.{IsHandled, yields_behind, yields_then}
 use Rattle.expression_laws.proofs.Me.{IsMe}
-use Rattle.expression_laws.proofs.Objects.{ObjectIs, ObjectMatch, no_value, reached}
+use Rattle.expression_laws.proofs.ObjectMatches.{ObjectIs, no_value, reached}
 
 -- It leads to a value or to a call that is no property's; or the source has left before, and what is written has put out the same until then.
 pub data IsSeen (C : Context) (S : Scope) (oracle : Jobs) (w : World) (e : Expr) (a : Exp) : Type 0 where

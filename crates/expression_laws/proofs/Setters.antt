@@ -33,6 +33,7 @@ use Rattle.run_matches.specs.Match.{MemoryMatch}
 use Rattle.run_matches.specs.Pledges.{Pledge}
 use Rattle.run_matches.specs.Runs.{CallsAgree}
 use Rattle.run_matches.specs.Upgrades.{Upgrade}
+use Rattle.run_statements.specs.Members.{ObjectMatch}
 use Rattle.run_statements.specs.Frames.{AnyUnits, CanCall, context_of}
 use Rattle.run_statements.specs.Properties.{PropertiesAreSet, SetterMatch, SettersAgree, set_for_none, set_for_object}
 use Rattle.run_statements.specs.Ways.{IsWay, StandsBare, Way, as_get, as_procedure, as_set, callee_by}
@@ -45,8 +46,11 @@ use Rattle.expression_laws.specs.Statements.{ParametersAreSound, PropertiesAreSe
 use Rattle.expression_laws.proofs.Arguments.{stands_now}
 use Rattle.expression_laws.proofs.Callees.{back}
 use Rattle.expression_laws.proofs.Calls.{entered_agrees, object_entered}
-use Rattle.expression_laws.proofs.Objects.{ObjectMatch, no_value, reached}
-use Rattle.expression_laws.proofs.Receivers.{ReceiverIs, caller_received, for_none, for_object, receiver_is}
+use Rattle.expression_laws.proofs.ObjectMatches.{no_value, reached}
+use Rattle.run_statements.specs.Objects.{ClassesAreWritten}
+use Rattle.expression_laws.proofs.Entered.{caller_received}
+use Rattle.expression_laws.proofs.KeptObjects.{receiver_is}
+use Rattle.expression_laws.proofs.Receivers.{ReceiverIs, for_none, for_object}
 use Rattle.expression_laws.proofs.SetValues.{declared, is_part, value_given}
 use Rattle.expression_laws.proofs.Withs.{places_now}
 
@@ -75,28 +79,28 @@ module _ (U : Upgrade) (K : Pledge) (p : ℕ) (f : SourceFrame) (g : NetFrame) (
   abbrev S : Scope
   S = scope_of U.written c g k
 
-  abbrev Can : (q : ℕ) → (qualified : Bool) → Object → Type 0
-  Can q qualified of = CanCall U K (scope_of U.written c g k) T p q qualified of no_passed
+  abbrev Can : Pledge → (q : ℕ) → (qualified : Bool) → Object → Type 0
+  Can L q qualified of = CanCall U L (scope_of U.written c g k) T p q qualified of no_passed
 
   -- ---- the object
 
-  setter_reached : (ty : Ty) (q : ProcId) (qualified : Bool) (of : Object) (can : Can q.0 qualified of)
+  setter_reached : (L : Pledge) (ty : Ty) (q : ProcId) (qualified : Bool) (of : Object) (can : Can L q.0 qualified of)
       → is_giving (slice_get U.program.declarations.procs q.0) ≡ false → (w : World) → MemoryMatch U w → ReceiverIs U K C S net_oracle T w of
       → Agrees U K w (SetterMatch U can.way can.number of) (source.receiver_of C of w.src)
       (target.reach S net_oracle false (exp_of T (typed ty (call q qualified of no_passed))) w.net)
-  setter_reached ty q qualified _ can sets w start for_none =
+  setter_reached L ty q qualified _ can sets w start for_none =
       let stands : StandsBare S T q.0 qualified no_object no_passed = setter_stands U S T q.0 qualified no_object can.passes sets can.way can.is_way in
       let r : Reached = named (callee_by can.way None can.number) in
       subst (λ z. Agrees U K w (SetterMatch U can.way can.number no_object) (gives [] caller w.src) z)
       (sym (ap (λ b. target.reach S net_oracle false (called b (callee_of T q.0 qualified no_object) no_exps) w.net) stands.bare
       ∙ ap (λ s. target.started S net_oracle s w.net) (stands.leads ∙ can.found)))
       (agrees_gives U K w (SetterMatch U can.way can.number no_object) caller r start (set_for_none w))
-  setter_reached ty q qualified _ can sets w start (for_object d t (no_value none)) =
+  setter_reached L ty q qualified _ can sets w start (for_object d t (no_value none)) =
       let e : Expr = typed (types.class d) t in
       let r' = target.reach S net_oracle false (exp_of T (typed ty (call q qualified (of_object e) no_passed))) w.net in
       let R = SetterMatch U can.way can.number (of_object e) in
       subst (λ z. Agrees U K w R z r') (sym (ap (λ z. then z (λ x s. gives [] (receiver (Some d) x) s)) none)) (agrees_outside U K w R r')
-  setter_reached ty q qualified _ can sets w start (for_object d t (reached r leads before agrees)) =
+  setter_reached L ty q qualified _ can sets w start (for_object d t (reached r leads before agrees)) =
       let e : Expr = typed (types.class d) t in
       let callee : Exp = callee_of T q.0 qualified (of_object e) in
       let name : List ℕ = procedure_name T.declarations q.0 in
@@ -119,15 +123,15 @@ module _ (U : Upgrade) (K : Pledge) (p : ℕ) (f : SourceFrame) (g : NetFrame) (
 
   module _ (agree : CallsAgree U (Passes U) oracle net_oracle) where
     -- whatever a Let or Set gives is left
-    units_agree : (w : World) (r : Outcome Memory (Option Value)) (r' : Outcome net.Memory net.Address) → MemoryMatch U w
-        → Agrees U K w (GivenMatch U) (then r back) r'
+    units_agree : (number : ℕ) (w : World) (r : Outcome Memory (Option Value)) (r' : Outcome net.Memory net.Address) → MemoryMatch U w
+        → Agrees U K w (GivenMatch U number) (then r back) r'
         → Agrees U K w AnyUnits (then r (λ z w. gives [] tt w)) (then r' (λ a w. gives [] tt w))
-    units_agree w r r' start h =
+    units_agree number w r r' start h =
         subst (λ z. Agrees U K w AnyUnits z (then r' (λ a w. gives [] tt w))) (then_assoc r back (λ x w. gives [] tt w))
-        (then_agrees U K w (GivenMatch U) AnyUnits (then r back) r' (λ x w. gives [] tt w) (λ a w. gives [] tt w) start h
+        (then_agrees U K w (GivenMatch U number) AnyUnits (then r back) r' (λ x w. gives [] tt w) (λ a w. gives [] tt w) start h
         (λ x a v m later. agrees_gives U K v AnyUnits tt tt later.match tt))
 
-    setter_called : (q : ℕ) (qualified : Bool) (of : Object) (can : Can q qualified of) → is_giving (slice_get U.program.declarations.procs q) ≡ false
+    setter_called : (q : ℕ) (qualified : Bool) (of : Object) (can : Can K q qualified of) → is_giving (slice_get U.program.declarations.procs q) ≡ false
         → (w : World) (x : Value) (y : net_value.Value) → MemoryMatch U w → Stands U K w p f g
         → ArgumentsMatch U K q 0 w (by_value x ∷ []) (by_value y ∷ []) → (r : Receiver) (z : Reached) → SetterMatch U can.way can.number of w r z
         → Agrees U K w AnyUnits (then (source.entered C q r (by_value x ∷ []) w.src) (λ z w. gives [] tt w)) (assigned S net_oracle z y w.net)
@@ -136,7 +140,7 @@ module _ (U : Upgrade) (K : Pledge) (p : ℕ) (f : SourceFrame) (g : NetFrame) (
         let r' = procedure_does S net_oracle None can.number (by_value y ∷ []) w.net in
         subst (λ z. Agrees U K w AnyUnits (then r (λ z w. gives [] tt w)) z)
         (sym (setter_does U S T q qualified no_object net_oracle can.passes sets can.way can.is_way None can.number y w.net))
-        (units_agree w r r' start
+        (units_agree can.number w r r' start
         (entered_agrees U K p f g oracle net_oracle l k c T agree q qualified no_object no_passed can w f.me g.me (by_value x ∷ []) (by_value y ∷ [])
         stands.me stands.object (caller_received U w p q f.me can.receives stands.own_object) stands.locks start given))
     setter_called q qualified _ can sets _ x y start stands given _ _ (set_for_object d t w v o like) =
@@ -145,33 +149,36 @@ module _ (U : Upgrade) (K : Pledge) (p : ℕ) (f : SourceFrame) (g : NetFrame) (
         let r' = procedure_does S net_oracle (Some o) can.number (by_value y ∷ []) w.net in
         subst (λ z. Agrees U K w AnyUnits (then r (λ z w. gives [] tt w)) z)
         (sym (setter_does U S T q qualified (of_object e) net_oracle can.passes sets can.way can.is_way (Some o) can.number y w.net))
-        (units_agree w r r' start
+        (units_agree can.number w r r' start
         (object_entered U K p f g oracle net_oracle l k c T agree q qualified d t no_passed can w (by_value x ∷ []) (by_value y ∷ []) stands.locks start given
         v o like))
 
 -- ---- the laws
 
-pub setters_agree_by : (U : Upgrade) (K : Pledge) → SettersAgreeBy U K
-setters_agree_by U K w p f g oracle net_oracle l k c T uses ty q qualified of start frames declarations readable placed can sets covers =
-    setter_reached U K p f g oracle net_oracle l k c T ty q qualified of can.0 sets w start
+pub setters_agree_by : (U : Upgrade) → ClassesAreWritten U → (K L : Pledge) → SettersAgreeBy U K L
+setters_agree_by U classes K L w p f g oracle net_oracle l k c T uses ty q qualified of start frames declarations opened readable placed agree can can_of sets
+    covers =
+    setter_reached U K p f g oracle net_oracle l k c T L ty q qualified of can sets w start
     (receiver_is U K p f g oracle net_oracle l k c T uses declarations readable w start
-    (places_now U p f g oracle net_oracle l k c T uses K w frames start declarations readable placed) of can.2 covers)
+    (places_now U p f g oracle net_oracle l k c T uses K w frames start declarations readable placed) opened agree classes (stands_now U K w p f g frames) of
+    can_of covers)
 
 pub properties_are_set_by : (U : Upgrade) → ParametersAreSound U → (K : Pledge) → PropertiesAreSetBy U K
 properties_are_set_by U sound K w p f g oracle net_oracle l k c T ty q qualified of r z x y start frames agree can sets found takes covers match =
     setter_called U K p f g oracle net_oracle l k c T agree q qualified of can sets w x y start (stands_now U K w p f g frames)
     (value_given U K q w x y sound can.passes ty takes covers match) r z found
 
-pub setters_agree : (U : Upgrade) → SettersAgree U
-setters_agree U K = setters_agree_by U K
+pub setters_agree : (U : Upgrade) → ClassesAreWritten U → SettersAgree U
+setters_agree U classes K L = setters_agree_by U classes K L
 
 pub properties_are_set : (U : Upgrade) → ParametersAreSound U → PropertiesAreSet U
 properties_are_set U sound K = properties_are_set_by U sound K
 
 -- under the pledge of a frame
 
-pub frame_setters_agree : (U : Upgrade) (p : ℕ) (w : World) (f : SourceFrame) → SettersAgreeBy U (frame_pledge U p w f)
-frame_setters_agree U p w f = setters_agree_by U (frame_pledge U p w f)
+pub frame_setters_agree : (U : Upgrade) (classes : ClassesAreWritten U) (p q : ℕ) (w u : World) (f g : SourceFrame)
+    → SettersAgreeBy U (frame_pledge U p w f) (frame_pledge U q u g)
+frame_setters_agree U classes p q w u f g = setters_agree_by U classes (frame_pledge U p w f) (frame_pledge U q u g)
 
 pub frame_properties_are_set : (U : Upgrade) (sound : ParametersAreSound U) (p : ℕ) (w : World) (f : SourceFrame)
     → PropertiesAreSetBy U (frame_pledge U p w f)

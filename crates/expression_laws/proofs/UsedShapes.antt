@@ -1,5 +1,5 @@
 -- The shapes of variables that are used, and what stands where they are declared.
-use Rattle.std.proofs.Common.{◌≡◌, refl, sym, ap, subst, ◌∙◌, inl, inr, ℕ, ℤ, Bool, true, false, cond, not, ◌&&◌, List, [], ◌∷◌, Some, None, true≢false}
+use Rattle.std.proofs.Common.{◌≡◌, ◌⊎◌, refl, sym, ap, subst, ◌∙◌, inl, inr, ℕ, ℤ, Bool, true, false, cond, not, ◌&&◌, List, [], Some, None, true≢false}
 use Rattle.std.specs.Prelude.{slice_get, is_some}
 use Rattle.vb_tree.specs.BoundTree.{Ty}
 use Rattle.vb_tree.specs.BoundTree as types
@@ -7,7 +7,7 @@ use Rattle.vb_tree.specs.declared.declared.VarId.{VarId}
 use Rattle.bound_tree.specs.Tree.{Variable, Declarations}
 use Rattle.bound_facts.specs.Node.{auto_class, class_in}
 use Rattle.net_meaning.specs.declared.value.ValueN.TheVariants as n
-use Rattle.run_base.specs.Positions.{Position, Root, shared, whole}
+use Rattle.run_base.specs.Positions.{Position, Root, whole}
 use Rattle.written_trees.specs.Names.{Scope}
 use Rattle.vb6_run.specs.Shapes.{Shape, simple, group, array, endless, shape_by, variable_shape, declared_shape, user_shapes}
 use Rattle.vb6_run.specs.Store.{Address, root, item, Held, table}
@@ -24,8 +24,8 @@ use Rattle.run_matches.specs.Maps.{World, IsMatched, is_fixed_variable, is_sound
 use Rattle.run_matches.specs.Match.{HasRank, HeldAs, Holds, holds_blank, holds_single, holds_table, holds_parts, StoreMatch}
 use Rattle.run_matches.specs.Pledges.{type_of_shape}
 use Rattle.run_matches.specs.SoundShapes.{IsSoundShape}
-use Rattle.run_matches.specs.Upgrades.{Upgrade, has_bounds, is_auto, is_fixed, type_of, type_of_some}
-use Rattle.run_statements.specs.Frames.{HasRankOf, IsArray, IsGroup, IsKnown, IsReadable, AreReadable, type_shape}
+use Rattle.run_matches.specs.Upgrades.{Upgrade, has_bounds, is_auto, is_flagged, is_fixed, type_of, type_of_some}
+use Rattle.run_statements.specs.Frames.{HasRankOf, IsArray, IsAutoOf, IsGroup, IsKnown, IsReadable, AreReadable, type_shape}
 use Rattle.agreeing_laws.proofs.SoundParts.{all_matched_made, all_ranked_sound}
 use Rattle.agreeing_laws.proofs.UserShapes.{covered_type_of, group_type_of, group_unbounded}
 use Rattle.expression_laws.proofs.Types.{both_true, simple_type}
@@ -39,7 +39,7 @@ not_true true e = absurd (cc e)
 not_true false e = refl
 
 -- what is known of a variable that can be read
-known_scalar : (U : Upgrade) (v : ℕ) → IsReadable U v → IsKnown U v
+pub known_scalar : (U : Upgrade) (v : ℕ) → IsReadable U v → IsKnown U v
 known_scalar U v r =
     let x : Variable = r.variable in
     let rest = both_true (covers_owner x.owner) (covers_type x.ty && not x.auto) r.covers in
@@ -50,10 +50,27 @@ known_scalar U v r =
       sound = r.sound;
     }
 
-pub known_used : (U : Upgrade) (T : Scope) (uses : Uses) → AreReadable U T uses → (v : VarId) → IsUsed uses v → IsKnown U v.0
-known_used U T uses readable v (inl h) = known_scalar U v.0 (readable.scalars v h)
-known_used U T uses readable v (inr (inl h)) = (readable.arrays v h.0 h.1).known
-known_used U T uses readable v (inr (inr h)) = (readable.groups v h.0 h.1).known
+-- a variable whose declaration carries no issue, As New or not
+pub record IsDeclared (U : Upgrade) (v : ℕ) : Type 0 where
+  pub variable : Variable
+  pub is_variable : slice_get U.program.declarations.vars v ≡ Some variable
+  pub sound : is_flagged U v ≡ false
+
+pub declared_known : (U : Upgrade) (v : ℕ) → IsKnown U v → IsDeclared U v
+declared_known U v r = record { variable = r.variable; is_variable = r.is_variable; sound = r.sound }
+
+pub declared_auto : (U : Upgrade) (v class : ℕ) → IsAutoOf U v class → IsDeclared U v
+declared_auto U v class r = record { variable = r.variable; is_variable = r.is_variable; sound = r.sound }
+
+-- what is known of a variable that is used
+pub known_used : (U : Upgrade) (T : Scope) (uses : Uses) → AreReadable U T uses → (v : VarId) → IsUsed uses v
+    → IsKnown U v.0 ⊎ ((class : ℕ) × IsAutoOf U v.0 class)
+known_used U T uses readable v (inl h) = inl (known_scalar U v.0 (readable.scalars v h))
+known_used U T uses readable v (inr (inl h)) = inl (readable.arrays v h.0 h.1).known
+known_used U T uses readable v (inr (inr (inl h))) = inl (readable.groups v h.0 h.1).known
+known_used U T uses readable v (inr (inr (inr h))) =
+    let r = readable.autos v h.0 h.1 in
+    inr (r.0, r.2)
 
 -- it is no As New one
 pub not_auto : (U : Upgrade) (v : ℕ) → IsKnown U v → is_auto U v ≡ false
@@ -99,6 +116,11 @@ group_shape_is U v ty r =
     let users : ℕ → Shape = user_shapes U.program.declarations in
     ap (declared_shape users) r.known.is_variable ∙ ap (shape_by users x.bounds) r.is_type ∙ group_unbounded U.program.declarations x.bounds ty r.covers
 
+pub auto_shape_is : (U : Upgrade) (v class : ℕ) → IsAutoOf U v class → variable_shape U.program.declarations v ≡ simple (types.class class)
+auto_shape_is U v class r =
+    let users : ℕ → Shape = user_shapes U.program.declarations in
+    ap (declared_shape users) r.is_variable ∙ ap (shape_by users r.variable.bounds) r.is_type
+
 -- what is a user type without arrays stands as it is declared
 user_stands : (U : Upgrade) (s : Shape) (t : ℕ) (a : Address) (q : Position) → IsSoundShape U s → type_of_shape s ≡ types.user t → StandsAs s a q → a ≡ root s q
 user_stands U (simple ty) t a q (inl c) of h = absurd (true≢false (sym c ∙ ap covers_type of))
@@ -135,6 +157,19 @@ group_stands U v ty r a q h target = by ty r.sound r.covers (subst (λ s. Stands
     by (types.class k) c covers (inr x) = absurd (no_object_item U k q x.0 a x.1 target)
     by _ c covers h = absurd (true≢false (sym covers))
 
+pub auto_stands : (U : Upgrade) (v class : ℕ) → IsAutoOf U v class → (a : Address) (q : Position) → StandsAs (variable_shape U.program.declarations v) a q
+    → IsTarget U a → a ≡ root (simple (types.class class)) q
+auto_stands U v class r a q h target = by (subst (λ s. StandsAs s a q) (auto_shape_is U v class r) h)
+  where
+    by : StandsAs (simple (types.class class)) a q → a ≡ root (simple (types.class class)) q
+    by (inl e) = e
+    by (inr x) = absurd (no_object_item U class q x.0 a x.1 target)
+
+-- its use makes an object of its class
+pub auto_made : (U : Upgrade) (v class : ℕ) → IsAutoOf U v class → auto_class (slice_get U.program.declarations.vars v) ≡ Some class
+auto_made U v class r =
+    ap auto_class r.is_variable ∙ ap (λ b. cond b (class_in r.variable.ty) None) r.is_auto ∙ ap class_in r.is_type
+
 pub shape_used : (U : Upgrade) (T : Scope) (uses : Uses) → AreReadable U T uses → (v : VarId) → IsUsed uses v
     → UsedShape U v.0 (variable_shape U.program.declarations v.0)
 shape_used U T uses readable v (inl h) =
@@ -143,7 +178,10 @@ shape_used U T uses readable v (inl h) =
     subst (λ s. UsedShape U v.0 s)
     (sym (ap (declared_shape users) r.is_variable ∙ simple_type users r.variable.bounds r.variable.ty (type_covered r.variable r.covers)))
     (used_scalar r.variable.ty)
-shape_used U T uses readable v (inr (inr h)) =
+shape_used U T uses readable v (inr (inr (inr h))) =
+    let r = readable.autos v h.0 h.1 in
+    subst (λ s. UsedShape U v.0 s) (sym (auto_shape_is U v.0 r.0 r.2)) (used_scalar (types.class r.0))
+shape_used U T uses readable v (inr (inr (inl h))) =
     let r : IsGroup U v.0 h.0 = readable.groups v h.0 h.1 in
     let is : variable_shape U.program.declarations v.0 ≡ type_shape U h.0 = group_shape_is U v.0 h.0 r in
     subst (λ s. UsedShape U v.0 s) (sym is)
@@ -196,11 +234,12 @@ sound_no_array U _ _ (same_group t home member fs gs is fields) c e rank shaped 
 sound_no_array U _ _ (same_array f bounds d rank' same) c e rank shaped = absurd c
 
 -- an array has the rank of its declaration
-pub static_ranked : (U : Upgrade) (w : World) → StoreMatch U w → (v : ℕ) (s : Shape) → UsedShape U v s → (d : net_shapes.Shape) → SameShape U s d
-    → (e : net_shapes.Shape) (rank : ℕ) → d ≡ net_shapes.array e rank → IsMatched U w (whole (shared (v ∷ []))) → AllRanked U w s d (whole (shared (v ∷ []))) → rank ≡ U.facts.rank v
-static_ranked U w h v _ (used_scalar ty) _ (same_scalar t word is) e rank shaped m ranked = absurd (cc shaped)
-static_ranked U w h v _ (used_scalar ty) _ (same_class c home is) e rank shaped m ranked = absurd (cc shaped)
-static_ranked U w h v _ (used_array ty bounds fixed) d same e rank shaped m ranked =
-    let there : HasRank U w (whole (shared (v ∷ []))) rank = subst (λ z. AllRanked U w (array (simple ty) bounds) z (whole (shared (v ∷ [])))) shaped ranked in
-    sym there.2 ∙ h.ranks (whole (shared (v ∷ []))) v v there.0 m refl refl there.1
-static_ranked U w h v _ (used_group s c of) d same e rank shaped m ranked = absurd (sound_no_array U s d same c e rank shaped)
+pub static_ranked : (U : Upgrade) (w : World) → StoreMatch U w → (v : ℕ) (r : Root) → root_variable w.map r ≡ Some v → (s : Shape) → UsedShape U v s
+    → (d : net_shapes.Shape) → SameShape U s d → (e : net_shapes.Shape) (rank : ℕ) → d ≡ net_shapes.array e rank → IsMatched U w (whole r)
+    → AllRanked U w s d (whole r) → rank ≡ U.facts.rank v
+static_ranked U w h v r declares _ (used_scalar ty) _ (same_scalar t word is) e rank shaped m ranked = absurd (cc shaped)
+static_ranked U w h v r declares _ (used_scalar ty) _ (same_class c home is) e rank shaped m ranked = absurd (cc shaped)
+static_ranked U w h v r declares _ (used_array ty bounds fixed) d same e rank shaped m ranked =
+    let there : HasRank U w (whole r) rank = subst (λ z. AllRanked U w (array (simple ty) bounds) z (whole r)) shaped ranked in
+    sym there.2 ∙ h.ranks (whole r) v v there.0 m declares refl there.1
+static_ranked U w h v r declares _ (used_group s c of) d same e rank shaped m ranked = absurd (sound_no_array U s d same c e rank shaped)

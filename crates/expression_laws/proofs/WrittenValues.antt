@@ -47,11 +47,16 @@ use Rattle.run_matches.specs.Pledges.{Pledge}
 use Rattle.run_matches.specs.Upgrades.{Upgrade}
 use Rattle.run_statements.specs.Frames.{AllCalled, AllCalledOf, AreReadable, CanCall, IsOpen, context_of, demands}
 use Rattle.run_statements.specs.Ways.{callee_by}
+use Rattle.run_matches.specs.Runs.{CallsAgree}
+use Rattle.run_statements.specs.Objects.{ClassesAreWritten}
+use Rattle.run_statements.specs.Written.{Passes}
+use Rattle.expression_laws.specs.Calls.{Stands}
 use Rattle.expression_laws.proofs.Callees.{callee_is, way_of_procedure}
 use Rattle.expression_laws.proofs.Handled.{Handles, as_call, as_seen, as_value, handles_map, is_valued}
 use Rattle.expression_laws.proofs.Me.{me_class}
 use Rattle.expression_laws.proofs.Nothings.{nothing_converted, nothing_exp}
-use Rattle.expression_laws.proofs.Receivers.{ReceiverIs, for_none, for_object, receiver_is}
+use Rattle.expression_laws.proofs.KeptObjects.{receiver_is}
+use Rattle.expression_laws.proofs.Receivers.{ReceiverIs, for_none, for_object}
 use Rattle.expression_laws.proofs.Seen.{IsSeen, me_seen, object_call_seen, seen_within}
 use Rattle.expression_laws.proofs.Types.{both_true}
 use Rattle.expression_laws.proofs.Withs.{HavePlaces}
@@ -231,7 +236,8 @@ converts_values _ to false b e h = absurd (cc e)
 module _ (U : Upgrade) (K : Pledge) (p : ℕ) (f : SourceFrame) (g : NetFrame) (oracle : SourceCalls) (net_oracle : Jobs) (l : SourceLine) (k : NetLine)
     (c : Code) (T : written_names.Scope) (uses : Uses) (same_declarations : T.declarations ≡ U.program.declarations)
     (opened : IsOpen (scope_of U.written c g k)) (readable : AreReadable U T uses) (w : World) (start : MemoryMatch U w)
-    (have : HavePlaces U p f g oracle net_oracle l k c T uses K w) where
+    (have : HavePlaces U p f g oracle net_oracle l k c T uses K w) (agree : CallsAgree U (Passes U) oracle net_oracle) (classes : ClassesAreWritten U)
+    (stands : Stands U K w p f g) where
   abbrev C : Context
   C = context_of U oracle p f l
 
@@ -267,7 +273,7 @@ module _ (U : Upgrade) (K : Pledge) (p : ℕ) (f : SourceFrame) (g : NetFrame) (
       (object_call_seen U C S net_oracle w K T p ty q qualified d t args can (ap (λ D. is_property D q.0) same_declarations ∙ none) object)
 
   receiver : (of : Object) → AllCalledOf (demands U K p l k S T) of → covers_receiver uses of ≡ true → ReceiverIs U K C S net_oracle T w of
-  receiver = receiver_is U K p f g oracle net_oracle l k c T uses same_declarations readable w start have
+  receiver = receiver_is U K p f g oracle net_oracle l k c T uses same_declarations readable w start have opened agree classes stands
 
   receiver_covered : (q : ProcId) (of : Object) (args : Passed) → (uses.gives q.0 && (covers_receiver uses of && covers_passed uses args)) ≡ true
       → covers_receiver uses of ≡ true

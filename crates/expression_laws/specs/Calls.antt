@@ -4,8 +4,9 @@ use Rattle.run_base.specs.Frames.{by_address, by_value}
 use Rattle.vb6_run.specs.Expressions.{Parts, result_parts}
 use Rattle.vb6_run.specs.Store.{Address, SourceFrame, SourceGiven}
 use Rattle.vb6_run.specs.Values.{Value}
-use Rattle.net_run.specs.Calls.{result_address}
+use Rattle.net_run.specs.Calls.{result_address, result_shape_of}
 use Rattle.net_run.specs.Lines.{NetFrame}
+use Rattle.net_run.specs.Members.{code_at}
 use Rattle.net_run.specs.Shapes as shape
 use Rattle.net_run.specs.Store as net
 use Rattle.net_run.specs.Values as net_value
@@ -35,11 +36,14 @@ pub data ArgumentsMatch (U : Upgrade) (K : Pledge) (q : ℕ) : (place : ℕ) →
   next_address : (i : ℕ) (w : World) (a : Address) (b : net.Address) (xs : List SourceGiven) (ys : List NetGiven) → Same U K w a b → IsTarget U a
       → GivesWhole U q i a → IsPlain U w a → SuitsParameter U q i a b → ArgumentsMatch U K q (suc i) w xs ys → ArgumentsMatch U K q i w (by_address a ∷ xs) (by_address b ∷ ys)
 
--- what a call gives, which is nothing of a Sub
-pub record GivenMatch (U : Upgrade) (w : World) (p : Parts) (a : net.Address) : Type 0 where
+-- the shape with which a procedure that is written gives its result
+abbrev pub result_shape : Upgrade → (number : ℕ) → shape.Shape
+result_shape U n = result_shape_of U.written (code_at U.written n)
+
+-- what a call of the procedure of a number gives, which is nothing of a Sub
+pub record GivenMatch (U : Upgrade) (number : ℕ) (w : World) (p : Parts) (a : net.Address) : Type 0 where
   pub given : Option Value
   pub net_given : Option net_value.Value
-  pub shape : shape.Shape
   pub is_given : p ≡ result_parts given
-  pub is_net_given : a ≡ result_address shape net_given
+  pub is_net_given : a ≡ result_address (result_shape U number) net_given
   pub match : ResultMatch U w given net_given

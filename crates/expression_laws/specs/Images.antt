@@ -14,16 +14,18 @@ use Rattle.net_run.specs.Store as net
 use Rattle.run_matches.specs.Addresses.{Bound, IsPlain, IsTarget, Same, IsElement, IsWhole}
 use Rattle.run_matches.specs.CoveredExprs.{Uses, IsUsed, is_relied_on}
 use Rattle.run_matches.specs.Frames.{StandsAs}
-use Rattle.run_matches.specs.Maps.{World}
+use Rattle.run_matches.specs.Maps.{World, is_auto_root}
 use Rattle.run_matches.specs.Pledges.{Pledge}
-use Rattle.run_matches.specs.Upgrades.{Upgrade}
+use Rattle.run_matches.specs.Upgrades.{Upgrade, is_auto}
 
 -- the same variable stands on both sides, which can be changed
 pub record IsImage (U : Upgrade) (K : Pledge) (w : World) (v : ℕ) (a : Address) (b : net.Address) : Type 0 where
   pub same : Same U K w a b
   pub target : IsTarget U a
-  pub plain : IsPlain U w a
   pub position : Position
+  -- an As New variable stands at the place of one, and no other does
+  pub plain : is_auto U v ≡ false → IsPlain U w a
+  pub auto : is_auto U v ≡ true → is_auto_root U w.map position.root ≡ true
   pub stands : StandsAs (variable_shape U.program.declarations v) a position
   -- an array has the rank of its declaration
   pub ranked : (element : shape.Shape) (rank : ℕ) → net.shape_at b ≡ shape.array element rank → rank ≡ U.facts.rank v

@@ -2,7 +2,8 @@
 use Rattle.std.specs.Prelude.{◌≡◌, ◌⊎◌, ℕ, Bool, true, false, [], ◌∷◌, slice_get}
 use Rattle.vb_tree.specs.BoundTree.{Ty, array, class}
 use Rattle.vb_tree.specs.declared.declared.ProcId.{ProcId}
-use Rattle.bound_tree.specs.Tree.{Expr, typed, element, field, call, Exprs, Term, Object, no_passed}
+use Rattle.vb_tree.specs.declared.declared.VarId.{VarId}
+use Rattle.bound_tree.specs.Tree.{Expr, typed, variable, element, field, call, Exprs, Term, Object, no_passed}
 use Rattle.bound_facts.specs.Effects.{params_at}
 use Rattle.bound_facts.specs.Node.{type_at}
 use Rattle.run_base.specs.Frames.{by_value}
@@ -18,7 +19,7 @@ use Rattle.net_run.specs.Making.{Jobs}
 use Rattle.net_run.specs.Members.{Code}
 use Rattle.net_run.specs.Names.{Reached}
 use Rattle.net_run.specs.Values as net_value
-use Rattle.written_trees.specs.Exprs.{exp_of}
+use Rattle.written_trees.specs.Exprs.{exp_of, target_exp}
 use Rattle.written_trees.specs.Names.{Scope}
 use Rattle.run_matches.specs.Agreeing.{Agrees}
 use Rattle.run_matches.specs.CoveredExprs.{Uses, covers_array, covers_expr, covers_exprs, covers_group, covers_object, covers_place, covers_receiver, is_giving, is_taking}
@@ -31,12 +32,13 @@ use Rattle.run_matches.specs.Maps.{World}
 use Rattle.run_matches.specs.Match.{MemoryMatch}
 use Rattle.run_matches.specs.Pledges.{Pledge}
 use Rattle.run_matches.specs.Upgrades.{Upgrade}
+use Rattle.run_statements.specs.Autos.{AutoMatch}
 use Rattle.run_statements.specs.Elements.{IndexedMatch}
 use Rattle.run_statements.specs.Fitting.{rank_of}
 use Rattle.run_statements.specs.Groups.{PlaceMatch, ValueMatch}
-use Rattle.run_statements.specs.Members.{ReachedMember}
+use Rattle.run_statements.specs.Members.{ObjectMatch, ReachedMember}
 use Rattle.run_statements.specs.Properties.{SetterMatch}
-use Rattle.run_statements.specs.Frames.{AnyUnits, ArrayMatch, CanCall, ElementMatch, IsMember, ScalarMatch, PlainMatch, IsOpen, context_of, ArePlaced, AreReadable, AllCalled, demands, type_shape}
+use Rattle.run_statements.specs.Frames.{AnyUnits, ArrayMatch, CanCall, ElementMatch, IsMember, ScalarMatch, PlainMatch, IsOpen, context_of, ArePlaced, AreReadable, AllCalled, AllCalledOf, demands, type_shape}
 use Rattle.run_matches.specs.Runs.{CallsAgree}
 use Rattle.run_statements.specs.Written.{Passes}
 use Rattle.run_matches.specs.Formed.{is_formed}
@@ -124,12 +126,24 @@ PlacesAgreeBy U K =
     (source.address_of (context_of U oracle p f l) (typed ty tm) w.src)
     (target.address_of (scope_of U.written c g k) net_oracle (exp_of T (typed ty tm)) w.net)
 
+-- the address of an As New variable, of which no object is made
+abbrev pub AutosAreReachedBy : Upgrade → Pledge → Type 0
+AutosAreReachedBy U K =
+    (w : World) (p : ℕ) (f : SourceFrame) (g : NetFrame) (oracle : SourceCalls) (net_oracle : Jobs) (l : SourceLine) (k : NetLine) (c : Code)
+    (T : Scope) (uses : Uses) (of_class : ℕ) (v : VarId) (qualified : Bool) → MemoryMatch U w → FrameMatch U K w p f g
+    → T.declarations ≡ U.program.declarations → AreReadable U T uses → ArePlaced U p f (scope_of U.written c g k) T uses
+    → uses.auto v (class of_class) ≡ true → uses.named v qualified ≡ true
+    → Agrees U K w (AutoMatch U K of_class)
+    (then (source.term_parts (context_of U oracle p f l) (class of_class) (variable v qualified) w.src) source.finished)
+    (target.address_of (scope_of U.written c g k) net_oracle (target_exp T (typed (class of_class) (variable v qualified))) w.net)
+
 -- the parts of a variable of an object
 abbrev pub MembersAgreeBy : Upgrade → Pledge → Type 0
 MembersAgreeBy U K =
     (w : World) (p : ℕ) (f : SourceFrame) (g : NetFrame) (oracle : SourceCalls) (net_oracle : Jobs) (l : SourceLine) (k : NetLine) (c : Code)
     (T : Scope) (uses : Uses) (ty : Ty) (of_class i : ℕ) (tm : Term) (member_type : Ty) (m : IsMember U of_class i member_type) → MemoryMatch U w
-    → FrameMatch U K w p f g → T.declarations ≡ U.program.declarations → AreReadable U T uses → ArePlaced U p f (scope_of U.written c g k) T uses
+    → FrameMatch U K w p f g → T.declarations ≡ U.program.declarations → IsOpen (scope_of U.written c g k) → AreReadable U T uses
+    → ArePlaced U p f (scope_of U.written c g k) T uses → CallsAgree U (Passes U) oracle net_oracle
     → AllCalled (demands U K p l k (scope_of U.written c g k) T) (typed (class of_class) tm) → covers_object uses (typed (class of_class) tm) ≡ true
     → Agrees U K w (ReachedMember U of_class m.number)
     (source.parts_of (context_of U oracle p f l) (typed ty (field (typed (class of_class) tm) i)) w.src)
@@ -147,15 +161,28 @@ GroupsAgreeBy U K =
     (source.value_of (context_of U oracle p f l) (typed ty tm) w.src)
     (target.value_of (scope_of U.written c g k) net_oracle (exp_of T (typed ty tm)) w.net)
 
--- the object of a property that takes a value
-abbrev pub SettersAgreeBy : Upgrade → Pledge → Type 0
-SettersAgreeBy U K =
+-- an object at an address of its class
+abbrev pub ObjectsAgreeBy : Upgrade → Pledge → Type 0
+ObjectsAgreeBy U K =
+    (w : World) (p : ℕ) (f : SourceFrame) (g : NetFrame) (oracle : SourceCalls) (net_oracle : Jobs) (l : SourceLine) (k : NetLine) (c : Code)
+    (T : Scope) (uses : Uses) (of_class : ℕ) (tm : Term) → MemoryMatch U w → FrameMatch U K w p f g → T.declarations ≡ U.program.declarations
+    → IsOpen (scope_of U.written c g k) → AreReadable U T uses → ArePlaced U p f (scope_of U.written c g k) T uses → CallsAgree U (Passes U) oracle net_oracle
+    → AllCalled (demands U K p l k (scope_of U.written c g k) T) (typed (class of_class) tm) → covers_object uses (typed (class of_class) tm) ≡ true
+    → is_formed (typed (class of_class) tm) ≡ true
+    → Agrees U K w (ObjectMatch U of_class)
+    (source.value_of (context_of U oracle p f l) (typed (class of_class) tm) w.src)
+    (target.address_of (scope_of U.written c g k) net_oracle (exp_of T (typed (class of_class) tm)) w.net)
+
+-- the object of a property that takes a value, which needn't be called under the promise
+abbrev pub SettersAgreeBy : Upgrade → (promised called : Pledge) → Type 0
+SettersAgreeBy U K L =
     (w : World) (p : ℕ) (f : SourceFrame) (g : NetFrame) (oracle : SourceCalls) (net_oracle : Jobs) (l : SourceLine) (k : NetLine) (c : Code)
     (T : Scope) (uses : Uses) (ty : Ty) (q : ProcId) (qualified : Bool) (of : Object) → MemoryMatch U w → FrameMatch U K w p f g
-    → T.declarations ≡ U.program.declarations → AreReadable U T uses → ArePlaced U p f (scope_of U.written c g k) T uses
-    → (can : AllCalled (demands U K p l k (scope_of U.written c g k) T) (typed ty (call q qualified of no_passed)))
+    → T.declarations ≡ U.program.declarations → IsOpen (scope_of U.written c g k) → AreReadable U T uses
+    → ArePlaced U p f (scope_of U.written c g k) T uses → CallsAgree U (Passes U) oracle net_oracle
+    → (can : CanCall U L (scope_of U.written c g k) T p q.0 qualified of no_passed) → AllCalledOf (demands U K p l k (scope_of U.written c g k) T) of
     → is_giving (slice_get U.program.declarations.procs q.0) ≡ false → covers_receiver uses of ≡ true
-    → Agrees U K w (SetterMatch U can.0.way can.0.number of)
+    → Agrees U K w (SetterMatch U can.way can.number of)
     (source.receiver_of (context_of U oracle p f l) of w.src)
     (target.reach (scope_of U.written c g k) net_oracle false (exp_of T (typed ty (call q qualified of no_passed))) w.net)
 

@@ -4,6 +4,7 @@
 mod laws;
 
 pub use laws::{
-    arrays_agree, elements_agree, expressions_agree, groups_agree, indexes_agree, members_agree,
-    places_agree, properties_are_set, scalars_agree, setters_agree,
+    arrays_agree, autos_are_reached, elements_agree, expressions_agree, groups_agree,
+    indexes_agree, members_agree, objects_agree, places_agree, properties_are_set, scalars_agree,
+    setters_agree,
 };

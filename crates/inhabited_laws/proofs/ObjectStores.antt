@@ -49,7 +49,8 @@ holds_at (shared (suc (suc (suc (suc (suc (suc (suc (suc (suc (suc (suc (suc (su
 holds_at (shared (suc (suc (suc (suc (suc (suc (suc (suc (suc (suc (suc (suc (suc (suc zero))))))))))))) ∷ [])) path h = holds_blank
 holds_at (shared (suc (suc (suc (suc (suc (suc (suc (suc (suc (suc (suc (suc (suc (suc (suc zero)))))))))))))) ∷ [])) path h = holds_blank
 holds_at (shared (suc (suc (suc (suc (suc (suc (suc (suc (suc (suc (suc (suc (suc (suc (suc (suc zero))))))))))))))) ∷ [])) path h = holds_blank
-holds_at (shared (suc (suc (suc (suc (suc (suc (suc (suc (suc (suc (suc (suc (suc (suc (suc (suc (suc x)))))))))))))))) ∷ [])) path h = holds_blank
+holds_at (shared (suc (suc (suc (suc (suc (suc (suc (suc (suc (suc (suc (suc (suc (suc (suc (suc (suc zero)))))))))))))))) ∷ [])) path h = holds_blank
+holds_at (shared (suc (suc (suc (suc (suc (suc (suc (suc (suc (suc (suc (suc (suc (suc (suc (suc (suc (suc x))))))))))))))))) ∷ [])) path h = holds_blank
 holds_at (shared (x ∷ y ∷ more)) path h = absurd (true≢false (sym h.counterpart))
 holds_at (made p) path h = let lt : p < 0 = h.is_made in absurd (omega arith)
 holds_at (field zero []) path h = holds_blank
@@ -72,7 +73,8 @@ holds_at (field zero (suc (suc (suc (suc (suc (suc (suc (suc (suc (suc (suc (suc
 holds_at (field zero (suc (suc (suc (suc (suc (suc (suc (suc (suc (suc (suc (suc (suc (suc zero))))))))))))) ∷ [])) path h = holds_blank
 holds_at (field zero (suc (suc (suc (suc (suc (suc (suc (suc (suc (suc (suc (suc (suc (suc (suc zero)))))))))))))) ∷ [])) path h = holds_blank
 holds_at (field zero (suc (suc (suc (suc (suc (suc (suc (suc (suc (suc (suc (suc (suc (suc (suc (suc zero))))))))))))))) ∷ [])) path h = holds_blank
-holds_at (field zero (suc (suc (suc (suc (suc (suc (suc (suc (suc (suc (suc (suc (suc (suc (suc (suc (suc x)))))))))))))))) ∷ [])) path h = holds_blank
+holds_at (field zero (suc (suc (suc (suc (suc (suc (suc (suc (suc (suc (suc (suc (suc (suc (suc (suc (suc zero)))))))))))))))) ∷ [])) path h = holds_blank
+holds_at (field zero (suc (suc (suc (suc (suc (suc (suc (suc (suc (suc (suc (suc (suc (suc (suc (suc (suc (suc x))))))))))))))))) ∷ [])) path h = holds_blank
 holds_at (field zero (x ∷ y ∷ more)) path h = absurd (true≢false (sym h.counterpart))
 holds_at (field (suc o) k) path h = let lt : suc o < 1 = h.is_made in absurd (omega arith)
 
@@ -82,8 +84,8 @@ no_array : (r : Root) (path : List ℕ) (k : ℕ) → cell_at r path ≡ net.hol
 no_array (field o key) path k e = none_in (nat_eq o 5) key path k e
   where
     none_in : (b : Bool) (key path : List ℕ) (k : ℕ) → cond b (counter_at key path) net.blank ≡ net.holds (n.Array k) → ⊥
-    none_in true (suc zero ∷ zero ∷ []) [] k e = cc
     none_in true (suc zero ∷ suc zero ∷ []) [] k e = cc
+    none_in true (suc zero ∷ suc (suc zero) ∷ []) [] k e = cc
     none_in b key path k e = cc
 no_array (shared (zero ∷ suc zero ∷ [])) [] k e = cc
 no_array (shared (zero ∷ suc (suc zero) ∷ [])) [] k e = cc
@@ -134,7 +136,8 @@ kinds_at (suc (suc (suc (suc (suc (suc (suc (suc (suc (suc (suc (suc (suc zero))
 kinds_at (suc (suc (suc (suc (suc (suc (suc (suc (suc (suc (suc (suc (suc (suc zero)))))))))))))) y e = inl (λ path. refl, not_laid (is_module_variable objects.declarations) _ y e refl)
 kinds_at (suc (suc (suc (suc (suc (suc (suc (suc (suc (suc (suc (suc (suc (suc (suc zero))))))))))))))) y e = inl (λ path. refl, not_laid (is_module_variable objects.declarations) _ y e refl)
 kinds_at (suc (suc (suc (suc (suc (suc (suc (suc (suc (suc (suc (suc (suc (suc (suc (suc zero)))))))))))))))) y e = inl (λ path. refl, not_laid (is_module_variable objects.declarations) _ y e refl)
-kinds_at (suc (suc (suc (suc (suc (suc (suc (suc (suc (suc (suc (suc (suc (suc (suc (suc (suc x))))))))))))))))) y e = absurd (not_none e)
+kinds_at (suc (suc (suc (suc (suc (suc (suc (suc (suc (suc (suc (suc (suc (suc (suc (suc (suc zero))))))))))))))))) y e = inl (λ path. refl, not_laid (is_module_variable objects.declarations) _ y e refl)
+kinds_at (suc (suc (suc (suc (suc (suc (suc (suc (suc (suc (suc (suc (suc (suc (suc (suc (suc (suc x)))))))))))))))))) y e = absurd (not_none e)
 
 counter_kinds : (x : ℕ) (y : Variable) → slice_get objects.declarations.vars x ≡ Some y
     → HeldAs objects.declarations x (is_class_variable objects.declarations 0 y.owner) (field 0 (x ∷ [])) (λ q. held_at q.root q.path)
@@ -155,7 +158,8 @@ counter_kinds (suc (suc (suc (suc (suc (suc (suc (suc (suc (suc (suc (suc (suc z
 counter_kinds (suc (suc (suc (suc (suc (suc (suc (suc (suc (suc (suc (suc (suc (suc zero)))))))))))))) y e = inl (λ path. refl, not_laid (is_class_variable objects.declarations 0) _ y e refl)
 counter_kinds (suc (suc (suc (suc (suc (suc (suc (suc (suc (suc (suc (suc (suc (suc (suc zero))))))))))))))) y e = inl (λ path. refl, not_laid (is_class_variable objects.declarations 0) _ y e refl)
 counter_kinds (suc (suc (suc (suc (suc (suc (suc (suc (suc (suc (suc (suc (suc (suc (suc (suc zero)))))))))))))))) y e = inl (λ path. refl, not_laid (is_class_variable objects.declarations 0) _ y e refl)
-counter_kinds (suc (suc (suc (suc (suc (suc (suc (suc (suc (suc (suc (suc (suc (suc (suc (suc (suc x))))))))))))))))) y e = absurd (not_none e)
+counter_kinds (suc (suc (suc (suc (suc (suc (suc (suc (suc (suc (suc (suc (suc (suc (suc (suc (suc zero))))))))))))))))) y e = inl (λ path. refl, not_laid (is_class_variable objects.declarations 0) _ y e refl)
+counter_kinds (suc (suc (suc (suc (suc (suc (suc (suc (suc (suc (suc (suc (suc (suc (suc (suc (suc (suc x)))))))))))))))))) y e = absurd (not_none e)
 
 fields_at : (o c x : ℕ) (y : Variable) → o < 1 → object_source.class_of o ≡ Some c → slice_get objects.declarations.vars x ≡ Some y
     → HeldAs objects.declarations x (is_class_variable objects.declarations c y.owner) (field o (x ∷ [])) (λ q. held_at q.root q.path)

@@ -28,14 +28,14 @@ pub objects_run_the_same : (inputs : List (List ℕ)) (n : ℕ)
 objects_run_the_same inputs n =
     run_as object_sample objects_are_written 0 0 (objects_are_clean 0) objects_are_covered main_goes object_world None [] [] inputs n objects_may_start
 
-pub source_prints : outputs (run6 (runnable_of object_sample) 0 None [] [] 80 object_source) ≡ said
+pub source_prints : outputs (run6 (runnable_of object_sample) 0 None [] [] 120 object_source) ≡ said
 unfolding digits
 source_prints = refl
 
-pub target_prints : outputs (run_net object_sample.written 80 0 None [] object_target) ≡ said
+pub target_prints : outputs (run_net object_sample.written 120 0 None [] object_target) ≡ said
 unfolding digits has none both
 target_prints = refl
 
-pub source_is_given : is_given (run6 (runnable_of object_sample) 0 None [] [] 80 object_source) ≡ true
+pub source_is_given : is_given (run6 (runnable_of object_sample) 0 None [] [] 120 object_source) ≡ true
 unfolding digits
 source_is_given = refl

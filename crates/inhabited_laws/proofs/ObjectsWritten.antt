@@ -15,7 +15,7 @@ use Rattle.run_matches.specs.Covered.{IsCovered, covers_procedure}
 use Rattle.run_matches.specs.Sites.{Site, site_of}
 use Rattle.run_statements.specs.Written.{FirstsAreParts, HasBody, IsWritten, PartsStandTogether}
 use Rattle.run_laws.proofs.Covered.{not_none}
-use Rattle.inhabited_laws.specs.Objects.{add_lines, advance_lines, clear_lines, get_level_lines, get_peer_lines, let_level_lines, main_lines, object_facts, object_known, object_sample, objects, pick_lines, set_peer_lines, total_lines}
+use Rattle.inhabited_laws.specs.Objects.{add_lines, advance_lines, clear_lines, get_level_lines, get_peer_lines, initialize_lines, let_level_lines, main_lines, object_facts, object_known, object_sample, objects, pick_lines, set_peer_lines, total_lines}
 use Rattle.inhabited_laws.proofs.Chains.{leads_as, led_on}
 use Rattle.inhabited_laws.proofs.Fits.{HasHome, all_named, at_procedure, at_site, none_hold, one_not, one_rank, still_lines_fit, unshaped, uses_fit}
 use Rattle.inhabited_laws.proofs.Unmarked.{all_clean}
@@ -41,7 +41,8 @@ bodies (suc (suc (suc (suc (suc (suc zero)))))) s e = at_site (HasBody objects 6
 bodies (suc (suc (suc (suc (suc (suc (suc zero))))))) s e = at_site (HasBody objects 7) _ s e (record { lines = let_level_lines; are_lines = refl; sources = refl })
 bodies (suc (suc (suc (suc (suc (suc (suc (suc zero)))))))) s e = at_site (HasBody objects 8) _ s e (record { lines = get_peer_lines; are_lines = refl; sources = refl })
 bodies (suc (suc (suc (suc (suc (suc (suc (suc (suc zero))))))))) s e = at_site (HasBody objects 9) _ s e (record { lines = set_peer_lines; are_lines = refl; sources = refl })
-bodies (suc (suc (suc (suc (suc (suc (suc (suc (suc (suc p)))))))))) s e = absurd (not_none e)
+bodies (suc (suc (suc (suc (suc (suc (suc (suc (suc (suc zero)))))))))) s e = at_site (HasBody objects 10) _ s e (record { lines = initialize_lines; are_lines = refl; sources = refl })
+bodies (suc (suc (suc (suc (suc (suc (suc (suc (suc (suc (suc p))))))))))) s e = absurd (not_none e)
 
 homes : (p : ℕ) (s : Site) → site_of objects.declarations p ≡ Some s → HasHome object_sample s
 homes zero s e = at_site (HasHome object_sample) _ s e refl
@@ -54,7 +55,8 @@ homes (suc (suc (suc (suc (suc (suc zero)))))) s e = at_site (HasHome object_sam
 homes (suc (suc (suc (suc (suc (suc (suc zero))))))) s e = at_site (HasHome object_sample) _ s e refl
 homes (suc (suc (suc (suc (suc (suc (suc (suc zero)))))))) s e = at_site (HasHome object_sample) _ s e refl
 homes (suc (suc (suc (suc (suc (suc (suc (suc (suc zero))))))))) s e = at_site (HasHome object_sample) _ s e refl
-homes (suc (suc (suc (suc (suc (suc (suc (suc (suc (suc p)))))))))) s e = absurd (not_none e)
+homes (suc (suc (suc (suc (suc (suc (suc (suc (suc (suc zero)))))))))) s e = at_site (HasHome object_sample) _ s e refl
+homes (suc (suc (suc (suc (suc (suc (suc (suc (suc (suc (suc p))))))))))) s e = absurd (not_none e)
 
 -- ---- properties
 
@@ -76,7 +78,8 @@ firsts (suc (suc (suc (suc (suc (suc zero)))))) q e = at_procedure (IsInPlace 6)
 firsts (suc (suc (suc (suc (suc (suc (suc zero))))))) q e = at_procedure (IsInPlace 7) _ q e (λ k. (omega arith, _, refl, refl, _, refl))
 firsts (suc (suc (suc (suc (suc (suc (suc (suc zero)))))))) q e = at_procedure (IsInPlace 8) _ q e (λ k. (omega arith, _, refl, refl, _, refl))
 firsts (suc (suc (suc (suc (suc (suc (suc (suc (suc zero))))))))) q e = at_procedure (IsInPlace 9) _ q e (λ k. (omega arith, _, refl, refl, _, refl))
-firsts (suc (suc (suc (suc (suc (suc (suc (suc (suc (suc p)))))))))) q e = absurd (not_none e)
+firsts (suc (suc (suc (suc (suc (suc (suc (suc (suc (suc zero)))))))))) q e = at_procedure (IsInPlace 10) _ q e (λ k. absurd (true≢false (sym k)))
+firsts (suc (suc (suc (suc (suc (suc (suc (suc (suc (suc (suc p))))))))))) q e = absurd (not_none e)
 
 abbrev IsBeside : (procedure : ℕ) → Procedure → Type 0
 IsBeside n q =
@@ -97,7 +100,8 @@ together (suc (suc (suc (suc (suc (suc zero)))))) q s e k = at_procedure (IsBesi
 together (suc (suc (suc (suc (suc (suc (suc zero))))))) q s e k = at_procedure (IsBeside 7) _ q e (λ s k f. at_site (IsBesideSite 7) _ s f (_, refl, refl)) s k
 together (suc (suc (suc (suc (suc (suc (suc (suc zero)))))))) q s e k = at_procedure (IsBeside 8) _ q e (λ s k f. at_site (IsBesideSite 8) _ s f (_, refl, refl)) s k
 together (suc (suc (suc (suc (suc (suc (suc (suc (suc zero))))))))) q s e k = at_procedure (IsBeside 9) _ q e (λ s k f. at_site (IsBesideSite 9) _ s f (_, refl, refl)) s k
-together (suc (suc (suc (suc (suc (suc (suc (suc (suc (suc p)))))))))) q s e k = absurd (not_none e)
+together (suc (suc (suc (suc (suc (suc (suc (suc (suc (suc zero)))))))))) q s e k = at_procedure (IsBeside 10) _ q e (λ s k. absurd (true≢false (sym k))) s k
+together (suc (suc (suc (suc (suc (suc (suc (suc (suc (suc (suc p))))))))))) q s e k = absurd (not_none e)
 
 no_head : (p : ℕ) → has (head_set object_facts p) 7 ≡ false
 unfolding has none

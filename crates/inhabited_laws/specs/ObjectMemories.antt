@@ -33,10 +33,10 @@ object_source = record {
 
 -- ---- the target: held has the object 5; the first member of the module is the structure Pair
 
--- the variables of an object of Counter
+-- the variables of an object of Counter, behind the Sub New that stands first in the class
 abbrev pub counter_at : List ℕ → List ℕ → net.Cell
-counter_at (suc zero ∷ zero ∷ []) [] = net.holds (n.Integer (pos 7))
-counter_at (suc zero ∷ suc zero ∷ []) [] = net.holds n.Nothing
+counter_at (suc zero ∷ suc zero ∷ []) [] = net.holds (n.Integer (pos 7))
+counter_at (suc zero ∷ suc (suc zero) ∷ []) [] = net.holds n.Nothing
 counter_at k path = net.blank
 
 abbrev pub cell_at : Root → List ℕ → net.Cell
@@ -70,7 +70,9 @@ object_world = record { map = object_map; src = object_source; net = object_targ
 
 -- ---- what is printed
 
--- n, what With sets, that following is c, n of what With keeps, which its Level raised, that c is Nothing, n of the new object, and the number
--- of the error
+-- n, what With sets, that following is c, n of what With keeps, which its Level raised, that c is Nothing, n of the new object, n of the one that d
+-- makes, raised by Add, and of the next one, which isn't Nothing, and the number of the error
 abbrev pub said : List Output
-said = map (λ (s : List ℕ). printed (s ++ 13 ∷ 10 ∷ [])) (codes " 10 " ∷ codes " 10  11 " ∷ codes " 1 " ∷ codes " 12 " ∷ codes " 2 " ∷ codes " 8 " ∷ codes " 91 " ∷ [])
+said =
+    map (λ (s : List ℕ). printed (s ++ 13 ∷ 10 ∷ []))
+    (codes " 10 " ∷ codes " 10  11 " ∷ codes " 1 " ∷ codes " 12 " ∷ codes " 2 " ∷ codes " 8 " ∷ codes " 21 " ∷ codes " 20 " ∷ codes " 91 " ∷ [])

@@ -1,7 +1,7 @@
 -- A second program over a class and a user type: an object that a variable of the module holds is given by value and by reference and by a
 -- Function, asked for procedures, variables and properties, compared and forgotten; properties, of a number and of an object, are read and assigned
 -- for objects, for Me, by their names in the class and in a With; Withs on a user type, on an object, which is kept while its variable forgets it,
--- and on a new one; and error 91, which is handled.
+-- and on a new one; an As New variable, whose uses make an object, and another one when it forgot the first; and error 91, which is handled.
 use Rattle.std.specs.Prelude.{ℕ, pos, nat_lt, ◌&&◌, true, false, Some, None, List, [], ◌∷◌, codes}
 use Rattle.vb_tree.specs.BoundTree.{user, class, boolean, long, nothing}
 use Rattle.vb_tree.specs.declared.declared.Owner.TheVariants as owner
@@ -18,7 +18,7 @@ use Rattle.bound_tree.specs.declared.expression.Origin.TheVariants.{Literal}
 use Rattle.bound_tree.specs.declared.expression.Root.{Root}
 use Rattle.bound_tree.specs.declared.expression.Root.TheVariants as at
 use Rattle.bound_tree.specs.RuleSets.{none}
-use Rattle.bound_tree.specs.Tree.{Expr, typed, constant, variable, field, call, convert, is_same, me, new_object, with_object, err_number, Object, no_object, of_object, by_reference, by_value, no_passed, next_passed, Line, Program}
+use Rattle.bound_tree.specs.Tree.{Expr, typed, constant, variable, field, call, convert, is_same, me, new_object, with_object, err_number, Object, no_object, of_object, by_reference, by_value, no_passed, next_passed, Line, Program, Variable}
 use Rattle.bound_facts.specs.Calls.{count_procedures, count_variables}
 use Rattle.bound_facts.specs.Effects.{outward, touched, resized}
 use Rattle.bound_facts.specs.Facts.{Known}
@@ -38,7 +38,7 @@ use Rattle.inhabited_laws.specs.Sample.{any, assign, at_line, body, declared, fa
 --     Private held As Counter
 --     Private best As Pair
 --     Sub Main()
---         Dim c As Counter
+--         Dim c As Counter, d As New Counter
 --         On Error GoTo failed
 --         Set c = Pick(held)
 --         Call Advance(c)
@@ -63,6 +63,13 @@ use Rattle.inhabited_laws.specs.Sample.{any, assign, at_line, body, declared, fa
 --             .n = 8
 --             Debug.Print .n
 --         End With
+--         Call d.Add(1)
+--         Debug.Print d.n
+--         Set d = Nothing
+--         Debug.Print d.n
+--         If d Is Nothing Then
+--             Debug.Print 3
+--         End If
 --         c.n = 3
 --         Exit Sub
 --     failed:
@@ -101,6 +108,9 @@ use Rattle.inhabited_laws.specs.Sample.{any, assign, at_line, body, declared, fa
 --     Property Set Peer(ByVal o As Counter)
 --         Set following = o
 --     End Property
+--     Sub Class_Initialize()
+--         n = 20
+--     End Sub
 
 abbrev pub type_id : ℕ → TypeId
 type_id n = record { 0 = n }
@@ -160,7 +170,7 @@ y e = typed long (field e 1)
 abbrev pub code_in : (file : ℕ) → Form → List Expr → Line
 code_in file f es = record {
   source = line file f;
-  bindings = record { exprs = es; rules = none; mentions = mentions_of (0 ∷ 1 ∷ 2 ∷ 3 ∷ 4 ∷ 5 ∷ 6 ∷ 7 ∷ 8 ∷ 9 ∷ 10 ∷ 11 ∷ 12 ∷ 13 ∷ 14 ∷ 15 ∷ 16 ∷ []) };
+  bindings = record { exprs = es; rules = none; mentions = mentions_of (0 ∷ 1 ∷ 2 ∷ 3 ∷ 4 ∷ 5 ∷ 6 ∷ 7 ∷ 8 ∷ 9 ∷ 10 ∷ 11 ∷ 12 ∷ 13 ∷ 14 ∷ 15 ∷ 16 ∷ 17 ∷ []) };
 }
 
 abbrev pub code : Form → List Expr → Line
@@ -198,6 +208,13 @@ main_lines =
     ∷ code assign (n_of kept_new ∷ number 8 ∷ [])
     ∷ code print (n_of kept_new ∷ [])
     ∷ code source.end_with []
+    ∷ code (source.call any) (typed nothing (call (proc_id 4) false (of_object (counter 17)) (next_passed (by_value (number 1)) no_passed)) ∷ [])
+    ∷ code print (n_of (counter 17) ∷ [])
+    ∷ code set (counter 17 ∷ typed (class 0) (convert (class 0) nothing_itself) ∷ [])
+    ∷ code print (n_of (counter 17) ∷ [])
+    ∷ code (source.if_head any) (typed boolean (is_same (counter 17) nothing_itself) ∷ [])
+    ∷ code print (number 3 ∷ [])
+    ∷ code source.end_if []
     ∷ code assign (n_of (counter 4) ∷ number 3 ∷ [])
     ∷ code (source.exit leaving.Sub) []
     ∷ code (source.label failed) []
@@ -238,6 +255,9 @@ get_peer_lines = code_in 2 set (counter 15 ∷ counter 10 ∷ []) ∷ []
 abbrev pub set_peer_lines : List Line
 set_peer_lines = code_in 2 set (counter 10 ∷ counter 16 ∷ []) ∷ []
 
+abbrev pub initialize_lines : List Line
+initialize_lines = code_in 2 assign (the 9 ∷ number 20 ∷ []) ∷ []
+
 abbrev pub sub_in : (file : ℕ) → (name : List ℕ) → List Form → Member
 sub_in file name forms = source.proc (line file (source.sub_head (signature name))) (body file forms) (line file source.end_sub)
 
@@ -246,6 +266,9 @@ function_in file name forms = source.proc (line file (source.function_head (sign
 
 abbrev pub property_in : (head : Form) → List Form → Member
 property_in head forms = source.proc (line 2 head) (body 2 forms) (line 2 source.end_property)
+
+abbrev pub made_new : Variable → Variable
+made_new x = record x { auto = true }
 
 abbrev pub field_line : List ℕ → source.Line
 field_line name = line 1 (source.field name Absent None (source.named []))
@@ -285,6 +308,7 @@ objects = record {
                 ∷ property_in (source.let_head (signature (codes "Level"))) (forms_of let_level_lines)
                 ∷ property_in (source.get_head (signature (codes "Peer")) None) (forms_of get_peer_lines)
                 ∷ property_in (source.set_head (signature (codes "Peer"))) (forms_of set_peer_lines)
+                ∷ sub_in 2 (codes "Class_Initialize") (forms_of initialize_lines)
                 ∷ [];
             comments = [];
           }
@@ -297,10 +321,10 @@ objects = record {
         ∷ declared (codes "held") 1 4 (owner.Module 1) (class 0)
         ∷ declared (codes "best") 1 5 (owner.Module 1) (user 0)
         ∷ declared (codes "c") 1 7 (owner.Local (proc_id 0)) (class 0)
-        ∷ declared (codes "o") 1 37 (owner.Reference (proc_id 1)) (class 0)
-        ∷ declared (codes "o") 1 40 (owner.Value (proc_id 2)) (class 0)
-        ∷ declared (codes "Pick") 1 40 (owner.Answer (proc_id 2)) (class 0)
-        ∷ declared (codes "o") 1 43 (owner.Value (proc_id 3)) (class 0)
+        ∷ declared (codes "o") 1 44 (owner.Reference (proc_id 1)) (class 0)
+        ∷ declared (codes "o") 1 47 (owner.Value (proc_id 2)) (class 0)
+        ∷ declared (codes "Pick") 1 47 (owner.Answer (proc_id 2)) (class 0)
+        ∷ declared (codes "o") 1 50 (owner.Value (proc_id 3)) (class 0)
         ∷ declared (codes "n") 2 0 (owner.Module 2) long
         ∷ declared (codes "following") 2 1 (owner.Module 2) (class 0)
         ∷ declared (codes "k") 2 2 (owner.Value (proc_id 4)) long
@@ -309,6 +333,7 @@ objects = record {
         ∷ declared (codes "k") 2 12 (owner.Reference (proc_id 7)) long
         ∷ declared (codes "Peer") 2 15 (owner.Answer (proc_id 8)) (class 0)
         ∷ declared (codes "o") 2 18 (owner.Value (proc_id 9)) (class 0)
+        ∷ made_new (declared (codes "d") 1 7 (owner.Local (proc_id 0)) (class 0))
         ∷ [];
     consts = [];
     procs =
@@ -322,6 +347,7 @@ objects = record {
         ∷ procedure (codes "Level") 2 kind.Let (var_id 14 ∷ []) nothing None 6
         ∷ procedure (codes "Peer") 2 kind.Get [] (class 0) (Some (var_id 15)) 8
         ∷ procedure (codes "Peer") 2 kind.Set (var_id 16 ∷ []) nothing None 8
+        ∷ procedure (codes "Class_Initialize") 2 kind.Sub [] nothing None 10
         ∷ [];
     types = record { name = codes "Pair"; place = at_line 1; «module» = 1; fields = var_id 0 ∷ var_id 1 ∷ [] } ∷ [];
     enums = [];
@@ -329,7 +355,7 @@ objects = record {
   };
   bodies =
       main_lines ∷ clear_lines ∷ pick_lines ∷ advance_lines ∷ add_lines ∷ total_lines ∷ get_level_lines ∷ let_level_lines ∷ get_peer_lines
-      ∷ set_peer_lines ∷ [];
+      ∷ set_peer_lines ∷ initialize_lines ∷ [];
 }
 
 abbrev pub object_known : Known

@@ -99,20 +99,20 @@ pub fn objects_run_the_same()
         (run_net object_sample.written n 0 None [] (with_inputs inputs object_target)) }
 {}
 
-/// A law: within 80 steps its Main gives its result, so that the source's run isn't outside of its meaning.
+/// A law: within 120 steps its Main gives its result, so that the source's run isn't outside of its meaning.
 #[tactic(auto, using(crate::proofs::ObjectsStated::source_is_given))]
 pub fn objects_give()
-    ensures { is_given (run6 (runnable_of object_sample) 0 None [] [] 80 object_source) ≡ true }
+    ensures { is_given (run6 (runnable_of object_sample) 0 None [] [] 120 object_source) ≡ true }
 {}
 
-/// A law: it prints what is said: 10, then 10 and 11, 1, 12, 2, 8, and the number of the error, 91.
+/// A law: it prints what is said: 10, then 10 and 11, 1, 12, 2, 8, 21, 20, and the number of the error, 91.
 #[tactic(auto, using(crate::proofs::ObjectsStated::source_prints))]
 pub fn objects_print()
-    ensures { outputs (run6 (runnable_of object_sample) 0 None [] [] 80 object_source) ≡ said }
+    ensures { outputs (run6 (runnable_of object_sample) 0 None [] [] 120 object_source) ≡ said }
 {}
 
 /// A law: so does what is written for it.
 #[tactic(auto, using(crate::proofs::ObjectsStated::target_prints))]
 pub fn written_objects_print()
-    ensures { outputs (run_net object_sample.written 80 0 None [] object_target) ≡ said }
+    ensures { outputs (run_net object_sample.written 120 0 None [] object_target) ≡ said }
 {}

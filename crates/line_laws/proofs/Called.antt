@@ -14,13 +14,12 @@ use Rattle.bound_facts.specs.Calls.{initialized, line_calls, node_calls, pair_to
 use Rattle.bound_facts.specs.Locks.{is_same_type}
 use Rattle.bound_facts.specs.Members.{initializer}
 use Rattle.bound_facts.specs.Node.{called, type_at}
-use Rattle.bound_tree.specs.declared.expression.Root.{Root}
 use Rattle.bound_facts.specs.Nodes.{nodes, nodes_in, nodes_of_all, nodes_of_object, nodes_of_passed}
 use Rattle.bound_facts.specs.Parts.{line_uses, target_nodes, used_nodes}
-use Rattle.run_matches.specs.CoveredExprs.{Uses, covers_group, covers_object, covers_place, has_member, is_changeable}
-use Rattle.run_matches.specs.CoveredLines.{covers_form, covers_property, covers_property_term, covers_set, covers_set_member, covers_set_variable, is_member_ordered}
+use Rattle.run_matches.specs.CoveredExprs.{Uses, covers_group, covers_object, covers_place, is_changeable}
+use Rattle.run_matches.specs.CoveredLines.{is_auto_target, covers_form, covers_property, covers_property_term, covers_set, covers_set_member, covers_set_variable, is_member_ordered}
 use Rattle.run_matches.specs.UserTypes.{is_class_type}
-use Rattle.run_statements.specs.Frames.{Demands, AllCalled, AllCalledAll, AllCalledFor, AllCalledOf}
+use Rattle.run_statements.specs.Frames.{Demands, AllCalled, AllCalledIn, AllCalledAll, AllCalledFor, AllCalledOf}
 use Rattle.run_statements.specs.Kept.{made_at}
 
 abbrev pub AllIn : {A : Type 0} → (A → Type 0) → List A → Type 0
@@ -46,6 +45,7 @@ contains_flat f (z ∷ zs) x y (suc k) lt e h = Contains-append_right (f z) (fla
 module _ (Q : Demands) where
   -- what is demanded of a node by itself
   abbrev pub NodeHas : Expr → Type 0
+  NodeHas (typed ty (variable v qualified)) = Q.autos v.0
   NodeHas (typed ty (call p qualified of args)) = Q.calls p.0 qualified of args
   NodeHas (typed ty (element e indexes)) = Q.elements e indexes
   NodeHas (typed ty (library f args)) = Q.bounds f args
@@ -68,7 +68,7 @@ module _ (Q : Demands) where
   mutual
     nodes_called : (e : Expr) → OfNodes (nodes e) → AllCalled Q e
     nodes_called (typed ty (constant x origin)) h = tt
-    nodes_called (typed ty (variable v qualified)) h = tt
+    nodes_called (typed ty (variable v qualified)) h = h (typed ty (variable v qualified)) (contains_first (typed ty (variable v qualified)) [])
     nodes_called (typed ty (field e k)) h = nodes_called e (of_rest (typed ty (field e k)) (nodes e) h)
     nodes_called (typed ty (element e indexes)) h = (
       h (typed ty (element e indexes)) (contains_first (typed ty (element e indexes)) (nodes_in (element e indexes))),
@@ -122,17 +122,6 @@ module _ (Q : Demands) where
   all_called (e ∷ es) h =
       (nodes_called e (of_left (nodes e) (flat_map nodes es) h), all_called es (of_right (nodes e) (flat_map nodes es) h))
 
--- of an object that is kept nothing is demanded but of what a With keeps
-pub kept_called : (Q R : Demands) → ((ty : Ty) (r : Root) → Q.withs ty r → R.withs ty r) → (uses : Uses) (ty : Ty) (t : Term)
-    → covers_object uses (typed ty t) ≡ true → AllCalled Q (typed ty t) → AllCalled R (typed ty t)
-kept_called Q R withs uses ty (variable v qualified) covers can = tt
-kept_called Q R withs uses ty (field (typed of t) k) covers can =
-    let both = both_true (is_class_type ty) (has_member uses of k (is_same_type ty) && covers_object uses (typed of t)) covers in
-    kept_called Q R withs uses of t (both_true (has_member uses of k (is_same_type ty)) (covers_object uses (typed of t)) both.1).1 can
-kept_called Q R withs uses ty me covers can = tt
-kept_called Q R withs uses ty (with_object r) covers can = withs ty r can
-kept_called Q R withs uses ty _ covers can = absurd (true≢false (sym covers))
-
 -- ---- lines
 
 called_first : (D : Declarations) (p q : ℕ) (o : Option ℕ) (more : List (ℕ × ℕ)) → o ≡ Some q → Contains (pair_to p o more) (p, q)
@@ -157,30 +146,42 @@ pub use_makes : (D : Declarations) (p q class : ℕ) (l : Line) (d : Expr) → C
 use_makes D p q class l d m is e =
     contains_flat (node_calls D p) (line_uses l) d (p, q) m.0 m.1 m.2 (makes_first D p q class d is e)
 
--- a Set stores to a variable, of which nothing is demanded
-target_called : (Q : Demands) (uses : Uses) (ty : Ty) (t : Term) → is_class_type ty ≡ true → covers_place uses (typed ty t) ≡ true → AllCalled Q (typed ty t)
+-- what is demanded of the target of a Set: of a variable nothing, since no object is made for it there
+abbrev pub TargetCalled : Demands → Expr → Type 0
+TargetCalled Q (typed ty (variable v qualified)) = Unit {0}
+TargetCalled Q (typed ty t) = AllCalledIn Q ty t
+
+-- a Set stores to a variable
+target_called : (Q : Demands) (uses : Uses) (ty : Ty) (t : Term) → is_class_type ty ≡ true → covers_place uses (typed ty t) ≡ true → TargetCalled Q (typed ty t)
 target_called Q uses ty (variable v qualified) of covers = tt
 target_called Q uses (types.user s) (field e k) of covers = absurd (true≢false (sym of))
 target_called Q uses _ (field e k) of covers = absurd (true≢false (sym covers))
 target_called Q uses ty _ of covers = absurd (true≢false (sym covers))
 
--- or of what stands in its object
+-- to an As New one
+auto_called : (Q : Demands) (uses : Uses) (ty : Ty) (t : Term) → is_auto_target uses (typed ty t) ≡ true → TargetCalled Q (typed ty t)
+auto_called Q uses ty (variable v qualified) is = tt
+auto_called Q uses ty _ is = absurd (true≢false (sym is))
+
+-- or to what stands in its object
 member_called : (Q : Demands) (uses : Uses) (ty : Ty) (t : Term) (e : Expr) → is_member_ordered uses (typed ty t) e ≡ true
-    → OfNodes Q (target_nodes (typed ty t)) → AllCalled Q (typed ty t)
+    → OfNodes Q (target_nodes (typed ty t)) → TargetCalled Q (typed ty t)
 member_called Q uses ty (field d k) e ordered h = nodes_called Q d h
 member_called Q uses ty _ e ordered h = absurd (true≢false (sym ordered))
 
 -- a property is called
 property_called : (Q : Demands) (uses : Uses) (ty : Ty) (t : Term) (e : Expr) → covers_property_term uses t e ≡ true → OfNodes Q (target_nodes (typed ty t))
-    → AllCalled Q (typed ty t)
+    → TargetCalled Q (typed ty t)
 property_called Q uses ty (call p qualified of args) e covers h = nodes_called Q (typed ty (call p qualified of args)) h
 property_called Q uses ty _ e covers h = absurd (true≢false (sym covers))
 
 set_target_called : (Q : Demands) (uses : Uses) (ty : Ty) (t : Term) (e : Expr) → covers_set uses (typed ty t ∷ e ∷ []) ≡ true
-    → OfNodes Q (target_nodes (typed ty t)) → AllCalled Q (typed ty t)
+    → OfNodes Q (target_nodes (typed ty t)) → TargetCalled Q (typed ty t)
 set_target_called Q uses ty t e covers h =
     let to : Expr = typed ty t in
     let places : Bool = covers_place uses to && covers_group uses e in
+    let plain : Bool = is_changeable uses to && (is_same_type ty (type_at e) && places) in
+    let auto : Bool = is_auto_target uses to && (is_same_type ty (type_at e) && covers_group uses e) in
     let objects : Bool = covers_object uses to && covers_group uses e in
     let sets : Bool = covers_set_variable uses to e || covers_set_member uses to e in
     ⊎_elim
@@ -188,28 +189,41 @@ set_target_called Q uses ty t e covers h =
     let first = both_true (is_class_type ty) sets y in
     ⊎_elim
     (λ x.
-    let second = both_true (is_changeable uses to) (is_same_type ty (type_at e) && places) x in
+    ⊎_elim
+    (λ z.
+    let second = both_true (is_changeable uses to) (is_same_type ty (type_at e) && places) z in
     target_called Q uses ty t first.0
     (both_true (covers_place uses to) (covers_group uses e) (both_true (is_same_type ty (type_at e)) places second.1).1).0)
+    (λ z. auto_called Q uses ty t (both_true (is_auto_target uses to) (is_same_type ty (type_at e) && covers_group uses e) z).0)
+    (or_cases plain auto x))
     (λ x.
     member_called Q uses ty t e (both_true (is_member_ordered uses to e) (is_same_type ty (type_at e) && objects) x).0 h)
     (or_cases (covers_set_variable uses to e) (covers_set_member uses to e) first.1))
     (λ y. property_called Q uses ty t e (both_true (is_same_type ty (type_at e)) (covers_property_term uses t e) y).1 h)
     (or_cases (is_class_type ty && sets) (covers_property uses to e) covers)
 
+abbrev pub SetCalled : Demands → List Expr → Type 0
+SetCalled Q [] = Unit {0}
+SetCalled Q (to ∷ es) = TargetCalled Q to × AllIn (AllCalled Q) es
+
 set_called : (Q : Demands) (uses : Uses) (target value : Exp) (es : List Expr) → covers_set uses es ≡ true
-    → OfNodes Q (used_nodes (source_form.set target value) es) → AllIn (AllCalled Q) es
+    → OfNodes Q (used_nodes (source_form.set target value) es) → SetCalled Q es
 set_called Q uses target value [] covers h = tt
 set_called Q uses target value (to ∷ []) covers h = absurd (true≢false (sym covers))
 set_called Q uses target value (typed ty t ∷ e ∷ []) covers h =
     (set_target_called Q uses ty t e covers (of_left Q (target_nodes (typed ty t)) (flat_map nodes (e ∷ [])) h), all_called Q (e ∷ []) (of_right Q (target_nodes (typed ty t)) (flat_map nodes (e ∷ [])) h))
 set_called Q uses target value (to ∷ e ∷ d ∷ es) covers h = absurd (true≢false (sym covers))
 
-form_called : (Q : Demands) (uses : Uses) (f : Form) (es : List Expr) → covers_form uses f es ≡ true → OfNodes Q (used_nodes f es) → AllIn (AllCalled Q) es
+-- what is demanded of the expressions of a line
+abbrev pub FormCalled : Demands → Form → List Expr → Type 0
+FormCalled Q (source_form.set target value) es = SetCalled Q es
+FormCalled Q _ es = AllIn (AllCalled Q) es
+
+form_called : (Q : Demands) (uses : Uses) (f : Form) (es : List Expr) → covers_form uses f es ≡ true → OfNodes Q (used_nodes f es) → FormCalled Q f es
 form_called Q uses (source_form.set target value) es covers h = set_called Q uses target value es covers h
 form_called Q uses _ es covers h = all_called Q es h
 
 -- what holds of the nodes of a covered line holds of those of its expressions
 pub line_called : (Q : Demands) (uses : Uses) (l : Line) → covers_form uses l.source.form l.bindings.exprs ≡ true
-    → ((d : Expr) → Contains (line_uses l) d → NodeHas Q d) → AllIn (AllCalled Q) l.bindings.exprs
+    → ((d : Expr) → Contains (line_uses l) d → NodeHas Q d) → FormCalled Q l.source.form l.bindings.exprs
 line_called Q uses l covers h = form_called Q uses l.source.form l.bindings.exprs covers h

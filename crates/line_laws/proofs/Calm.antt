@@ -1,5 +1,5 @@
 -- A calm expression has its value whatever else is evaluated before it, where nothing that was there has changed.
-use Rattle.std.proofs.Common.{◌≡◌, ◌∙◌, refl, sym, ap, subst, ℕ, ℤ, pos, Bool, true, cond, ◌&&◌, [], true≢false}
+use Rattle.std.proofs.Common.{◌≡◌, ◌∙◌, refl, sym, ap, subst, ℕ, ℤ, pos, Bool, true, cond, ◌&&◌, [], true≢false, false, not}
 use Rattle.std.specs.Prelude.{is_some}
 use Rattle.vb_tree.specs.BoundTree as types
 use Rattle.vb_tree.specs.BoundTree.{Ty}
@@ -45,6 +45,7 @@ use Rattle.run_matches.specs.Upgrades.{Upgrade}
 use Rattle.run_statements.specs.Frames.{ScalarMatch}
 use Rattle.line_laws.proofs.Stores.{same_type}
 use Rattle.line_laws.proofs.Uses.{simple_type}
+use Rattle.vb_tree.specs.declared.declared.VarId.{VarId}
 
 -- ---- scalars of a type
 
@@ -249,9 +250,13 @@ literal_still uses (typed ty (convert to e)) h = of_constant e (both_true (is_sa
     of_constant (typed s _) h = absurd (true≢false (sym h))
 literal_still uses (typed ty _) h = absurd (true≢false (sym h))
 
-pub calm_still : (uses : Uses) (e : Expr) → is_calm uses e ≡ true → are_still uses (nodes e) ≡ true
-calm_still uses (typed ty (constant x o)) h = refl
-calm_still uses (typed ty (variable v qualified)) h = refl
-calm_still uses (typed ty (convert to e)) h =
-    calm_still uses e (both_true (widens (type_at e) to) (is_calm uses e) (both_true (is_same_type to ty) (widens (type_at e) to && is_calm uses e) h).1).1
-calm_still uses (typed ty _) h = absurd (true≢false (sym h))
+pub calm_still : (uses : Uses) → ((v : VarId) (ty : Ty) → uses.scalar v ≡ true → uses.auto v ty ≡ false) → (e : Expr) → is_calm uses e ≡ true
+    → are_still uses (nodes e) ≡ true
+calm_still uses plain (typed ty (constant x o)) h = refl
+calm_still uses plain (typed ty (variable v qualified)) h =
+    let used = (both_true (uses.scalar v && uses.named v qualified) (uses.exact v && (uses.is_of v ty && uses.relied v)) h).0 in
+    ap (λ b. (not b && true) && true) (plain v ty (both_true (uses.scalar v) (uses.named v qualified) used).0)
+calm_still uses plain (typed ty (convert to e)) h =
+    let both = both_true (is_same_type to ty) (widens (type_at e) to && is_calm uses e) h in
+    calm_still uses plain e (both_true (widens (type_at e) to) (is_calm uses e) both.1).1
+calm_still uses plain (typed ty _) h = absurd (true≢false (sym h))

@@ -1,5 +1,5 @@
 -- The object that a variable or a With keeps, and Me, are the same whatever is evaluated before them, where nothing that was there has changed.
-use Rattle.std.proofs.Common.{◌≡◌, ◌∙◌, ◌⊎◌, refl, sym, ap, subst, inl, inr, ℕ, Bool, true, false, ◌&&◌, Some, [], true≢false}
+use Rattle.std.proofs.Common.{◌≡◌, ◌∙◌, ◌⊎◌, refl, sym, ap, subst, inl, inr, ℕ, Bool, true, false, ◌&&◌, Some, [], true≢false, not}
 use Rattle.vb_tree.specs.BoundTree as types
 use Rattle.vb_tree.specs.BoundTree.{Ty}
 use Rattle.vb_tree.specs.declared.declared.VarId.{VarId}
@@ -23,7 +23,7 @@ use Rattle.net_run.specs.Making.{Jobs}
 use Rattle.net_run.specs.Members.{Code}
 use Rattle.net_run.specs.Names as net_names
 use Rattle.run_matches.specs.Addresses.{AllMatched}
-use Rattle.run_matches.specs.CoveredExprs.{Uses, covers_object_term, is_calm_object_term}
+use Rattle.run_matches.specs.CoveredExprs.{Uses, covers_object_term, covers_place, is_calm_object}
 use Rattle.run_matches.specs.Frames.{FrameMatch, OwnsAll}
 use Rattle.run_matches.specs.Maps.{World, is_auto_root, moved_at}
 use Rattle.run_matches.specs.Match.{MemoryMatch}
@@ -35,6 +35,9 @@ use Rattle.line_laws.proofs.Calm.{Gives, IsFit, fit_of_like, typed_read}
 use Rattle.line_laws.proofs.Me.{has_object, me_gives, numbered, same_class}
 use Rattle.line_laws.proofs.Places.{Place, variable_place}
 use Rattle.line_laws.proofs.Standing.{Stable, held_fit, not_blank, read_single, same_matched}
+use Rattle.line_laws.proofs.PlainUses.{object_variable}
+use Rattle.line_laws.proofs.Uses.{not_true}
+use Rattle.bound_facts.proofs.Chains.{both_true}
 
 -- Nothing or an object
 object_typed : (k : ℕ) (x : Value6) → IsFit (types.class k) x → is_typed (types.class k) x ≡ true
@@ -81,7 +84,7 @@ module _ (U : Upgrade) (K : Pledge) (p : ℕ) (f : SourceFrame) (g : NetFrame) (
       by (inl y) = inl (with_kept of_class r y)
       by (inr none) = inr (r, refl, none)
 
-  calm_variable : (of_class : ℕ) (v : VarId) (qualified : Bool) → covers_object_term uses (types.class of_class) (variable v qualified) ≡ true
+  calm_variable : (of_class : ℕ) (v : VarId) (qualified : Bool) → covers_place uses (typed (types.class of_class) (variable v qualified)) ≡ true
       → Kept of_class (variable v qualified)
   calm_variable of_class v qualified covers =
       let ty : Ty = types.class of_class in
@@ -108,10 +111,13 @@ module _ (U : Upgrade) (K : Pledge) (p : ℕ) (f : SourceFrame) (g : NetFrame) (
       let x : (o : ℕ) × (f.me ≡ Some o) = has_object U K w p f g F of_class (placed.me of_class (numbered of_class uses.me covers)) in
       (v.Object x.0, λ s before. me_gives C of_class x.0 x.1 s)
 
-  pub calm_object : (of_class : ℕ) (t : Term) → is_calm_object_term uses t ≡ true → covers_object_term uses (types.class of_class) t ≡ true
-      → AllCalled (demands U K p l k S T) (typed (types.class of_class) t)
+  pub calm_object : (of_class : ℕ) (t : Term) → is_calm_object uses (typed (types.class of_class) t) ≡ true
+      → covers_object_term uses (types.class of_class) t ≡ true → AllCalled (demands U K p l k S T) (typed (types.class of_class) t)
       → ((x : Value6) × ((s : Memory) → Stable U w s → Gives C (typed (types.class of_class) t) x s)) ⊎ NoneKept of_class t
-  calm_object of_class (variable v qualified) calm covers can = inl (calm_variable of_class v qualified covers)
+  calm_object of_class (variable v qualified) calm covers can =
+      let ty : Ty = types.class of_class in
+      let none : uses.auto v ty ≡ false = not_true (uses.auto v ty) (both_true (not (uses.auto v ty)) (uses.exact v) calm).0 in
+      inl (calm_variable of_class v qualified (object_variable uses ty v qualified covers none))
   calm_object of_class me calm covers can = inl (calm_me of_class covers)
   calm_object of_class (with_object r) calm covers can = calm_with of_class r can
   calm_object of_class _ calm covers can = absurd (true≢false (sym calm))

@@ -64,7 +64,9 @@ use Rattle.line_laws.proofs.Elements.{ArrayVariable, IsElementIn, array_variable
 use Rattle.line_laws.proofs.Calm.{IsConstant, calm_still, literal_is_constant, literal_still, scalar_part}
 use Rattle.line_laws.proofs.Orders.{element_stays, indexed_stays, stable_behind, stable_later}
 use Rattle.line_laws.proofs.Standing.{Stable, calm_known, indexes_known, longs_are, known_plain, known_there}
-use Rattle.line_laws.proofs.Still.{called_in_still, called_in_still_all, frame_still, still}
+use Rattle.line_laws.proofs.Still.{frame_still, still}
+use Rattle.line_laws.proofs.StillCalls.{called_in_still, called_in_still_all}
+use Rattle.line_laws.proofs.PlainUses.{no_auto_use}
 use Rattle.line_laws.proofs.Puts.{PutOf, put_is, put_stores}
 use Rattle.line_laws.proofs.OwnTargets.{IsOwnTarget, target_changes}
 use Rattle.line_laws.proofs.Prints.{AnyAddress}
@@ -323,7 +325,7 @@ module _ (U : Upgrade) (expressions : ExpressionsAgree U) (elements : ElementsAg
         (target.value_of S net_oracle (exp_of T e) u.net) (λ i x. x)
         (expressions K u p f g oracle net_oracle l k c T uses e lat.match (G u lat) declared is_open readable placed agree can_value covers formed_value)
         (expressions (still K u) u p f g oracle net_oracle l k c T uses e lat.match (frame_still U K u lat.match p f g (G u lat)) declared is_open readable placed agree
-        (called_in_still U K p l k u S T uses readable e is_still can_value) covers formed_value))
+        (called_in_still U K p l k u S T uses readable e covers is_still can_value) covers formed_value))
 
     abbrev Goal : Type 0
     Goal = Agrees U K w AnyUnits (Stored w) (assignment S net_oracle (exp_of T to) (exp_of T e) w.net)
@@ -350,8 +352,8 @@ module _ (U : Upgrade) (expressions : ExpressionsAgree U) (elements : ElementsAg
         (agrees_later U K (still K w) w PlainElement (ElementMatch U ty) (source.term_parts C ty (element a indexes) w.src)
         (reach S net_oracle false (exp_of T to) w.net) (λ i x. x) (element_is w h G owns inward)
         (elements (still K w) w p f g oracle net_oracle l k c T uses ty a indexes h (frame_still U K w h p f g F) declared is_open readable placed agree
-        (can.0, called_in_still_all U K p l k w S T uses readable indexes is_still can.1) array all_indexes formed))
-        (value_steady (calm_still uses e calm))
+        (can.0, called_in_still_all U K p l k w S T uses readable indexes all_indexes is_still can.1) array all_indexes formed))
+        (value_steady (calm_still uses (λ v ty scalar. no_auto_use U T uses readable v ty (inl scalar)) e calm))
 
     -- calm indexes, and a still value
     still_first : are_calm uses indexes ≡ true → are_still uses (nodes e) ≡ true → Goal

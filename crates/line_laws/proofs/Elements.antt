@@ -5,7 +5,7 @@ use Rattle.vb_tree.specs.BoundTree as types
 use Rattle.vb_tree.specs.BoundTree.{Ty}
 use Rattle.vb_tree.specs.declared.declared.VarId.{VarId}
 use Rattle.vb_tree.specs.declared.value.Value6.{Value6}
-use Rattle.bound_tree.specs.Tree.{Expr, typed, variable, element, Exprs}
+use Rattle.bound_tree.specs.Tree.{Expr, typed, variable, element, Exprs, Variable}
 use Rattle.bound_facts.proofs.Chains.{both_true}
 use Rattle.bound_facts.specs.Effects.{is_own_variable}
 use Rattle.bound_facts.specs.Node.{auto_class, class_in}
@@ -52,16 +52,19 @@ array_variable uses (typed (types.array e rank) (variable v q)) h =
 array_variable uses (typed (types.array e rank) _) h = absurd (true≢false (sym h))
 array_variable uses (typed _ _) h = absurd (true≢false (sym h))
 
+-- the address of what is the procedure's own is in the frame
+pub own_found : (U : Upgrade) (v : ℕ) (x : Variable) → slice_get U.program.declarations.vars v ≡ Some x → (p : ℕ) → is_own_of U p v ≡ true → (f : SourceFrame)
+    → variable_address U.program.declarations f v ≡ lookup (nat_eq v) f.vars
+own_found U v x is p own f =
+    ap (declared_address U.program.declarations f v) is ∙ own_address U.program.declarations f v p x.owner (sym (ap (is_own_variable p) is) ∙ own)
+
 module _ (U : Upgrade) (v : ℕ) (k : IsKnown U v) where
   -- no object is made for it
   pub known_auto : auto_class (slice_get U.program.declarations.vars v) ≡ None
   known_auto = ap auto_class k.is_variable ∙ ap (λ b. cond b (class_in k.variable.ty) None) k.plain
 
-  -- the address of what is the procedure's own is in the frame
   pub known_address : (p : ℕ) → is_own_of U p v ≡ true → (f : SourceFrame) → variable_address U.program.declarations f v ≡ lookup (nat_eq v) f.vars
-  known_address p own f =
-      ap (declared_address U.program.declarations f v) k.is_variable
-      ∙ own_address U.program.declarations f v p k.variable.owner (sym (ap (is_own_variable p) k.is_variable) ∙ own)
+  known_address p own f = own_found U v k.variable k.is_variable p own f
 
 -- the address of a variable in the source
 pub known_found : (U : Upgrade) (C : Context) → C.runnable ≡ runnable_of U → (ty : Ty) (v : VarId) (qualified : Bool) (k : IsKnown U v.0) (s : Memory)

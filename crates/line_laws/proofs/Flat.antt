@@ -17,7 +17,6 @@ use Rattle.agreeing_laws.proofs.UserShapes.{group_type_of, group_unbounded}
 use Rattle.line_laws.proofs.Uses.{not_true, scalar_type, shape_is}
 
 pub record IsFlatVariable (U : Upgrade) (v : ℕ) : Type 0 where
-  pub known : IsKnown U v
   pub shape : IsSoundShape U (variable_shape U.program.declarations v)
   pub of_type : type_of U v ≡ Some (type_of_shape (variable_shape U.program.declarations v))
 
@@ -34,7 +33,6 @@ known_scalar U v r =
 
 pub flat_scalar : (U : Upgrade) (v : ℕ) → IsReadable U v → IsFlatVariable U v
 flat_scalar U v r = record {
-  known = known_scalar U v r;
   shape = subst (λ s. IsSoundShape U s) (sym (shape_is U v r)) (inl (scalar_type U v r));
   of_type = ap type_of_some r.is_variable ∙ ap (λ s. Some (type_of_shape s)) (sym (shape_is U v r));
 }
@@ -47,7 +45,6 @@ group_shape_is U v ty r =
 
 pub flat_group : (U : Upgrade) (v : ℕ) (ty : Ty) → IsGroup U v ty → IsFlatVariable U v
 flat_group U v ty r = record {
-  known = r.known;
   shape = subst (λ s. IsSoundShape U s) (sym (group_shape_is U v ty r)) r.sound;
   of_type =
       ap type_of_some r.known.is_variable ∙ ap (λ z. Some z) (r.is_type ∙ sym (group_type_of U.program.declarations ty r.covers))
@@ -84,12 +81,17 @@ no_group_item U ty a q i (inl (inr (inr x))) covers at = no_root (sym x.stands �
 no_group_item U ty a q i (inr x) covers at =
     no_scalar U.program.declarations ty covers (subst (λ z. covers_type z ≡ true) (same_item (sym x.stands ∙ at)) x.covers)
 
+-- an object is no element
+pub object_stands : (U : Upgrade) (ty : Ty) (a : Address) (q : Position) → covers_group_type U.program.declarations ty ≡ true → IsTarget U a
+    → StandsAs (simple ty) a q → a ≡ root (simple ty) q
+object_stands U ty a q covers target (inl e) = e
+object_stands U ty a q covers target (inr x) = absurd (no_group_item U ty a q x.0 target covers x.1)
+
 -- a user type or an object is no element
 pub group_stands : (U : Upgrade) (s : Shape) (ty : Ty) (a : Address) (q : Position) → IsSoundShape U s → type_of_shape s ≡ ty
     → covers_group_type U.program.declarations ty ≡ true → IsTarget U a → StandsAs s a q → a ≡ root s q
-group_stands U (simple ty) t a q sound is covers target (inl e) = e
-group_stands U (simple ty) t a q sound is covers target (inr x) =
-    absurd (no_group_item U ty a q x.0 target (subst (λ z. covers_group_type U.program.declarations z ≡ true) (sym is) covers) x.1)
+group_stands U (simple ty) t a q sound is covers target h =
+    object_stands U ty a q (subst (λ z. covers_group_type U.program.declarations z ≡ true) (sym is) covers) target h
 group_stands U (group u fs) ty a q sound is covers target h = h
 group_stands U (array e bounds) ty a q sound is covers target h = absurd sound
 group_stands U endless ty a q sound is covers target h = absurd sound

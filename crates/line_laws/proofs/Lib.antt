@@ -8,6 +8,7 @@ pub mod Owning
 pub mod Uses
 pub mod Flat
 pub mod Elements
+pub mod PlainUses
 pub mod Placed
 pub mod OwnTargets
 pub mod Targets
@@ -24,6 +25,7 @@ pub mod Boxes
 pub mod Errors
 pub mod Behind
 pub mod Still
+pub mod StillCalls
 pub mod Calm
 pub mod Standing
 pub mod Puts
@@ -40,12 +42,12 @@ pub mod MyMembers
 pub mod MemberStores
 pub mod MemberOrders
 pub mod MemberLines
-pub mod KeptObjects
 pub mod PropertyStores
 pub mod TakenTypes
 pub mod MemberSets
 pub mod FieldStores
 pub mod Copies
+pub mod AutoSets
 pub mod PropertyLines
 pub mod Sets
 pub mod WithLines

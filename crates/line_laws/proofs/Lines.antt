@@ -6,9 +6,9 @@ use Rattle.vb_tree.specs.declared.form_parts.Label6.{Label6}
 use Rattle.vb_tree.specs.Tree.{Form}
 use Rattle.vb_tree.specs.Tree as source_form
 use Rattle.bound_tree.specs.Labels.{Label, labels}
-use Rattle.bound_tree.specs.Tree.{Expr, Line, typed, element, call, library, new_object, with_object, err_raise, err_clear}
+use Rattle.bound_tree.specs.Tree.{Expr, Line, typed, call, library, err_raise, err_clear}
 use Rattle.bound_facts.proofs.Chains.{both_true}
-use Rattle.bound_facts.specs.Node.{args_at, called, declared_at, type_at}
+use Rattle.bound_facts.specs.Node.{declared_at, type_at}
 use Rattle.bound_facts.specs.Parts.{line_uses, resizes}
 use Rattle.bound_tree.specs.Targets.{with_round}
 use Rattle.net_tree.specs.Tree as net
@@ -46,18 +46,16 @@ use Rattle.run_matches.specs.Pledges.{Pledge, Later}
 use Rattle.run_matches.specs.Agreeing.{Agrees}
 use Rattle.run_matches.specs.Formed.{is_formed}
 use Rattle.run_matches.specs.CoveredExprs.{Uses, covers_passed, covers_receiver, uses_in}
-use Rattle.run_matches.specs.CoveredVariables.{covers_made}
 use Rattle.run_matches.specs.CoveredLines.{covers_condition, covers_store, covers_form, covers_part, covers_within, head_line, is_within_with, jump_of, resumes, covers_call, covers_called}
 use Rattle.run_matches.specs.Frames.{FrameMatch, NextMatch, OwnsAll, frame_pledge, lines_of}
 use Rattle.run_matches.specs.Runs.{line_result, CallsAgree}
 use Rattle.run_matches.specs.Sites.{site_lines}
 use Rattle.run_statements.specs.Elements.{IndexesAgree}
 use Rattle.run_statements.specs.Memory.{ArraysAreErased, ArraysAreResized, ElementsAreWritten}
-use Rattle.run_statements.specs.Frames.{ArraysAgree, ElementsAgree, ExpressionsAgree, ScalarsAreRead, ScalarsAreWritten, IsOpen, AnyUnits, context_of, ArePlaced, AllCalled, AnyParts, CallsAreMade, CanCall, CanMake, demands, AreReadable}
-use Rattle.run_statements.specs.Fitting.{FitsNode}
+use Rattle.run_statements.specs.Frames.{ArraysAgree, ElementsAgree, ExpressionsAgree, ScalarsAreRead, ScalarsAreWritten, IsOpen, AnyUnits, context_of, ArePlaced, AllCalled, AnyParts, CallsAreMade, demands, AreReadable}
 use Rattle.run_statements.specs.Groups.{GroupsAgree, GroupsAreWritten}
-use Rattle.run_statements.specs.Kept.{AllSameWays, LinesAgree, made_at, qualified_at, receiver_at}
-use Rattle.run_statements.specs.Members.{MembersAgree, MembersAreFound}
+use Rattle.run_statements.specs.Kept.{AllSameWays, LinesAgree}
+use Rattle.run_statements.specs.Members.{MembersAgree, MembersAreFound, ObjectsAgree}
 use Rattle.run_statements.specs.Objects.{ClassesAreWritten}
 use Rattle.run_statements.specs.Properties.{PropertiesAreSet, SettersAgree}
 use Rattle.run_statements.specs.Written.{Passes, site_scope}
@@ -74,12 +72,12 @@ use Rattle.line_laws.proofs.Conditions.{BothLead, condition_agrees}
 use Rattle.line_laws.proofs.Counting.{for_agrees}
 use Rattle.line_laws.proofs.FrameLater.{frame_later, Keeps}
 use Rattle.line_laws.proofs.WithLines.{with_agrees}
-use Rattle.line_laws.proofs.Within.{all_contained, stands_within}
+use Rattle.line_laws.proofs.Within.{all_contained, node_has}
 use Rattle.line_laws.proofs.KeptPlaces.{CanKeep}
 use Rattle.line_laws.proofs.Handlers.{Places, handler_agrees, handler_at_agrees, resume_agrees, resume_at_agrees, resume_next_agrees}
 use Rattle.line_laws.proofs.Jumps.{exit_agrees, leads}
 use Rattle.line_laws.proofs.Boxes.{AnyShown, AgreesAsCall, box_agrees}
-use Rattle.line_laws.proofs.Called.{AllIn, NodeHas, line_called}
+use Rattle.line_laws.proofs.Called.{AllIn, line_called, FormCalled}
 use Rattle.line_laws.proofs.CallLines.{call_is}
 use Rattle.line_laws.proofs.Errors.{clear_agrees, raise_agrees}
 use Rattle.line_laws.proofs.Owning.{owns_now}
@@ -91,6 +89,7 @@ use Rattle.line_laws.proofs.Unkept.{resizing_not_kept}
 use Rattle.line_laws.proofs.Assignments.{stored}
 use Rattle.line_laws.proofs.Sets.{set_agrees}
 use Rattle.line_laws.proofs.Uses.{all_good, good}
+use Rattle.run_statements.specs.Autos.{AutosAreSet}
 
 -- ---- forms
 
@@ -99,8 +98,9 @@ AnyDone w x u = Unit {0}
 
 module _ (U : Upgrade) (classes : ClassesAreWritten U) (expressions : ExpressionsAgree U) (calls : CallsAreMade U) (reads : ScalarsAreRead U)
     (scalars : ScalarsAreWritten U) (elements : ElementsAgree U) (indexed : IndexesAgree U) (writes : ElementsAreWritten U) (groups : GroupsAgree U)
-    (writes_groups : GroupsAreWritten U) (members : MembersAgree U) (finds : MembersAreFound U) (setters : SettersAgree U) (sets : PropertiesAreSet U)
-    (arrays : ArraysAgree U) (resizing : ArraysAreResized U) (erasing : ArraysAreErased U) (K : Pledge) (p q : ℕ) (f : SourceFrame) (g : NetFrame)
+    (writes_groups : GroupsAreWritten U) (members : MembersAgree U) (finds : MembersAreFound U) (objects : ObjectsAgree U) (setters : SettersAgree U)
+    (sets : PropertiesAreSet U) (autos : AutosAreSet U) (arrays : ArraysAgree U) (resizing : ArraysAreResized U) (erasing : ArraysAreErased U) (K : Pledge) (p q : ℕ) (f : SourceFrame)
+    (g : NetFrame)
     (l : SourceLine) (k : NetLine) (c : Code) (T : Scope) (declared : T.declarations ≡ U.program.declarations) (oracle : SourceCalls) (net_oracle : Jobs)
     (is_open : IsOpen (scope_of U.written c g k)) (uses : Uses) (readable : AreReadable U T uses)
     (placed : ArePlaced U p f (scope_of U.written c g k) T uses) (agree : CallsAgree U (Passes U) oracle net_oracle)
@@ -220,7 +220,8 @@ module _ (U : Upgrade) (classes : ClassesAreWritten U) (expressions : Expression
   calls_agree (e ∷ []) can covers formed = called_line e can.0 covers (both_true (is_formed e) true formed).0
   calls_agree (e ∷ d ∷ es) can covers formed = absurd (true≢false (sym covers))
 
-  pub form_agrees : (ls : List (Option Label)) (form : Form) (es : List Expr) → AllIn Can es → covers_form uses form es ≡ true → list_all is_formed es ≡ true
+  pub form_agrees : (ls : List (Option Label)) (form : Form) (es : List Expr) → FormCalled (demands U K p l k (scope_of U.written c g k) T) form es
+      → covers_form uses form es ≡ true → list_all is_formed es ≡ true
       → ((a : Label6) → jump_of form ≡ Some a → target_lines.target_of c (jump ls a) ≡ line_of_label C a)
       → MayStore U K p f form es → Keeps U K p f g R w form es
       → covers_part U.program p form es (head_line (lines_of U p) l.aims.own) ≡ true → (resumes form ≡ true → AllSameWays U p q)
@@ -235,7 +236,8 @@ module _ (U : Upgrade) (classes : ClassesAreWritten U) (expressions : Expression
   form_agrees ls (source_form.set to value) (x ∷ []) can covers formed found may keep stands ways = absurd (true≢false (sym covers))
   form_agrees ls (source_form.set to value) (x ∷ y ∷ []) can covers formed found may keep stands ways =
       goes AnyUnits (then (source.value_of C y w.src) (set_to C x)) (assignment S net_oracle (target_exp T x) (exp_of T y) w.net)
-      (set_agrees U expressions groups writes_groups members finds setters sets K p f g l k c T declared oracle net_oracle is_open uses readable placed agree w h F owns x y
+      (set_agrees U expressions groups writes_groups members finds setters sets autos K p f g l k c T declared oracle net_oracle is_open uses readable placed
+      agree w h F owns x y
       can.0 can.1.0 covers (both_true (is_formed y) true (both_true (is_formed x) (list_all is_formed (y ∷ [])) formed).1).0 (may.own x (Contains-push [] x)))
   form_agrees ls (source_form.set to value) (x ∷ y ∷ z ∷ es) can covers formed found may keep stands ways = absurd (true≢false (sym covers))
   form_agrees ls (source_form.debug_print items ended) es can covers formed found may keep stands ways =
@@ -292,7 +294,7 @@ module _ (U : Upgrade) (classes : ClassesAreWritten U) (expressions : Expression
   form_agrees ls source_form.wend es can covers formed found may keep stands ways = back w (later_now U K w h)
   form_agrees ls (source_form.with_head head) [] can covers formed found may keep stands ways = absurd (true≢false (sym covers))
   form_agrees ls (source_form.with_head head) (typed ty tm ∷ []) can covers formed found may keep stands ways =
-      with_agrees U classes groups members finds K p f g l k c T declared oracle net_oracle is_open uses readable placed agree R w h (F w (later_now U K w h)) owns aims head
+      with_agrees U classes groups objects K p f g l k c T declared oracle net_oracle is_open uses readable placed agree R w h (F w (later_now U K w h)) owns aims head
       ty tm can.0 covers (both_true (is_formed (typed ty tm)) true formed).0 keep
   form_agrees ls (source_form.with_head head) (x ∷ y ∷ es) can covers formed found may keep stands ways = absurd (true≢false (sym covers))
   form_agrees ls source_form.end_with es can covers formed found may keep stands ways = behind_now
@@ -328,23 +330,12 @@ module _ (U : Upgrade) (classes : ClassesAreWritten U) (expressions : Expression
 
 -- ---- lines
 
--- what is demanded of a node by itself
-node_has : (U : Upgrade) (K : Pledge) (p : ℕ) (l : SourceLine) (k : NetLine) (S : net_names.Scope) (T : Scope) (d : Expr)
-    → ((q : ℕ) → called d ≡ Some q → CanCall U K S T p q (qualified_at d) (receiver_at d) (args_at d))
-    → ((class : ℕ) → made_at d ≡ Some class → covers_made U.program class ≡ true → CanMake U K S T class) → FitsNode U d → k.aims ≡ l.aims
-    → is_within_with U.program p (head_line (lines_of U p) (with_round l.aims)) d ≡ true → NodeHas (demands U K p l k S T) d
-node_has U K p l k S T (typed ty (call q qualified of args)) can makes fits aims within = can q.0 refl
-node_has U K p l k S T (typed ty (element a indexes)) can makes fits aims within = fits
-node_has U K p l k S T (typed ty (library f args)) can makes fits aims within = fits
-node_has U K p l k S T (typed ty (new_object c)) can makes fits aims within = makes c.0 refl
-node_has U K p l k S T (typed ty (with_object r)) can makes fits aims within = stands_within U p l k ty r aims within
-node_has U K p l k S T (typed ty t) can makes fits aims within = tt
-
 -- A covered line does the same as what is written for it, in frames that go on to match.
 pub steady_lines_agree : (U : Upgrade) → ClassesAreWritten U → ExpressionsAgree U → CallsAreMade U → ScalarsAreRead U → ScalarsAreWritten U → ElementsAgree U
-    → IndexesAgree U → ElementsAreWritten U → GroupsAgree U → GroupsAreWritten U → MembersAgree U → MembersAreFound U → SettersAgree U → PropertiesAreSet U
-    → ArraysAgree U → ArraysAreResized U → ArraysAreErased U → SteadyLinesAgree U
-steady_lines_agree U classes expressions calls reads scalars elements indexed writes groups writes_groups members finds setters sets arrays resizing erasing p s written number turns l c L code opens readable placed own agree can makes fits remade covers stands w f g at h F given =
+    → IndexesAgree U → ElementsAreWritten U → GroupsAgree U → GroupsAreWritten U → MembersAgree U → MembersAreFound U → ObjectsAgree U → SettersAgree U
+    → PropertiesAreSet U → AutosAreSet U → ArraysAgree U → ArraysAreResized U → ArraysAreErased U → SteadyLinesAgree U
+steady_lines_agree U classes expressions calls reads scalars elements indexed writes groups writes_groups members finds objects setters sets autos arrays resizing
+    erasing p s written number turns l c L code opens readable placed own agree can makes makes_at fits remade covers stands w f g at h F given =
     let K : Pledge = frame_pledge U p w f in
     let owns : OwnsAll U K p f = owns_now U p f K w w g (F w (later_now U K w h)) in
     let R : World → SourceFrame → NetFrame → Type 0 = SteadyNext U K p f.me in
@@ -383,13 +374,14 @@ steady_lines_agree U classes expressions calls reads scalars elements indexed wr
     (target_lines.line_in U.written (target_program.frames_of U.written) net_oracle written g L.line o w1.net)) (sym code)
     (subst (λ x. Agrees U K w1 R (source_program.line_does (runnable_of U) oracle p f l w1.src)
     (target_lines.form_does (target_program.frames_of U.written) net_oracle written c (scope_of U.written c g L.line) g L.line x w1.net)) (sym L.form)
-    (form_agrees U classes expressions calls reads scalars elements indexed writes groups writes_groups members finds setters sets arrays resizing erasing K p written f g l L.line c T refl oracle net_oracle (opens g L.line now.names)
+    (form_agrees U classes expressions calls reads scalars elements indexed writes groups writes_groups members finds objects setters sets autos arrays resizing
+    erasing K p written f g l L.line c T refl oracle net_oracle (opens g L.line now.names)
     (uses_in U.program p l.form.bindings.mentions) readable (placed f g L.line now.names given) agree R w1 later.match F1 owns L.aims next
     (λ n m i j t u d e c w2 more. placed_at U K p f g w1 later.match F1 owns w2 more n m i j t u d e c)
     (labels (site_lines s)) l.form.source.form l.form.bindings.exprs
     (line_called (demands U K p l L.line (scope_of U.written c g L.line) T) (uses_in U.program p l.form.bindings.mentions) l.form both.0
     (λ d m. node_has U K p l L.line (scope_of U.written c g L.line) T d (λ q e. can d q m e w f g L.line now.names)
-    (λ class e covered. makes d class m e covered w f g L.line now.names) (fits d m) L.aims (all_within d m)))
+    (λ class e covered. makes d class m e covered w f g L.line now.names) (λ v e. makes_at d v m e w f g L.line now.names) (fits d m) L.aims (all_within d m)))
     both.0 both.1 stands.label
     (record {
       own = λ e m steady. own_target U p w f e (own steady e m);
@@ -404,14 +396,16 @@ steady_now : (U : Upgrade) (K : Pledge) (w : World) (p : ℕ) (f : SourceFrame) 
 steady_now U K w p f g h F w1 l = frame_later U K w w1 p f g h l F
 
 pub lines_agree : (U : Upgrade) → ClassesAreWritten U → ExpressionsAgree U → CallsAreMade U → ScalarsAreRead U → ScalarsAreWritten U → ElementsAgree U
-    → IndexesAgree U → ElementsAreWritten U → GroupsAgree U → GroupsAreWritten U → MembersAgree U → MembersAreFound U → SettersAgree U → PropertiesAreSet U
-    → ArraysAgree U → ArraysAreResized U → ArraysAreErased U → LinesAgree U
-lines_agree U classes expressions calls reads scalars elements indexed writes groups writes_groups members finds setters sets arrays resizing erasing p s written number turns l c L code opens readable placed own agree can makes fits remade covers stands w f g at h F given =
+    → IndexesAgree U → ElementsAreWritten U → GroupsAgree U → GroupsAreWritten U → MembersAgree U → MembersAreFound U → ObjectsAgree U → SettersAgree U
+    → PropertiesAreSet U → AutosAreSet U → ArraysAgree U → ArraysAreResized U → ArraysAreErased U → LinesAgree U
+lines_agree U classes expressions calls reads scalars elements indexed writes groups writes_groups members finds objects setters sets autos arrays resizing erasing p
+    s written number turns l c L code opens readable placed own agree can makes makes_at fits remade covers stands w f g at h F given =
     let K : Pledge = frame_pledge U p w f in
     agrees_weaker U K w (SteadyNext U K p f.me) (NextMatch U K p f.me)
     (line_result (source_program.machine_of (runnable_of U)) turns p f l w.src)
     (line_result (target_program.machine_of U.written) turns written g L.line w.net)
     (λ w1 f1 g1 later x.
     record { same_object = x.same_object; frames = x.frames w1 (later_now U K w1 later.match); owns = x.owns })
-    (steady_lines_agree U classes expressions calls reads scalars elements indexed writes groups writes_groups members finds setters sets arrays resizing erasing p s written number turns l c L code opens readable placed own agree can makes fits remade covers stands w f g at h
+    (steady_lines_agree U classes expressions calls reads scalars elements indexed writes groups writes_groups members finds objects setters sets autos arrays
+    resizing erasing p s written number turns l c L code opens readable placed own agree can makes makes_at fits remade covers stands w f g at h
     (steady_now U K w p f g h F) given)

@@ -45,7 +45,8 @@ use Rattle.line_laws.proofs.MemberStores.{calm_stored, constant_stored, object_s
 use Rattle.line_laws.proofs.MyMembers.{IsMyAddress, member_change}
 use Rattle.line_laws.proofs.OwnTargets.{IsOwnTarget}
 use Rattle.line_laws.proofs.Standing.{calm_known}
-use Rattle.line_laws.proofs.Still.{called_in_still, frame_still, still}
+use Rattle.line_laws.proofs.Still.{frame_still, still}
+use Rattle.line_laws.proofs.StillCalls.{called_in_still}
 use Rattle.line_laws.proofs.Stores.{scalar_written}
 use Rattle.line_laws.proofs.Targets.{SameStore}
 use Rattle.line_laws.proofs.Uses.{good_parts, is_good, simple_type, type_covered}
@@ -106,7 +107,7 @@ module _ (U : Upgrade) (expressions : ExpressionsAgree U) (scalars : ScalarsAreW
   still_values is_still u lat =
       let parts = good_parts uses e well in
       expressions (still K u) u p f g oracle net_oracle l k c T uses e lat.match (frame_still U K u lat.match p f g (G u lat)) declared is_open readable placed agree
-      (called_in_still U K p l k u S T uses readable e is_still can) parts.0 parts.1
+      (called_in_still U K p l k u S T uses readable e parts.0 is_still can) parts.0 parts.1
 
   module _ (own : IsOwnTarget U K p f to) (keeps : keeps_object uses d e ≡ true)
       (covers : covers_object uses d ≡ true) (member_type : Ty) (m : IsMember U of_class i member_type) (of_type : covers_type member_type ≡ true) where
@@ -125,19 +126,23 @@ module _ (U : Upgrade) (expressions : ExpressionsAgree U) (scalars : ScalarsAreW
         let parts = good_parts uses e well in
         ⊎_elim
         (λ x.
-        constant_stored U members finds K p f g l k c T declared oracle net_oracle uses readable placed w h G owns ty of_class i t member_type m (inl of_type)
+        constant_stored U members finds K p f g l k c T declared oracle net_oracle is_open uses readable placed agree w h G owns ty of_class i t member_type
+        m (inl of_type)
         covers can_object e writes (literal_is_constant C uses e x parts.0 parts.1) values)
         (λ x.
         ⊎_elim
         (λ y.
         let both = both_true (is_calm_object uses d) (are_still uses (nodes e)) y in
-        object_stored U members finds K p f g l k c T declared oracle net_oracle uses readable placed w h G owns ty of_class i t member_type m (inl of_type)
+        object_stored U members finds K p f g l k c T declared oracle net_oracle is_open uses readable placed agree w h G owns ty of_class i t member_type m
+        (inl of_type)
         covers can_object e writes both.0 values (still_values both.1))
         (λ y.
+        let both = both_true (is_calm uses e) (are_still uses (nodes d)) y in
         let x = calm_known U expressions K p f g l k c T declared oracle net_oracle is_open uses readable placed agree w h (G w (later_now U K w h)) e
-        (both_true (is_calm uses e) (are_still uses (nodes d)) y).0 can parts.0 parts.1 in
-        calm_stored U members finds K p f g l k c T declared oracle net_oracle uses readable placed w h G owns ty of_class i t member_type m (inl of_type)
-        covers can_object e writes x.value x.gives values)
+        both.0 can parts.0 parts.1 in
+        calm_stored U members finds K p f g l k c T declared oracle net_oracle is_open uses readable placed agree w h G owns ty of_class i t member_type m
+        (inl of_type)
+        covers can_object e writes both.1 x.value x.gives values)
         (or_cases (is_calm_object uses d && are_still uses (nodes e)) (is_calm uses e && are_still uses (nodes d)) x))
         (or_cases (is_literal_value e) ((is_calm_object uses d && are_still uses (nodes e)) || (is_calm uses e && are_still uses (nodes d))) keeps)
 

@@ -1,6 +1,6 @@
 -- Where an object and the value that one of its variables takes may be evaluated in either order, they don't both raise, and no Put function is
 -- written.
-use Rattle.std.proofs.Common.{◌≡◌, ◌∙◌, refl, sym, ap, ⊎_elim, ℕ, true, false, ◌&&◌, ◌||◌, true≢false}
+use Rattle.std.proofs.Common.{◌≡◌, ◌∙◌, refl, sym, ap, ⊎_elim, ℕ, true, false, ◌&&◌, ◌||◌, true≢false, not}
 use Rattle.std.proofs.lemmas.Bool.{and_left, and_right, not_from_true, or_cases, or_right}
 use Rattle.std.specs.Prelude.{is_some}
 use Rattle.std.specs.List.{list_any}
@@ -14,11 +14,12 @@ use Rattle.bound_facts.specs.Node.{type_at}
 use Rattle.bound_facts.specs.Nodes.{nodes}
 use Rattle.written_trees.specs.Names.{Scope}
 use Rattle.written_trees.specs.Puts.{order_shows}
-use Rattle.run_matches.specs.CoveredExprs.{Uses, are_still, converts_constant, covers_object_term, is_calm, is_calm_object, is_calm_object_term, is_literal_value, keeps_object, widens}
+use Rattle.run_matches.specs.CoveredExprs.{Uses, are_still, converts_constant, covers_object_term, is_calm, is_calm_object, is_literal_value, keeps_object, widens}
 use Rattle.run_matches.specs.Upgrades.{Upgrade}
 use Rattle.run_statements.specs.Frames.{AreReadable}
 use Rattle.line_laws.proofs.Elements.{known_auto}
-use Rattle.line_laws.proofs.Uses.{no_auto}
+use Rattle.line_laws.proofs.Uses.{no_auto, not_true}
+use Rattle.line_laws.proofs.PlainUses.{object_variable}
 
 -- a conversion to a wider type raises nothing
 widens_safely : (from to : Ty) → widens from to ≡ true → is_safe from to ≡ true
@@ -57,11 +58,14 @@ module _ (U : Upgrade) (T : Scope) (uses : Uses) (readable : AreReadable U T use
       ∙ calm_raises e both.1
   calm_raises (typed ty _) h = absurd (true≢false (sym h))
 
-  object_raises : (of_class : ℕ) (t : Term) → is_calm_object_term uses t ≡ true → covers_object_term uses (types.class of_class) t ≡ true
+  object_raises : (of_class : ℕ) (t : Term) → is_calm_object uses (typed (types.class of_class) t) ≡ true
+      → covers_object_term uses (types.class of_class) t ≡ true
       → list_any (raises D) (nodes (typed (types.class of_class) t)) ≡ false
   object_raises of_class (variable v qualified) calm covers =
-      let used = (both_true (uses.group v (types.class of_class)) (uses.named v qualified) covers).0 in
-      ap (λ o. is_some o || false) (known_auto U v.0 (readable.groups v (types.class of_class) used).known)
+      let ty : Ty = types.class of_class in
+      let none : uses.auto v ty ≡ false = not_true (uses.auto v ty) (both_true (not (uses.auto v ty)) (uses.exact v) calm).0 in
+      let used = (both_true (uses.group v ty) (uses.named v qualified) (object_variable uses ty v qualified covers none)).0 in
+      ap (λ o. is_some o || false) (known_auto U v.0 (readable.groups v ty used).known)
   object_raises of_class me calm covers = refl
   object_raises of_class (with_object r) calm covers = refl
   object_raises of_class _ calm covers = absurd (true≢false (sym calm))

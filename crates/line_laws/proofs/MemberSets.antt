@@ -1,6 +1,5 @@
 -- A Set of a variable of an object does the same as what is written for it.
-use Rattle.std.proofs.Common.{◌≡◌, ◌∙◌, refl, sym, ap, subst, inr, ⊎_elim, ℕ, Bool, true, false, ◌&&◌, ◌||◌, true≢false}
-use Rattle.std.proofs.Math.Bool.{or-false}
+use Rattle.std.proofs.Common.{◌≡◌, ◌∙◌, refl, sym, ap, subst, inr, ⊎_elim, ℕ, Bool, true, false, ◌&&◌, ◌||◌, true≢false, inl}
 use Rattle.std.proofs.lemmas.Bool.{or_cases}
 use Rattle.vb_tree.specs.BoundTree as types
 use Rattle.vb_tree.specs.BoundTree.{Ty}
@@ -60,7 +59,9 @@ use Rattle.line_laws.proofs.MemberParts.{member_set, member_target}
 use Rattle.line_laws.proofs.MemberStores.{constant_stored, object_stored}
 use Rattle.line_laws.proofs.MyMembers.{IsMyAddress, member_change}
 use Rattle.line_laws.proofs.OwnTargets.{IsOwnTarget}
-use Rattle.line_laws.proofs.Still.{called_in_still, frame_still, still}
+use Rattle.line_laws.proofs.Still.{frame_still, still}
+use Rattle.line_laws.proofs.StillCalls.{group_in_still}
+use Rattle.line_laws.proofs.PlainUses.{no_auto_use}
 use Rattle.line_laws.proofs.Targets.{SameStore}
 use Rattle.line_laws.proofs.Uses.{scalar_type}
 
@@ -104,10 +105,14 @@ no_calm_group U T uses readable ty none (constant x o) calm covers = true≢fals
 no_calm_group U T uses readable ty none (variable x qualified) calm covers =
     let used = (both_true (uses.scalar x && uses.named x qualified) (uses.exact x && (uses.is_of x ty && uses.relied x)) calm).0 in
     let r : IsReadable U x.0 = readable.scalars x (both_true (uses.scalar x) (uses.named x qualified) used).0 in
-    let place = both_true (uses.group x ty) (uses.named x qualified) (sym (or-false (uses.group x ty && uses.named x qualified)) ∙ covers) in
-    let o : IsGroup U x.0 ty = readable.groups x ty place.0 in
+    let scalar = (both_true (uses.scalar x) (uses.named x qualified) used).0 in
+    ⊎_elim
+    (λ y.
+    let o : IsGroup U x.0 ty = readable.groups x ty (both_true (uses.group x ty) (uses.named x qualified) y).0 in
     let same : r.variable.ty ≡ ty = ap (λ z. z.ty) (some_is r.variable o.known.variable (sym r.is_variable ∙ o.known.is_variable)) ∙ o.is_type in
-    true≢false (sym (subst (λ z. covers_type z ≡ true) same (scalar_type U x.0 r)) ∙ none)
+    true≢false (sym (subst (λ z. covers_type z ≡ true) same (scalar_type U x.0 r)) ∙ none))
+    (λ y. true≢false (sym (both_true (uses.auto x ty) (uses.named x qualified) y).0 ∙ no_auto_use U T uses readable x ty (inl scalar)))
+    (or_cases (uses.group x ty && uses.named x qualified) (uses.auto x ty && uses.named x qualified) covers)
 no_calm_group U T uses readable ty none (convert to e) calm covers =
     let given = both_true (uses.given ty) (is_class_type ty && (is_same_type ty to && is_nothing e)) covers in
     let of_class = both_true (is_class_type ty) (is_same_type ty to && is_nothing e) given.1 in
@@ -169,7 +174,7 @@ module _ (U : Upgrade) (groups : GroupsAgree U) (writes_groups : GroupsAreWritte
     still_values is_still u lat =
         as_scalars (still K u) u
         (groups (still K u) u p f g oracle net_oracle l k c T uses ty from lat.match (frame_still U K u lat.match p f g (G u lat)) declared is_open readable placed
-        agree (called_in_still U K p l k u S T uses readable e is_still can) covers_from formed)
+        agree (group_in_still U K p l k u S T uses readable e covers_from is_still can) covers_from formed)
 
     module _ (own : IsOwnTarget U K p f to) (m : IsMember U of_class i ty) where
       shaped : variable_shape U.program.declarations m.number ≡ simple ty
@@ -188,13 +193,15 @@ module _ (U : Upgrade) (groups : GroupsAgree U) (writes_groups : GroupsAreWritte
       kept keeps covers =
           ⊎_elim
           (λ x.
-          constant_stored U members finds K p f g l k c T declared oracle net_oracle uses readable placed w h G owns ty of_class i t ty m (inr refl) covers can_object e writes
+          constant_stored U members finds K p f g l k c T declared oracle net_oracle is_open uses readable placed agree w h G owns ty of_class i t ty m
+          (inr refl) covers can_object e writes
           (literal_object C uses j from x covers_from) values)
           (λ x.
           ⊎_elim
           (λ y.
           let both = both_true (is_calm_object uses d) (are_still uses (nodes e)) y in
-          object_stored U members finds K p f g l k c T declared oracle net_oracle uses readable placed w h G owns ty of_class i t ty m (inr refl) covers can_object e writes
+          object_stored U members finds K p f g l k c T declared oracle net_oracle is_open uses readable placed agree w h G owns ty of_class i t ty m
+          (inr refl) covers can_object e writes
           both.0 values (still_values both.1))
           (λ y. absurd (no_calm_group U T uses readable (types.class j) refl from (both_true (is_calm uses e) (are_still uses (nodes d)) y).0 covers_from))
           (or_cases (is_calm_object uses d && are_still uses (nodes e)) (is_calm uses e && are_still uses (nodes d)) x))

@@ -26,7 +26,7 @@ use Rattle.net_run.specs.Store as net_store
 use Rattle.net_run.specs.Values as net_value
 use Rattle.run_matches.specs.Agreeing.{Agrees, world_of}
 use Rattle.run_matches.specs.CoveredVariables.{covers_type}
-use Rattle.run_matches.specs.CoveredExprs.{Uses, covers_object_term, is_calm_object_term}
+use Rattle.run_matches.specs.CoveredExprs.{Uses, are_still, covers_object_term, is_calm_object}
 use Rattle.run_matches.specs.Frames.{FrameMatch, OwnsAll}
 use Rattle.run_matches.specs.Likeness.{LikeV}
 use Rattle.run_matches.specs.Maps.{World}
@@ -34,14 +34,13 @@ use Rattle.run_matches.specs.Match.{MemoryMatch}
 use Rattle.run_matches.specs.Pledges.{Later, Pledge}
 use Rattle.run_matches.specs.Upgrades.{Upgrade}
 use Rattle.run_matches.specs.UserTypes.{is_class_type}
-use Rattle.run_statements.specs.Frames.{AllCalled, AnyUnits, AreReadable, ArePlaced, IsMember, ScalarMatch, context_of, demands}
+use Rattle.run_statements.specs.Frames.{AllCalled, AnyUnits, AreReadable, ArePlaced, IsMember, ScalarMatch, context_of, demands, IsOpen}
 use Rattle.run_statements.specs.Members.{MemberFound, MembersAgree, MembersAreFound, ReachedMember}
 use Rattle.agreeing_laws.proofs.Agreeing.{agrees_later, agrees_weaker, agrees_yields, left_alone, then_agrees}
 use Rattle.agreeing_laws.proofs.Lasting.{later_now}
 use Rattle.agreeing_laws.proofs.Scalars.{scalar_later}
 use Rattle.line_laws.specs.Lasting.{GoOnMatching}
 use Rattle.line_laws.proofs.Calm.{Gives, IsConstant}
-use Rattle.line_laws.proofs.Called.{kept_called}
 use Rattle.line_laws.proofs.CalmObjects.{calm_object}
 use Rattle.line_laws.proofs.EitherOrder.{parts_first, value_first}
 use Rattle.line_laws.proofs.MemberParts.{member_later, member_let, member_none, member_parts, member_target, stored_by}
@@ -50,10 +49,15 @@ use Rattle.line_laws.proofs.Orders.{stable_behind, stable_later}
 use Rattle.line_laws.proofs.Standing.{Stable}
 use Rattle.line_laws.proofs.Still.{frame_still, still}
 use Rattle.line_laws.proofs.Targets.{outside_stored}
+use Rattle.run_matches.specs.Runs.{CallsAgree}
+use Rattle.run_statements.specs.Written.{Passes}
+use Rattle.bound_facts.specs.Nodes.{nodes}
+use Rattle.line_laws.proofs.StillCalls.{object_in_still}
 
 module _ (U : Upgrade) (members : MembersAgree U) (finds : MembersAreFound U) (K : Pledge) (p : ℕ) (f : SourceFrame) (g : NetFrame) (l : SourceLine)
-    (k : NetLine) (c : Code) (T : Scope) (declared : T.declarations ≡ U.program.declarations) (oracle : SourceCalls) (net_oracle : Jobs) (uses : Uses)
-    (readable : AreReadable U T uses) (placed : ArePlaced U p f (scope_of U.written c g k) T uses) (w : World) (h : MemoryMatch U w)
+    (k : NetLine) (c : Code) (T : Scope) (declared : T.declarations ≡ U.program.declarations) (oracle : SourceCalls) (net_oracle : Jobs)
+    (is_open : IsOpen (scope_of U.written c g k)) (uses : Uses) (readable : AreReadable U T uses)
+    (placed : ArePlaced U p f (scope_of U.written c g k) T uses) (agree : CallsAgree U (Passes U) oracle net_oracle) (w : World) (h : MemoryMatch U w)
     (G : GoOnMatching U K p f g w) (owns : OwnsAll U K p f) (ty : Ty) (of_class i : ℕ) (t : Term) (member_type : Ty)
     (m : IsMember U of_class i member_type) (of_type : (covers_type member_type ≡ true) ⊎ (is_class_type member_type ≡ true))
     (covers : covers_object_term uses (types.class of_class) t ≡ true)
@@ -91,13 +95,12 @@ module _ (U : Upgrade) (members : MembersAgree U) (finds : MembersAreFound U) (K
   abbrev Found : World → Address → net_store.Address → Type 0
   Found u a b = MemberFound U K m.number u a b × IsMyAddress U f of_class m.number t a
 
-  reached : (L : Pledge) → FrameMatch U L w p f g
+  reached : (L : Pledge) → FrameMatch U L w p f g → AllCalled (demands U L p l k S T) (typed (types.class of_class) t)
       → Agrees U L w Reached (source.parts_of C to w.src) (reach S net_oracle false (exp_of T to) w.net)
-  reached L now =
+  reached L now can_now =
       agrees_yields U L w (ReachedMember U of_class m.number) (λ x s. HasMyParts U f of_class m.number t x) (source.parts_of C to w.src)
       (reach S net_oracle false (exp_of T to) w.net) (my_parts U L p f g l k c T oracle uses placed w now of_class i member_type m ty t covers)
-      (members L w p f g oracle net_oracle l k c T uses ty of_class i t member_type m h now declared readable placed
-      (kept_called (demands U K p l k S T) (demands U L p l k S T) (λ ty r x. x) uses (types.class of_class) t covers can) covers)
+      (members L w p f g oracle net_oracle l k c T uses ty of_class i t member_type m h now declared is_open readable placed agree can_now covers)
 
   -- a value behind the parts, on both sides
   written : (u v : World) → MemoryMatch U v → (x : source.Parts) (r : net_names.Reached) → Reached u x r → Later U K u v
@@ -135,14 +138,17 @@ module _ (U : Upgrade) (members : MembersAgree U) (finds : MembersAreFound U) (K
   constant_stored x values =
       known_first (λ u. Unit {0}) x.value (x.gives w.src) (λ u i. x.gives u.src)
       (agrees_weaker U K w Reached (λ u x r. Reached u x r × Unit {0}) (source.parts_of C to w.src)
-      (reach S net_oracle false (exp_of T to) w.net) (λ u x r lat y. (y, tt)) (reached K F)) values
+      (reach S net_oracle false (exp_of T to) w.net) (λ u x r lat y. (y, tt)) (reached K F can)) values
 
-  -- a value that is the same while nothing changes, which no object does
-  pub calm_stored : (z : Value6) → ((s : Memory) → Stable U w s → Gives C e z s) → ((u : World) → Later U K w u → Values K u) → Goal
-  calm_stored z is values =
+  -- a value that is the same while nothing changes, and an object that is still
+  pub calm_stored : are_still uses (nodes (typed (types.class of_class) t)) ≡ true → (z : Value6) → ((s : Memory) → Stable U w s → Gives C e z s)
+      → ((u : World) → Later U K w u → Values K u) → Goal
+  calm_stored is_still z is values =
       known_first (λ u. Later U (still K w) w u) z (is w.src (λ q made plain held. refl)) (λ u lat. is u.src (stable_later U K w u lat))
       (agrees_later U K (still K w) w Reached Reached (source.parts_of C to w.src)
-      (reach S net_oracle false (exp_of T to) w.net) (λ i x. x) (reached K F) (reached (still K w) (frame_still U K w h p f g F))) values
+      (reach S net_oracle false (exp_of T to) w.net) (λ i x. x) (reached K F can)
+      (reached (still K w) (frame_still U K w h p f g F)
+      (object_in_still U K p l k w S T uses readable (typed (types.class of_class) t) covers is_still can))) values
 
   abbrev object : Expr
   object = typed (types.class of_class) t
@@ -170,7 +176,7 @@ module _ (U : Upgrade) (members : MembersAgree U) (finds : MembersAreFound U) (K
       (λ u lat.
       agrees_later U K (still K u) u (ScalarMatch U (type_at e)) (ScalarMatch U (type_at e)) (source.value_of C e u.src)
       (target.value_of S net_oracle (exp_of T e) u.net) (λ i x. x) (values u lat) (quiet u lat))
-      parts (parts_are w.src (λ q made plain held. refl)) (reached K F)
+      parts (parts_are w.src (λ q made plain held. refl)) (reached K F can)
       (λ q s r v y z at lat match more.
       subst (λ i. Agrees U K v AnyUnits i (assigned S net_oracle r z v.net))
       (sym (ap (λ i. let_to C to i v.src) match.0.1 ∙ member_let U of_class i member_type m oracle p f l ty t (type_at e) match.0.0 v.src
@@ -179,7 +185,7 @@ module _ (U : Upgrade) (members : MembersAgree U) (finds : MembersAreFound U) (K
       (written (world_of q w.src s) v more.match parts r at more match.0.0 z match.0.2)))
 
   -- a calm object
-  pub object_stored : is_calm_object_term uses t ≡ true → ((u : World) → Later U K w u → Values K u)
+  pub object_stored : is_calm_object uses (typed (types.class of_class) t) ≡ true → ((u : World) → Later U K w u → Values K u)
       → ((u : World) → Later U K w u → Values (still K u) u) → Goal
   object_stored calm values quiet =
       ⊎_elim (λ x. known_stored x values quiet) (λ x. none_stored x.0 x.1 x.2 (values w (later_now U K w h)))

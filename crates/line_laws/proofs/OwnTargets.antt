@@ -1,5 +1,5 @@
 -- A steady procedure stores to variables of its own, or to those of its object where it may change that.
-use Rattle.std.proofs.Common.{◌≡◌, ◌∙◌, ◌⊎◌, inl, inr, refl, sym, ap, subst, ℕ, Bool, true, false, cond, not, Option, Some, None, [], ◌∷◌, slice_get, true≢false, eqb-true, eq-eqb}
+use Rattle.std.proofs.Common.{◌≡◌, ◌∙◌, ◌⊎◌, inl, inr, ⊎_elim, refl, sym, ap, subst, ℕ, Bool, true, false, cond, not, Option, Some, None, [], ◌∷◌, slice_get, true≢false, eqb-true, eq-eqb}
 use Rattle.vb_tree.specs.declared.declared.Owner.{Owner}
 use Rattle.vb_tree.specs.declared.declared.Owner.TheVariants as owner
 use Rattle.bound_tree.specs.Tree.{Declarations, Expr, Variable}
@@ -23,9 +23,10 @@ use Rattle.run_matches.specs.Pledges.{IsOld, Pledge, is_self_made, is_that_objec
 use Rattle.run_matches.specs.Upgrades.{Upgrade}
 use Rattle.run_statements.specs.Frames.{IsKnown, IsPlaced}
 use Rattle.run_statements.specs.Kept.{IsOwnStore}
+use Rattle.agreeing_laws.proofs.OwnObjects.{static_place}
 use Rattle.line_laws.proofs.Bounds.{some_is}
 use Rattle.line_laws.proofs.Elements.{known_address}
-use Rattle.line_laws.proofs.Placed.{field_found}
+use Rattle.line_laws.proofs.Placed.{field_found, static_found}
 
 -- a procedure of a class that may change its object
 pub record OwnsObject (U : Upgrade) (K : Pledge) (p : ℕ) (f : SourceFrame) : Type 0 where
@@ -95,7 +96,16 @@ module _ (U : Upgrade) (K : Pledge) (w : World) (p : ℕ) (f : SourceFrame) (g :
     mine_changes : IsPlaced U p f S T v → (a : Address) → MayChangeAt a
     mine_changes (inl own) a found = own_changes own a found
     mine_changes (inr (inl s)) a found =
-        absurd (true≢false (sym (subst (λ o. stands_in_class U o ≡ true) s.is_file object.in_class) ∙ s.standard))
+        ⊎_elim
+        (λ m. absurd (true≢false (sym (subst (λ o. stands_in_class U o ≡ true) s.is_file object.in_class) ∙ m.0)))
+        (λ o.
+        let q : Position = whole (field o.0.object (v ∷ [])) in
+        let is : a ≡ source_store.root (variable_shape D v) q =
+        some_is a (source_store.root (variable_shape D v) q) (sym found ∙ static_found U p f v s (field o.0.object (v ∷ [])) o.1) in
+        λ z at old.
+        object.owns o.0.object (v ∷ []) o.0.is_me
+        (subst (λ (i : Position). IsOld K i.root) (some_is z q (sym at ∙ ap position_of is)) old))
+        (static_place U w p v s.file f.me s.is_file F.own_object)
     mine_changes (inr (inr (inl s))) a found =
         absurd
         (not_mine U p s.file home s.standard object.in_class

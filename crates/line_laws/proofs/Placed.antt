@@ -32,12 +32,13 @@ use Rattle.run_matches.specs.Likeness.{SameShape}
 use Rattle.run_matches.specs.Maps.{World, IsMade, is_auto_root, is_auto_variable, key_or_none, mark, moved_at, root_variable, has_counterpart}
 use Rattle.run_matches.specs.Match.{HeldAs, MemoryMatch, is_class_variable}
 use Rattle.run_matches.specs.Pledges.{Pledge}
-use Rattle.run_matches.specs.Upgrades.{Upgrade, is_auto, is_that, variable_key}
+use Rattle.run_matches.specs.Upgrades.{Upgrade, is_auto, is_flagged, is_that, variable_key}
 use Rattle.run_statements.specs.Frames.{IsGiven, IsKnown, IsOwnField, IsOwnStatic, IsPlaced, IsShared}
 use Rattle.agreeing_laws.proofs.Moves.{matched_whole}
+use Rattle.agreeing_laws.proofs.OwnObjects.{static_place}
 use Rattle.agreeing_laws.proofs.SoundParts.{all_matched_made, all_ranked_sound}
 use Rattle.line_laws.proofs.Bounds.{exactly, some_is}
-use Rattle.line_laws.proofs.Elements.{known_address, known_auto}
+use Rattle.line_laws.proofs.Elements.{own_found, known_auto}
 use Rattle.line_laws.proofs.Flat.{IsFlatVariable, stands_as}
 use Rattle.line_laws.proofs.Uses.{given_address}
 
@@ -51,6 +52,29 @@ pub record FlatImages (U : Upgrade) (K : Pledge) (w : World) (v : ℕ) (a : Addr
   pub stands : StandsAs (variable_shape U.program.declarations v) a position
   pub same : Same U K w a b
   pub target : IsTarget U a
+  pub auto : is_auto U v ≡ true → is_auto_root U w.map position.root ≡ true
+
+-- a variable whose declaration carries no issue; an As New one isn't given by reference
+pub record IsDeclared (U : Upgrade) (v : ℕ) : Type 0 where
+  pub variable : Variable
+  pub is_variable : slice_get U.program.declarations.vars v ≡ Some variable
+  pub sound : is_flagged U v ≡ false
+  pub unreferenced : is_auto U v ≡ true → (p : ℕ) → is_reference_owner_of p variable.owner ≡ true → ⊥
+
+pub not_auto : (U : Upgrade) (v : ℕ) → IsKnown U v → is_auto U v ≡ false
+not_auto U v x = ap is_some (known_auto U v x)
+
+pub declared_known : (U : Upgrade) (v : ℕ) → IsKnown U v → IsDeclared U v
+declared_known U v x = record {
+  variable = x.variable;
+  is_variable = x.is_variable;
+  sound = x.sound;
+  unreferenced = λ auto p of. true≢false (sym auto ∙ not_auto U v x);
+}
+
+-- what is known of a variable of such a shape as is written for it
+abbrev pub IsFlatAs : Upgrade → (variable : ℕ) → Type 0
+IsFlatAs U v = (d : shape.Shape) → SameShape U (variable_shape U.program.declarations v) d → IsFlatVariable U v
 
 -- a variable on both sides
 pub record PlacedVariable (U : Upgrade) (K : Pledge) (w : World) (f : SourceFrame) (S : net_names.Scope) (T : Scope) (v : ℕ) : Type 0 where
@@ -59,9 +83,9 @@ pub record PlacedVariable (U : Upgrade) (K : Pledge) (w : World) (f : SourceFram
   pub found : variable_address U.program.declarations f v ≡ Some address
   pub leads :
       (qualified : Bool) → IsNamedSo U.program.declarations v qualified → path_start S false (variable_path T qualified v) ≡ starts (at_place net_address) []
-  pub plain : IsPlain U w address
+  pub plain : is_auto U v ≡ false → IsPlain U w address
   pub whole : is_relied_on U.program v ≡ true → IsWhole address
-  pub flat : MemoryMatch U w → IsFlatVariable U v → is_quiet U.program.declarations U.known v ≡ false → FlatImages U K w v address net_address
+  pub flat : MemoryMatch U w → IsFlatAs U v → is_quiet U.program.declarations U.known v ≡ false → FlatImages U K w v address net_address
 
 -- ---- owners
 
@@ -129,10 +153,20 @@ field_found U p f S T v s o is =
     ap (declared_address D f v) s.is_variable ∙ ap (owned_address D f v) s.is_owner
     ∙ (ap (λ b. root_address D v (cond b (object_root f.me v) (Some (shared (v ∷ []))))) s.is_class ∙ ap (λ m. root_address D v (object_root m v)) is)
 
+-- a Static at the root where it stands
+pub static_found : (U : Upgrade) (p : ℕ) (f : SourceFrame) (v : ℕ) (s : IsOwnStatic U p v) (r : Root)
+    → static_root U.program.declarations f.me v (module_of (slice_get U.program.declarations.procs p)) ≡ Some r
+    → variable_address U.program.declarations f v ≡ Some (root (variable_shape U.program.declarations v) (whole r))
+static_found U p f v s r stands =
+    let D : Declarations = U.program.declarations in
+    let o = static_owner p s.variable.owner s.is_static in
+    ap (declared_address D f v) s.is_variable ∙ o.2 D f v
+    ∙ ap (λ q. root_address D v (static_root D f.me v (module_of (slice_get D.procs q)))) o.1 ∙ ap (root_address D v) stands
+
 -- ---- where they are found
 
 module _ (U : Upgrade) (K : Pledge) (w : World) (p : ℕ) (f : SourceFrame) (g : NetFrame) (k : NetLine) (c : Code) (T : Scope)
-    (declared : T.declarations ≡ U.program.declarations) (F : FrameMatch U K w p f g) (v : ℕ) (x : IsKnown U v) where
+    (declared : T.declarations ≡ U.program.declarations) (F : FrameMatch U K w p f g) (v : ℕ) (x : IsDeclared U v) where
   abbrev D : Declarations
   D = U.program.declarations
 
@@ -141,9 +175,6 @@ module _ (U : Upgrade) (K : Pledge) (w : World) (p : ℕ) (f : SourceFrame) (g :
 
   abbrev At : Type 0
   At = PlacedVariable U K w f S T v
-
-  not_auto : is_auto U v ≡ false
-  not_auto = ap is_some (known_auto U v x)
 
   -- a name of the frame
   named : (qualified : Bool) (b : net.Address) → owner_path T qualified x.variable.name x.variable.owner ≡ alone x.variable.name
@@ -157,21 +188,23 @@ module _ (U : Upgrade) (K : Pledge) (w : World) (p : ℕ) (f : SourceFrame) (g :
 
   of_frame : (a : Address) → lookup (nat_eq v) f.vars ≡ Some a → variable_address D f v ≡ lookup (nat_eq v) f.vars
       → ((qualified : Bool) → owner_path T qualified x.variable.name x.variable.owner ≡ alone x.variable.name)
-      → (is_relied_on U.program v ≡ true → IsWhole a) → (is_quiet D U.known v ≡ false → GivenPlace U v a) → At
-  of_frame a found is path whole place =
+      → (is_relied_on U.program v ≡ true → IsWhole a) → (place : is_quiet D U.known v ≡ false → GivenPlace U v a)
+      → ((exact : is_quiet D U.known v ≡ false) → is_auto U v ≡ true → is_auto_root U w.map (place exact).position.root ≡ true) → At
+  of_frame a found is path whole place auto =
       let s : SameVariable U K w v a g = F.vars v a found x.sound in
       record {
         address = a;
         net_address = s.address;
         found = is ∙ found;
         leads = λ q so. named q s.address (path q) s.found;
-        plain = s.plain not_auto;
+        plain = s.plain;
         whole = whole;
         flat = λ h flat exact. record {
           position = (place exact).position;
           stands = (place exact).stands;
           same = exactly U K w (not (is_quiet D U.known v)) a s.address (ap not exact) s.bound;
           target = (place exact).target;
+          auto = auto exact;
         };
       }
 
@@ -180,13 +213,14 @@ module _ (U : Upgrade) (K : Pledge) (w : World) (p : ℕ) (f : SourceFrame) (g :
       let a : (a : Address) × (lookup (nat_eq v) f.vars ≡ Some a) =
       ⊎_elim (λ y. F.has_locals v y) (λ y. F.has_passing v y) (own_is p (slice_get D.vars v) own) in
       let place : HasPlace U w v a.0 = F.own v a.0 a.1 own in
-      of_frame a.0 a.1 (known_address U v x p own f)
+      of_frame a.0 a.1 (own_found U v x.variable x.is_variable p own f)
       (λ q. own_alone p x.variable.owner (sym (ap (is_own_variable p) x.is_variable) ∙ own) T q x.variable.name) (λ relied. ap is_element place.stands)
       (λ exact. record {
         position = whole (made place.place);
         stands = stands_as (variable_shape D v) a.0 (whole (made place.place)) place.stands;
         target = inl (inl (record { place = place.place; shape = variable_shape D v; path = []; stands = place.stands }));
       })
+      (λ exact auto. ap (is_auto_variable U) place.declared ∙ auto)
 
   of_given : IsGiven U p f v → At
   of_given y =
@@ -194,6 +228,7 @@ module _ (U : Upgrade) (K : Pledge) (w : World) (p : ℕ) (f : SourceFrame) (g :
       let of : is_reference_owner_of p x.variable.owner ≡ true = sym (ap (is_reference_in p) x.is_variable) ∙ y.reference in
       of_frame a.0 a.1 (ap (declared_address D f v) x.is_variable ∙ given_address D f v p x.variable.owner of)
       (λ q. given_alone p x.variable.owner of T q x.variable.name) (y.stands a.0 a.1).whole (y.stands a.0 a.1).place
+      (λ exact auto. absurd (x.unreferenced auto p of))
 
   -- ---- those that stand at roots of their own
 
@@ -203,19 +238,20 @@ module _ (U : Upgrade) (K : Pledge) (w : World) (p : ℕ) (f : SourceFrame) (g :
 
     of_root : (b : net.Address) → variable_address D f v ≡ Some here
         → ((qualified : Bool) → IsNamedSo D v qualified → path_start S false (variable_path T qualified v) ≡ starts (at_place b) [])
-        → IsVariable U here → (MemoryMatch U w → IsFlatVariable U v → Same U K w here b) → At
+        → IsVariable U here → (MemoryMatch U w → IsFlatAs U v → Same U K w here b) → At
     of_root b is leads target same = record {
       address = here;
       net_address = b;
       found = is;
       leads = leads;
-      plain = λ q e. subst (λ (z : Position). is_auto_root U w.map z.root ≡ false) (some_is (whole r) q e) (ap (is_auto_variable U) declares ∙ not_auto);
+      plain = λ plain q e. subst (λ (z : Position). is_auto_root U w.map z.root ≡ false) (some_is (whole r) q e) (ap (is_auto_variable U) declares ∙ plain);
       whole = λ relied. refl;
       flat = λ h flat exact. record {
         position = whole r;
         stands = stands_as (variable_shape D v) here (whole r) refl;
         same = same h flat;
         target = inl target;
+        auto = λ auto. ap (is_auto_variable U) declares ∙ auto;
       };
     }
 
@@ -241,36 +277,53 @@ module _ (U : Upgrade) (K : Pledge) (w : World) (p : ℕ) (f : SourceFrame) (g :
       subst (λ b. Same U K w (root (variable_shape D v) (whole r)) b) there
       (root_same r refl s.written s.same tt (ap is_some s.is_key)
       (is_laid D v (is_module_variable D s.variable.owner) r w.src.held (ap (is_module_variable D) s.is_owner ∙ ap not s.standard)
-      (h.stores.kinds v s.variable s.is_variable x.sound)) flat))
+      (h.stores.kinds v s.variable s.is_variable x.sound)) (flat s.written s.same)))
 
-  of_static : IsOwnStatic U p v → At
-  of_static s =
-      let r : Root = shared (v ∷ []) in
+  -- a Static at the root where it stands
+  static_at : (s : IsOwnStatic U p v) (r : Root) → root_variable w.map r ≡ Some v → (has_counterpart U w.map r ≡ true → is_some (variable_key U v) ≡ true)
+      → static_root D f.me v (module_of (slice_get D.procs p)) ≡ Some r
+      → ((key : Key) → variable_key U v ≡ Some key → ((u : ℕ) → variable_key U u ≡ Some key → v ≡ u)
+      → IsVariable U (root (variable_shape D v) (whole r))) → At
+  static_at s r declares keyed stands target =
       let is : s.variable ≡ x.variable = some_is s.variable x.variable (sym s.is_variable ∙ x.is_variable) in
       let of : is_static_of p x.variable.owner ≡ true = subst (λ (y : Variable). is_static_of p y.owner ≡ true) is s.is_static in
-      let o = static_owner p x.variable.owner of in
-      let stands : static_root D f.me v (module_of (slice_get D.procs p)) ≡ Some r =
-      ap (static_root D f.me v) s.is_file ∙ ap (λ b. cond b (object_root f.me v) (Some (shared (v ∷ [])))) s.standard in
       let that : static_of U p f.me v ≡ Some r =
       ap (λ y. cond (is_static_in p y) (static_root D f.me v (module_of (slice_get D.procs p))) None) x.is_variable
       ∙ (ap (λ b. cond b (static_root D f.me v (module_of (slice_get D.procs p))) None) of ∙ stands) in
       let m : SameStatic U w v r g = F.statics v r that x.sound in
       let key : variable_key U v ≡ Some (key_or_none (variable_key U v)) =
-      key_there (variable_key U v) (matched_whole U w (variable_shape D v) (whole r) m.is_matched).counterpart in
-      of_root r refl (net.root m.written (moved_at U w.map (whole r)))
-      (ap (declared_address D f v) x.is_variable ∙ o.2 D f v
-      ∙ ap (λ q. root_address D v (static_root D f.me v (module_of (slice_get D.procs q)))) o.1 ∙ ap (root_address D v) stands)
+      key_there (variable_key U v) (keyed (matched_whole U w (variable_shape D v) (whole r) m.is_matched).counterpart) in
+      of_root r declares (net.root m.written (moved_at U w.map (whole r))) (static_found U p f v s r stands)
       (λ q so. named q _ (static_alone p x.variable.owner of T q x.variable.name) m.found)
-      (inr (inl (record {
+      (target (key_or_none (variable_key U v)) key (λ u e. s.differs (key_or_none (variable_key U v)) u key e))
+      (λ h flat. same_root (variable_shape D v) m.written (whole r) m.same m.is_matched m.ranked)
+
+  -- in its standard module, or in the object of the frame
+  of_static : IsOwnStatic U p v → At
+  of_static s =
+      ⊎_elim
+      (λ m. static_at s (shared (v ∷ [])) refl (λ c. c) m.1
+      (λ key is differs. inr (inl (record {
         variable = v;
-        key = key_or_none (variable_key U v);
+        key = key;
         of_shape = variable_shape D v;
         path = [];
         stands = refl;
-        is_key = key;
-        differs = λ u e. s.differs (key_or_none (variable_key U v)) u key e;
-      })))
-      (λ h flat. same_root (variable_shape D v) m.written (whole r) m.same m.is_matched m.ranked)
+        is_key = is;
+        differs = differs;
+      }))))
+      (λ o. static_at s (field o.0.object (v ∷ [])) refl (λ c. c) o.1
+      (λ key is differs. inr (inr (record {
+        object = o.0.object;
+        variable = v;
+        key = key;
+        of_shape = variable_shape D v;
+        path = [];
+        stands = refl;
+        is_key = is;
+        differs = differs;
+      }))))
+      (static_place U w p v s.file f.me s.is_file F.own_object)
 
   -- those of the class of the procedure, of which its object has its own
   of_field : IsOwnField U p S T v → At
@@ -300,11 +353,16 @@ module _ (U : Upgrade) (K : Pledge) (w : World) (p : ℕ) (f : SourceFrame) (g :
       (root_same r refl s.written s.same y.is_made (ap is_some s.is_key)
       (is_laid D v (is_class_variable D y.class s.variable.owner) r w.src.held
       (ap (is_class_variable D y.class) s.is_owner ∙ (ap (is_that s.file) y.is_file ∙ eq-eqb s.file s.file refl))
-      (h.stores.fields y.object y.class v s.variable y.is_made y.is_class s.is_variable x.sound)) flat))
+      (h.stores.fields y.object y.class v s.variable y.is_made y.is_class s.is_variable x.sound)) (flat s.written s.same)))
 
-  pub placed_variable : IsPlaced U p f S T v → At
-  placed_variable (inl own) = of_own own
-  placed_variable (inr (inl s)) = of_static s
-  placed_variable (inr (inr (inl s))) = of_shared s
-  placed_variable (inr (inr (inr (inl y)))) = of_given y
-  placed_variable (inr (inr (inr (inr s)))) = of_field s
+  pub placed_declared : IsPlaced U p f S T v → At
+  placed_declared (inl own) = of_own own
+  placed_declared (inr (inl s)) = of_static s
+  placed_declared (inr (inr (inl s))) = of_shared s
+  placed_declared (inr (inr (inr (inl y)))) = of_given y
+  placed_declared (inr (inr (inr (inr s)))) = of_field s
+
+pub placed_variable : (U : Upgrade) (K : Pledge) (w : World) (p : ℕ) (f : SourceFrame) (g : NetFrame) (k : NetLine) (c : Code) (T : Scope)
+    → T.declarations ≡ U.program.declarations → FrameMatch U K w p f g → (v : ℕ) → IsKnown U v → IsPlaced U p f (scope_of U.written c g k) T v
+    → PlacedVariable U K w f (scope_of U.written c g k) T v
+placed_variable U K w p f g k c T declared F v x placed = placed_declared U K w p f g k c T declared F v (declared_known U v x) placed

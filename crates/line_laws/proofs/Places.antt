@@ -55,7 +55,7 @@ use Rattle.line_laws.proofs.Bounds.{some_is}
 use Rattle.line_laws.proofs.Elements.{known_address, known_auto}
 use Rattle.line_laws.proofs.Flat.{flat_group, group_shape_is, group_stands}
 use Rattle.line_laws.proofs.OwnTargets.{IsOwnTarget, OwnsObject, not_outside, target_changes}
-use Rattle.line_laws.proofs.Placed.{FlatImages, PlacedVariable, placed_variable}
+use Rattle.line_laws.proofs.Placed.{FlatImages, PlacedVariable, not_auto, placed_variable}
 use Rattle.line_laws.proofs.Settled.{known_path}
 use Rattle.line_laws.proofs.Targets.{Target}
 
@@ -148,8 +148,8 @@ module _ (U : Upgrade) (K : Pledge) (p : ℕ) (f : SourceFrame) (g : NetFrame) (
   variable_place ty v qualified covers =
       let both = both_true (uses.group v ty) (uses.named v qualified) covers in
       let r : IsGroup U v.0 ty = readable.groups v ty both.0 in
-      let x : PlacedVariable U K w f S T v.0 = placed_variable U K w p f g k c T declared F v.0 r.known (placed.places v (inr (inr (ty, both.0)))) in
-      let i : FlatImages U K w v.0 x.address x.net_address = x.flat h (flat_group U v.0 ty r) r.exact in
+      let x : PlacedVariable U K w f S T v.0 = placed_variable U K w p f g k c T declared F v.0 r.known (placed.places v (inr (inr (inl (ty, both.0))))) in
+      let i : FlatImages U K w v.0 x.address x.net_address = x.flat h (λ d same. flat_group U v.0 ty r) r.exact in
       let stands : x.address ≡ root (type_shape U ty) i.position =
       group_stands U (type_shape U ty) ty x.address i.position r.sound (group_type_of D ty r.covers) r.covers i.target
       (subst (λ s. StandsAs s x.address i.position) (group_shape_is U v.0 ty r) i.stands) in
@@ -176,7 +176,7 @@ module _ (U : Upgrade) (K : Pledge) (p : ℕ) (f : SourceFrame) (g : NetFrame) (
               (path_more S b.0 b.1 (variable_path T qualified v.0) more (x.leads qualified (placed.named v qualified both.1) ∙ ap (λ z. starts (at_place z) []) b.2)
               ∙ ap (λ z. starts (at_place z) more) (sym b.2)));
         };
-        plain = x.plain i.position (ap position_of stands);
+        plain = x.plain (not_auto U v.0 r.known) i.position (ap position_of stands);
         own = λ inside.
             let own : is_own_of U p v.0 ≡ true = not_outside (is_own_of U p v.0) inside in
             let there : lookup (nat_eq v.0) f.vars ≡ Some x.address = sym (known_address U v.0 r.known p own f) ∙ x.found in
@@ -185,7 +185,7 @@ module _ (U : Upgrade) (K : Pledge) (p : ℕ) (f : SourceFrame) (g : NetFrame) (
               λ old. owns.variables v.0 x.address there own i.position (ap position_of stands) old,
             );
         mine = λ is object old.
-            target_changes U K w p f g F owns S T v.0 r.known (placed.places v (inr (inr (ty, both.0)))) (inr (is, object)) x.address x.found i.position
+            target_changes U K w p f g F owns S T v.0 r.known (placed.places v (inr (inr (inl (ty, both.0))))) (inr (is, object)) x.address x.found i.position
             (ap position_of stands) old;
       }
     where

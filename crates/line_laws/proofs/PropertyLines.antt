@@ -1,6 +1,5 @@
 -- An assignment or a Set of a property does the same as what is written for it.
-use Rattle.std.proofs.Common.{◌≡◌, ◌∙◌, ◌⊎◌, inl, inr, refl, sym, ap, subst, ⊎_elim, ℕ, Bool, true, false, ◌&&◌, ◌||◌, Option, Some, [], true≢false}
-use Rattle.std.proofs.Math.Bool.{or-false}
+use Rattle.std.proofs.Common.{◌≡◌, ◌⊎◌, inl, inr, refl, sym, ap, subst, ⊎_elim, ℕ, Bool, true, false, ◌&&◌, ◌||◌, Option, Some, [], true≢false}
 use Rattle.std.proofs.lemmas.Bool.{or_cases, or_right}
 use Rattle.vb_tree.specs.BoundTree as types
 use Rattle.vb_tree.specs.BoundTree.{Ty}
@@ -18,7 +17,7 @@ use Rattle.written_trees.specs.Puts.{store_line}
 use Rattle.vb6_run.specs.Expressions as source
 use Rattle.vb6_run.specs.Forms.{SourceLine}
 use Rattle.vb6_run.specs.Shapes.{simple, user_shapes}
-use Rattle.vb6_run.specs.Store.{SourceCalls, SourceFrame}
+use Rattle.vb6_run.specs.Store.{Memory, SourceCalls, SourceFrame}
 use Rattle.vb6_run.specs.Values.{Value}
 use Rattle.net_run.specs.Expressions as target
 use Rattle.net_run.specs.Lines.{NetFrame, NetLine, scope_of}
@@ -50,8 +49,9 @@ use Rattle.line_laws.proofs.Calm.{Gives, IsConstant, literal_is_constant}
 use Rattle.line_laws.proofs.Copies.{copy_is}
 use Rattle.line_laws.proofs.MemberSets.{literal_object, no_calm_group}
 use Rattle.line_laws.proofs.PropertyStores.{alone_set, calm_set, constant_set, object_set}
-use Rattle.line_laws.proofs.Standing.{calm_known}
-use Rattle.line_laws.proofs.Still.{called_in_still, frame_still, still}
+use Rattle.line_laws.proofs.Standing.{Stable, calm_known}
+use Rattle.line_laws.proofs.Still.{frame_still, still}
+use Rattle.line_laws.proofs.StillCalls.{called_in_still, group_in_still}
 use Rattle.line_laws.proofs.Stores.{line_is, same_type}
 use Rattle.line_laws.proofs.TakenTypes.{group_taken, no_scalar}
 use Rattle.line_laws.proofs.Targets.{SameStore}
@@ -113,8 +113,10 @@ literal_group C uses ty _ literal covers = absurd (true≢false (sym literal))
 module _ (U : Upgrade) (T : Scope) (uses : Uses) (readable : AreReadable U T uses) where
   value_kind : (ty : Ty) (t : Term) → covers_group uses (typed ty t) ≡ true → is_group_type ty ≡ true
   value_kind ty (variable v qualified) covers =
-      let used = both_true (uses.group v ty) (uses.named v qualified) (sym (or-false (uses.group v ty && uses.named v qualified)) ∙ covers) in
-      group_kind U.program.declarations ty (readable.groups v ty used.0).covers
+      ⊎_elim
+      (λ x. group_kind U.program.declarations ty (readable.groups v ty (both_true (uses.group v ty) (uses.named v qualified) x).0).covers)
+      (λ x. ap is_group_type (readable.autos v ty (both_true (uses.auto v ty) (uses.named v qualified) x).0).1)
+      (or_cases (uses.group v ty && uses.named v qualified) (uses.auto v ty && uses.named v qualified) covers)
   value_kind ty (field e k) covers =
       let object : Bool = covers_object_term uses ty (field e k) in
       ⊎_elim (λ x. inner_kind uses (type_at e) k ty (both_true (has_inner uses (type_at e) k ty) (covers_base uses e) x).0)
@@ -159,7 +161,7 @@ module _ (U : Upgrade) (expressions : ExpressionsAgree U) (groups : GroupsAgree 
     values : (u : World) → Later U K w u → Values e K u
     still_values : are_still uses (nodes e) ≡ true → (u : World) → Later U K w u → Values e (still K u) u
     literal : is_literal_value e ≡ true → IsConstant C e
-    calm : is_calm uses e ≡ true → (z : Value6) × Gives C e z w.src
+    calm : is_calm uses e ≡ true → (z : Value6) × ((s : Memory) → Stable U w s → Gives C e z s)
 
   takes_scalar : (e : Expr) → Can e → covers_type (type_at e) ≡ true → covers_expr uses e ≡ true → is_formed e ≡ true → Takes e
   takes_scalar e can of covers formed =
@@ -174,12 +176,12 @@ module _ (U : Upgrade) (expressions : ExpressionsAgree U) (groups : GroupsAgree 
         still_values = λ is_still u lat.
             as_whole (still K u) u
             (expressions (still K u) u p f g oracle net_oracle l k c T uses e lat.match (frame_still U K u lat.match p f g (G u lat)) declared is_open readable placed
-            agree (called_in_still U K p l k u S T uses readable e is_still can) covers formed);
+            agree (called_in_still U K p l k u S T uses readable e covers is_still can) covers formed);
         literal = λ x. literal_is_constant C uses e x covers formed;
         calm = λ x.
             let y =
             calm_known U expressions K p f g l k c T declared oracle net_oracle is_open uses readable placed agree w h (G w (later_now U K w h)) e x can covers formed in
-            (y.value, y.gives w.src (λ q made plain held. refl));
+            (y.value, y.gives);
       }
 
   takes_group : (of : Ty) (from : Term) → Can (typed of from) → covers_group uses (typed of from) ≡ true → is_formed (typed of from) ≡ true → Takes (typed of from)
@@ -189,7 +191,7 @@ module _ (U : Upgrade) (expressions : ExpressionsAgree U) (groups : GroupsAgree 
         values = λ u lat. groups K u p f g oracle net_oracle l k c T uses of from lat.match (G u lat) declared is_open readable placed agree can covers formed;
         still_values = λ is_still u lat.
             groups (still K u) u p f g oracle net_oracle l k c T uses of from lat.match (frame_still U K u lat.match p f g (G u lat)) declared is_open readable placed
-            agree (called_in_still U K p l k u S T uses readable e is_still can) covers formed;
+            agree (group_in_still U K p l k u S T uses readable e covers is_still can) covers formed;
         literal = λ x. literal_group C uses of from x covers;
         calm = λ x. absurd (no_calm_group U T uses readable of (no_scalar of (value_kind U T uses readable of from covers)) from x covers);
       }
@@ -205,24 +207,29 @@ module _ (U : Upgrade) (expressions : ExpressionsAgree U) (groups : GroupsAgree 
         let of : Object = of_object d in
         ⊎_elim
         (λ y.
-        constant_set U setters sets K p f g l k c T declared oracle net_oracle uses readable placed agree w h G owns ty q qualified e takes of_type of covers can
+        constant_set U setters sets K p f g l k c T declared oracle net_oracle is_open uses readable placed agree w h G owns ty q qualified e takes of_type
+        of covers can
         (x.literal y) x.values)
         (λ y.
         ⊎_elim
         (λ z.
         let both = both_true (is_calm_object uses d) (are_still uses (nodes e)) z in
-        object_set U setters sets K p f g l k c T declared oracle net_oracle uses readable placed agree w h G owns ty q qualified e takes of_type of_class t covers can
+        object_set U setters sets K p f g l k c T declared oracle net_oracle is_open uses readable placed agree w h G owns ty q qualified e takes of_type
+        of_class t covers can
         both.0 x.values (x.still_values both.1))
         (λ z.
-        let v = x.calm (both_true (is_calm uses e) (are_still uses (nodes d)) z).0 in
-        calm_set U setters sets K p f g l k c T declared oracle net_oracle uses readable placed agree w h G owns ty q qualified e takes of_type of covers can v.0 v.1
+        let both = both_true (is_calm uses e) (are_still uses (nodes d)) z in
+        let v = x.calm both.0 in
+        calm_set U setters sets K p f g l k c T declared oracle net_oracle is_open uses readable placed agree w h G owns ty q qualified e takes of_type of
+        covers can both.1 v.0 v.1
         x.values)
         (or_cases (is_calm_object uses d && are_still uses (nodes e)) (is_calm uses e && are_still uses (nodes d)) y))
         (or_cases (is_literal_value e) ((is_calm_object uses d && are_still uses (nodes e)) || (is_calm uses e && are_still uses (nodes d))) keeps)
 
     for_any : (of : Object) → Can (to of) → is_receiver_ordered uses of e ≡ true → covers_receiver uses of ≡ true → SameStore U K w C S T net_oracle (to of) e
     for_any no_object can ordered covers =
-        alone_set U setters sets K p f g l k c T declared oracle net_oracle uses readable placed agree w h G owns ty q qualified e takes of_type can x.values
+        alone_set U setters sets K p f g l k c T declared oracle net_oracle is_open uses readable placed agree w h G owns ty q qualified e takes of_type can
+        x.values
     for_any (of_object (typed (types.class of_class) t)) can ordered covers = for_object of_class t can covers ordered
     for_any (of_object (typed of t)) can ordered covers = absurd (true≢false (sym ordered))
 

@@ -33,7 +33,7 @@ use Rattle.net_run.specs.Names.{Reached}
 use Rattle.net_run.specs.Store as net_store
 use Rattle.net_run.specs.Values as net_value
 use Rattle.run_matches.specs.Agreeing.{Agrees, world_of}
-use Rattle.run_matches.specs.CoveredExprs.{Uses, covers_object_term, covers_receiver, is_calm_object_term, is_giving, is_taking, is_typed_variable, takes_value}
+use Rattle.run_matches.specs.CoveredExprs.{Uses, are_still, covers_object_term, covers_receiver, is_calm_object, is_giving, is_taking, is_typed_variable, takes_value}
 use Rattle.run_matches.specs.CoveredVariables.{covers_group_type, covers_type}
 use Rattle.run_matches.specs.Frames.{OwnsAll}
 use Rattle.run_matches.specs.Maps.{Map, World}
@@ -41,23 +41,24 @@ use Rattle.run_matches.specs.Match.{MemoryMatch}
 use Rattle.run_matches.specs.Pledges.{Later, Pledge}
 use Rattle.run_matches.specs.Runs.{CallsAgree}
 use Rattle.run_matches.specs.Upgrades.{Upgrade}
-use Rattle.run_statements.specs.Frames.{AllCalled, AnyUnits, AreReadable, ArePlaced, context_of, demands, type_shape}
+use Rattle.run_statements.specs.Frames.{AllCalled, AnyUnits, AreReadable, ArePlaced, context_of, demands, type_shape, IsOpen}
 use Rattle.run_statements.specs.Groups.{ValueMatch}
 use Rattle.run_statements.specs.Properties.{PropertiesAreSet, SetterMatch, SettersAgree, set_for_none, set_for_object}
 use Rattle.run_statements.specs.Ways.{IsWay, Way, as_get, as_procedure, as_set}
 use Rattle.run_statements.specs.Written.{Passes}
-use Rattle.agreeing_laws.proofs.Agreeing.{agrees_later, agrees_weaker, agrees_yields, left_alone}
+use Rattle.agreeing_laws.proofs.Agreeing.{agrees_later, agrees_weaker, left_alone}
 use Rattle.agreeing_laws.proofs.Lasting.{later_now, later_then}
 use Rattle.agreeing_laws.proofs.Scalars.{scalar_later}
 use Rattle.line_laws.specs.Lasting.{GoOnMatching}
 use Rattle.line_laws.proofs.Calm.{Gives, IsConstant}
 use Rattle.line_laws.proofs.CalmObjects.{calm_object}
 use Rattle.line_laws.proofs.EitherOrder.{parts_first, value_first}
-use Rattle.line_laws.proofs.KeptObjects.{receiver_leaves}
-use Rattle.line_laws.proofs.Orders.{stable_behind}
+use Rattle.line_laws.proofs.Orders.{stable_behind, stable_later}
 use Rattle.line_laws.proofs.Standing.{Stable}
-use Rattle.line_laws.proofs.Still.{still}
+use Rattle.line_laws.proofs.Still.{frame_still, still}
+use Rattle.line_laws.proofs.StillCalls.{receiver_in_still}
 use Rattle.line_laws.proofs.Targets.{SameStore, outside_stored}
+use Rattle.bound_facts.specs.Nodes.{nodes_of_object}
 
 -- ---- procedures that take a value
 
@@ -89,7 +90,8 @@ setter_later U K _ u way number _ _ _ later (set_for_none w) = set_for_none u
 setter_later U K _ u way number _ _ _ later (set_for_object c t w x y like) = set_for_object c t u x y (scalar_later U K w u (types.class c) x y later like)
 
 module _ (U : Upgrade) (setters : SettersAgree U) (sets : PropertiesAreSet U) (K : Pledge) (p : ℕ) (f : SourceFrame) (g : NetFrame) (l : SourceLine)
-    (k : NetLine) (c : Code) (T : Scope) (declared : T.declarations ≡ U.program.declarations) (oracle : SourceCalls) (net_oracle : Jobs) (uses : Uses)
+    (k : NetLine) (c : Code) (T : Scope) (declared : T.declarations ≡ U.program.declarations) (oracle : SourceCalls) (net_oracle : Jobs)
+    (is_open : IsOpen (scope_of U.written c g k)) (uses : Uses)
     (readable : AreReadable U T uses) (placed : ArePlaced U p f (scope_of U.written c g k) T uses) (agree : CallsAgree U (Passes U) oracle net_oracle)
     (w : World) (h : MemoryMatch U w) (G : GoOnMatching U K p f g w) (owns : OwnsAll U K p f) (ty : Ty) (q : ProcId) (qualified : Bool) (e : Expr)
     (takes : uses.takes q.0 (type_at e) ≡ true) (of_type : (covers_type (type_at e) ≡ true) ⊎ (covers_group_type U.program.declarations (type_at e) ≡ true)) where
@@ -129,7 +131,8 @@ module _ (U : Upgrade) (setters : SettersAgree U) (sets : PropertiesAreSet U) (K
     taken =
         agrees_weaker U K w (SetterMatch U can.0.way can.0.number of) Taken (source.receiver_of C of w.src) (reach S net_oracle false (exp_of T to) w.net)
         (λ u r x lat m. (m, lat))
-        (setters K w p f g oracle net_oracle l k c T uses ty q qualified of h (G w (later_now U K w h)) declared readable placed can no_giving covers)
+        (setters K K w p f g oracle net_oracle l k c T uses ty q qualified of h (G w (later_now U K w h)) declared is_open readable placed agree can.0 can.2
+        no_giving covers)
 
     -- both enter it with the value
     abbrev entered : Value → Receiver → Memory → Outcome Memory Unit
@@ -160,14 +163,17 @@ module _ (U : Upgrade) (setters : SettersAgree U) (sets : PropertiesAreSet U) (K
         (reach S net_oracle false (exp_of T to) w.net) (λ u r y lat m. (m, x.gives u.src)) taken)
         values
 
-    -- a value that is the same while nothing changes, which no object does
-    pub calm_set : (z : Value6) → Gives C e z w.src → ((u : World) → Later U K w u → Values K u) → Goal
-    calm_set z now values =
-        known_value z now
-        (agrees_weaker U K w (λ u r y. Taken u r y × (u.src ≡ w.src)) (λ u r y. Taken u r y × Gives C e z u.src) (source.receiver_of C of w.src)
-        (reach S net_oracle false (exp_of T to) w.net) (λ u r y lat m. (m.0, subst (λ s. Gives C e z s) (sym m.1) now))
-        (agrees_yields U K w Taken (λ r s. s ≡ w.src) (source.receiver_of C of w.src) (reach S net_oracle false (exp_of T to) w.net)
-        (receiver_leaves U oracle p f l T uses readable of w.src covers) taken))
+    -- a value that is the same while nothing changes, and an object that is still
+    pub calm_set : are_still uses (nodes_of_object of) ≡ true → (z : Value6) → ((s : Memory) → Stable U w s → Gives C e z s)
+        → ((u : World) → Later U K w u → Values K u) → Goal
+    calm_set is_still z is values =
+        known_value z (is w.src (λ q made plain held. refl))
+        (agrees_weaker U K w (λ u r y. Taken u r y × Later U (still K w) w u) (λ u r y. Taken u r y × Gives C e z u.src) (source.receiver_of C of w.src)
+        (reach S net_oracle false (exp_of T to) w.net) (λ u r y lat m. (m.0, is u.src (stable_later U K w u m.1)))
+        (agrees_later U K (still K w) w Taken (SetterMatch U can.0.way can.0.number of) (source.receiver_of C of w.src)
+        (reach S net_oracle false (exp_of T to) w.net) (λ i x. x) taken
+        (setters (still K w) K w p f g oracle net_oracle l k c T uses ty q qualified of h (frame_still U K w h p f g (G w (later_now U K w h))) declared is_open
+        readable placed agree can.0 (receiver_in_still U K p l k w S T uses readable of covers is_still can.2) no_giving covers)))
         values
 
     -- the object is known, and the same behind the value
@@ -234,7 +240,7 @@ module _ (U : Upgrade) (setters : SettersAgree U) (sets : PropertiesAreSet U) (K
         (quiet u lat))
 
     -- a calm object, and a value that changes nothing
-    pub object_set : is_calm_object_term uses t ≡ true → ((u : World) → Later U K w u → Values K u)
+    pub object_set : is_calm_object uses object ≡ true → ((u : World) → Later U K w u → Values K u)
         → ((u : World) → Later U K w u → Values (still K u) u) → ObjectGoal
     object_set calm values quiet =
         ⊎_elim (λ x. known_set x values quiet) (λ x. none_set x.0 x.1 x.2 (values w (later_now U K w h)))

@@ -47,7 +47,7 @@ use Rattle.run_statements.specs.Written.{Passes}
 use Rattle.line_laws.proofs.Bounds.{some_is}
 use Rattle.line_laws.proofs.Calm.{Gives, IsFit, Widened, as_long, constant_gives, converted_gives, fit_of, formed_constant, fit_typed, same_self, value_read, widened_value}
 use Rattle.line_laws.proofs.Flat.{flat_scalar, known_scalar}
-use Rattle.line_laws.proofs.Placed.{FlatImages, PlacedVariable, placed_variable}
+use Rattle.line_laws.proofs.Placed.{FlatImages, PlacedVariable, placed_variable, not_auto}
 use Rattle.line_laws.proofs.Stores.{same_type}
 use Rattle.line_laws.proofs.Uses.{no_auto, shape_is}
 
@@ -87,7 +87,7 @@ pub known_plain : (U : Upgrade) (K : Pledge) (w : World) (p : ℕ) (f : SourceFr
     → (a : Address) → variable_address U.program.declarations f v ≡ Some a → IsPlain U w a
 known_plain U K w p f g k c T declared F v x placed a found =
     let y : PlacedVariable U K w f (scope_of U.written c g k) T v = placed_variable U K w p f g k c T declared F v x placed in
-    subst (λ b. IsPlain U w b) (some_is y.address a (sym y.found ∙ found)) y.plain
+    subst (λ b. IsPlain U w b) (some_is y.address a (sym y.found ∙ found)) (y.plain (not_auto U v x))
 
 -- a scalar that is relied on stands as a variable
 pub standing : (U : Upgrade) (K : Pledge) (w : World) → MemoryMatch U w → (p : ℕ) (f : SourceFrame) (g : NetFrame) (k : NetLine) (c : Code) (T : Scope)
@@ -95,14 +95,14 @@ pub standing : (U : Upgrade) (K : Pledge) (w : World) → MemoryMatch U w → (p
     → is_relied_on U.program v ≡ true → IsPlaced U p f (scope_of U.written c g k) T v → Standing U w f v r.variable.ty
 standing U K w h p f g k c T declared F v r loud relied placed =
     let y : PlacedVariable U K w f (scope_of U.written c g k) T v = placed_variable U K w p f g k c T declared F v (known_scalar U v r) placed in
-    let i : FlatImages U K w v y.address y.net_address = y.flat h (flat_scalar U v r) loud in
+    let i : FlatImages U K w v y.address y.net_address = y.flat h (λ d same. flat_scalar U v r) loud in
     let at : y.address ≡ root (simple r.variable.ty) i.position =
     whole_stands r.variable.ty y.address i.position (y.whole relied) (subst (λ d. StandsAs d y.address i.position) (shape_is U v r) i.stands) in
     record {
       position = i.position;
       found = y.found ∙ ap (λ a. Some a) at;
       matched = same_matched U K w r.variable.ty i.position y.address y.net_address at i.same;
-      plain = y.plain i.position (ap position_of at);
+      plain = y.plain (not_auto U v (known_scalar U v r)) i.position (ap position_of at);
     }
 
 -- ---- what stands there

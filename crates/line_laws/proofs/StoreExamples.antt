@@ -10,13 +10,14 @@ use Rattle.bound_facts.specs.Locks.{is_same_type}
 use Rattle.run_matches.specs.CoveredExprs.{Uses}
 use Rattle.run_matches.specs.CoveredLines.{covers_property, is_member_ordered, is_ordered}
 
--- all variables are Longs or arrays of Longs, the variable 8 is a quiet parameter, and the procedure 0 is inward
+-- all variables are Longs or arrays of Longs, the variable 7 is an As New one, the variable 8 a quiet parameter, and the procedure 0 is inward
 -- and the procedure 2 a Let of a Long
 abbrev uses : Uses
 uses = record {
   scalar = λ w. true;
   array = λ w e. true;
   group = λ w ty. is_same_type ty (types.class 0);
+  auto = λ w ty. nat_eq w.0 7 && is_same_type ty (types.class 0);
   field_type = λ t k. None;
   member_type = λ k i. None;
   me = Some 0;
@@ -26,6 +27,7 @@ uses = record {
   is_of = λ w ty. is_same_type ty types.long;
   gives = λ q. not (nat_eq q 2);
   takes = λ q ty. nat_eq q 2 && is_same_type ty types.long;
+  results = λ q ty. false;
   inward = λ q. nat_eq q 0;
   exact = λ w. not (nat_eq w.0 8);
   relied = λ w. true;
@@ -101,6 +103,18 @@ next_of e = typed (types.class 0) (field e 1)
 -- o.Count = o.Count + 1
 calm_object : is_member_ordered uses (count_of (object 0)) (plus_one (count_of (object 0))) ≡ true
 calm_object = refl
+
+-- d.Count = x + 1, where the use of d may make an object
+no_calm_auto : is_member_ordered uses (count_of (object 7)) (plus_one (long_variable 1)) ≡ false
+no_calm_auto = refl
+
+-- o.Count = d.Count
+no_still_auto : is_member_ordered uses (count_of (object 0)) (count_of (object 7)) ≡ false
+no_still_auto = refl
+
+-- d.Count = 1
+constant_of_auto : is_member_ordered uses (count_of (object 7)) one ≡ true
+constant_of_auto = refl
 
 -- Me.Count = Me.Count + 1
 calm_me : is_member_ordered uses (count_of self) (plus_one (count_of self)) ≡ true

@@ -183,7 +183,7 @@ module _ (U : Upgrade) (expressions : ExpressionsAgree U) (scalars : ScalarsAreW
       let r : IsReadable U v.0 = readable.scalars v used in
       let known : IsKnown U v.0 = known_scalar U v.0 r in
       let x : PlacedVariable U K w f S T v.0 = placed_variable U K w p f g k c T declared F v.0 known (placed.places v (inl used)) in
-      let i : FlatImages U K w v.0 x.address x.net_address = x.flat h (flat_scalar U v.0 r) exact in
+      let i : FlatImages U K w v.0 x.address x.net_address = x.flat h (λ d same. flat_scalar U v.0 r) exact in
       scalar_stored (typed ty (variable v qualified)) x.address x.net_address
       (record {
         lets = λ x s. refl;

@@ -15,10 +15,10 @@ use Rattle.written_trees.specs.Puts.{last_of}
 use Rattle.written_trees.specs.Types.{element_type}
 use Rattle.run_matches.specs.Covered.{covers_all_calls, covers_body, covers_head, covers_joined, covers_names, covers_parameter, covers_procedure, covers_result, covers_site, covers_variables, is_parameter_of, is_scalar_or_loud, is_taken_in}
 use Rattle.run_matches.specs.CoveredExprs.{is_declared_as, is_taking, is_typed_variable, takes_value}
-use Rattle.run_matches.specs.CoveredVariables.{belongs_to, covers_array_owner, covers_array_variable, covers_bounds, covers_declared, covers_group_type, covers_group_variable, covers_owner, covers_type, covers_variable, has_extents, is_array_of}
+use Rattle.run_matches.specs.CoveredVariables.{belongs_to, covers_array_owner, covers_array_variable, covers_bounds, covers_declared, covers_group_type, covers_group_variable, covers_owner, covers_type, covers_variable, has_extents, is_array_of, covers_auto_owner, covers_auto_variable}
 use Rattle.run_matches.specs.Sites.{site_of}
 use Rattle.run_matches.specs.Upgrades.{Upgrade}
-use Rattle.run_matches.specs.UserTypes.{is_group_type}
+use Rattle.run_matches.specs.UserTypes.{is_group_type, is_class_type}
 use Rattle.run_statements.specs.Written.{Passes}
 use Rattle.agreeing_laws.proofs.WithPlaces.{class_is, same_user}
 
@@ -90,10 +90,17 @@ declared_group D x group h =
     let second = both_true (covers_type e) (is_array_of e x.ty && rest) first.1 in
     absurd (true≢false (sym (both_true (is_array_of e x.ty) rest second.1).0 ∙ no_array x.ty e group)))
     (λ z.
+    ⊎_elim
+    (λ z.
     let first = both_true (covers_owner x.owner) (covers_group_type D x.ty && not x.auto) z in
     (both_true (covers_group_type D x.ty) (not x.auto) first.1).0)
-    (or_cases (covers_array_variable e x) (covers_group_variable D x) y))
-    (or_cases (covers_variable x) (covers_array_variable e x || covers_group_variable D x) h)
+    (λ z.
+    let class : Bool = is_class_type x.ty && covers_group_type D x.ty in
+    let first = both_true (covers_auto_owner x.owner) (class && x.auto) z in
+    (both_true (is_class_type x.ty) (covers_group_type D x.ty) (both_true class x.auto first.1).0).1)
+    (or_cases (covers_group_variable D x) (covers_auto_variable D x) z))
+    (or_cases (covers_array_variable e x) (covers_group_variable D x || covers_auto_variable D x) y))
+    (or_cases (covers_variable x) (covers_array_variable e x || (covers_group_variable D x || covers_auto_variable D x)) h)
 
 -- ---- what passes
 

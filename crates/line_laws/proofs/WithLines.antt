@@ -1,11 +1,11 @@
 -- A With on a place of a user type keeps the same place on both sides, one on an object the object.
-use Rattle.std.proofs.Common.{◌≡◌, ◌∙◌, refl, sym, ap, subst, inl, inr, ⊎_elim, ℕ, Bool, true, false, ◌&&◌, ◌||◌, [], ◌∷◌, true≢false, nat_eq, eqb-true}
+use Rattle.std.proofs.Common.{◌≡◌, ◌∙◌, refl, sym, ap, subst, inl, inr, ⊎_elim, ℕ, true, false, ◌&&◌, ◌||◌, [], ◌∷◌, true≢false, nat_eq, eqb-true, not}
 use Rattle.std.proofs.Math.Bool.{or-false}
-use Rattle.std.proofs.lemmas.Bool.{or_cases, or_right}
+use Rattle.std.proofs.lemmas.Bool.{or_cases}
 use Rattle.vb_tree.specs.BoundTree as types
 use Rattle.vb_tree.specs.BoundTree.{Ty}
 use Rattle.vb_tree.specs.Tree as source_form
-use Rattle.bound_tree.specs.Tree.{Expr, typed, Term, variable, field, new_object, me, with_object}
+use Rattle.bound_tree.specs.Tree.{Expr, typed, Term, variable, new_object}
 use Rattle.bound_facts.proofs.Chains.{both_true}
 use Rattle.bound_facts.specs.Effects.{is_outside}
 use Rattle.bound_facts.specs.Node.{root}
@@ -30,7 +30,7 @@ use Rattle.net_run.specs.Names as net_names
 use Rattle.net_run.specs.Store as net
 use Rattle.run_matches.specs.Addresses.{IsInPlace, Same, both_addresses, images}
 use Rattle.run_matches.specs.Agreeing.{Agrees}
-use Rattle.run_matches.specs.CoveredExprs.{Uses, covers_group, covers_object, covers_place, is_new}
+use Rattle.run_matches.specs.CoveredExprs.{Uses, covers_group, covers_object, covers_place, is_new, is_auto_use}
 use Rattle.run_matches.specs.CoveredLines.{covers_with}
 use Rattle.run_matches.specs.CoveredVariables.{covers_made, covers_type}
 use Rattle.run_matches.specs.Frames.{FrameMatch, IsOwnAddress, OwnsAll, WithPlace}
@@ -40,18 +40,16 @@ use Rattle.run_matches.specs.Pledges.{IsOld, Pledge, type_of_shape}
 use Rattle.run_matches.specs.SoundShapes.{IsSoundShape}
 use Rattle.run_matches.specs.Upgrades.{Upgrade, class_home}
 use Rattle.run_matches.specs.Formed.{is_formed}
-use Rattle.run_matches.specs.UserTypes.{is_class_type}
 use Rattle.run_matches.specs.Runs.{CallsAgree}
 use Rattle.run_statements.specs.Frames.{AllCalled, AreReadable, ArePlaced, CanMake, IsOpen, ScalarMatch, context_of, demands}
 use Rattle.run_statements.specs.Groups.{GroupsAgree, ValueMatch}
-use Rattle.run_statements.specs.Members.{MembersAgree, MembersAreFound}
+use Rattle.run_statements.specs.Members.{ObjectMatch, ObjectsAgree}
 use Rattle.run_statements.specs.Objects.{ClassesAreWritten, IsMakeable}
 use Rattle.run_statements.specs.Written.{Passes}
 use Rattle.agreeing_laws.proofs.Agreeing.{agrees_gives, agrees_outside, agrees_weaker}
 use Rattle.agreeing_laws.proofs.FieldPlaces.{group_image}
 use Rattle.agreeing_laws.proofs.Fields.{GroupImage}
 use Rattle.agreeing_laws.proofs.Lasting.{later_now}
-use Rattle.agreeing_laws.proofs.Members.{is_alone}
 use Rattle.agreeing_laws.proofs.UserShapes.{covered_type_of}
 use Rattle.line_laws.proofs.Bounds.{some_is}
 use Rattle.line_laws.proofs.FrameLater.{Keeps}
@@ -59,7 +57,7 @@ use Rattle.line_laws.proofs.Places.{IsOwnRoot, Located, Place, place_alone, plac
 use Rattle.line_laws.proofs.Uses.{not_true}
 use Rattle.line_laws.proofs.KeptPlaces.{CanKeep}
 use Rattle.line_laws.proofs.MemberSets.{object_value}
-use Rattle.line_laws.proofs.WithObjects.{IsShaped, new_shaped, object_shaped, with_object_agrees}
+use Rattle.line_laws.proofs.WithObjects.{IsShaped, looked_up, new_shaped, with_object_agrees}
 
 no_class : (t c : ℕ) → types.user t ≡ types.class c → ⊥
 no_class t c e = cc e
@@ -167,7 +165,7 @@ module _ (U : Upgrade) (K : Pledge) (p : ℕ) (f : SourceFrame) (g : NetFrame) (
     with_user can covers keep =
         by_place (place_is U K p f g l k c T declared oracle net_oracle uses readable placed w h F owns (types.user t) tm can covers) covers keep
 
-module _ (U : Upgrade) (classes : ClassesAreWritten U) (groups : GroupsAgree U) (members : MembersAgree U) (finds : MembersAreFound U) (K : Pledge) (p : ℕ) (f : SourceFrame) (g : NetFrame)
+module _ (U : Upgrade) (classes : ClassesAreWritten U) (groups : GroupsAgree U) (objects : ObjectsAgree U) (K : Pledge) (p : ℕ) (f : SourceFrame) (g : NetFrame)
     (l : SourceLine) (k : NetLine) (c : Code) (T : Scope) (declared : T.declarations ≡ U.program.declarations) (oracle : SourceCalls) (net_oracle : Jobs)
     (is_open : IsOpen (scope_of U.written c g k)) (uses : Uses) (readable : AreReadable U T uses) (placed : ArePlaced U p f (scope_of U.written c g k) T uses)
     (agree : CallsAgree U (Passes U) oracle net_oracle) (R : World → SourceFrame → NetFrame → Type 0) (w : World) (h : MemoryMatch U w)
@@ -203,40 +201,29 @@ module _ (U : Upgrade) (classes : ClassesAreWritten U) (groups : GroupsAgree U) 
       (x.leads m.home m.is_home) (source.value_of CH (typed (types.class class) (new_object made)) w.src) w.net
   made_alone class _ can new covers = absurd (true≢false (sym new))
 
-  -- an object that is kept is a value, and stands by itself
-  kept_group : (ty : Ty) (tm : Term) → covers_object uses (typed ty tm) ≡ true → is_formed (typed ty tm) ≡ true → covers_group uses (typed ty tm) ≡ true
-  kept_group ty (variable v qualified) covers formed =
-      let used : Bool = uses.group v ty && uses.named v qualified in
-      or-false used ∙ (both_true (is_class_type ty) used covers).1
-  kept_group ty (field e i) covers formed = or_right (covers_place uses (typed ty (field e i))) (covers_object uses (typed ty (field e i))) covers
-  kept_group ty me covers formed = covers
-  kept_group ty (with_object r) covers formed = absurd (true≢false (sym formed))
-  kept_group ty _ covers formed = absurd (true≢false (sym covers))
-
-  kept_alone : (ty : Ty) (tm : Term) → is_formed (typed ty tm) ≡ true → is_alone (typed ty tm) ≡ true
-  kept_alone ty (with_object r) formed = formed
-  kept_alone ty _ formed = refl
-
   module _ (class : ℕ) (tm : Term) (can : Can (typed (types.class class) tm)) (formed : is_formed (typed (types.class class) tm) ≡ true) where
     abbrev d : Expr
     d = typed (types.class class) tm
 
-    of_group : covers_group uses d ≡ true → Shaped class tm → KeptOn (types.class class) tm
-    of_group covers shaped keep =
-        with_object_agrees U K p f g l k c T oracle net_oracle R w h aims head class tm shaped
+    new_object_at : is_new d ≡ true → covers_group uses d ≡ true
+        → Agrees U K w (ObjectMatch U class) (source.value_of CH d w.src) (target.address_of SH net_oracle (exp_of T d) w.net)
+    new_object_at new covers =
+        looked_up U K w class (source.value_of CH d w.src) (target.address_of SH net_oracle (exp_of T d) w.net) (made_alone class tm can new covers)
         (agrees_weaker U K w (ValueMatch U (simple (types.class class))) (ScalarMatch U (types.class class)) (source.value_of CH d w.src)
         (target.value_of SH net_oracle (exp_of T d) w.net) (λ u x y lat m. object_value U u class x y m)
-        (groups K w p f g oracle net_oracle l k c T uses (types.class class) tm h F declared is_open readable placed agree can covers formed)) keep
+        (groups K w p f g oracle net_oracle l k c T uses (types.class class) tm h F declared is_open readable placed agree can covers formed))
 
-    with_class : (covers_object uses d || (is_new d && covers_group uses d)) ≡ true → KeptOn (types.class class) tm
+    with_class : ((not (is_auto_use uses d) && covers_object uses d) || (is_new d && covers_group uses d)) ≡ true → KeptOn (types.class class) tm
     with_class covers =
         ⊎_elim
         (λ x.
-        of_group (kept_group (types.class class) tm x formed)
-        (object_shaped U members finds K p f g l k c T declared oracle net_oracle uses readable placed w h F owns class tm can
-        (kept_alone (types.class class) tm formed) x))
-        (λ x. let both = both_true (is_new d) (covers_group uses d) x in of_group both.1 (made_alone class tm can both.0 both.1))
-        (or_cases (covers_object uses d) (is_new d && covers_group uses d) covers)
+        with_object_agrees U K p f g l k c T oracle net_oracle R w h aims head class tm
+        (objects K w p f g oracle net_oracle l k c T uses class tm h F declared is_open readable placed agree can
+        (both_true (not (is_auto_use uses d)) (covers_object uses d) x).1 formed))
+        (λ x.
+        let both = both_true (is_new d) (covers_group uses d) x in
+        with_object_agrees U K p f g l k c T oracle net_oracle R w h aims head class tm (new_object_at both.0 both.1))
+        (or_cases (not (is_auto_use uses d) && covers_object uses d) (is_new d && covers_group uses d) covers)
 
   pub with_agrees : (ty : Ty) (tm : Term) → Can (typed ty tm) → covers_with uses (typed ty tm ∷ []) ≡ true → is_formed (typed ty tm) ≡ true → KeptOn ty tm
   with_agrees (types.user t) tm can covers formed keep =

@@ -4,17 +4,24 @@ use Rattle.std.specs.List.{Contains, list_all}
 use Rattle.std.specs.Prelude.{slice_index_or}
 use Rattle.vb_tree.specs.BoundTree.{Ty}
 use Rattle.bound_tree.specs.Targets.{with_round}
-use Rattle.bound_tree.specs.Tree.{Line, typed, with_object}
+use Rattle.bound_tree.specs.Tree.{Expr, Line, typed, variable, element, call, library, new_object, with_object}
 use Rattle.bound_tree.specs.declared.expression.Root.{Root}
 use Rattle.bound_facts.proofs.Chains.{both_true}
 use Rattle.run_base.specs.Machines.{nth_line}
 use Rattle.vb6_run.specs.Forms.{SourceLine}
 use Rattle.net_run.specs.Lines.{NetLine}
+use Rattle.net_run.specs.Names as net_names
 use Rattle.run_matches.specs.CoveredLines.{covers_line, head_line, is_with, is_within_with, keeps_by, keeps_with}
-use Rattle.run_matches.specs.CoveredVariables.{covers_group_type}
+use Rattle.run_matches.specs.CoveredVariables.{covers_group_type, covers_made}
 use Rattle.run_matches.specs.Frames.{lines_of}
+use Rattle.run_matches.specs.Pledges.{Pledge}
 use Rattle.run_matches.specs.Upgrades.{Upgrade}
-use Rattle.run_statements.specs.Frames.{StandsWithin}
+use Rattle.run_statements.specs.Frames.{StandsWithin, CanCall, CanMake, CanMakeAt, demands}
+use Rattle.run_statements.specs.Kept.{made_at, qualified_at, receiver_at, used_at}
+use Rattle.run_statements.specs.Fitting.{FitsNode}
+use Rattle.bound_facts.specs.Node.{args_at, called}
+use Rattle.written_trees.specs.Names.{Scope}
+use Rattle.line_laws.proofs.Called.{NodeHas}
 
 -- what all pass, one of them passes
 pub all_contained : {A : Type 0} (t : A → Bool) (xs : List A) (x : A) → Contains xs x → list_all t xs ≡ true → t x ≡ true
@@ -53,3 +60,17 @@ module _ (U : Upgrade) (p : ℕ) (l : SourceLine) (k : NetLine) (ty : Ty) (r : R
 
   pub stands_within : is_within_with U.program p (head_line (lines_of U p) (with_round l.aims)) (typed ty (with_object r)) ≡ true → StandsWithin U p l k ty r
   stands_within h = by_round (with_round l.aims) refl h
+
+-- what is demanded of a node by itself
+pub node_has : (U : Upgrade) (K : Pledge) (p : ℕ) (l : SourceLine) (k : NetLine) (S : net_names.Scope) (T : Scope) (d : Expr)
+    → ((q : ℕ) → called d ≡ Some q → CanCall U K S T p q (qualified_at d) (receiver_at d) (args_at d))
+    → ((class : ℕ) → made_at d ≡ Some class → covers_made U.program class ≡ true → CanMake U K S T class)
+    → ((v : ℕ) → used_at d ≡ Some v → CanMakeAt U K S T v) → FitsNode U d → k.aims ≡ l.aims
+    → is_within_with U.program p (head_line (lines_of U p) (with_round l.aims)) d ≡ true → NodeHas (demands U K p l k S T) d
+node_has U K p l k S T (typed ty (call q qualified of args)) can makes autos fits aims within = can q.0 refl
+node_has U K p l k S T (typed ty (element a indexes)) can makes autos fits aims within = fits
+node_has U K p l k S T (typed ty (library f args)) can makes autos fits aims within = fits
+node_has U K p l k S T (typed ty (variable v qualified)) can makes autos fits aims within = autos v.0 refl
+node_has U K p l k S T (typed ty (new_object c)) can makes autos fits aims within = makes c.0 refl
+node_has U K p l k S T (typed ty (with_object r)) can makes autos fits aims within = stands_within U p l k ty r aims within
+node_has U K p l k S T (typed ty t) can makes autos fits aims within = tt

@@ -24,7 +24,7 @@ use Rattle.run_matches.specs.Runs.{line_result, CallsAgree}
 use Rattle.run_matches.specs.Sites.{Site}
 use Rattle.run_statements.specs.Fitting.{FitsLine, FitsNode}
 use Rattle.run_statements.specs.Frames.{AreReadable, IsOpen}
-use Rattle.run_statements.specs.Kept.{LineStands, StoresAreOwn, UsesArePlaced, CanCallFrom, CanMakeFrom, made_at, qualified_at, receiver_at}
+use Rattle.run_statements.specs.Kept.{LineStands, StoresAreOwn, UsesArePlaced, CanCallFrom, CanMakeFrom, CanMakeAtFrom, made_at, qualified_at, receiver_at, used_at}
 use Rattle.run_statements.specs.Written.{WrittenLine, Passes, site_scope}
 
 -- ---- frames
@@ -59,6 +59,7 @@ SteadyLinesAgree U =
     → CallsAgree U (Passes U) (go (source.machine_of (runnable_of U)) turns) (go (target.machine_of U.written) turns)
     → ((d : Expr) (q : ℕ) → Contains (line_uses l.form) d → called d ≡ Some q → CanCallFrom U p s c q (qualified_at d) (receiver_at d) (args_at d))
     → ((d : Expr) (class : ℕ) → Contains (line_uses l.form) d → made_at d ≡ Some class → CanMakeFrom U p s c class)
+    → ((d : Expr) (v : ℕ) → Contains (line_uses l.form) d → used_at d ≡ Some v → CanMakeAtFrom U p s c v)
     → ((d : Expr) → Contains (line_uses l.form) d → FitsNode U d)
     → FitsLine U p l.form
     → covers_line U.program p l.form ≡ true

@@ -7,7 +7,7 @@ use Rattle.net_tree.specs.Tree as net_tree
 use Rattle.net_tree.specs.Types.{TypeName}
 use Rattle.net_meaning.specs.declared.value.ValueN.TheVariants as n
 use Rattle.run_base.specs.Outcomes.{Outcome, gives, outside, after, answered, then}
-use Rattle.run_base.specs.Positions.{Key, Position, field, made, shared, whole, updated, updated_at}
+use Rattle.run_base.specs.Positions.{Key, Position, Root, field, made, whole, updated, updated_at}
 use Rattle.vb6_run.specs.Programs.{lay_if_blank}
 use Rattle.vb6_run.specs.Shapes.{Shape, simple, array, declared_shape, shape_by, user_shapes, variable_shape}
 use Rattle.vb6_run.specs.Store.{root, Held, Memory, blank, table, provided, laid, lay, make}
@@ -22,12 +22,12 @@ use Rattle.run_matches.specs.Addresses.{same_root}
 use Rattle.run_matches.specs.Agreeing.{Agrees}
 use Rattle.run_matches.specs.Kinds.{AreKinds}
 use Rattle.run_matches.specs.Likeness.{are_same, numbers_of, same_array, same_scalar, scalar_word}
-use Rattle.run_matches.specs.Maps.{World, IsMatched, is_fixed_position, is_fixed_variable, key_or_none, moved_at, moved_key}
+use Rattle.run_matches.specs.Maps.{World, IsMatched, is_fixed_position, is_fixed_variable, key_or_none, moved, moved_at, moved_key, root_variable}
 use Rattle.run_matches.specs.Match.{Holds, holds_blank, holds_single, holds_table, holds_parts, MemoryMatch}
 use Rattle.run_matches.specs.Pledges.{Later, Pledge}
 use Rattle.run_matches.specs.Upgrades.{Upgrade, has_bounds, is_fixed, part_variable, variable_key}
 use Rattle.run_statements.specs.Arrays.{ArrayMade, ArraysAreMade, StaticArraysAreLaid, array_initial, array_shape}
-use Rattle.run_statements.specs.Frames.{AnyUnits, IsArray}
+use Rattle.run_statements.specs.Frames.{AnyUnits, IsArray, IsStaticRoot}
 use Rattle.agreeing_laws.proofs.Agreeing.{agrees_gives, agrees_outside}
 use Rattle.agreeing_laws.proofs.Lasting.{later_then}
 use Rattle.memory_laws.specs.Changes.{IsSuited, with_place}
@@ -36,14 +36,15 @@ use Rattle.memory_laws.proofs.Filling.{cell_blank}
 use Rattle.memory_laws.proofs.FirstArrays.{counted_first, first_counts, first_fits, first_like, first_short, written_counts}
 use Rattle.memory_laws.proofs.Laid.{laid_later}
 use Rattle.memory_laws.proofs.Making.{blank_keeps, covered_shape, place_suits}
-use Rattle.memory_laws.proofs.Moved.{field_goes_alone, key_goes_alone, place_goes_alone}
+use Rattle.memory_laws.proofs.Moved.{field_goes_alone, place_goes_alone}
 use Rattle.memory_laws.proofs.NewObjects.{object_here}
 use Rattle.memory_laws.proofs.ObjectFields.{laid_alone}
 use Rattle.memory_laws.proofs.Places.{declared_here, here_more, net_place_is_blank, place_here, place_is_blank, place_is_matched, place_later}
 use Rattle.memory_laws.proofs.Positions.{updated_here, updated_other}
 use Rattle.memory_laws.proofs.Renewed.{array_here, cell_here, renewed}
 use Rattle.memory_laws.proofs.Scalars.{FirstMatch, first_match}
-use Rattle.memory_laws.proofs.Suited.{key_laid, root_laid}
+use Rattle.memory_laws.proofs.StaticRoots.{StaticStands, static_stands}
+use Rattle.memory_laws.proofs.Suited.{root_laid}
 
 from_some : (a b : ℕ) → Some a ≡ Some b → a ≡ b
 from_some a b e = cc
@@ -193,34 +194,37 @@ module _ (U : Upgrade) (v : ℕ) (ty : Ty) (r : IsArray U v ty) (t : TypeName) (
         (then (provided b (λ s. gives [] tt (laid there q s)) with_next) (λ u s. gives [] (root there q) s)) makes)
         (λ small. array_agrees small) (λ large. agrees_outside U K w (ArrayMade U K v t) makes)
 
-  -- ---- in a module
+  -- ---- a Static
 
   module _ (K : Pledge) (w : World) (h : MemoryMatch U w) (key : Key) (is : variable_key U v ≡ Some key)
-      (differs : (u : ℕ) → variable_key U u ≡ Some key → v ≡ u) where
+      (differs : (u : ℕ) → variable_key U u ≡ Some key → v ≡ u) (place : Root) (static : IsStaticRoot w v place) where
     abbrev at : Position
-    at = whole (shared (v ∷ []))
+    at = whole place
 
     abbrev kept : World
     kept = renewed U w at (simple ty) dims values (new (are_same w))
 
+    stands : StaticStands U w v place
+    stands = static_stands U w v r.known.variable r.known.is_variable r.known.sound h.stores key is differs place static
+
     known : IsMatched U w at
-    known = record { is_made = tt; counterpart = ap is_some is; sound = ap not r.known.sound }
+    known = stands.matched
 
     suits : w.src.held at ≡ blank → IsSuited U w at (table (simple ty) dims values)
     suits e = record {
       kept = blank_keeps (w.src.held at) (table (simple ty) dims values) e;
       laid = λ root u of f b.
-          key_laid U v (updated w.src.held at (table (simple ty) dims values))
+          root_laid U v place stands.is_variable (updated w.src.held at (table (simple ty) dims values))
           (subst (λ s. AreKinds s at (updated w.src.held at (table (simple ty) dims values))) (sym shape_is)
           (dims, values, updated_here w.src.held at (table (simple ty) dims values))) root u of f;
     }
 
-    static_ranked : (x u : ℕ) → Some v ≡ Some x → part_variable U x [] ≡ Some u → length counts ≡ U.facts.rank u
-    static_ranked x u e f = counted_first rank bounds r.bounds ∙ ap U.facts.rank (from_some v x e ∙ from_some x u f)
+    static_ranked : (x u : ℕ) → root_variable w.map place ≡ Some x → part_variable U x [] ≡ Some u → length counts ≡ U.facts.rank u
+    static_ranked x u e f = counted_first rank bounds r.bounds ∙ ap U.facts.rank (from_some v x (sym stands.declared ∙ e) ∙ from_some x u f)
 
     kept_later : is_within_limits dims ≡ true → w.src.held at ≡ blank → w.net.cell (moved_at U w.map at) ≡ net.blank → Later U K w kept
     kept_later small e f =
-        laid_later U w at (simple ty) dims values (new (are_same w)) h known (key_goes_alone U w v key is differs) e f
+        laid_later U w at (simple ty) dims values (new (are_same w)) h known (stands.alone w h.stores [] known) e f
         (first_like U (numbers_of w) ty (first (are_same w)).value (first (are_same w)).like t word rank bounds r.bounds some small)
         (first_short U (numbers_of w) ty (first (are_same w)).value (first (are_same w)).like t word rank bounds r.bounds some small)
         (suits e) static_ranked K
@@ -239,7 +243,7 @@ module _ (U : Upgrade) (v : ℕ) (ty : Ty) (r : IsArray U v ty) (t : TypeName) (
           ∙ ap (λ x. then x (laid_as (array_shape U v t) (moved_at U w.map at).root)) (initial_is (are_same w) w.net small))
 
       blank_laid : w.src.held at ≡ blank → w.net.cell (moved_at U w.map at) ≡ net.blank
-          → Agrees U K w AnyUnits (lay_if_blank there (shared (v ∷ [])) blank w.src) (lays net.blank)
+          → Agrees U K w AnyUnits (lay_if_blank there place blank w.src) (lays net.blank)
       blank_laid e f =
           by_test (is_within_limits dims)
           (λ b. Agrees U K w AnyUnits (provided b (λ s. gives [] tt (laid there at s)) w.src) (lays net.blank))
@@ -247,22 +251,19 @@ module _ (U : Upgrade) (v : ℕ) (ty : Ty) (r : IsArray U v ty) (t : TypeName) (
           (λ large. agrees_outside U K w AnyUnits (lays net.blank))
 
       laid_by : (x : Held) (c : net.Cell) → w.src.held at ≡ x → w.net.cell (moved_at U w.map at) ≡ c → Holds U w x c
-          → Agrees U K w AnyUnits (lay_if_blank there (shared (v ∷ [])) x w.src) (lays c)
+          → Agrees U K w AnyUnits (lay_if_blank there place x w.src) (lays c)
       laid_by _ _ e f holds_blank = blank_laid e f
       laid_by _ _ e f (holds_single s x y l) = agrees_gives U K w AnyUnits tt tt h tt
       laid_by _ _ e f (holds_table s others xs k l) = agrees_gives U K w AnyUnits tt tt h tt
       laid_by _ _ e f holds_parts = agrees_gives U K w AnyUnits tt tt h tt
 
-      pub laid_there : Agrees U K w AnyUnits (lay_if_blank (variable_shape U.program.declarations v) (shared (v ∷ [])) (w.src.held at) w.src)
-          (made_once U.written home (shared key) d (w.net.cell (whole (shared key))) w.net)
+      pub laid_there : Agrees U K w AnyUnits (lay_if_blank (variable_shape U.program.declarations v) place (w.src.held at) w.src)
+          (made_once U.written home (moved U w.map place) d (w.net.cell (whole (moved U w.map place))) w.net)
       laid_there =
           subst
-          (λ s. Agrees U K w AnyUnits (lay_if_blank s (shared (v ∷ [])) (w.src.held at) w.src)
-          (made_once U.written home (shared key) d (w.net.cell (whole (shared key))) w.net)) (sym shape_is)
-          (subst
-          (λ k. Agrees U K w AnyUnits (lay_if_blank there (shared (v ∷ [])) (w.src.held at) w.src)
-          (made_once U.written home (shared k) d (w.net.cell (whole (shared k))) w.net)) (ap key_or_none is)
-          (laid_by (w.src.held at) (w.net.cell (moved_at U w.map at)) refl refl (h.stores.values at known)))
+          (λ s. Agrees U K w AnyUnits (lay_if_blank s place (w.src.held at) w.src)
+          (made_once U.written home (moved U w.map place) d (w.net.cell (whole (moved U w.map place))) w.net)) (sym shape_is)
+          (laid_by (w.src.held at) (w.net.cell (moved_at U w.map at)) refl refl (h.stores.values at known))
 
   -- ---- in a new object
 
@@ -363,5 +364,5 @@ arrays_are_made U K w v element r t home some word shaped h =
     (sym (shape_is U v element r t word some home shaped)) (made_there U v element r t word some home shaped K w h)
 
 pub static_arrays_are_laid : (U : Upgrade) → StaticArraysAreLaid U
-static_arrays_are_laid U K w v element r t home key d some word shaped h is differs value declared =
-    laid_there U v element r t word some home shaped K w h key is differs d value declared
+static_arrays_are_laid U K w v element r t home key d place static some word shaped h is differs value declared =
+    laid_there U v element r t word some home shaped K w h key is differs place static d value declared

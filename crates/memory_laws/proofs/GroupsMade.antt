@@ -1,7 +1,9 @@
 -- Variables of user types and of classes are made on both sides, with their first values or with a value that is given.
-use Rattle.std.proofs.Common.{◌≡◌, refl, sym, ap, subst, ◌∙◌, ℕ, suc, true, not, ◌&&◌, cond, Some, None, List, [], ◌∷◌}
+use Rattle.std.proofs.Common.{◌≡◌, refl, sym, ap, subst, ◌∙◌, ℕ, suc, true, false, not, cond, Some, None, []}
+use Rattle.std.specs.Prelude.{slice_get}
 use Rattle.up_base.proofs.Tests.{and_true}
 use Rattle.vb_tree.specs.BoundTree.{Ty}
+use Rattle.bound_tree.specs.Tree.{Variable}
 use Rattle.run_base.specs.Outcomes.{after, gives, outside, some_of, then}
 use Rattle.run_base.specs.Positions.{Position, Root, made, whole}
 use Rattle.vb6_run.specs.Shapes.{Shape, simple, group, array, endless, Shapes, no_shapes, next_shape, declared_shape, shape_by, user_shapes, variable_shape}
@@ -18,7 +20,7 @@ use Rattle.run_matches.specs.Maps.{World, IsMatched, moved}
 use Rattle.run_matches.specs.Match.{IsBlank, MemoryMatch}
 use Rattle.run_matches.specs.Pledges.{Later, Pledge, type_of_shape}
 use Rattle.run_matches.specs.SoundShapes.{IsSoundShape, AreSoundShapes}
-use Rattle.run_matches.specs.Upgrades.{Upgrade, is_sound, type_of_some}
+use Rattle.run_matches.specs.Upgrades.{Upgrade, is_flagged, is_sound, type_of_some}
 use Rattle.run_statements.specs.Frames.{IsGroup, type_shape}
 use Rattle.run_statements.specs.Groups.{GroupMade, GroupsAreGiven, GroupsAreMade}
 use Rattle.agreeing_laws.proofs.Lasting.{later_then}
@@ -36,6 +38,14 @@ use Rattle.memory_laws.proofs.Moved.{no_variable_place, place_goes_alone}
 use Rattle.memory_laws.proofs.Overwritten.{stored_over}
 use Rattle.memory_laws.proofs.Places.{declared_here, place_here, place_is_matched, place_later}
 use Rattle.memory_laws.proofs.Positions.{at}
+
+-- a variable of a written shape, whose declaration carries no issue
+pub record SoundVariable (U : Upgrade) (v : ℕ) : Type 0 where
+  pub variable : Variable
+  pub is_variable : slice_get U.program.declarations.vars v ≡ Some variable
+  pub unflagged : is_flagged U v ≡ false
+  pub shape : IsSoundShape U (variable_shape U.program.declarations v)
+  pub type : part_type U v [] ≡ Some (type_of_shape (variable_shape U.program.declarations v))
 
 -- ---- a variable of a user type or a class
 
@@ -56,6 +66,10 @@ module _ (U : Upgrade) (v : ℕ) (ty : Ty) (r : IsGroup U v ty) where
 
   pub group_sound : is_sound U v [] ≡ true
   group_sound = ap not r.known.sound
+
+  pub group_variable : SoundVariable U v
+  group_variable =
+      record { variable = r.known.variable; is_variable = r.known.is_variable; unflagged = r.known.sound; shape = group_shape; type = group_type }
 
 -- ---- what the source makes
 
@@ -107,7 +121,7 @@ module _ (U : Upgrade) (s : Shape) (c : IsSoundShape U s) (w : Memory) where
 
 -- ---- in a place
 
-module _ (U : Upgrade) (K : Pledge) (w : World) (h : MemoryMatch U w) (v : ℕ) (ty : Ty) (r : IsGroup U v ty) (d : shape.Shape)
+module _ (U : Upgrade) (K : Pledge) (w : World) (h : MemoryMatch U w) (v : ℕ) (r : SoundVariable U v) (d : shape.Shape)
     (sh : SameShape U (variable_shape U.program.declarations v) d) (x : Value) (y : net_value.Value)
     (of : IsValueOf (variable_shape U.program.declarations v) x) (like : LikeV U w x y) where
   abbrev there : Shape
@@ -132,7 +146,7 @@ module _ (U : Upgrade) (K : Pledge) (w : World) (h : MemoryMatch U w) (v : ℕ) 
   first = place_later U w (Some v) h K
 
   matched : IsMatched U placed (whole place)
-  matched = place_is_matched U w (Some v) (group_sound U v ty r)
+  matched = place_is_matched U w (Some v) (ap not r.unflagged)
 
   none : IsBlank place w.src.held
   none path = h.stores.unmade (at place path) (up_self w.src.next)
@@ -140,8 +154,8 @@ module _ (U : Upgrade) (K : Pledge) (w : World) (h : MemoryMatch U w) (v : ℕ) 
   fills : Fills U placed place held cells
   fills =
       value_fills U placed place v matched.is_made matched.counterpart (declared_here U w (Some v)) first.match.stores
-      (λ u s path m. place_goes_alone U u s w.src.next path m) there [] x y w.src.held w.net.cell (group_shape U v ty r) (group_type U v ty r)
-      (group_sound U v ty r) of like (fills_none U placed place first.match.stores)
+      (λ u s path m. place_goes_alone U u s w.src.next path m) there [] x y w.src.held w.net.cell r.shape r.type
+      (ap not r.unflagged) of like (fills_none U placed place first.match.stores)
 
   made_later : Later U K w done
   made_later =
@@ -153,9 +167,9 @@ module _ (U : Upgrade) (K : Pledge) (w : World) (h : MemoryMatch U w) (v : ℕ) 
     place = record { place = w.src.next; stands = refl; is_made = matched.is_made; declared = declared_here U w (Some v) };
     same =
         same_root there d (whole place) sh
-        (all_matched_made U done place v matched.is_made matched.counterpart (declared_here U w (Some v)) there [] (group_shape U v ty r)
-        (group_type U v ty r) (group_sound U v ty r) (kinds_laid U there x (whole place) w.src.held (group_shape U v ty r) of))
-        (all_ranked_sound U done there d (whole place) (group_shape U v ty r));
+        (all_matched_made U done place v matched.is_made matched.counterpart (declared_here U w (Some v)) there [] r.shape
+        r.type (ap not r.unflagged) (kinds_laid U there x (whole place) w.src.held r.shape of))
+        (all_ranked_sound U done there d (whole place) r.shape);
     target_shape = (placed.map.places w.src.next, refl);
   }
 
@@ -167,7 +181,7 @@ module _ (U : Upgrade) (K : Pledge) (w : World) (h : MemoryMatch U w) (v : ℕ) 
       (cond b
       (gives [] (net.root d (whole (made w.net.next))) (net.laid y (whole (made w.net.next)) (record w.net { next = suc w.net.next })))
       (outside [])))
-      (sym (value_suits U w there d x y (group_shape U v ty r) sh of like))
+      (sym (value_suits U w there d x y r.shape sh of like))
       (subst
       (λ m. Agrees U K w (GroupMade U K v d) (gives [] (root there (whole place)) (record w.src { held = held; next = suc w.src.next }))
       (gives [] (net.root d (whole (made w.net.next))) m))
@@ -179,13 +193,21 @@ module _ (U : Upgrade) (K : Pledge) (w : World) (h : MemoryMatch U w) (v : ℕ) 
 
 -- ---- the laws
 
-pub groups_are_made : (U : Upgrade) → GroupsAreMade U
-groups_are_made U K w v ty r d sh h =
-    let c : IsSoundShape U (variable_shape U.program.declarations v) = group_shape U v ty r in
+-- a variable is made with its first value
+pub sound_is_made : (U : Upgrade) (K : Pledge) (w : World) (v : ℕ) (r : SoundVariable U v) (d : shape.Shape)
+    → SameShape U (variable_shape U.program.declarations v) d → MemoryMatch U w
+    → Agrees U K w (GroupMade U K v d)
+    (make (variable_shape U.program.declarations v) w.src)
+    (net.made_with d (shape.default_of d) w.net)
+sound_is_made U K w v r d sh h =
+    let c : IsSoundShape U (variable_shape U.program.declarations v) = r.shape in
     let f : FirstValue U w (variable_shape U.program.declarations v) d = first_value_matches U w (variable_shape U.program.declarations v) d c sh in
     subst (λ o. Agrees U K w (GroupMade U K v d) o (net.made_with d (shape.default_of d) w.net))
     (sym (make_is U (variable_shape U.program.declarations v) c w.src))
-    (value_is_made U K w h v ty r d sh (first_value (variable_shape U.program.declarations v)) (shape.default_of d) f.of f.like)
+    (value_is_made U K w h v r d sh (first_value (variable_shape U.program.declarations v)) (shape.default_of d) f.of f.like)
+
+pub groups_are_made : (U : Upgrade) → GroupsAreMade U
+groups_are_made U K w v ty r d sh h = sound_is_made U K w v (group_variable U v ty r) d sh h
 
 pub groups_are_given : (U : Upgrade) → GroupsAreGiven U
 groups_are_given U K w0 w v ty r d x y sh l of =
@@ -193,4 +215,4 @@ groups_are_given U K w0 w v ty r d x y sh l of =
     let like : LikeV U w x y = value_later U K w0 w l (variable_shape U.program.declarations v) x y c of.0 of.1 in
     subst (λ o. Agrees U K w (GroupMade U K v d) o (net.made_with d y w.net))
     (sym (make_with_is U (variable_shape U.program.declarations v) c w.src w x y of.0 like))
-    (value_is_made U K w l.match v ty r d sh x y of.0 like)
+    (value_is_made U K w l.match v (group_variable U v ty r) d sh x y of.0 like)

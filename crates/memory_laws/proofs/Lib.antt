@@ -18,6 +18,7 @@ mod SimpleShapes
 pub mod Groups
 pub mod GroupValues
 pub mod GroupWriting
+pub mod StaticRoots
 mod GroupFills
 pub mod GroupsMade
 pub mod StaticGroups
@@ -41,3 +42,5 @@ pub mod Uncompared
 pub mod ObjectFields
 mod ClassVariables
 pub mod Objects
+pub mod Autos
+pub mod AutosMade

@@ -111,9 +111,6 @@ module _ (U : Upgrade) (w : World) (v : ℕ) (key : Key) (is : variable_key U v 
   pub part_goes_alone : (path : List ℕ) → GoesAlone U w (at (shared (v ∷ [])) path)
   part_goes_alone path p x e = from_key path p.root p.path x e
 
-  pub key_goes_alone : GoesAlone U w (at (shared (v ∷ [])) [])
-  key_goes_alone = part_goes_alone []
-
 -- ---- variables of objects
 
 module _ (U : Upgrade) (w : World) (h : StoreMatch U w) (o v : ℕ) (key : Key) (is : variable_key U v ≡ Some key)

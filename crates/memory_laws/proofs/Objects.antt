@@ -27,13 +27,14 @@ use Rattle.run_matches.specs.Pledges.{Later, Pledge, type_of_shape}
 use Rattle.run_matches.specs.SoundShapes.{IsSoundShape}
 use Rattle.run_matches.specs.Upgrades.{Upgrade, is_flagged, type_of_some, variable_key}
 use Rattle.run_statements.specs.Frames.{IsOne, IsReadable}
-use Rattle.run_statements.specs.Objects.{AreWritten, none_written, other_member, stands_for_none, variable_written, IsMakeable, IsWrittenAs, written_flagged, written_scalar, written_array, written_group, MadeObject, ObjectMade, ObjectsAreMade, is_variable}
+use Rattle.run_statements.specs.Objects.{AreWritten, none_written, other_member, stands_for_none, variable_written, IsMakeable, IsWrittenAs, written_flagged, written_scalar, written_array, written_auto, written_group, written_shape, MadeObject, ObjectMade, ObjectsAreMade, is_variable}
 use Rattle.agreeing_laws.proofs.Agreeing.{agrees_outside}
 use Rattle.agreeing_laws.proofs.Made.{up_self}
 use Rattle.agreeing_laws.proofs.Outputs.{after_nothing}
 use Rattle.agreeing_laws.proofs.SoundParts.{part_type}
 use Rattle.memory_laws.specs.Objects.{AreLaid, Lays, own_root, refilled, unclassed, with_objects}
 use Rattle.memory_laws.proofs.ArraysMade.{array_lays}
+use Rattle.memory_laws.proofs.Autos.{auto_sound, auto_type}
 use Rattle.memory_laws.proofs.ClassVariables.{class_variable_is, is_listed, listed_is}
 use Rattle.memory_laws.proofs.GroupsMade.{group_shape, group_sound, group_type}
 use Rattle.memory_laws.proofs.LaidValues.{kinds_by}
@@ -167,6 +168,9 @@ module _ (U : Upgrade) (K : Pledge) (w : World) (start : MemoryMatch U w) (c d :
     one_lays _ (written_group x ty r plain sh) =
         sound_lays U K w start c d (key_of home k) h t a n l home x v is differs none (group_shape U v ty r) (group_type U v ty r) (group_sound U v ty r)
         plain sh
+    one_lays _ (written_auto x class r plain sh) =
+        sound_lays U K w start c d (key_of home k) h t a n l home x v is differs none (auto_sound U v class r (written_shape U home x) sh)
+        (auto_type U v class r) (ap not r.sound) plain sh
 
   -- ---- all variables
 

@@ -49,7 +49,3 @@ pub root_laid : (U : Upgrade) (v : ℕ) (q : Root) → root_key q ≡ Some (v �
 root_laid U v q is h k r u of e =
     subst (λ z. AreKinds (variable_shape U.program.declarations u) (whole z) h) e
     (subst (λ z. AreKinds (variable_shape U.program.declarations z) (whole q) h) (same_variable_place v u q r is of e) k)
-
-pub key_laid : (U : Upgrade) (v : ℕ) (h : Position → Held) → AreKinds (variable_shape U.program.declarations v) (whole (shared (v ∷ []))) h → (r : Root) (u : ℕ)
-    → root_key r ≡ Some (u ∷ []) → shared (v ∷ []) ≡ r → AreKinds (variable_shape U.program.declarations u) (whole r) h
-key_laid U v h k r u of e = root_laid U v (shared (v ∷ [])) refl h k r u of e

@@ -6,6 +6,7 @@ ghost use Rattle.run_matches.specs.Maps.{Mark, World};
 ghost use Rattle.run_matches.specs.Pledges.{NetGiven};
 ghost use Rattle.run_matches.specs.Frames.{frame_pledge};
 ghost use Rattle.run_matches.specs.Runs.{call_pledge};
+ghost use Rattle.run_statements.specs.Autos.{AutosAreSetBy};
 ghost use Rattle.run_statements.specs.Members.{MembersAreFoundBy};
 ghost use Rattle.run_statements.specs.Objects.{ObjectsAreMadeBy};
 ghost use Rattle.memory_laws.specs.Statements.{VariablesAreReadBy, ScalarsAreWrittenBy, LocalsAreMadeBy};
@@ -35,4 +36,9 @@ pub fn members_are_found()
 /// memories go on to match.
 pub fn objects_are_made()
     ensures { (U : Upgrade) (p : ℕ) (start : World) (f : SourceFrame) → ObjectsAreMadeBy U (frame_pledge U p start f) }
+{}
+
+/// A law: an object is set to an As New variable on both sides, which breaks no promise.
+pub fn autos_are_set()
+    ensures { (U : Upgrade) (p : ℕ) (start : World) (f : SourceFrame) → AutosAreSetBy U (frame_pledge U p start f) }
 {}

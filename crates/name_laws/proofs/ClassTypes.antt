@@ -15,9 +15,10 @@ use Rattle.net_tree.specs.Types as words
 use Rattle.net_tree.specs.Types.{TypeName}
 use Rattle.written_trees.specs.DeclaredMembers.{type_name}
 use Rattle.written_trees.specs.Facts.{Facts}
-use Rattle.written_trees.specs.Names.{Scope, alone, class_name_of, class_path, is_standard_module, module_at, module_name}
+use Rattle.written_trees.specs.Names.{Scope, alone, auto_name, class_name_of, class_path, is_standard_module, module_at, module_name}
 use Rattle.written_trees.specs.Placing.{Numbers, Placed, behind_members, placed_members}
 use Rattle.written_trees.specs.Projects.{first_numbers, module_scope, modules_from, next_module, written_module}
+use Rattle.net_run.specs.Calls.{auto_class}
 use Rattle.net_run.specs.Shapes as shape
 use Rattle.net_run.specs.Shapes.{class_by, first_from, is_structure, is_structure_named, members_of, module_in, module_named, shape_of, structure_found}
 use Rattle.run_matches.specs.Callees.{begins_below, is_source_name, is_that_place}
@@ -25,7 +26,7 @@ use Rattle.run_matches.specs.CoveredVariables.{covers_class, covers_class_file, 
 use Rattle.run_matches.specs.SoundShapes.{IsClass}
 use Rattle.run_matches.specs.Upgrades.{Upgrade, class_home, home_of}
 use Rattle.run_statements.specs.Written.{IsWritten}
-use Rattle.name_laws.specs.Objects.{ClassesAreFound}
+use Rattle.name_laws.specs.Objects.{AutosAreFound, ClassesAreFound}
 use Rattle.name_laws.proofs.Counting.{found_stands}
 use Rattle.name_laws.proofs.CoveredTypes.{among_flat}
 use Rattle.name_laws.proofs.Led.{first_written}
@@ -172,25 +173,42 @@ module _ (U : Upgrade) (c : ℕ) (L : ClassLed U.program.declarations c) where
   pub is_class : IsClass U (types.class c)
   is_class = (c, L.home, refl, class_home_is)
 
+  written_modules : IsWritten U → N.modules ≡ modules_from U.program U.facts first_numbers D.project.modules
+  written_modules I = ap (λ (M : net.Project). M.modules) I.is_written
+
+  -- the module of its name is the class
+  named_class : IsWritten U → class_by (module_named N name) ≡ shape.class L.home
+  named_class I =
+      let w = first_written U.program U.facts name 0 first_numbers D.project.modules L.first L.is_first in
+      let found : module_named N name ≡ Some (L.first.0, w.0) =
+      ap (λ ms. first_from (λ (m : net.Module). is_same_name m.name name) 0 ms) (written_modules I) ∙ w.1 in
+      ap class_by found
+      ∙ ap (λ b. cond b (shape.class L.first.0) shape.shapeless) (w.2 ∙ L.is_class)
+      ∙ ap shape.class L.first_home
+
+  -- the function that makes an object says its name
+  pub auto_leads : IsWritten U → auto_class N (auto_name D c) ≡ shape.class L.home
+  auto_leads I = ap (λ o. class_by (module_named N (class_name_of D o))) L.is_file ∙ named_class I
+
   -- what is written for its name in any module has its shape
   pub class_leads : IsWritten U → (home : ℕ) → shape_of N home (words.named (class_path D c)) ≡ shape.class L.home
   class_leads I home =
-      let modules_are : N.modules ≡ modules_from U.program U.facts first_numbers D.project.modules = ap (λ (M : net.Project). M.modules) I.is_written in
-      let w = first_written U.program U.facts name 0 first_numbers D.project.modules L.first L.is_first in
-      let found : module_named N name ≡ Some (L.first.0, w.0) =
-      ap (λ ms. first_from (λ (m : net.Module). is_same_name m.name name) 0 ms) modules_are ∙ w.1 in
       let none : first_from (is_structure_named name) 0 (members_of (shape.module_at N home)) ≡ None =
-      ap (λ ms. first_from (is_structure_named name) 0 (members_of (module_in ms home))) modules_are
+      ap (λ ms. first_from (is_structure_named name) 0 (members_of (module_in ms home))) (written_modules I)
       ∙ no_structure U.program U.facts name L.named L.others first_numbers D.project.modules home in
       let of : ℕ → TypeName → shape.Shape = shape.shape_within N (suc (depth_of N)) in
       ap (λ o. shape_of N home (words.named (alone (class_name_of D o)))) L.is_file
       ∙ ap (structure_found of home (class_by (module_named N name))) none
-      ∙ ap class_by found
-      ∙ ap (λ b. cond b (shape.class L.first.0) shape.shapeless) (w.2 ∙ L.is_class)
-      ∙ ap shape.class L.first_home
+      ∙ named_class I
 
 -- so it has that of what is written for the class
 pub classes_are_found : (U : Upgrade) → IsWritten U → ClassesAreFound U
 classes_are_found U I c home at h is_home =
     let L : ClassLed U.program.declarations c = class_led U.program.declarations c h in
     class_leads U c L I at ∙ ap shape.class (some_same L.home home (sym (class_home_is U c L) ∙ is_home))
+
+-- so does the name of the function that makes an object of it
+pub autos_are_found : (U : Upgrade) → IsWritten U → AutosAreFound U
+autos_are_found U I c home h is_home =
+    let L : ClassLed U.program.declarations c = class_led U.program.declarations c h in
+    auto_leads U c L I ∙ ap shape.class (some_same L.home home (sym (class_home_is U c L) ∙ is_home))

@@ -15,14 +15,15 @@ use Rattle.written_trees.specs.Prologues.{extents, initial, object_variable, typ
 use Rattle.written_trees.specs.Types.{element_type, type_with, variable_type}
 use Rattle.vb6_run.specs.Shapes.{declared_shape, shape_by, user_shapes, variable_shape}
 use Rattle.net_run.specs.Shapes.{shape_of}
-use Rattle.run_matches.specs.CoveredVariables.{covers_array_variable, covers_declared, covers_group_type, covers_group_variable, covers_type, covers_user, covers_variable, has_extents, is_loud_owner}
+use Rattle.run_matches.specs.CoveredVariables.{covers_array_variable, covers_auto_variable, covers_declared, covers_group_type, covers_group_variable, covers_type, covers_user, covers_variable, has_extents, is_loud_owner}
 use Rattle.run_matches.specs.Likeness.{SameShape}
 use Rattle.run_matches.specs.SoundShapes.{IsSoundShape}
 use Rattle.run_matches.specs.Upgrades.{Upgrade, home_of, is_flagged, is_unknown, type_of, type_of_some}
 use Rattle.run_statements.specs.Arrays.{array_initial}
 use Rattle.run_statements.specs.Frames.{IsArray, IsGroup, type_shape}
-use Rattle.run_statements.specs.Objects.{BeginsByDefault, IsWrittenAs, written_array, written_flagged, written_group, written_scalar, written_shape}
+use Rattle.run_statements.specs.Objects.{BeginsByDefault, IsWrittenAs, written_array, written_auto, written_flagged, written_group, written_scalar, written_shape}
 use Rattle.run_statements.specs.Written.{IsWritten}
+use Rattle.name_laws.proofs.Autos.{AutoParts, auto_known, auto_parts, sound_auto}
 use Rattle.name_laws.proofs.ClassTypes.{class_led, is_class}
 use Rattle.name_laws.proofs.GroupTypes.{group_type, initial_by}
 use Rattle.name_laws.proofs.Lists.{none_of_both, some_same}
@@ -91,20 +92,30 @@ module _ (U : Upgrade) (I : IsWritten U) (m : Module) (home : ℕ) (at : home_of
       written_group (typed_variable S v x) x.ty r (initial_by U I S refl v x x.ty parts.covers)
       (same_of (group_type U I v x x.ty m.file home refl parts.covers at))
 
+  auto_written : covers_auto_variable D x ≡ true → is_flagged U v ≡ false → IsWrittenAs U home v (typed_variable S v x)
+  auto_written h sound =
+      let parts : AutoParts D x = auto_parts D x h in
+      written_auto (typed_variable S v x) parts.class (sound_auto U v x is parts sound)
+      (ap (initial S v x) parts.is_type) (same_of (group_type U I v x (types.class parts.class) m.file home parts.is_type parts.covers at))
+
   -- its type is none that a Def line gives
   declared_known : covers_declared D x ≡ true → is_unknown (Some x.ty) ≡ false
   declared_known h =
-      either (covers_variable x) (covers_array_variable (element_type x.ty) x || covers_group_variable D x) h (λ s. type_known x.ty (covered_type x s))
-      (λ k. either (covers_array_variable (element_type x.ty) x) (covers_group_variable D x) k (array_known (element_type x.ty) x)
-      (λ g. group_known D x.ty (group_parts D x g).covers))
+      either (covers_variable x) (covers_array_variable (element_type x.ty) x || (covers_group_variable D x || covers_auto_variable D x)) h
+      (λ s. type_known x.ty (covered_type x s))
+      (λ k. either (covers_array_variable (element_type x.ty) x) (covers_group_variable D x || covers_auto_variable D x) k (array_known (element_type x.ty) x)
+      (λ j. either (covers_group_variable D x) (covers_auto_variable D x) j (λ g. group_known D x.ty (group_parts D x g).covers)
+      (λ a. auto_known D x (auto_parts D x a))))
 
   sound_written : covers_declared D x ≡ true → is_loud_owner U.program v x.owner ≡ true → has_extents U.program ≡ true
       → ((t : ℕ) → x.ty ≡ types.user t → covers_user D t ≡ true → IsSoundShape U (type_shape U (types.user t))) → is_flagged U v ≡ false
       → IsWrittenAs U home v (typed_variable S v x)
   sound_written h loud dims users sound =
-      either (covers_variable x) (covers_array_variable (element_type x.ty) x || covers_group_variable D x) h (λ s. scalar_written s sound)
-      (λ k. either (covers_array_variable (element_type x.ty) x) (covers_group_variable D x) k
-      (λ a. array_is_written (element_type x.ty) a loud dims sound) (λ g. group_written users g loud sound))
+      either (covers_variable x) (covers_array_variable (element_type x.ty) x || (covers_group_variable D x || covers_auto_variable D x)) h
+      (λ s. scalar_written s sound)
+      (λ k. either (covers_array_variable (element_type x.ty) x) (covers_group_variable D x || covers_auto_variable D x) k
+      (λ a. array_is_written (element_type x.ty) a loud dims sound)
+      (λ j. either (covers_group_variable D x) (covers_auto_variable D x) j (λ g. group_written users g loud sound) (λ a. auto_written a sound)))
 
   pub field_written : covers_declared D x ≡ true → is_loud_owner U.program v x.owner ≡ true → has_extents U.program ≡ true
       → ((t : ℕ) → x.ty ≡ types.user t → covers_user D t ≡ true → IsSoundShape U (type_shape U (types.user t)))

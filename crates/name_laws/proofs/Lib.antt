@@ -16,6 +16,7 @@ pub mod Open
 pub mod Sets
 pub mod Arrows
 pub mod SoundPoints
+pub mod Autos
 pub mod Owned
 pub mod Numbers
 pub mod Prologues

@@ -20,9 +20,10 @@ use Rattle.written_trees.specs.Facts.{is_flagged_variable, is_flagged_constant}
 use Rattle.written_trees.specs.Names.{Scope}
 use Rattle.written_trees.specs.Prologues.{declares, constant_dim_by, constant_dim, is_static}
 use Rattle.written_trees.specs.Types.{element_type}
+use Rattle.net_run.specs.Members.{is_same_flag}
 use Rattle.vb6_run.specs.Programs.{is_local_of, owned_from, is_static_of}
-use Rattle.run_matches.specs.CoveredVariables.{covers_type, covers_owner, covers_variable, belongs_to, are_different, is_loud, is_loud_owner, is_touched, covers_array_owner, covers_array_variable, covers_bounds, covers_declared, covers_group_type, covers_group_variable, has_extents, is_array_of, is_in_order}
-use Rattle.run_matches.specs.Covered.{covers_head, covers_variables, covers_body, covers_names, covers_all_calls, covers_own, covers_owns, has_no_static, covers_site, covers_procedure, is_scalar_or_loud}
+use Rattle.run_matches.specs.CoveredVariables.{covers_type, covers_owner, covers_variable, belongs_to, are_different, is_loud, is_loud_owner, is_touched, covers_array_owner, covers_array_variable, covers_auto_variable, covers_bounds, covers_declared, covers_group_type, covers_group_variable, has_extents, is_array_of, is_in_order}
+use Rattle.run_matches.specs.Covered.{covers_head, covers_variables, covers_body, covers_names, covers_all_calls, covers_own, covers_owns, has_no_static, is_class_number, covers_site, covers_procedure, is_scalar_or_loud}
 use Rattle.run_matches.specs.Callees.{frame_owns}
 use Rattle.run_matches.specs.CleanLines.{IsSoundPoint}
 use Rattle.run_matches.specs.Sites.{Site, site_of, site_lines, first_statement, Own, own_variable, own_constant, own_name, owns_from, owns_of, local_number, local_numbers, static_number, static_numbers}
@@ -34,6 +35,7 @@ use Rattle.name_laws.proofs.Looked.{not_true}
 use Rattle.name_laws.proofs.Lists.{both_true, none_of_both, Among, among_append, all_among, all_at, same_numbers, flat_among}
 use Rattle.name_laws.proofs.Arrows.{constant_unbroken, variable_unflagged, constant_unflagged}
 use Rattle.name_laws.proofs.SoundPoints.{group_sound, is_unflagged, owned_sound, sound_unbroken}
+use Rattle.name_laws.proofs.Autos.{AutoParts, auto_parts, usable_auto}
 use Rattle.name_laws.proofs.Owned.{IsOwn, lines_own, owned_is}
 
 -- ---- what can be read
@@ -268,7 +270,7 @@ group_loud : (P : Program) (v : ℕ) (x : Variable) → covers_group_variable P.
 group_loud P v x h loud =
     sym (ap (λ b. b || is_loud_owner P v x.owner) (no_scalar P.declarations x.ty (group_parts P.declarations x h).covers)) ∙ loud
 
--- a scalar, an array, or of a user type or a class
+-- a scalar, an array, or of a user type or a class, also an As New one
 pub usable : (U : Upgrade) → IsWritten U → (v : ℕ) (x : Variable) → slice_get U.program.declarations.vars v ≡ Some x
     → covers_declared U.program.declarations x ≡ true → is_scalar_or_loud U.program v x ≡ true
     → IsSoundPoint U.program U.facts.marks (variable v) → IsUsable U v
@@ -277,21 +279,29 @@ usable U I v x is h loud sound = by (covers_variable x) refl h
     unbroken : point_broken U.program.declarations U.facts.marks (variable v) ≡ false
     unbroken = sound_unbroken U.program U.facts.marks (variable v) sound
 
-    not_scalar : (b : Bool) → covers_array_variable (element_type x.ty) x ≡ b → (b || covers_group_variable U.program.declarations x) ≡ true → IsUsable U v
+    no_array : (b : Bool) → covers_group_variable U.program.declarations x ≡ b → (b || covers_auto_variable U.program.declarations x) ≡ true → IsUsable U v
+    no_array true e k = inr (inr (inl (x.ty, usable_group U I v x is e (group_loud U.program v x e loud) sound)))
+    no_array false e k =
+        let parts : AutoParts U.program.declarations x = auto_parts U.program.declarations x k in
+        inr (inr (inr (parts.class, usable_auto U v x is parts sound)))
+
+    not_scalar : (b : Bool) → covers_array_variable (element_type x.ty) x ≡ b
+        → (b || (covers_group_variable U.program.declarations x || covers_auto_variable U.program.declarations x)) ≡ true → IsUsable U v
     not_scalar true e k =
         inr (inl (element_type x.ty, usable_array U I v x (element_type x.ty) is e (array_loud U.program v x (element_type x.ty) e loud) unbroken))
-    not_scalar false e k =
-        inr (inr (x.ty, usable_group U I v x is k (group_loud U.program v x k loud) sound))
+    not_scalar false e k = no_array (covers_group_variable U.program.declarations x) refl k
 
     by : (b : Bool) → covers_variable x ≡ b
-        → (b || (covers_array_variable (element_type x.ty) x || covers_group_variable U.program.declarations x)) ≡ true → IsUsable U v
+        → (b || (covers_array_variable (element_type x.ty) x
+        || (covers_group_variable U.program.declarations x || covers_auto_variable U.program.declarations x))) ≡ true → IsUsable U v
     by true e k = inl (readable U I.known v x is e unbroken)
     by false e k = not_scalar (covers_array_variable (element_type x.ty) x) refl k
 
 pub usable_sound : (U : Upgrade) (v : ℕ) → IsUsable U v → is_flagged U v ≡ false
 usable_sound U v (inl r) = r.sound
 usable_sound U v (inr (inl a)) = a.1.known.sound
-usable_sound U v (inr (inr g)) = g.1.known.sound
+usable_sound U v (inr (inr (inl g))) = g.1.known.sound
+usable_sound U v (inr (inr (inr a))) = a.1.sound
 
 -- ---- the parts of what covers a procedure
 
@@ -315,7 +325,8 @@ covered_parts P p s e h =
     let d = both_true (covers_variables P p) (covers_body P p (slice_get P.bodies p)) c.1 in
     let site : covers_site D p (Some s) ≡ true = sym (ap (covers_site D p) e) ∙ c.0 in
     let names = are_different (map own_name (frame_owns D (slice_get D.procs p) s)) in
-    let f = both_true (covers_owns D p os) names (both_true (not s.source_module.class || list_all has_no_static os) (covers_owns D p os && names) site).1 in
+    let f = both_true (covers_owns D p os) names (both_true (list_all has_no_static os || is_same_flag (is_class_number D (slice_get D.procs p)) s.source_module.class)
+    (covers_owns D p os && names) site).1 in
     let locals = pointwise nat_eq (local_numbers os) (owned_from (is_local_of p) 0 D.vars) in
     let statics = pointwise nat_eq (static_numbers os) (owned_from (is_static_of p) 0 D.vars) in
     let g = both_true (locals && statics) (list_all (covers_own D p) os) f.0 in

@@ -4,6 +4,7 @@ use Rattle.std.specs.Prelude.{option_and_then, ◌||◌}
 use Rattle.up_base.specs.Names.{is_same_name}
 use Rattle.std.specs.Map.{lookup}
 use Rattle.std.proofs.lemmas.Bool.{eqb-true}
+use Rattle.vb_tree.specs.BoundTree as types
 use Rattle.vb_tree.specs.BoundTree.{Ty}
 use Rattle.vb_tree.specs.declared.declared.Owner.{Owner}
 use Rattle.vb_tree.specs.declared.declared.Owner.TheVariants as owner
@@ -13,7 +14,6 @@ use Rattle.bound_tree.specs.Tree.{Variable, Procedure, Declarations, Line}
 use Rattle.bound_facts.specs.Effects.{is_own_owner, is_own_variable}
 use Rattle.bound_facts.specs.SelfMade.{module_of}
 use Rattle.vb6_run.specs.Programs.{is_static_of}
-use Rattle.vb6_run.specs.Runnables.{is_class_file}
 use Rattle.written_trees.specs.Bodies.{inside_procedure}
 use Rattle.written_trees.specs.Heads.{is_function}
 use Rattle.written_trees.specs.Names.{Scope, is_foreign, module_name, owner_path, variable_path_of}
@@ -26,12 +26,13 @@ use Rattle.run_matches.specs.CoveredVariables.{is_foreign_name, is_named_apart, 
 use Rattle.run_matches.specs.CoveredExprs.{IsUsed, uses_in}
 use Rattle.run_matches.specs.Covered.{is_reference_in, is_reference_owner_of}
 use Rattle.run_matches.specs.Frames.{HasNames, GivenAddress, GivenStand, is_reference_of}
-use Rattle.run_matches.specs.Shared.{field_leads, names_lead, is_alone_static, is_outer, others_differ}
+use Rattle.run_matches.specs.Shared.{field_leads, names_lead, is_alone_static}
 use Rattle.run_matches.specs.Sites.{Site, site_of}
 use Rattle.run_matches.specs.Upgrades.{Upgrade, code_of, declared_key, home_of, is_flagged, owned_key}
-use Rattle.run_statements.specs.Frames.{AreReadable, IsArray, IsGroup, IsReadable, IsPlaced, LeadsBefore}
+use Rattle.run_statements.specs.Frames.{AreReadable, IsArray, IsAutoOf, IsGroup, IsReadable, IsPlaced, LeadsBefore}
 use Rattle.run_statements.specs.Kept.{UsesArePlaced}
 use Rattle.run_statements.specs.Written.{IsWritten, WrittenProcedure, site_scope}
+use Rattle.name_laws.proofs.Autos.{AutoUse, auto_use}
 use Rattle.name_laws.proofs.Lists.{both_true, some_same, same_number}
 use Rattle.name_laws.proofs.Classes.{stands_here, stands_in_class}
 use Rattle.name_laws.proofs.FrameNames.{result_are, result_word, same_by, same_start}
@@ -76,8 +77,6 @@ module _ (U : Upgrade) (I : IsWritten U) (p : ℕ) (s : Site) (x : Procedure) (i
       inl (ap (is_own_variable p) is_variable ∙ ap (is_own_owner p) e ∙ own_number p q.0 h)
   by_owner v y is_variable sound types given (owner.Static q) e h =
       let b = both_true (nat_eq p q.0) (is_alone_static D p v y.name) h in
-      let a = both_true (is_outer D (slice_get D.procs p)) (others_differ (is_static_of p) v y.name 0 D.vars) b.1 in
-      let outer : not (is_class_file D x.module_number) ≡ true = sym (ap (is_outer D) is_procedure) ∙ a.0 in
       let of : is_static_of p y.owner ≡ true = ap (is_static_of p) e ∙ b.0 in
       inr (inl (record {
         variable = y;
@@ -85,13 +84,12 @@ module _ (U : Upgrade) (I : IsWritten U) (p : ℕ) (s : Site) (x : Procedure) (i
         is_static = of;
         file = x.module_number;
         is_file = ap module_of is_procedure;
-        standard = not_true (is_class_file D x.module_number) outer;
         differs = λ key u f i.
             let parts : StaticKey U q.0 y.name key =
             static_parts U q.0 y.name key (sym (ap (declared_key U) is_variable ∙ ap (owned_key U y.name) e) ∙ f) in
             let z = key_of_static U q.0 y.name key parts u i in
             let owned : is_static_of p z.0.owner ≡ true = subst (λ n. is_static_of n z.0.owner ≡ true) (sym (eqb-true p q.0 b.0)) z.2 in
-            differing (is_static_of p) v y.name 0 u D.vars z.0 a.1 z.1 owned z.3 ∙ plus_none u;
+            differing (is_static_of p) v y.name 0 u D.vars z.0 b.1 z.1 owned z.3 ∙ plus_none u;
       }))
   by_owner v y is_variable sound types given (owner.Value q) e h =
       inl (ap (is_own_variable p) is_variable ∙ ap (is_own_owner p) e ∙ own_number p q.0 h)
@@ -123,6 +121,14 @@ module _ (U : Upgrade) (I : IsWritten U) (p : ℕ) (s : Site) (x : Procedure) (i
       let y : Variable = r.known.variable in
       let same : u.used ≡ y = some_same u.used y (sym u.is_used ∙ r.known.is_variable) in
       by_owner v y r.known.is_variable r.known.sound (λ at home e. group_type U I v y ty at home r.is_type r.covers e) given
+      y.owner refl (subst (λ (z : Variable). is_reached D p v z.name z.owner ≡ true) same u.reached)
+
+  -- an As New one
+  auto_placed : (v class : ℕ) (r : IsAutoOf U v class) → Given v → (ty : Ty) → AutoUse U.program p v ty → Goal v
+  auto_placed v class r given ty u =
+      let y : Variable = r.variable in
+      let same : u.used ≡ y = some_same u.used y (sym u.is_used ∙ r.is_variable) in
+      by_owner v y r.is_variable r.sound (λ at home e. group_type U I v y (types.class class) at home r.is_type r.covers e) given
       y.owner refl (subst (λ (z : Variable). is_reached D p v z.name z.owner ≡ true) same u.reached)
 
 code_is : (U : Upgrade) (p : ℕ) (s : Site) (x : Procedure) (W : WrittenProcedure U p s x) → code_of U p ≡ Some W.code
@@ -173,9 +179,13 @@ used_placed U I p s x e is W l readable f g k names given v (inl h) =
 used_placed U I p s x e is W l readable f g k names given v (inr (inl h)) =
     array_placed U I p s x e is W f g k (subst (λ o. HasNames o g) (code_is U p s x W) names) v.0 h.0 (readable.arrays v h.0 h.1)
     (λ r a at. given v a (inr (inl h)) r at) (array_parts U.program p l.bindings.mentions v h.0 h.1).1
-used_placed U I p s x e is W l readable f g k names given v (inr (inr h)) =
+used_placed U I p s x e is W l readable f g k names given v (inr (inr (inl h))) =
     group_placed U I p s x e is W f g k (subst (λ o. HasNames o g) (code_is U p s x W) names) v.0 h.0 (readable.groups v h.0 h.1)
-    (λ r a at. given v a (inr (inr h)) r at) (group_use U.program p l.bindings.mentions v h.0 h.1).1
+    (λ r a at. given v a (inr (inr (inl h))) r at) (group_use U.program p l.bindings.mentions v h.0 h.1).1
+used_placed U I p s x e is W l readable f g k names given v (inr (inr (inr h))) =
+    let r = readable.autos v h.0 h.1 in
+    auto_placed U I p s x e is W f g k (subst (λ o. HasNames o g) (code_is U p s x W) names) v.0 r.0 r.2
+    (λ r a at. given v a (inr (inr (inr h))) r at) h.0 (auto_use U.program p l.bindings.mentions v h.0 h.1).1
 
 pub uses_are_placed : (U : Upgrade) → IsWritten U → (p : ℕ) (s : Site) (x : Procedure) → site_of U.program.declarations p ≡ Some s
     → slice_get U.program.declarations.procs p ≡ Some x → (W : WrittenProcedure U p s x) (l : Line)

@@ -17,17 +17,18 @@ use Rattle.vb6_run.specs.Forms.{SourceLine, with_aims, body_of}
 use Rattle.vb6_run.specs.Lines.{source_lines}
 use Rattle.vb6_run.specs.Programs.{machine_of}
 use Rattle.run_matches.specs.CleanLines.{IsCleanLine, IsSoundPoint, lines_at, or_none, line_points}
-use Rattle.run_matches.specs.CoveredVariables.{covers_variable, is_reached, covers_some, is_loud, is_loud_owner, is_mention_of, covers_use, covers_array_use, covers_array_variable, covers_some_array, is_named_apart, covers_group_type, covers_group_use, covers_group_variable, covers_some_group, field_type_in, field_type_of, is_member, member_type_in, member_type_of}
+use Rattle.run_matches.specs.CoveredVariables.{covers_variable, is_reached, covers_some, is_loud, is_loud_owner, is_mention_of, covers_use, covers_array_use, covers_array_variable, covers_auto_use, covers_made, covers_some_array, is_named_apart, covers_group_type, covers_group_use, covers_group_variable, covers_some_group, field_type_in, field_type_of, is_member, member_type_in, member_type_of}
 use Rattle.run_matches.specs.CoveredExprs.{uses_in}
 use Rattle.run_matches.specs.SoundShapes.{IsField}
 use Rattle.run_matches.specs.Upgrades.{Upgrade, field_variable, is_unknown, runnable_of, type_of_some}
 use Rattle.written_trees.specs.Names.{Scope}
 use Rattle.name_laws.proofs.Inward.{seen_inward}
-use Rattle.run_statements.specs.Frames.{AreReadable, IsArray, IsGroup, IsMember, IsReadable}
+use Rattle.run_statements.specs.Frames.{AreReadable, IsArray, IsAutoOf, IsGroup, IsMember, IsReadable}
 use Rattle.run_statements.specs.Written.{IsWritten}
 use Rattle.name_laws.proofs.Lists.{both_true, some_same, any_among}
 use Rattle.bound_tree.specs.RuleSets.{is_broken}
 use Rattle.written_trees.specs.Facts.{line_set}
+use Rattle.name_laws.proofs.Autos.{AutoUse, auto_use, usable_auto}
 use Rattle.name_laws.proofs.Arrows.{lines_unbroken, mentioned_path, mention_is_point}
 use Rattle.name_laws.proofs.CoveredTypes.{holds_no_array}
 use Rattle.name_laws.proofs.Members.{object_member}
@@ -177,6 +178,13 @@ module _ (U : Upgrade) (I : IsWritten U) (p : ℕ) (mentions : List Mention)
       let used : GroupUse U.program p v.0 ty = b.1 in
       subst (λ z. IsGroup U v.0 z) used.is_type (usable_group U I v.0 used.used used.is_used used.covers used.loud (sound v b.0))
 
+  auto_readable : (v : VarId) (ty : Ty) → covers_auto_use U.program p mentions v ty ≡ true
+      → (class : ℕ) × (ty ≡ types.class class) × IsAutoOf U v.0 class × (covers_made U.program class ≡ true)
+  auto_readable v ty h =
+      let b = auto_use U.program p mentions v ty h in
+      let u : AutoUse U.program p v.0 ty = b.1 in
+      (u.parts.class, u.is_type, usable_auto U v.0 u.used u.is_used u.parts (sound v b.0), u.made)
+
   -- a field that is mentioned
   field_readable : (t k : ℕ) (ty : Ty) → field_type_in D mentions t k ≡ Some ty → IsField U t k ty
   field_readable t k ty h = by (field_variable U t k) refl h
@@ -236,6 +244,7 @@ module _ (U : Upgrade) (I : IsWritten U) (p : ℕ) (mentions : List Mention)
     scalars = scalar_readable;
     arrays = array_readable;
     groups = group_readable;
+    autos = auto_readable;
     fields = field_readable;
     made = λ c h. h;
     members = member_readable;
@@ -246,6 +255,7 @@ module _ (U : Upgrade) (I : IsWritten U) (p : ℕ) (mentions : List Mention)
     types = λ v ty h. h;
     gives = λ q h. h;
     takes = λ q ty h. h;
+    results = λ q ty h. h;
     inward = λ q h. seen_inward U.program U.known I.known q h;
     relied = λ v h. h;
   }

@@ -5,7 +5,8 @@ use Rattle.bound_facts.specs.Members.{initializer}
 use Rattle.net_tree.specs.Types.{named}
 use Rattle.run_base.specs.Machines.{enters}
 use Rattle.run_base.specs.Outcomes.{gives, then}
-use Rattle.written_trees.specs.Names.{class_path}
+use Rattle.written_trees.specs.Names.{auto_name, class_path}
+use Rattle.net_run.specs.Calls.{auto_class}
 use Rattle.net_run.specs.Making.{Jobs}
 use Rattle.net_run.specs.Shapes as shape
 use Rattle.net_run.specs.Store as net
@@ -23,6 +24,12 @@ abbrev pub ClassesAreFound : Upgrade → Type 0
 ClassesAreFound U =
     (class home at : ℕ) → covers_class U.program.declarations class ≡ true → class_home U class ≡ Some home
     → shape.shape_of U.written at (named (class_path U.program.declarations class)) ≡ shape.class home
+
+-- so does the name of the function that makes an object for an As New variable of the class
+abbrev pub AutosAreFound : Upgrade → Type 0
+AutosAreFound U =
+    (class home : ℕ) → covers_class U.program.declarations class ≡ true → class_home U class ≡ Some home
+    → auto_class U.written (auto_name U.program.declarations class) ≡ shape.class home
 
 -- ---- what begins an object
 

@@ -15,7 +15,7 @@ ghost use Rattle.run_statements.specs.Frames.{AreReadable};
 ghost use Rattle.run_statements.specs.Kept.{IsUnreplaced, NamesAreOpen, OwnsAreKept, StoresAreOwn, UsesArePlaced};
 ghost use Rattle.run_statements.specs.Objects.{ClassesAreWritten};
 ghost use Rattle.run_statements.specs.Written.{IsWritten, WrittenProcedure, site_scope};
-ghost use Rattle.name_laws.specs.Objects.{ClassesAreFound, InitializersAreFound, NothingInitializes};
+ghost use Rattle.name_laws.specs.Objects.{AutosAreFound, ClassesAreFound, InitializersAreFound, NothingInitializes};
 
 /// A law: where nothing is named as the support module or the library is, their names lead to them.
 pub fn names_are_open()
@@ -76,6 +76,11 @@ pub fn fields_are_written()
 /// A law: what is written for the name of a covered class leads from every module to what is written for the class.
 pub fn classes_are_found()
     ensures { (U : Upgrade) → IsWritten U → ClassesAreFound U }
+{}
+
+/// A law: so does the name of the function that makes an object of it for an As New variable.
+pub fn autos_are_found()
+    ensures { (U : Upgrade) → IsWritten U → AutosAreFound U }
 {}
 
 /// A law: what is written for a class begins its objects by a call of what is written for its Class_Initialize.

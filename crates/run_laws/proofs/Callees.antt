@@ -31,6 +31,7 @@ use Rattle.run_statements.specs.Kept.{CalleesAreFound, CanCallFrom, MethodsAreFo
 use Rattle.run_statements.specs.Written.{Passes, ProceduresAreWritten, WrittenProcedure, site_scope}
 use Rattle.name_laws.proofs.Lists.{Among, all_among, among, among_left, among_right, contains, map_among}
 use Rattle.name_laws.proofs.Uses.{clean_line_is}
+use Rattle.run_laws.specs.Premises.{ResultsAreWritten}
 use Rattle.run_laws.proofs.Covered.{CoveredProcedure, covered_parts, not_none, some_is}
 use Rattle.run_laws.proofs.Parts.{clean_unparted}
 use Rattle.run_laws.proofs.Heads.{params_given}
@@ -100,7 +101,7 @@ seen_inside U ts (d ∷ ds) h =
     )
 
 module _ (U : Upgrade) (known : AreFacts U.program U.known) (procedures : ProceduresAreWritten U) (found : CalleesAreFound U) (methods : MethodsAreFound U)
-    (p q : ℕ) (s : Site) (x : Procedure)
+    (results : ResultsAreWritten U) (p q : ℕ) (s : Site) (x : Procedure)
     (is_site : site_of U.program.declarations p ≡ Some s) (is_procedure : slice_get U.program.declarations.procs p ≡ Some x)
     (W : WrittenProcedure U p s x) (l : Line) (stands : IsLineOf U.program p l)
     (call : Contains (line_calls U.program.declarations p l) (p, q)) (qualified : Bool) (of : Object)
@@ -151,6 +152,7 @@ module _ (U : Upgrade) (known : AreFacts U.program U.known) (procedures : Proced
             ap (λ o. passing_at (passings_of_code o) i) V.is_code ∙ passings_are gives i
             ∙ sym (ap (λ o. passing_by (takes_reference_of D (parameter_in o i))) c.is_procedure);
         found = F.found;
+        result = λ class gives. results q V.number pass V.is_number class gives;
       }
 
 -- ---- what a line that is clean by itself calls

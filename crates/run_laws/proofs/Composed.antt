@@ -26,14 +26,16 @@ use Rattle.name_laws.proofs.Uses.{clean_line_unbroken, clean_unbroken, line_uses
 use Rattle.memory_laws.proofs.Reading.{variables_are_read}
 use Rattle.memory_laws.proofs.Writing.{scalars_are_written}
 use Rattle.memory_laws.proofs.Making.{locals_are_made}
+use Rattle.memory_laws.proofs.Autos.{autos_are_set}
+use Rattle.memory_laws.proofs.AutosMade.{autos_are_made, static_autos_are_laid}
 use Rattle.memory_laws.proofs.ArraysMade.{arrays_are_made, static_arrays_are_laid}
 use Rattle.memory_laws.proofs.Parameters.{values_are_made}
 use Rattle.memory_laws.proofs.Groups.{groups_are_read}
 use Rattle.memory_laws.proofs.GroupWriting.{groups_are_written}
 use Rattle.memory_laws.proofs.Members.{members_are_found}
-use Rattle.memory_laws.proofs.GroupsMade.{group_shape_is, groups_are_given, groups_are_made}
+use Rattle.memory_laws.proofs.GroupsMade.{groups_are_given, groups_are_made}
 use Rattle.memory_laws.proofs.StaticGroups.{static_groups_are_laid}
-use Rattle.name_laws.proofs.ClassTypes.{ClassLed, class_home_is, class_leads, class_led, classes_are_found}
+use Rattle.name_laws.proofs.ClassTypes.{ClassLed, class_home_is, class_leads, class_led, classes_are_found, autos_are_found}
 use Rattle.name_laws.proofs.Fields.{fields_are_written}
 use Rattle.name_laws.proofs.Initializers.{initializers_are_found, nothing_initializes}
 use Rattle.name_laws.proofs.CoveredTypes.{is_unmade}
@@ -48,15 +50,16 @@ use Rattle.run_matches.specs.CoveredVariables.{covers_group_type}
 use Rattle.run_matches.specs.Likeness.{SameShape, same_class}
 use Rattle.memory_laws.proofs.Elements.{elements_are_written}
 use Rattle.memory_laws.proofs.Resizing.{arrays_are_erased, arrays_are_resized}
-use Rattle.expression_laws.proofs.Agreements.{arrays_agree, calls_are_made, elements_agree, expressions_agree, groups_agree, indexes_agree_all, members_agree}
+use Rattle.expression_laws.proofs.Agreements.{arrays_agree, calls_are_made, elements_agree, expressions_agree, groups_agree, indexes_agree_all, members_agree, objects_agree}
 use Rattle.expression_laws.proofs.Setters.{properties_are_set, setters_agree}
 use Rattle.expression_laws.specs.Statements.{ParametersAreSound}
 use Rattle.run_laws.proofs.Firsts.{gets_are_first}
 use Rattle.run_laws.proofs.SoundParameters.{parameters_are_sound}
 use Rattle.line_laws.proofs.Lines.{lines_agree}
-use Rattle.run_laws.specs.Premises.{GroupsAreWritten, LinePremises, ObjectsBegin, OwnedAreUsable, RunPremises}
+use Rattle.run_laws.specs.Premises.{GroupsAreWritten, LinePremises, ObjectsBegin, OwnedAreUsable, ResultsAreWritten, RunPremises}
 use Rattle.run_laws.proofs.Lines as by_itself
 use Rattle.run_matches.specs.Runs.{call_pledge}
+use Rattle.run_laws.proofs.GivenClasses.{results_are_written}
 use Rattle.run_laws.proofs.Runs.{makes_in_calls}
 use Rattle.run_laws.proofs.Runs as whole
 
@@ -67,7 +70,8 @@ owned_usable : (U : Upgrade) → IsWritten U → OwnedAreUsable U
 owned_usable U w p v x clean e owned covers loud = usable U w v x e covers loud (owned_sound U.program U.facts.marks p v x clean e owned)
 
 objects_begin : (U : Upgrade) → IsWritten U → ObjectsBegin U
-objects_begin U w = record { found = classes_are_found U w; begins = initializers_are_found U w; nothing = nothing_initializes U w }
+objects_begin U w =
+    record { found = classes_are_found U w; autos = autos_are_found U w; begins = initializers_are_found U w; nothing = nothing_initializes U w }
 
 lines_do : (U : Upgrade) → IsWritten U → LinesAgree U
 lines_do U w =
@@ -75,7 +79,7 @@ lines_do U w =
     let classes : ClassesAreWritten U = fields_are_written U w in
     lines_agree U classes (expressions_agree U sound classes) (calls_are_made U sound classes) (scalars_are_read U) (scalars_are_written U)
     (elements_agree U sound classes) (indexes_agree_all U sound classes) (elements_are_written U) (groups_agree U sound classes) (groups_are_written U)
-    (members_agree U) (members_are_found U) (setters_agree U) (properties_are_set U sound)
+    (members_agree U classes) (members_are_found U) (objects_agree U classes) (setters_agree U classes) (properties_are_set U sound) (autos_are_set U)
     (arrays_agree U) (arrays_are_resized U) (arrays_are_erased U)
 
 -- the name of a user type leads to its structure, and that of a class to the class
@@ -90,12 +94,13 @@ type_same U w _ home file rank qualified covers e = absurd (true≢false (sym co
 
 types_are_written : (U : Upgrade) → IsWritten U → GroupsAreWritten U
 types_are_written U w = record {
-  shaped = λ v ty r home file rank qualified e.
-      subst (λ s. SameShape U s (shape_of U.written home (type_with U.program.declarations file qualified rank ty))) (sym (group_shape_is U v ty r))
-      (type_same U w ty home file rank qualified r.covers e);
+  shaped = type_same U w;
   unmade = λ t covers. is_unmade U w t covers;
   homes = w.homes;
 }
+
+classes_are_given : (U : Upgrade) → IsWritten U → ResultsAreWritten U
+classes_are_given U w = results_are_written U (procedures_are_written U w) (owned_usable U w) (types_are_written U w) (gets_are_first U w.firsts)
 
 run_premises : (U : Upgrade) → IsWritten U → RunPremises U
 run_premises U w = record {
@@ -116,10 +121,11 @@ run_premises U w = record {
   known = w.known;
   found = callees_are_found U w;
   methods = methods_are_found U w;
+  results = classes_are_given U w;
   objects = objects_begin U w;
   makes =
-      makes_in_calls U (locals_are_made U) (arrays_are_made U) (groups_are_made U) (static_arrays_are_laid U) (static_groups_are_laid U)
-      (values_are_made U) (groups_are_given U);
+      makes_in_calls U (locals_are_made U) (arrays_are_made U) (groups_are_made U) (autos_are_made U) (static_arrays_are_laid U)
+      (static_groups_are_laid U) (static_autos_are_laid U) (values_are_made U) (groups_are_given U);
   ranked = w.dimensions;
   groups = types_are_written U w;
   read = λ p base me xs ys. groups_are_read U (call_pledge U p base me xs ys);
@@ -143,6 +149,7 @@ line_premises U w = record {
   stores = stores_are_own U w;
   found = callees_are_found U w;
   methods = methods_are_found U w;
+  results = classes_are_given U w;
   objects = objects_begin U w;
   calls = whole.calls_agree U (run_premises U w);
 }

@@ -23,13 +23,15 @@ use Rattle.vb6_run.specs.Programs.{answer_in, is_static_of, is_local_of, owned_f
 use Rattle.written_trees.specs.Arguments.{is_property_kind}
 use Rattle.written_trees.specs.Types.{element_type}
 use Rattle.run_matches.specs.Formed.{is_formed}
-use Rattle.run_matches.specs.CoveredVariables.{belongs_to, covers_array_owner, covers_bounds, covers_declared, covers_group_type, has_extents, is_array_of, are_different, covers_owner, covers_type}
+use Rattle.run_matches.specs.CoveredVariables.{belongs_to, covers_array_owner, covers_auto_owner, covers_bounds, covers_declared, covers_group_type, has_extents, is_array_of, are_different, covers_owner, covers_type}
 use Rattle.run_matches.specs.CoveredExprs.{Uses, uses_in}
+use Rattle.run_matches.specs.UserTypes.{is_class_type}
 use Rattle.run_matches.specs.CoveredLines.{covers_form, covers_in_block, covers_label, covers_line, has_sound_label, has_sound_label_in, jump_of}
-use Rattle.run_matches.specs.Covered.{covers_body, covers_head, covers_joined, covers_names, covers_owns, covers_procedure, covers_site, covers_variables, is_plain, is_plain_kind, keeps_blocks, keeps_blocks_in, covers_own, covers_all_calls, covers_calls, covers_parameter, covers_result, has_no_static, has_result, is_answer_of, is_parameter_of}
+use Rattle.net_run.specs.Members.{is_same_flag}
+use Rattle.run_matches.specs.Covered.{covers_body, covers_head, covers_joined, covers_names, covers_owns, covers_procedure, covers_site, covers_variables, is_plain, is_plain_kind, keeps_blocks, keeps_blocks_in, covers_own, covers_all_calls, covers_calls, covers_parameter, covers_result, has_no_static, has_result, is_answer_of, is_parameter_of, is_class_number}
 use Rattle.run_matches.specs.Callees.{frame_owns}
 use Rattle.run_matches.specs.Sites.{Site, own_name, owns_of, site_of, local_numbers, static_numbers}
-use Rattle.run_laws.proofs.Outside.{AreStaticsOutside, statics_outside}
+use Rattle.run_laws.proofs.StaticPlaces.{IsPlacedAlike, placed_alike}
 
 pub some_is : {A : Type 0} {x y : A} → ◌≡◌ {A = Option A} (Some x) (Some y) → x ≡ y
 some_is e = cc e
@@ -102,7 +104,7 @@ head_parts P p (Some x) h =
 record Stands (D : Declarations) (p : ℕ) (o : Option Site) : Type 0 where
   site : Site
   is_site : o ≡ Some site
-  outside : (not site.source_module.class || list_all has_no_static (owns_of D site)) ≡ true
+  alike : (list_all has_no_static (owns_of D site) || is_same_flag (is_class_number D (slice_get D.procs p)) site.source_module.class) ≡ true
   owns : covers_owns D p (owns_of D site) ≡ true
   different : are_different (map own_name (frame_owns D (slice_get D.procs p) site)) ≡ true
 
@@ -110,9 +112,10 @@ site_parts : (D : Declarations) (p : ℕ) (o : Option Site) → covers_site D p 
 site_parts D p None h = absurd (true≢false (sym h))
 site_parts D p (Some s) h =
     let names = are_different (map own_name (frame_owns D (slice_get D.procs p) s)) in
-    let b = both_true (not s.source_module.class || list_all has_no_static (owns_of D s)) (covers_owns D p (owns_of D s) && names) h in
+    let b = both_true (list_all has_no_static (owns_of D s) || is_same_flag (is_class_number D (slice_get D.procs p)) s.source_module.class)
+    (covers_owns D p (owns_of D s) && names) h in
     let both = both_true (covers_owns D p (owns_of D s)) names b.1 in
-    record { site = s; is_site = refl; outside = b.0; owns = both.0; different = both.1 }
+    record { site = s; is_site = refl; alike = b.0; owns = both.0; different = both.1 }
 
 record Body (P : Program) (p : ℕ) (o : Option (List Line)) : Type 0 where
   lines : List Line
@@ -138,7 +141,7 @@ pub record CoveredProcedure (P : Program) (p : ℕ) : Type 0 where
   pub answers : answer_in procedure.answer ≡ owned_from (is_answer_of p) 0 P.declarations.vars
   pub site : Site
   pub is_site : site_of P.declarations p ≡ Some site
-  pub outside : AreStaticsOutside P.declarations procedure site
+  pub alike : IsPlacedAlike P.declarations procedure site
   pub locals : local_numbers (owns_of P.declarations site) ≡ owned_from (is_local_of p) 0 P.declarations.vars
   pub statics : static_numbers (owns_of P.declarations site) ≡ owned_from (is_static_of p) 0 P.declarations.vars
   pub owns : list_all (covers_own P.declarations p) (owns_of P.declarations site) ≡ true
@@ -184,7 +187,7 @@ covered_parts P p h =
       parameters = x.parameters;
       answers = x.answers;
       site = s.site;
-      outside = statics_outside D p x.procedure s.site x.is_procedure s.outside m.1;
+      alike = placed_alike D p x.procedure s.site x.is_procedure s.alike;
       is_site = s.is_site;
       locals = same_numbers (local_numbers os) (owned_from (is_local_of p) 0 D.vars) l.0;
       statics = same_numbers (static_numbers os) (owned_from (is_static_of p) 0 D.vars) l.1;
@@ -242,14 +245,20 @@ no_array_declared D x e rank is none h = true≢false (sym h ∙ neither)
     array : Ty → Bool
     array ty = covers_type (element_type ty) && (is_array_of (element_type ty) ty && (covers_bounds ty x.bounds && not x.auto))
 
-    by : (b : Bool) → ((b && false) || (false || (b && false))) ≡ false
-    by true = refl
-    by false = refl
+    auto : Ty → Bool
+    auto ty = covers_auto_owner x.owner && ((is_class_type ty && covers_group_type D ty) && x.auto)
+
+    by : (b c : Bool) → ((b && false) || (false || ((b && false) || (c && false)))) ≡ false
+    by true true = refl
+    by true false = refl
+    by false true = refl
+    by false false = refl
 
     neither : covers_declared D x ≡ false
     neither =
-        ap (λ ty. scalar ty || ((covers_array_owner x.owner && array ty) || group ty)) is
-        ∙ ap (λ b. scalar (types.array e rank) || ((b && array (types.array e rank)) || group (types.array e rank))) none ∙ by (covers_owner x.owner)
+        ap (λ ty. scalar ty || ((covers_array_owner x.owner && array ty) || (group ty || auto ty))) is
+        ∙ ap (λ b. scalar (types.array e rank) || ((b && array (types.array e rank)) || (group (types.array e rank) || auto (types.array e rank)))) none
+        ∙ by (covers_owner x.owner) (covers_auto_owner x.owner)
 
 -- ---- lines
 

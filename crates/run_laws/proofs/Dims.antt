@@ -9,10 +9,10 @@ use Rattle.net_tree.specs.Tree as net_tree
 use Rattle.net_tree.specs.Types as words
 use Rattle.net_tree.specs.Types.{TypeName}
 use Rattle.run_base.specs.Outcomes.{gives, some_of, then}
-use Rattle.run_base.specs.Positions.{shared, whole}
+use Rattle.run_base.specs.Positions.{Root, whole}
 use Rattle.net_run.specs.Members.{Code}
-use Rattle.net_run.specs.Names.{declared_constant, is_class}
-use Rattle.net_run.specs.Program.{dim_made, made_once, object_static, static_at, static_key}
+use Rattle.net_run.specs.Names.{declared_constant}
+use Rattle.net_run.specs.Program.{dim_made, made_once, static_at, static_root}
 use Rattle.net_run.specs.Shapes as shape
 use Rattle.net_run.specs.Store as net
 use Rattle.net_run.specs.Structures.{initial_value}
@@ -107,7 +107,7 @@ variable_made U S facts c v r local =
 
 -- ---- Statics
 
--- The declaration of a Static makes one of its word at its key, where none is there.
+-- The declaration of a Static makes one of its word at its root, where none is there.
 pub record StaticMade (U : Upgrade) (S : Scope) (c : Code) (v : ℕ) (r : IsReadable U v) : Type 0 where
   pub word : TypeName
   pub is_word : scalar_word r.variable.ty ≡ Some word
@@ -115,14 +115,13 @@ pub record StaticMade (U : Upgrade) (S : Scope) (c : Code) (v : ℕ) (r : IsRead
   pub plain : made.value ≡ None
   pub shaped : shape.shape_of U.written c.home made.ty ≡ shape.scalar word
   pub is_made :
-      (me : Option ℕ) (i : ℕ) (w : net.Memory)
+      (me : Option ℕ) (i : ℕ) (at : Root) → static_root U.written c me i ≡ Some at → (w : net.Memory)
       → dim_made U.written c me i (own_dim S (own_variable v r.variable)) w
-      ≡ then (made_once U.written c.home (shared (static_key c i)) made (w.cell (whole (shared (static_key c i)))) w)
-      (λ u t. gives [] (r.variable.name, net.root (shape.scalar word) (whole (shared (static_key c i)))) t)
+      ≡ then (made_once U.written c.home at made (w.cell (whole at)) w) (λ u t. gives [] (r.variable.name, net.root (shape.scalar word) (whole at)) t)
 
-pub static_made : (U : Upgrade) (S : Scope) → S.facts ≡ U.facts → (c : Code) → is_class U.written c.home ≡ false → (v : ℕ) (r : IsReadable U v)
-    → is_static r.variable.owner ≡ true → StaticMade U S c v r
-static_made U S facts c outer v r static =
+pub static_made : (U : Upgrade) (S : Scope) → S.facts ≡ U.facts → (c : Code) (v : ℕ) (r : IsReadable U v) → is_static r.variable.owner ≡ true
+    → StaticMade U S c v r
+static_made U S facts c v r static =
     let x : Variable = r.variable in
     let a = both_true (covers_owner x.owner) (covers_type x.ty && not x.auto) r.covers in
     let m : WordOf x.ty = word_of x.ty (both_true (covers_type x.ty) (not x.auto) a.1).0 in
@@ -140,11 +139,10 @@ static_made U S facts c outer v r static =
       made = d;
       plain = refl;
       shaped = m.shaped U.written c.home;
-      is_made = λ me i w.
-          ap (λ e. dim_made U.written c me i e w) dim
-          ∙ ap (λ b. some_of (cond b (object_static (static_key c i) me) (Some (shared (static_key c i)))) (static_at U.written c.home d) w) outer
-          ∙ ap (λ s. then (made_once U.written c.home (shared (static_key c i)) d (w.cell (whole (shared (static_key c i)))) w)
-          (λ u t. gives [] (x.name, net.root s (whole (shared (static_key c i)))) t)) (m.shaped U.written c.home);
+      is_made = λ me i at stands w.
+          ap (λ e. dim_made U.written c me i e w) dim ∙ ap (λ o. some_of o (static_at U.written c.home d) w) stands
+          ∙ ap (λ s. then (made_once U.written c.home at d (w.cell (whole at)) w) (λ u t. gives [] (x.name, net.root s (whole at)) t))
+          (m.shaped U.written c.home);
     }
 
 -- ---- arrays
@@ -230,7 +228,7 @@ array_made U S facts c v element r local =
           (λ b t. gives [] (x.name, b) t));
     }
 
--- The declaration of a Static makes one at its key, where none is there.
+-- The declaration of a Static makes one at its root, where none is there.
 pub record ArrayStatic (U : Upgrade) (S : Scope) (c : Code) (v : ℕ) (element : Ty) (r : IsArray U v element) : Type 0 where
   pub word : TypeName
   pub is_word : scalar_word element ≡ Some word
@@ -239,14 +237,14 @@ pub record ArrayStatic (U : Upgrade) (S : Scope) (c : Code) (v : ℕ) (element :
   pub begins : made.value ≡ Some (array_initial U v word r.known.variable.bounds)
   pub shaped : shape.shape_of U.written c.home made.ty ≡ array_shape U v word
   pub is_made :
-      (me : Option ℕ) (i : ℕ) (w : net.Memory)
+      (me : Option ℕ) (i : ℕ) (at : Root) → static_root U.written c me i ≡ Some at → (w : net.Memory)
       → dim_made U.written c me i (own_dim S (own_variable v r.known.variable)) w
-      ≡ then (made_once U.written c.home (shared (static_key c i)) made (w.cell (whole (shared (static_key c i)))) w)
-      (λ u t. gives [] (r.known.variable.name, net.root (array_shape U v word) (whole (shared (static_key c i)))) t)
+      ≡ then (made_once U.written c.home at made (w.cell (whole at)) w)
+      (λ u t. gives [] (r.known.variable.name, net.root (array_shape U v word) (whole at)) t)
 
-pub array_static_made : (U : Upgrade) (S : Scope) → S.facts ≡ U.facts → (c : Code) → is_class U.written c.home ≡ false → (v : ℕ) (element : Ty)
-    (r : IsArray U v element) → is_static r.known.variable.owner ≡ true → ArrayStatic U S c v element r
-array_static_made U S facts c outer v element r static =
+pub array_static_made : (U : Upgrade) (S : Scope) → S.facts ≡ U.facts → (c : Code) (v : ℕ) (element : Ty) (r : IsArray U v element)
+    → is_static r.known.variable.owner ≡ true → ArrayStatic U S c v element r
+array_static_made U S facts c v element r static =
     let x : Variable = r.known.variable in
     let m : ArrayWritten U S v element r = array_written U S facts v element r in
     let e : net_tree.Exp = array_initial U v m.word x.bounds in
@@ -261,11 +259,9 @@ array_static_made U S facts c outer v element r static =
       made = d;
       begins = refl;
       shaped = m.listed c.home;
-      is_made = λ me i w.
-          ap (λ e. dim_made U.written c me i e w) dim
-          ∙ ap (λ b. some_of (cond b (object_static (static_key c i) me) (Some (shared (static_key c i)))) (static_at U.written c.home d) w) outer
-          ∙ ap (λ s. then (made_once U.written c.home (shared (static_key c i)) d (w.cell (whole (shared (static_key c i)))) w)
-          (λ u t. gives [] (x.name, net.root s (whole (shared (static_key c i)))) t)) (m.listed c.home);
+      is_made = λ me i at stands w.
+          ap (λ e. dim_made U.written c me i e w) dim ∙ ap (λ o. some_of o (static_at U.written c.home d) w) stands
+          ∙ ap (λ s. then (made_once U.written c.home at d (w.cell (whole at)) w) (λ u t. gives [] (x.name, net.root s (whole at)) t)) (m.listed c.home);
     }
 
 -- ---- constants

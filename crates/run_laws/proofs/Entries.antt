@@ -1,6 +1,6 @@
 -- The entry of a covered procedure makes frames that match.
-use Rattle.std.proofs.Common.{◌≡◌, refl, sym, ap, subst, ◌∙◌, ℕ, ◌+◌, arith, Bool, true, false, not, nat_eq, Option, Some, None, option_map, List, [], ◌∷◌, ◌++◌, map, ◌⊎◌, inl, inr, true≢false, ⊎_elim}
-use Rattle.std.specs.Prelude.{slice_get, ◌&&◌, ◌||◌}
+use Rattle.std.proofs.Common.{◌≡◌, refl, sym, ap, subst, ◌∙◌, ℕ, ◌+◌, arith, Bool, true, false, nat_eq, Option, Some, None, option_map, List, [], ◌∷◌, ◌++◌, map, ◌⊎◌, inl, inr, true≢false, ⊎_elim}
+use Rattle.std.specs.Prelude.{slice_get, ◌&&◌}
 use Rattle.std.specs.List.{list_any, list_all}
 use Rattle.written_trees.specs.Prologues.{is_static}
 use Rattle.std.specs.Map.{lookup}
@@ -12,7 +12,7 @@ use Rattle.net_tree.specs.Tree as net_tree
 use Rattle.net_tree.specs.Types.{TypeName}
 use Rattle.run_base.specs.Frames.{first_frame}
 use Rattle.run_base.specs.Outcomes.{Outcome, after, gives, some_of, then}
-use Rattle.run_base.specs.Positions.{Root, made, shared, whole}
+use Rattle.run_base.specs.Positions.{Root, made, whole}
 use Rattle.vb6_run.specs.Programs.{answer_in, entered_as, entry, is_local_of, is_static_of, lay_statics, made_each, owned_from, parameters}
 use Rattle.vb6_run.specs.Shapes.{variable_shape}
 use Rattle.vb6_run.specs.Store.{Address, Locked, Memory, SourceFrame, SourceGiven, locked_by, make}
@@ -36,11 +36,10 @@ use Rattle.run_matches.specs.Covered.{covers_parameter, covers_own, is_scalar_or
 use Rattle.run_matches.specs.Frames.{FrameMatch, HasNames, HasOwnObject, SameVariable, declared_names, dim_name, result_names, static_of, SameStatic, name_of, GivenAddress, frame_pledge, is_own_of, lines_of, stands_in, is_own_place, is_kept_from}
 use Rattle.run_matches.specs.CleanLines.{or_none}
 use Rattle.run_matches.specs.Callees.{answer_owns, own_of_some, parameter_owns}
-use Rattle.run_matches.specs.Maps.{Below, Mark, World, mark, key_or_none, moved_at}
+use Rattle.run_matches.specs.Maps.{Below, Mark, World, mark}
 use Rattle.run_matches.specs.Match.{MemoryMatch, StoreMatch}
 use Rattle.run_matches.specs.Pledges.{IsOld, Later, NetGiven, Pledge}
 use Rattle.run_matches.specs.Runs.{IsObject, call_pledge}
-use Rattle.run_matches.specs.Shared.{is_outer, others_differ}
 use Rattle.run_matches.specs.Sites.{Own, own_name, own_variable, owns_of, own_constant, local_numbers, static_number, static_numbers}
 use Rattle.run_matches.specs.Upgrades.{Upgrade, home_of, runnable_of, is_auto}
 use Rattle.run_statements.specs.Frames.{HasRankOf, IsUsable}
@@ -57,16 +56,16 @@ use Rattle.name_laws.proofs.FrameNames.{own_names, parameter_names}
 use Rattle.name_laws.proofs.Lists.{Among, all_among, among_right, flat_among, map_append}
 use Rattle.name_laws.proofs.Owned.{owned_is}
 use Rattle.name_laws.proofs.Owns.{number_if, own_is}
-use Rattle.run_laws.specs.Entered.{AllKeyed, AllSound, GivenVariable, IsResult, LocalsMatch, OwnPlace, RunMatch, StaticMatch, next_constant, next_static, next_variable, no_locals}
+use Rattle.run_laws.specs.Entered.{AllKeyed, AllSound, GivenVariable, IsHolder, IsResult, LocalsMatch, OwnPlace, RunMatch, StaticMatch, static_in, next_constant, next_static, next_variable, no_locals}
 use Rattle.run_laws.specs.Premises.{ArraysHaveRanks, GetsAreFirst, GroupsAreWritten, MakesAlike}
 use Rattle.run_laws.proofs.Covered.{CoveredProcedure}
-use Rattle.run_laws.proofs.Heads.{HasAnswer, HasNone, Parameter, a_result, answer_names, answer_parts, no_result, parameter_belongs, parameter_is}
+use Rattle.run_laws.proofs.Heads.{HasAnswer, HasNone, Parameter, a_result, answer_names, answer_parts, no_result, parameter_belongs, parameter_given, parameter_is}
 use Rattle.run_laws.proofs.Names.{code_is}
 use Rattle.run_laws.proofs.Pledged.{call_is_weaker, frame_with}
 use Rattle.run_laws.proofs.Owns.{owns_sound}
-use Rattle.run_laws.proofs.Outside.{static_outside}
+use Rattle.run_laws.proofs.StaticPlaces.{HasHolder, holder_is, holder_later, if_declared}
 use Rattle.run_laws.proofs.Passing.{passing_listed}
-use Rattle.run_laws.proofs.Usable.{result_usable}
+use Rattle.run_laws.proofs.Usable.{result_usable, taken_is, taken_usable}
 use Rattle.run_laws.proofs.StaticOrder.{each_next, in_order, made_in_order, statics_laid}
 use Rattle.run_laws.proofs.StaticKeys.{IsDeclaredOwn, StaticFound, all_keyed, static_found, static_there}
 use Rattle.run_laws.proofs.Locals.{Found, listed_behind, local_found, local_later, local_listed, local_names, local_places, local_there, locals_later}
@@ -76,7 +75,7 @@ use Rattle.run_laws.proofs.ParametersMade.{Local}
 use Rattle.run_laws.proofs.AnswerTypes.{AnswerTyped, answer_typed}
 use Rattle.run_laws.proofs.ResultsMade.{ResultMade, result_made}
 use Rattle.run_laws.proofs.Standing.{different_behind, made_object, module_in_is, nothing_by, nothing_kept, plain_place, ending_owns, static_declared, static_root_is, no_place_kept, none_kept_from}
-use Rattle.up_base.proofs.Tests.{both_true, either}
+use Rattle.up_base.proofs.Tests.{either}
 
 none_before : (j : ℕ) → 0 + j ≡ j
 none_before j = omega arith
@@ -125,14 +124,16 @@ module _ (U : Upgrade) (p : ℕ) (c : CoveredProcedure U.program p) (W : Written
   sound_append (a ∷ ks) bs h k = (h.0, sound_append ks bs h.1 k)
 
   pub parameter_sound : AreParameters U p
-  parameter_sound v q = usable v.0 q.variable q.is_variable (parameter_belongs p q.variable.owner q.parameter) q.loud
+  parameter_sound v q =
+      taken_is U v.0 q.variable q.is_variable (parameter_given p q.variable.owner q.parameter)
+      (usable v.0 q.variable q.is_variable (parameter_belongs p q.variable.owner q.parameter) q.loud)
 
   parameters_sound : (vs : List VarId) → list_all (covers_parameter U.program p) vs ≡ true → AllSound U S (parameter_owns D vs)
   parameters_sound [] h = tt
   parameters_sound (v ∷ vs) h =
       let q : Parameter U.program p v = parameter_is U.program p v (all_first (covers_parameter U.program p) v vs h) in
       sound_append (own_of_some v.0 (slice_get D.vars v.0)) (parameter_owns D vs)
-      (subst (λ o. AllSound U S (own_of_some v.0 o)) (sym q.is_variable) ((parameter_sound v q, q.is_variable), tt))
+      (subst (λ o. AllSound U S (own_of_some v.0 o)) (sym q.is_variable) ((taken_usable U v.0 (parameter_sound v q), q.is_variable), tt))
       (parameters_sound vs (all_rest (covers_parameter U.program p) v vs h))
 
   answers_sound : HasNone x ⊎ HasAnswer D p x → AllSound U S (answer_owns D x.answer)
@@ -171,7 +172,8 @@ module _ (U : Upgrade) (p : ℕ) (c : CoveredProcedure U.program p) (W : Written
 
     -- the frames that are made of their variables
     module _ (w u : World) (lat : Later U K w u) (obj : IsObject w me) (own : HasOwnObject U w p me) (env : Locked) (held : AllLocked U K w env) (low : Below base (mark w.src))
-        (ks : List (ℕ × Address)) (bs : List (List ℕ × net.Address)) (m : LocalsMatch U K u all ks bs) where
+        (hold : HasHolder U w x c.site W.code me) (ks : List (ℕ × Address)) (bs : List (List ℕ × net.Address))
+        (m : LocalsMatch U K hold.holder u all ks bs) where
       abbrev f : SourceFrame
       f = first_frame me env ks
 
@@ -179,7 +181,7 @@ module _ (U : Upgrade) (p : ℕ) (c : CoveredProcedure U.program p) (W : Written
       g = first_frame (option_map w.map.objects me) tt bs
 
       found_at : (v : ℕ) (a : Address) → lookup (nat_eq v) ks ≡ Some a → Found U K u v a all bs
-      found_at v a e = local_found U S K u all ks bs m all_sound c.different v a e
+      found_at v a e = local_found U S K hold.holder u all ks bs m all_sound c.different v a e
 
       plain_of : (v : ℕ) (a : Address) → OwnPlace U K u v a ⊎ GivenVariable U u v a → is_auto U v ≡ false → IsPlain U u a
       plain_of v a (inl k) auto = plain_place U u v a k.place auto
@@ -212,17 +214,15 @@ module _ (U : Upgrade) (p : ℕ) (c : CoveredProcedure U.program p) (W : Written
             plain = plain_of v a z.match.standing;
           }
 
-      static_match : (v : ℕ) (z : Variable) → Among os (own_variable v z) → is_static z.owner ≡ true → SameStatic U u v (shared (v ∷ [])) g
+      static_match : (v : ℕ) (z : Variable) → Among os (own_variable v z) → is_static z.owner ≡ true → SameStatic U u v (static_in hold.holder v) g
       static_match v z own static =
           let there = among_right (parameter_owns D x.params) others (own_variable v z) (among_right (answer_owns D x.answer) os (own_variable v z) own) in
-          let t : StaticFound U u v z bs = static_found U K u v z static all ks bs m c.different there in
+          let t : StaticFound U hold.holder u v z bs = static_found U K hold.holder u v z static all ks bs m c.different there in
           let named : name_of U v ≡ z.name = ap (λ o. variable_name_of o) (own_is D c.site (own_variable v z) own) in
-          let s : StaticMatch U u v t.address = t.match in
-          let standing : net.root s.written (moved_at U u.map (whole (shared (v ∷ [])))) ≡ t.address =
-          ap (λ o. net.root s.written (whole (shared (key_or_none o)))) s.is_key ∙ sym s.stands in
+          let s : StaticMatch U hold.holder u v t.address = t.match in
           record {
             written = s.written;
-            found = ap (λ n. var_in bs n) named ∙ t.found ∙ ap (λ b. Some b) (sym standing);
+            found = ap (λ n. var_in bs n) named ∙ t.found ∙ ap (λ b. Some b) s.stands;
             same = s.same;
             is_matched = s.matched;
             ranked = s.ranked;
@@ -232,7 +232,7 @@ module _ (U : Upgrade) (p : ℕ) (c : CoveredProcedure U.program p) (W : Written
       static_there_is v r e =
           let y = static_declared U p me v r (slice_get D.vars v) refl e in
           let z = static_there D p v y.0 os c.statics y.1 y.2 in
-          subst (λ q. SameStatic U u v q g) (static_root_is U p x me v r c.is_procedure (static_outside D x c.site c.outside v z.0 z.1 z.2).1 y.3)
+          subst (λ q. SameStatic U u v q g) (static_root_is U p x me hold.holder v r c.is_procedure (if_declared D c.site hold.source v z.0 z.1 z.2 v) y.3)
           (static_match v z.0 z.1 z.2)
 
       frames_match : FrameMatch U K u p f g
@@ -244,7 +244,7 @@ module _ (U : Upgrade) (p : ℕ) (c : CoveredProcedure U.program p) (W : Written
         me = sym (object_later w u me lat.extends obj);
         me_made = made_object w u me lat.grows.objects obj;
         own_object = own_object_later U K w u p me lat own;
-        names = subst (λ o. HasNames o g) (sym (code_is U p c.site x W)) (local_names U S K u all ks bs m ∙ all_names);
+        names = subst (λ o. HasNames o g) (sym (code_is U p c.site x W)) (local_names U S K hold.holder u all ks bs m ∙ all_names);
         vars = λ v a e flag. variable_at v a e;
         statics = λ v r e flag. static_there_is v r e;
         own = λ v a e is. (place_of v a (found_at v a e).match.standing is).place;
@@ -253,11 +253,11 @@ module _ (U : Upgrade) (p : ℕ) (c : CoveredProcedure U.program p) (W : Written
         covered_heads = λ h l is covers. nothing_by ks l.source.form l.bindings.exprs;
         covered_withs = λ h l is covers with. no_place_kept U K u l.bindings.exprs;
         has_locals = λ v is.
-            local_there U S K u all ks bs m v
+            local_there U S K hold.holder u all ks bs m v
             (listed_behind v (parameter_owns D x.params) others
             (listed_behind v (answer_owns D x.answer) os
             (subst (λ ns. list_any (nat_eq v) ns ≡ true) (sym c.locals) (local_listed p v 0 v D.vars is (omega arith)))));
-        has_passing = λ v is. local_there U S K u all ks bs m v (passing_listed U.program p c v is);
+        has_passing = λ v is. local_there U S K hold.holder u all ks bs m v (passing_listed U.program p c v is);
         locks = locks_later U K w u env lat held;
         low = below_then base (mark w.src) (mark u.src) low lat.grows;
       }
@@ -267,7 +267,7 @@ module _ (U : Upgrade) (p : ℕ) (c : CoveredProcedure U.program p) (W : Written
 
       places_are_new : (n : ℕ) → is_own_place U p f n ≡ true → IsOld K (made n) → ⊥
       places_are_new n e =
-          ⊎_elim (λ own. local_places U S K u p all ks bs m n own) (λ kept. absurd (none_kept_from U p f n (λ h. refl) 1 (lines_of U p) kept))
+          ⊎_elim (λ own. local_places U S K hold.holder u p all ks bs m n own) (λ kept. absurd (none_kept_from U p f n (λ h. refl) 1 (lines_of U p) kept))
           (either (list_any (λ (x : ℕ × Address). is_own_of U p x.0 && stands_in n x.1) ks) (is_kept_from U p f n 1 (lines_of U p)) e)
 
       run_match : RunMatch U K p me u f g
@@ -289,23 +289,26 @@ module _ (U : Upgrade) (p : ℕ) (c : CoveredProcedure U.program p) (W : Written
     sound : AllSound U S os
     sound = owns_sound U p c.site x W kept
 
-    outer_home : c.site.source_module.class ≡ false → is_class U.written W.code.home ≡ false
-    outer_home standard =
-        ap (is_class U.written) W.home ∙ ap is_class_at (module_in_is U.written.modules c.site.home) ∙ ap is_class_at W.is_module ∙ standard
+    -- it is written in a class where it stands in one
+    written_class : is_class U.written W.code.home ≡ c.site.source_module.class
+    written_class = ap (is_class U.written) W.home ∙ ap is_class_at (module_in_is U.written.modules c.site.home) ∙ ap is_class_at W.is_module
 
-    declared_own : (o : Own) → Among os o → IsDeclaredOwn U p W.code (code_is U p c.site x W) S o
-    declared_own (own_variable v y) m =
+    holder_at : (w : World) → HasOwnObject U w p me → HasHolder U w x c.site W.code me
+    holder_at w own = holder_is U w p x c.site W.code me c.is_procedure c.alike written_class own
+
+    declared_own : (w : World) (hold : HasHolder U w x c.site W.code me) (o : Own) → Among os o
+        → IsDeclaredOwn U p W.code (code_is U p c.site x W) S (option_map w.map.objects me) hold.net_holder o
+    declared_own w hold (own_variable v y) m =
         let is : slice_get D.vars v ≡ Some y = own_is D c.site (own_variable v y) m in (
           is,
           λ static. (
             owned_is (is_static_of p) D.vars v y
                 (subst (λ ns. Among ns v) c.statics (flat_among static_number os (own_variable v y) v m (number_if (is_static y.owner) v static))) is,
-            outer_home (static_outside D x c.site c.outside v y m static).0,
+            if_declared D c.site hold.target v y m static,
           ),
-          (both_true (others_differ (is_static_of p) v y.name 0 D.vars) (not (is_static y.owner) || is_outer D (slice_get D.procs p))
-              (all_among (covers_own D p) os (own_variable v y) c.owns m)).0,
+          all_among (covers_own D p) os (own_variable v y) c.owns m,
         )
-    declared_own (own_constant d y) m = tt
+    declared_own w hold (own_constant d y) m = tt
 
     own_different : are_different (map own_name os) ≡ true
     own_different =
@@ -315,17 +318,19 @@ module _ (U : Upgrade) (p : ℕ) (c : CoveredProcedure U.program p) (W : Written
         (map_append own_name (parameter_owns D x.params) others
         ∙ ap (λ ns. map own_name (parameter_owns D x.params) ++ ns) (map_append own_name (answer_owns D x.answer) os)) c.different))
 
-    keyed : AllKeyed U W.code 0 os
-    keyed = all_keyed U p W.code (code_is U p c.site x W) S [] os kept.prologue (λ o m. tt) own_different declared_own
+    keyed : (w : World) (hold : HasHolder U w x c.site W.code me) → AllKeyed U W.code (option_map w.map.objects me) hold.net_holder 0 os
+    keyed w hold =
+        all_keyed U p W.code (code_is U p c.site x W) S (option_map w.map.objects me) hold.net_holder [] os kept.prologue (λ o m. tt) own_different
+        (declared_own w hold)
 
     -- they could as well be laid where they stand among the local variables
-    ordered : {A : Type 0} (G : List (ℕ × Address) → Memory → Outcome Memory A) (w : Memory)
+    ordered : (v : World) (hold : HasHolder U v x c.site W.code me) {A : Type 0} (G : List (ℕ × Address) → Memory → Outcome Memory A) (w : Memory)
         → then (made_each D (local_numbers os) w) (λ more w. then (lay_statics D me (Some x.module_number) (static_numbers os) w) (λ u w. G more w))
-        ≡ then (made_in_order D os w) G
-    ordered G w =
+        ≡ then (made_in_order D hold.holder os w) G
+    ordered v hold G w =
         ap (λ f. then (made_each D (local_numbers os) w) f)
-        (λ i more v. then (statics_laid D x c.site c.outside me v i) (λ u z. G more z))
-        ∙ in_order D os (ending_owns U S os sound) G w
+        (λ i more v. then (statics_laid D x c.site me hold.holder hold.source v i) (λ u z. G more z))
+        ∙ in_order D hold.holder os (ending_owns U S os sound) G w
 
     -- ---- the result variable and what the lines declare
 
@@ -342,52 +347,57 @@ module _ (U : Upgrade) (p : ℕ) (c : CoveredProcedure U.program p) (W : Written
     abbrev all_others : Option VarId → Memory → Outcome Memory (List (ℕ × Address))
     all_others a w = source_others (answer_in a) (static_numbers os) (local_numbers os) w
 
-    others_agree : (w : World) (to : Option ℕ) → HasNone x ⊎ HasAnswer D p x → Below base (mark w.src) → MemoryMatch U w
-        → Agrees U K w (Locals U K others) (all_others x.answer w.src) (net_others (result_of W.code) to w.net)
-    others_agree w to (inl h) low start =
+    others_agree : (v : World) (hold : HasHolder U v x c.site W.code me) (w : World) → IsHolder w hold.holder hold.net_holder → HasNone x ⊎ HasAnswer D p x
+        → Below base (mark w.src) → MemoryMatch U w
+        → Agrees U K w (Locals U K hold.holder others) (all_others x.answer w.src) (net_others (result_of W.code) (option_map v.map.objects me) w.net)
+    others_agree v hold w of (inl h) low start =
+        let to = option_map v.map.objects me in
         let r = all_others None w.src in
         let r' = dims_made U.written W.code to 0 (map (own_dim S) os) w.net in
-        subst (λ a. Agrees U K w (Locals U K (answer_owns D a ++ os)) (all_others a w.src) (net_others (result_of W.code) to w.net))
+        subst (λ a. Agrees U K w (Locals U K hold.holder (answer_owns D a ++ os)) (all_others a w.src) (net_others (result_of W.code) to w.net))
         (sym h.is_answer)
-        (subst (λ z. Agrees U K w (Locals U K os) r (net_others z to w.net)) (sym (no_result U p c.site x W h))
-        (right_alone U K w (Locals U K os) r (then r' (λ dims t. gives [] dims t))
-        (subst (λ z. Agrees U K w (Locals U K os) r z) (sym (then_gives r'))
-        (subst (λ z. Agrees U K w (Locals U K os) z r') (sym (ordered (λ more w. gives [] more w) w.src ∙ then_gives (made_in_order D os w.src)))
-        (locals_agree U K makes ranked groups S refl refl W.code home to w 0 os sound keyed low start)))))
-    others_agree w to (inr h) low start =
+        (subst (λ z. Agrees U K w (Locals U K hold.holder os) r (net_others z to w.net)) (sym (no_result U p c.site x W h))
+        (right_alone U K w (Locals U K hold.holder os) r (then r' (λ dims t. gives [] dims t))
+        (subst (λ z. Agrees U K w (Locals U K hold.holder os) r z) (sym (then_gives r'))
+        (subst (λ z. Agrees U K w (Locals U K hold.holder os) z r')
+        (sym (ordered v hold (λ more w. gives [] more w) w.src ∙ then_gives (made_in_order D hold.holder os w.src)))
+        (locals_agree U K makes ranked groups S refl refl W.code home to hold.holder hold.net_holder w 0 os sound (keyed v hold) of low start)))))
+    others_agree v hold w of (inr h) low start =
+        let to = option_map v.map.objects me in
         let y : Variable = h.variable in
         let typed : AnswerTyped U H x h.variable.ty = answer_typed U c.site p x h c.joined c.is_procedure firsts in
         let M : ResultMade U groups c.site W.code.home home p x h typed K makes =
         result_made U groups c.site W.code.home home p x h typed K makes (answers h) in
         let s = variable_shape D h.id.0 in
         let ds = map (own_dim S) os in
-        let R = Locals U K (own_variable h.id.0 y ∷ os) in
+        let R = Locals U K hold.holder (own_variable h.id.0 y ∷ os) in
         let made = net.made_with M.written (shape.default_of M.written) w.net in
         let rest = λ (own : List (List ℕ × net.Address)) (t : net.Memory). then (dims_made U.written W.code to 0 ds t) (λ dims t. gives [] (own ++ dims) t) in
         let all_made = all_others (Some h.id) w.src in
         let in_order_made =
-        then (make s w.src) (λ a v. then (made_in_order D os v) (λ more v. gives [] ((h.id.0, a) ∷ more) v)) in
+        then (make s w.src) (λ a v. then (made_in_order D hold.holder os v) (λ more v. gives [] ((h.id.0, a) ∷ more) v)) in
         let reordered : all_made ≡ in_order_made =
         each_next D h.id.0 (local_numbers os) (λ more v. then (lay_statics D me (Some x.module_number) (static_numbers os) v) (λ u v. gives [] more v)) w.src
-        ∙ ap (λ k. then (make s w.src) k) (λ i a v. ordered (λ more v. gives [] ((h.id.0, a) ∷ more) v) v i) in
-        subst (λ a. Agrees U K w (Locals U K (answer_owns D a ++ os)) (all_others a w.src) (net_others (result_of W.code) to w.net))
+        ∙ ap (λ k. then (make s w.src) k) (λ i a z. ordered v hold (λ more z. gives [] ((h.id.0, a) ∷ more) z) z i) in
+        subst (λ a. Agrees U K w (Locals U K hold.holder (answer_owns D a ++ os)) (all_others a w.src) (net_others (result_of W.code) to w.net))
         (sym h.is_answer)
-        (subst (λ o. Agrees U K w (Locals U K (own_of_some h.id.0 o ++ os)) all_made (net_others (result_of W.code) to w.net)) (sym h.is_variable)
+        (subst (λ o. Agrees U K w (Locals U K hold.holder (own_of_some h.id.0 o ++ os)) all_made (net_others (result_of W.code) to w.net)) (sym h.is_variable)
         (subst (λ z. Agrees U K w R all_made (net_others z to w.net)) (sym (a_result U p c.site x W h))
         (subst (λ z. Agrees U K w R all_made (then (then (net.made_with z (shape.default_of z) w.net) (λ a t. gives [] ((x.name, a) ∷ []) t)) rest)) (sym M.shaped)
         (subst (λ z. Agrees U K w R all_made z) (sym (then_assoc made (λ a t. gives [] ((x.name, a) ∷ []) t) rest))
         (subst (λ z. Agrees U K w R z (then made (λ b t. after [] (then (dims_made U.written W.code to 0 ds t) (λ dims t. gives [] ((x.name, b) ∷ dims) t)))))
         (sym reordered)
         (then_agrees U K w (Local U K h.id.0) R (make s w.src) made
-        (λ a s. then (made_in_order D os s) (λ more s. gives [] ((h.id.0, a) ∷ more) s))
+        (λ a s. then (made_in_order D hold.holder os s) (λ more s. gives [] ((h.id.0, a) ∷ more) s))
         (λ b t. after [] (then (dims_made U.written W.code to 0 ds t) (λ dims t. gives [] ((x.name, b) ∷ dims) t))) start
         (M.made w low start)
         (λ a b u n later.
-        right_alone U K u R (then (made_in_order D os u.src) (λ more s. gives [] ((h.id.0, a) ∷ more) s))
+        right_alone U K u R (then (made_in_order D hold.holder os u.src) (λ more s. gives [] ((h.id.0, a) ∷ more) s))
         (then (dims_made U.written W.code to 0 ds u.net) (λ dims t. gives [] ((x.name, b) ∷ dims) t))
-        (then_agrees U K u (Locals U K os) R (made_in_order D os u.src) (dims_made U.written W.code to 0 ds u.net)
+        (then_agrees U K u (Locals U K hold.holder os) R (made_in_order D hold.holder os u.src) (dims_made U.written W.code to 0 ds u.net)
         (λ more s. gives [] ((h.id.0, a) ∷ more) s) (λ dims t. gives [] ((x.name, b) ∷ dims) t) later.match
-        (locals_agree U K makes ranked groups S refl refl W.code home to u 0 os sound keyed (below_then base (mark w.src) (mark u.src) low later.grows) later.match)
+        (locals_agree U K makes ranked groups S refl refl W.code home to hold.holder hold.net_holder u 0 os sound (keyed v hold)
+        (holder_later U K w u hold.holder hold.net_holder later of) (below_then base (mark w.src) (mark u.src) low later.grows) later.match)
         (λ ks bs z ms more.
         agrees_gives U K z R ((h.id.0, a) ∷ ks) ((x.name, b) ∷ bs) more.match
         (next_variable h.id.0 y a (x.name, b) os ks bs (ap is_static h.owner) (sym h.name) (local_later U K u z h.id.0 a b later.match more n) ms))))))))))
@@ -451,15 +461,15 @@ module _ (U : Upgrade) (p : ℕ) (c : CoveredProcedure U.program p) (W : Written
         ∙ ap (λ params. ps params (target_rest to)) W.params
 
     -- variables of both lists
-    match_append : (u : World) (ks bs : List Own) (ds es : List (ℕ × Address)) (gs hs : List (List ℕ × net.Address)) → LocalsMatch U K u ks ds gs
-        → LocalsMatch U K u bs es hs → LocalsMatch U K u (ks ++ bs) (ds ++ es) (gs ++ hs)
-    match_append u _ bs _ es _ hs no_locals m = m
-    match_append u _ bs _ es _ hs (next_variable v y a b os ds gs local name one rest) m =
-        next_variable v y a b (os ++ bs) (ds ++ es) (gs ++ hs) local name one (match_append u os bs ds es gs hs rest m)
-    match_append u _ bs _ es _ hs (next_static v y b os ds gs static name one rest) m =
-        next_static v y b (os ++ bs) (ds ++ es) (gs ++ hs) static name one (match_append u os bs ds es gs hs rest m)
-    match_append u _ bs _ es _ hs (next_constant k y b os ds gs name rest) m =
-        next_constant k y b (os ++ bs) (ds ++ es) (gs ++ hs) name (match_append u os bs ds es gs hs rest m)
+    match_append : (holder : Option ℕ) (u : World) (ks bs : List Own) (ds es : List (ℕ × Address)) (gs hs : List (List ℕ × net.Address))
+        → LocalsMatch U K holder u ks ds gs → LocalsMatch U K holder u bs es hs → LocalsMatch U K holder u (ks ++ bs) (ds ++ es) (gs ++ hs)
+    match_append holder u _ bs _ es _ hs no_locals m = m
+    match_append holder u _ bs _ es _ hs (next_variable v y a b os ds gs local name one rest) m =
+        next_variable v y a b (os ++ bs) (ds ++ es) (gs ++ hs) local name one (match_append holder u os bs ds es gs hs rest m)
+    match_append holder u _ bs _ es _ hs (next_static v y b os ds gs static name one rest) m =
+        next_static v y b (os ++ bs) (ds ++ es) (gs ++ hs) static name one (match_append holder u os bs ds es gs hs rest m)
+    match_append holder u _ bs _ es _ hs (next_constant k y b os ds gs name rest) m =
+        next_constant k y b (os ++ bs) (ds ++ es) (gs ++ hs) name (match_append holder u os bs ds es gs hs rest m)
 
     pub entries_agree : (w0 w : World) → StoreMatch U w0 → ArgsMatch U K w0 p 0 xs ys → Later U K w0 w → IsObject w me → HasOwnObject U w p me → AllLocked U K w locked
         → Below base (mark w.src) → MemoryMatch U w
@@ -467,22 +477,27 @@ module _ (U : Upgrade) (p : ℕ) (c : CoveredProcedure U.program p) (W : Written
         (enter U.written W.number (option_map w.map.objects me) tt ys w.net)
     entries_agree w0 w start args l obj own held low h =
         let to = option_map w.map.objects me in
+        let hold : HasHolder U w x c.site W.code me = holder_at w own in
         let R = RunMatch U K p me in
         let placed = λ (j : ℕ). ap (λ o. slice_get (params_at o) (0 + j)) c.is_procedure ∙ ap (λ n. slice_get x.params n) (none_before j) in
         let r = parameters (runnable_of U) p 0 x.params xs w.src in
         let r' = target.parameters U.written W.code.home (heads.params_of H part x.params) ys w.net in
         subst (λ z. Agrees U K w R z (enter U.written W.number to tt ys w.net)) (sym (source_entry w.src))
         (subst (λ z. Agrees U K w R (then r source_rest) z) (sym (target_entry to w.net))
-        (then_agrees U K w (Parameters U p groups H refl refl W.code.home home part is_part K makes w0 start parameter_sound x.params) R r r' source_rest
-        (target_rest to) h
-        (parameters_agree U p groups H refl refl W.code.home home part is_part K makes w0 start parameter_sound x.params c.params 0 placed xs ys args w l low h)
+        (then_agrees U K w (Parameters U p groups H refl refl W.code.home home part is_part K hold.holder makes w0 start parameter_sound x.params) R r r'
+        source_rest (target_rest to) h
+        (parameters_agree U p groups H refl refl W.code.home home part is_part K hold.holder makes w0 start parameter_sound x.params c.params 0 placed xs ys args
+        w l low h)
         (λ ds gs u m later.
-        then_agrees U K u (Locals U K others) R (all_others x.answer u.src) (net_others (result_of W.code) to u.net)
+        then_agrees U K u (Locals U K hold.holder others) R (all_others x.answer u.src) (net_others (result_of W.code) to u.net)
         (λ more w. gives [] (begun_frame me (locked_by xs ++ locked) (ds ++ more)) w) (λ more t. gives [] (net_begun to (gs ++ more)) t) later.match
-        (others_agree u to result (below_then base (mark w.src) (mark u.src) low later.grows) later.match)
+        (others_agree w hold u (holder_later U K w u hold.holder hold.net_holder later hold.is_holder) result
+        (below_then base (mark w.src) (mark u.src) low later.grows) later.match)
         (λ es hs z n more.
         let lat : Later U K w z = later_then U K w u z h later more in
         agrees_gives U K z R (begun_frame me (locked_by xs ++ locked) (ds ++ es)) (net_begun to (gs ++ hs)) more.match
         (run_match w z lat obj own (locked_by xs ++ locked)
-        (locks_joined U K w (locked_by xs) locked (locks_later U K w0 w (locked_by xs) l (locks_given U K w0 p 0 xs ys args)) held) low (ds ++ es) (gs ++ hs)
-        (match_append z (parameter_owns D x.params) others ds es gs hs (locals_later U K u z (parameter_owns D x.params) ds gs later.match more m) n))))))
+        (locks_joined U K w (locked_by xs) locked (locks_later U K w0 w (locked_by xs) l (locks_given U K w0 p 0 xs ys args)) held) low hold
+        (ds ++ es) (gs ++ hs)
+        (match_append hold.holder z (parameter_owns D x.params) others ds es gs hs
+        (locals_later U K hold.holder u z (parameter_owns D x.params) ds gs later.match more m) n))))))

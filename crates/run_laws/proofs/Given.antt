@@ -31,10 +31,11 @@ use Rattle.run_matches.specs.SoundShapes.{IsSoundShape}
 use Rattle.run_matches.specs.Upgrades.{Upgrade, parameter_rank}
 use Rattle.run_matches.specs.UserTypes.{is_group_type}
 use Rattle.run_statements.specs.Arrays.{array_shape}
-use Rattle.run_statements.specs.Frames.{HasRankOf, IsArray, IsReadable, IsUsable}
+use Rattle.run_statements.specs.Frames.{HasRankOf, IsArray, IsReadable}
 use Rattle.expression_laws.proofs.Types.{same_of}
 use Rattle.memory_laws.proofs.Making.{readable_shape, readable_type}
 use Rattle.agreeing_laws.proofs.Agreeing.{agrees_outside}
+use Rattle.run_laws.specs.Entered.{IsTaken}
 use Rattle.run_laws.proofs.Covered.{some_is}
 use Rattle.run_laws.proofs.Usable.{array_shape_is, group_type_is, result_declared, result_shape}
 
@@ -97,7 +98,7 @@ sound_stands : (U : Upgrade) (d : Shape) → IsSoundShape U d → IsDeclaredShap
 sound_stands U d c whole a s q e declared h =
     stands_itself d a q (e ∙ ap (λ z. root z q) (sound_same U d s c whole (subst (λ z. IsDeclaredAt U z) e declared) (address_same d s a q e h)))
 
-stands_as : (U : Upgrade) (v : ℕ) → IsUsable U v → (a : Address) (s : Shape) (q : Position) → a ≡ root s q → IsDeclaredAt U a
+stands_as : (U : Upgrade) (v : ℕ) → IsTaken U v → (a : Address) (s : Shape) (q : Position) → a ≡ root s q → IsDeclaredAt U a
     → is_address_of (variable_shape U.program.declarations v) a ≡ true → StandsAs (variable_shape U.program.declarations v) a q
 stands_as U v (inl r) a s q e declared h =
     let d : Shape = variable_shape U.program.declarations v in
@@ -119,7 +120,7 @@ sound_element U (group t fs) c a x h = absurd (true≢false (sym h))
 sound_element U (array e bounds) c a x h = absurd c
 sound_element U endless c a x h = absurd c
 
-element_stands : (U : Upgrade) (v : ℕ) → IsUsable U v → (a : Address) (x : IsElement a) → is_address_of (variable_shape U.program.declarations v) a ≡ true
+element_stands : (U : Upgrade) (v : ℕ) → IsTaken U v → (a : Address) (x : IsElement a) → is_address_of (variable_shape U.program.declarations v) a ≡ true
     → StandsAs (variable_shape U.program.declarations v) a x.array
 element_stands U v (inl r) a x h =
     let d : Shape = variable_shape U.program.declarations v in
@@ -148,7 +149,7 @@ scalar_declared U v r a (inl p) h = scalar_at U v r a p.shape (record { root = m
 scalar_declared U v r a (inr (inl k)) h = scalar_at U v r a k.of_shape (record { root = shared (k.variable ∷ []); path = k.path }) k.stands h
 scalar_declared U v r a (inr (inr k)) h = scalar_at U v r a k.of_shape (record { root = field k.object (k.variable ∷ []); path = k.path }) k.stands h
 
-module _ (U : Upgrade) (v : ℕ) (r : IsUsable U v) where
+module _ (U : Upgrade) (v : ℕ) (r : IsTaken U v) where
   -- an address of the parameter's shape that can be written
   pub given_place : (a : Address) → IsTarget U a → IsDeclaredAt U a → is_address_of (variable_shape U.program.declarations v) a ≡ true → GivenPlace U v a
   given_place a (inl (inl p)) declared h = record {

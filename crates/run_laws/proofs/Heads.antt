@@ -22,7 +22,7 @@ use Rattle.written_trees.specs.Heads as heads
 use Rattle.written_trees.specs.Heads.{is_function}
 use Rattle.written_trees.specs.Names.{Scope}
 use Rattle.run_matches.specs.Callees.{answer_owns, own_of_some}
-use Rattle.run_matches.specs.CoveredVariables.{belongs_to, covers_type, is_loud_owner}
+use Rattle.run_matches.specs.CoveredVariables.{belongs_to, covers_auto_owner, covers_type, is_loud_owner}
 use Rattle.run_matches.specs.CoveredExprs.{takes_value}
 use Rattle.run_matches.specs.Covered.{covers_joined, covers_parameter, has_answer, has_result, is_answer_of, is_result_in, is_parameter_of, is_scalar_or_loud, is_taken_in}
 use Rattle.run_matches.specs.Frames.{result_names}
@@ -56,6 +56,12 @@ pub parameter_belongs : (p : ℕ) (o : Owner) → is_parameter_of p o ≡ true �
 parameter_belongs p (owner.Value q) h = h
 parameter_belongs p (owner.Reference q) h = h
 parameter_belongs p _ h = absurd (true≢false (sym h))
+
+-- it is no As New one
+pub parameter_given : (p : ℕ) (o : Owner) → is_parameter_of p o ≡ true → covers_auto_owner o ≡ false
+parameter_given p (owner.Value q) h = refl
+parameter_given p (owner.Reference q) h = refl
+parameter_given p _ h = absurd (true≢false (sym h))
 
 -- ---- the result variable
 

@@ -1,4 +1,4 @@
-pub mod Outside
+pub mod StaticPlaces
 pub mod Covered
 pub mod Parts
 pub mod Keeping
@@ -26,6 +26,7 @@ pub mod Reaching
 pub mod Ways
 pub mod Receiving
 pub mod Callees
+pub mod GivenClasses
 pub mod Making
 pub mod Turns
 pub mod Lines

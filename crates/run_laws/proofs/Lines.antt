@@ -23,13 +23,13 @@ use Rattle.run_matches.specs.Sites.{Site, site_of}
 use Rattle.run_matches.specs.Upgrades.{Upgrade, code_of, runnable_of}
 use Rattle.run_statements.specs.Fitting.{FitsLine, FitsNode}
 use Rattle.run_statements.specs.Frames.{AreReadable, IsOpen}
-use Rattle.run_statements.specs.Kept.{IsUnreplaced, LineStands, LinesAgree, LinesAreWritten, NamesAreOpen, StoresAreOwn, UsesArePlaced, CanCallFrom, CanMakeFrom, SameLineIn, made_at, qualified_at, receiver_at}
+use Rattle.run_statements.specs.Kept.{IsUnreplaced, LineStands, LinesAgree, LinesAreWritten, NamesAreOpen, StoresAreOwn, UsesArePlaced, CanCallFrom, CanMakeAtFrom, CanMakeFrom, SameLineIn, made_at, qualified_at, receiver_at, used_at}
 use Rattle.run_statements.specs.Written.{SameLines, WrittenLine, WrittenProcedure, Passes, site_scope}
 use Rattle.run_laws.specs.Premises.{LinePremises}
 use Rattle.run_laws.proofs.Covered.{PlainProcedure, bound_line, not_none, plain_parts, some_is}
 use Rattle.line_laws.proofs.Called.{use_calls, use_makes}
 use Rattle.run_laws.proofs.Callees.{call_fits, call_suits, callee_covered, called_clean, can_call, call_hands}
-use Rattle.run_laws.proofs.Making.{can_make, made_covered}
+use Rattle.run_laws.proofs.Making.{can_make, can_make_at, made_covered, use_of_auto_calls, used_covered}
 use Rattle.run_laws.proofs.Names.{code_is, is_below}
 use Rattle.run_laws.proofs.Parts.{plain_joined, plain_unparted}
 
@@ -63,15 +63,16 @@ module _ (U : Upgrade) (lines_written : LinesAreWritten U) (names_open : NamesAr
       → AreReadable U (inside_procedure (site_scope U s) p) (uses_in U.program p l.form.bindings.mentions) → UsesArePlaced U p s W.code l.form → StoresAreOwn U p l.form
       → ((d : Expr) (q : ℕ) → Contains (line_uses l.form) d → called d ≡ Some q → CanCallFrom U p s W.code q (qualified_at d) (receiver_at d) (args_at d))
       → ((d : Expr) (class : ℕ) → Contains (line_uses l.form) d → made_at d ≡ Some class → CanMakeFrom U p s W.code class)
+      → ((d : Expr) (v : ℕ) → Contains (line_uses l.form) d → used_at d ≡ Some v → CanMakeAtFrom U p s W.code v)
       → ((d : Expr) → Contains (line_uses l.form) d → FitsNode U d) → FitsLine U p l.form → LineStands U p s W.number W.code (suc k) l
       → LineSame U p W.number (suc k) l
-  line_same k l e blocks unreplaced names covers readable placed own can makes fits resizes there =
+  line_same k l e blocks unreplaced names covers readable placed own can makes autos fits resizes there =
       let L : WrittenLine U p s W.number (suc k) l = lines_written p s x stands W k l e (blocks_in blocks) unreplaced in
       record {
         line = L.line;
         is_line = L.is_line;
         same = λ turns calls.
-            lines_agree p s W.number (suc k) turns l W.code L W.is_code (names_in names) readable placed own calls can makes fits resizes covers there;
+            lines_agree p s W.number (suc k) turns l W.code L W.is_code (names_in names) readable placed own calls can makes autos fits resizes covers there;
       }
 
 -- ---- lines by themselves
@@ -84,7 +85,7 @@ module _ (U : Upgrade) (h : LinePremises U) where
   can_call_from p k clean c x W d q m e =
       let call : Contains (line_calls U.program.declarations p c.line) (p, q) = use_calls U.program.declarations p q c.line d m e in
       let tests = callee_covered U p q c.line d c.calls m e in
-      can_call U h.known h.procedures h.found h.methods p q c.site x.procedure c.is_site x.is_procedure W c.line
+      can_call U h.known h.procedures h.found h.methods h.results p q c.site x.procedure c.is_site x.is_procedure W c.line
       (record { lines = c.lines; are_lines = c.are_lines; place = k; stands = c.is_line }) call (qualified_at d) (receiver_at d) tests.0
       (called_clean U p (suc k) c.line clean (ap (λ o. nth_line (or_none o) (suc k)) c.are_lines ∙ c.is_line) q call, c.entered q call)
       (args_at d) tests.1 (call_suits U p q c.line d c.calls m e) (call_hands U p q c.line d c.calls m e)
@@ -102,6 +103,19 @@ module _ (U : Upgrade) (h : LinePremises U) where
         called_clean U p (suc k) c.line clean (ap (λ o. nth_line (or_none o) (suc k)) c.are_lines ∙ c.is_line) q call,
         c.entered q call,
       ))
+
+  -- also by uses of As New variables
+  can_make_at_from : (p k : ℕ) (clean : IsCleanLine U.program U.facts.marks p (suc k)) (c : IsCoveredLine U.program p (suc k))
+      (x : PlainProcedure (slice_get U.program.declarations.procs p)) (W : WrittenProcedure U p c.site x.procedure) (d : Expr) (v : ℕ)
+      → Contains (line_uses c.line) d → used_at d ≡ Some v → CanMakeAtFrom U p c.site W.code v
+  can_make_at_from p k clean c x W d v m e w f g n names class is made =
+      can_make_at U h.known h.procedures h.objects p c.site x.procedure x.is_procedure W c.line
+      (record { lines = c.lines; are_lines = c.are_lines; place = k; stands = c.is_line }) class (used_covered U p v class c.line d c.calls m e is)
+      (λ q begins. use_of_auto_calls U.program.declarations p q v class c.line d m e is begins)
+      (λ q within call. (
+        called_clean U p (suc k) c.line clean (ap (λ o. nth_line (or_none o) (suc k)) c.are_lines ∙ c.is_line) q call,
+        c.entered q call,
+      )) made w f g n names
 
   one_line : (p k : ℕ) → IsCleanLine U.program U.facts.marks p (suc k) → IsCoveredLine U.program p (suc k) → LineDoesTheSame U p (suc k)
   one_line p k clean c =
@@ -125,7 +139,8 @@ module _ (U : Upgrade) (h : LinePremises U) where
       (h.unreplaced p k c.site c.is_site clean c) c.names covers readable
       (h.placed p c.site x.procedure c.is_site x.is_procedure W l.form readable) (h.stores p x.procedure x.is_procedure k l.form here covers)
       (λ d q m e. can_call_from p k clean c x W d q (subst (λ (n : Line). Contains (line_uses n) d) form m) e)
-      (λ d class m e. can_make_from p k clean c x W d class (subst (λ (n : Line). Contains (line_uses n) d) form m) e) (h.fits p k l.form clean here)
+      (λ d class m e. can_make_from p k clean c x W d class (subst (λ (n : Line). Contains (line_uses n) d) form m) e)
+      (λ d v m e. can_make_at_from p k clean c x W d v (subst (λ (n : Line). Contains (line_uses n) d) form m) e) (h.fits p k l.form clean here)
       (h.resizes p k l.form clean here)
       (record {
         is_procedure = is_below U.program.declarations.procs p x.procedure x.is_procedure;

@@ -25,12 +25,11 @@ use Rattle.run_matches.specs.Sites.{Own, own_constant, own_name, own_variable, l
 use Rattle.run_matches.specs.Upgrades.{Upgrade}
 use Rattle.run_statements.specs.Frames.{IsUsable}
 use Rattle.written_trees.specs.Prologues.{is_static}
-use Rattle.agreeing_laws.proofs.Made.{more}
+use Rattle.agreeing_laws.proofs.Made.{more, same_at}
 use Rattle.agreeing_laws.proofs.Moves.{all_matched_later, all_ranked_later, matched_whole}
-use Rattle.run_laws.specs.Entered.{LocalMatch, LocalsMatch, StaticMatch, no_locals, next_constant, next_static, next_variable, AllSound, GivenVariable, OwnPlace}
+use Rattle.run_laws.specs.Entered.{LocalMatch, LocalsMatch, StaticMatch, no_locals, next_constant, next_static, next_variable, AllSound, GivenVariable, OwnPlace, static_in}
 use Rattle.line_laws.proofs.Bounds as bounds
 use Rattle.line_laws.proofs.Bounds.{bound_later, plain_later}
-use Rattle.run_laws.proofs.Usable.{at_key}
 use Rattle.run_laws.proofs.Covered.{not_none, same_name, some_is}
 
 -- ---- places
@@ -95,17 +94,17 @@ local_later U K w0 w1 v a b h l m = record {
     })
 
 -- so is a Static
-pub static_later : (U : Upgrade) (K : Pledge) (w0 w1 : World) (v : ℕ) (b : net.Address) → Later U K w0 w1 → StaticMatch U w0 v b → StaticMatch U w1 v b
-static_later U K w0 w1 v b l m =
+pub static_later : (U : Upgrade) (K : Pledge) (holder : Option ℕ) (w0 w1 : World) (v : ℕ) (b : net.Address) → Later U K w0 w1 → StaticMatch U holder w0 v b
+    → StaticMatch U holder w1 v b
+static_later U K holder w0 w1 v b l m =
     let s : Shape = variable_shape U.program.declarations v in
+    let q : Position = whole (static_in holder v) in
     record {
       written = m.written;
       same = m.same;
-      matched = all_matched_later U K w0 w1 l s (at_key v) m.matched;
-      ranked = all_ranked_later U K w0 w1 l s m.written (at_key v) m.matched m.ranked;
-      key = m.key;
-      is_key = m.is_key;
-      stands = m.stands;
+      matched = all_matched_later U K w0 w1 l s q m.matched;
+      ranked = all_ranked_later U K w0 w1 l s m.written q m.matched m.ranked;
+      stands = m.stands ∙ ap (net.root m.written) (sym (same_at U w0 w1 l.extends q (matched_whole U w0 s q m.matched).is_made));
     }
 
 -- ---- the numbers of local variables
@@ -152,7 +151,7 @@ pub record Found (U : Upgrade) (K : Pledge) (w : World) (v : ℕ) (a : Address) 
   pub match : LocalMatch U K w v a address
   pub apart : (name : List ℕ) → is_named_in name (map own_name os) ≡ false → is_same_name name variable.name ≡ false
 
-module _ (U : Upgrade) (S : Scope) (K : Pledge) (w : World) where
+module _ (U : Upgrade) (S : Scope) (K : Pledge) (holder : Option ℕ) (w : World) where
   -- behind a declaration of another name
   found_behind : (o : Own) (b : List ℕ × net.Address) (v : ℕ) (a : Address) (os : List Own) (ys : List (List ℕ × net.Address)) → b.0 ≡ own_name o
       → is_named_in (own_name o) (map own_name os) ≡ false → Found U K w v a os ys → Found U K w v a (o ∷ os) (b ∷ ys)
@@ -174,7 +173,7 @@ module _ (U : Upgrade) (S : Scope) (K : Pledge) (w : World) where
       let both = both_true (not (is_named_in (own_name o) (map own_name os))) (are_different (map own_name os)) h in
       (not_true (is_named_in (own_name o) (map own_name os)) both.0, both.1)
 
-  pub local_found : (os : List Own) (xs : List (ℕ × Address)) (ys : List (List ℕ × net.Address)) → LocalsMatch U K w os xs ys → AllSound U S os
+  pub local_found : (os : List Own) (xs : List (ℕ × Address)) (ys : List (List ℕ × net.Address)) → LocalsMatch U K holder w os xs ys → AllSound U S os
       → are_different (map own_name os) ≡ true → (v : ℕ) (a : Address) → lookup (nat_eq v) xs ≡ Some a → Found U K w v a os ys
   local_found _ _ _ no_locals sound different v a e = absurd (not_none e)
   local_found _ _ _ (next_variable u x c b os xs ys local name m rest) sound different v a e =
@@ -203,7 +202,7 @@ module _ (U : Upgrade) (S : Scope) (K : Pledge) (w : World) where
       (local_found os xs ys rest sound.1 (first_differs (own_constant c x) os different).1 v a e)
 
   -- each variable is there
-  pub local_there : (os : List Own) (xs : List (ℕ × Address)) (ys : List (List ℕ × net.Address)) → LocalsMatch U K w os xs ys → (v : ℕ)
+  pub local_there : (os : List Own) (xs : List (ℕ × Address)) (ys : List (List ℕ × net.Address)) → LocalsMatch U K holder w os xs ys → (v : ℕ)
       → list_any (nat_eq v) (local_numbers os) ≡ true → (a : Address) × (lookup (nat_eq v) xs ≡ Some a)
   local_there _ _ _ no_locals v h = absurd (true≢false (sym h))
   local_there _ _ _ (next_variable u x a b os xs ys local name m rest) v h =
@@ -219,7 +218,7 @@ module _ (U : Upgrade) (S : Scope) (K : Pledge) (w : World) where
   local_there _ _ _ (next_constant c x b os xs ys name rest) v h = local_there os xs ys rest v h
 
   -- the target has all names
-  pub local_names : (os : List Own) (xs : List (ℕ × Address)) (ys : List (List ℕ × net.Address)) → LocalsMatch U K w os xs ys
+  pub local_names : (os : List Own) (xs : List (ℕ × Address)) (ys : List (List ℕ × net.Address)) → LocalsMatch U K holder w os xs ys
       → map (λ (y : List ℕ × net.Address). y.0) ys ≡ map own_name os
   local_names _ _ _ no_locals = refl
   local_names _ _ _ (next_variable v x a b os xs ys local name m rest) =
@@ -233,7 +232,7 @@ module _ (U : Upgrade) (S : Scope) (K : Pledge) (w : World) where
       λ i. name i ∷ more i
 
   -- no place of theirs is an old one
-  pub local_places : (p : ℕ) (os : List Own) (xs : List (ℕ × Address)) (ys : List (List ℕ × net.Address)) → LocalsMatch U K w os xs ys → (n : ℕ)
+  pub local_places : (p : ℕ) (os : List Own) (xs : List (ℕ × Address)) (ys : List (List ℕ × net.Address)) → LocalsMatch U K holder w os xs ys → (n : ℕ)
       → list_any (λ (x : ℕ × Address). is_own_of U p x.0 && stands_in n x.1) xs ≡ true → IsOld K (made n) → ⊥
   local_places p _ _ _ no_locals n h old = true≢false (sym h)
   local_places p _ _ _ (next_variable v x a b os xs ys local name m rest) n h old =
@@ -250,12 +249,12 @@ module _ (U : Upgrade) (S : Scope) (K : Pledge) (w : World) where
   local_places p _ _ _ (next_static v x b os xs ys static name m rest) n h old = local_places p os xs ys rest n h old
   local_places p _ _ _ (next_constant c x b os xs ys name rest) n h old = local_places p os xs ys rest n h old
 
-pub locals_later : (U : Upgrade) (K : Pledge) (w0 w1 : World) (os : List Own) (xs : List (ℕ × Address)) (ys : List (List ℕ × net.Address)) → MemoryMatch U w0 → Later U K w0 w1
-    → LocalsMatch U K w0 os xs ys → LocalsMatch U K w1 os xs ys
-locals_later U K w0 w1 _ _ _ h l no_locals = no_locals
-locals_later U K w0 w1 _ _ _ h l (next_static v x b os xs ys static name m rest) =
-    next_static v x b os xs ys static name (static_later U K w0 w1 v b.1 l m) (locals_later U K w0 w1 os xs ys h l rest)
-locals_later U K w0 w1 _ _ _ h l (next_variable v x a b os xs ys local name m rest) =
-    next_variable v x a b os xs ys local name (local_later U K w0 w1 v a b.1 h l m) (locals_later U K w0 w1 os xs ys h l rest)
-locals_later U K w0 w1 _ _ _ h l (next_constant c x b os xs ys name rest) =
-    next_constant c x b os xs ys name (locals_later U K w0 w1 os xs ys h l rest)
+pub locals_later : (U : Upgrade) (K : Pledge) (holder : Option ℕ) (w0 w1 : World) (os : List Own) (xs : List (ℕ × Address)) (ys : List (List ℕ × net.Address))
+    → MemoryMatch U w0 → Later U K w0 w1 → LocalsMatch U K holder w0 os xs ys → LocalsMatch U K holder w1 os xs ys
+locals_later U K holder w0 w1 _ _ _ h l no_locals = no_locals
+locals_later U K holder w0 w1 _ _ _ h l (next_static v x b os xs ys static name m rest) =
+    next_static v x b os xs ys static name (static_later U K holder w0 w1 v b.1 l m) (locals_later U K holder w0 w1 os xs ys h l rest)
+locals_later U K holder w0 w1 _ _ _ h l (next_variable v x a b os xs ys local name m rest) =
+    next_variable v x a b os xs ys local name (local_later U K w0 w1 v a b.1 h l m) (locals_later U K holder w0 w1 os xs ys h l rest)
+locals_later U K holder w0 w1 _ _ _ h l (next_constant c x b os xs ys name rest) =
+    next_constant c x b os xs ys name (locals_later U K holder w0 w1 os xs ys h l rest)

@@ -29,8 +29,9 @@ use Rattle.run_matches.specs.Maps.{World}
 use Rattle.run_matches.specs.Pledges.{Pledge}
 use Rattle.run_matches.specs.Upgrades.{Upgrade, home_of}
 use Rattle.run_statements.specs.Arrays.{array_shape}
-use Rattle.run_statements.specs.Frames.{HasRankOf, IsArray, IsUsable, IsGroup}
+use Rattle.run_statements.specs.Frames.{HasRankOf, IsArray, IsGroup}
 use Rattle.memory_laws.proofs.Making.{readable_shape}
+use Rattle.run_laws.specs.Entered.{IsTaken}
 use Rattle.run_laws.specs.Premises.{GroupsAreWritten}
 use Rattle.run_laws.proofs.Covered.{not_none, some_is}
 use Rattle.run_laws.proofs.Usable.{array_shape_is, result_shape}
@@ -38,7 +39,7 @@ use Rattle.run_laws.proofs.Dims.{WordOf, word_of}
 use Rattle.run_laws.proofs.Given.{array_taken, no_item, root_shape, word_itself}
 use Rattle.run_laws.proofs.Heads.{Parameter}
 use Rattle.run_matches.specs.SoundShapes.{IsSoundShape}
-use Rattle.run_laws.proofs.GroupDims.{type_shaped}
+use Rattle.run_laws.proofs.GroupDims.{group_of_type, type_shaped}
 use Rattle.run_laws.proofs.ParametersMade.{readable_type}
 
 -- ---- addresses
@@ -130,7 +131,7 @@ module _ (U : Upgrade) (p : ℕ) (groups : GroupsAreWritten U) (S : Scope) (same
       ∙ ap (heads.param_by S part v.0) q.is_variable
       ∙ ap (λ z. param_of (passing_as part y.owner) y.name z ∷ []) written
 
-  unfoldable pub param_written : (v : VarId) (q : Parameter U.program p v) → IsUsable U v.0 → ParamWritten v q
+  unfoldable pub param_written : (v : VarId) (q : Parameter U.program p v) → IsTaken U v.0 → ParamWritten v q
   param_written v q (inl r) =
       let y : Variable = q.variable in
       let joined : r.variable ≡ y = some_is (sym r.is_variable ∙ q.is_variable) in
@@ -155,7 +156,8 @@ module _ (U : Upgrade) (p : ℕ) (groups : GroupsAreWritten U) (S : Scope) (same
       let is : y.ty ≡ ty = sym (ap (λ (z : Variable). z.ty) joined) ∙ r.is_type in
       let word : TypeName = type_with S.declarations S.file y.qualified (S.facts.rank v.0) ty in
       let d : shape.Shape = shape.shape_of U.written home word in
-      let shaped : SameShape U (variable_shape D v.0) d = type_shaped U groups S facts same home here v.0 ty r (S.facts.rank v.0) y.qualified in
+      let shaped : SameShape U (variable_shape D v.0) d =
+      type_shaped U groups S facts same home here v.0 ty (group_of_type U v.0 ty r) (S.facts.rank v.0) y.qualified in
       record {
         word = word;
         written = d;

@@ -1,7 +1,7 @@
 -- The parameters and the result variable of an entry are made on both sides.
 use Rattle.line_laws.proofs.Standing.{whole_stands}
 use Rattle.vb_tree.specs.declared.declared.Owner.{Owner}
-use Rattle.std.proofs.Common.{◌≡◌, refl, sym, ap, subst, ◌∙◌, ℕ, suc, Bool, true, false, not, ◌&&◌, true≢false, Some, List, [], ◌∷◌, ◌++◌, inl, inr, cond, ◌+◌, arith, ◌⊎◌}
+use Rattle.std.proofs.Common.{◌≡◌, refl, sym, ap, subst, ◌∙◌, ℕ, suc, Bool, true, false, not, ◌&&◌, true≢false, Option, Some, List, [], ◌∷◌, ◌++◌, inl, inr, cond, ◌+◌, arith, ◌⊎◌}
 use Rattle.std.specs.Prelude.{slice_get}
 use Rattle.std.specs.List.{list_all}
 use Rattle.up_base.proofs.Lists.{all_first, all_rest}
@@ -44,7 +44,7 @@ use Rattle.run_matches.specs.Match.{MemoryMatch, StoreMatch}
 use Rattle.run_matches.specs.Pledges.{Later, NetGiven, Pledge}
 use Rattle.run_matches.specs.Sites.{own_variable}
 use Rattle.run_matches.specs.Upgrades.{Upgrade, is_array_id, is_quiet_id, parameter_rank, rank_of_id, runnable_of, takes_array, home_of}
-use Rattle.run_statements.specs.Frames.{HasRankOf, IsArray, IsReadable, IsUsable, IsGroup}
+use Rattle.run_statements.specs.Frames.{HasRankOf, IsArray, IsReadable, IsGroup}
 use Rattle.row_laws.proofs.Composing.{then_assoc, then_gives}
 use Rattle.agreeing_laws.proofs.Agreeing.{agrees_gives, agrees_outside, agrees_weaker, right_alone, then_agrees}
 use Rattle.agreeing_laws.proofs.Lasting.{later_from, weaker_self}
@@ -54,7 +54,7 @@ use Rattle.line_laws.proofs.Bounds as bounds
 use Rattle.line_laws.proofs.Bounds.{plain_later}
 use Rattle.memory_laws.proofs.Making.{readable_shape}
 use Rattle.memory_laws.proofs.Quiet.{QuietMatch, source_is_bound, target_is_bound, values_bound}
-use Rattle.run_laws.specs.Entered.{LocalMatch, LocalsMatch, next_variable, no_locals}
+use Rattle.run_laws.specs.Entered.{IsTaken, LocalMatch, LocalsMatch, next_variable, no_locals}
 use Rattle.run_laws.proofs.Covered.{some_is}
 use Rattle.run_laws.proofs.Usable.{array_shape_is}
 use Rattle.run_laws.proofs.Dims.{WordOf, word_of}
@@ -90,7 +90,7 @@ of_scalars_is U a (inr x) = inr x
 
 -- a parameter is a scalar, an array, or of a user type or a class
 abbrev pub AreParameters : Upgrade → (p : ℕ) → Type 0
-AreParameters U p = (v : VarId) → Parameter U.program p v → IsUsable U v.0
+AreParameters U p = (v : VarId) → Parameter U.program p v → IsTaken U v.0
 
 -- a quiet one takes a reference
 quiet_reference : (F : Known) (o : Owner) (b : Bool) → (is_quiet_owner F o && not b) ≡ true → (id : ProcId) × (o ≡ owner.Reference id)
@@ -110,7 +110,7 @@ module _ (U : Upgrade) (p : ℕ) (groups : GroupsAreWritten U) (S : Scope) (same
   abbrev Written : (v : VarId) → Parameter U.program p v → Type 1
   Written v q = ParamWritten U p groups S same facts home here part v q
 
-  abbrev param : (v : VarId) (q : Parameter U.program p v) → IsUsable U v.0 → Written v q
+  abbrev param : (v : VarId) (q : Parameter U.program p v) → IsTaken U v.0 → Written v q
   param v q u = param_written U p groups S same facts home here part v q u
 
   -- an array is one where it is taken
@@ -130,11 +130,11 @@ module _ (U : Upgrade) (p : ℕ) (groups : GroupsAreWritten U) (S : Scope) (same
   owns_is : (v : VarId) (q : Parameter U.program p v) (vs : List VarId) → parameter_owns D (v ∷ vs) ≡ own_variable v.0 q.variable ∷ parameter_owns D vs
   owns_is v q vs = ap (λ o. own_of_some v.0 o ++ parameter_owns D vs) q.is_variable
 
-  module _ (K : Pledge) (makes : MakesAlike U K) (w0 : World) (start : StoreMatch U w0)
+  module _ (K : Pledge) (holder : Option ℕ) (makes : MakesAlike U K) (w0 : World) (start : StoreMatch U w0)
       (readable : AreParameters U p) where
     -- the variables of parameters
     abbrev pub Parameters : List VarId → World → List (ℕ × Address) → List (List ℕ × net.Address) → Type 0
-    Parameters vs u ks bs = LocalsMatch U K u (parameter_owns D vs) ks bs
+    Parameters vs u ks bs = LocalsMatch U K holder u (parameter_owns D vs) ks bs
 
     abbrev Rest : List VarId → (i : ℕ) → List SourceGiven → List NetGiven → Type 0
     Rest vs i xs ys =
@@ -162,7 +162,7 @@ module _ (U : Upgrade) (p : ℕ) (groups : GroupsAreWritten U) (S : Scope) (same
       quiet_at = ap (is_quiet_id D U.known) at
 
       -- what both bind to it
-      abbrev BoundHere : World → IsUsable U v.0 → (quiet : Bool) → Owner → NetPassing → SourceGiven → NetGiven → Type 0
+      abbrev BoundHere : World → IsTaken U v.0 → (quiet : Bool) → Owner → NetPassing → SourceGiven → NetGiven → Type 0
       BoundHere w u quiet o z g h =
           Agrees U K w (Local U K v.0) (bound_to quiet o s g w.src)
           (target.parameter_by z (param v q u).written h w.net)
@@ -262,7 +262,7 @@ module _ (U : Upgrade) (p : ℕ) (groups : GroupsAreWritten U) (S : Scope) (same
                   ) plain)
 
       -- variables on both sides
-      address_agrees : (u : IsUsable U v.0) (id : ProcId) → q.variable.owner ≡ owner.Reference id → (quiet : Bool) (w : World) (a : Address) (b : net.Address)
+      address_agrees : (u : IsTaken U v.0) (id : ProcId) → q.variable.owner ≡ owner.Reference id → (quiet : Bool) (w : World) (a : Address) (b : net.Address)
           → Same U K w0 a b → IsTarget U a → GivesWhole U p i a → IsPlain U w0 a → SuitsParameter U p i a b → Later U K w0 w
           → MemoryMatch U w
           → BoundHere w u quiet (owner.Reference id) passing.Reference (by_address a) (by_address b)
@@ -297,7 +297,7 @@ module _ (U : Upgrade) (p : ℕ) (groups : GroupsAreWritten U) (S : Scope) (same
               }))
 
       -- then the others
-      next_agrees : (u : IsUsable U v.0) (g : SourceGiven) (h : NetGiven) (xs : List SourceGiven) (ys : List NetGiven)
+      next_agrees : (u : IsTaken U v.0) (g : SourceGiven) (h : NetGiven) (xs : List SourceGiven) (ys : List NetGiven)
           → Rest vs (suc i) xs ys → (w : World) → Later U K w0 w → Below K.base (mark w.src) → MemoryMatch U w
           → BoundHere w u ((runnable_of U).quiet p i) q.variable.owner passed g h
           → Agrees U K w (Parameters (v ∷ vs)) (parameters (runnable_of U) p i (v ∷ vs) (g ∷ xs) w.src)
@@ -329,7 +329,7 @@ module _ (U : Upgrade) (p : ℕ) (groups : GroupsAreWritten U) (S : Scope) (same
           (rest u (later_from U K K w0 w u start (weaker_self w0 K) l later) (below_then K.base (mark w.src) (mark u.src) low later.grows) later.match)
           (λ ks bs z ms more.
           agrees_gives U K z R ((v.0, a) ∷ ks) ((name, b) ∷ bs) more.match
-          (subst (λ os. LocalsMatch U K z os ((v.0, a) ∷ ks) ((name, b) ∷ bs)) (sym (owns_is v q vs))
+          (subst (λ os. LocalsMatch U K holder z os ((v.0, a) ∷ ks) ((name, b) ∷ bs)) (sym (owns_is v q vs))
           (next_variable v.0 q.variable a (name, b) (parameter_owns D vs) ks bs (never_static p q.variable.owner q.parameter) refl
           (local_later U K u z v.0 a b later.match more n) ms)))))))))
 
@@ -381,7 +381,7 @@ module _ (U : Upgrade) (p : ℕ) (groups : GroupsAreWritten U) (S : Scope) (same
           (subst (λ z. Agrees U K w R (make_with s x w.src) z) (sym (value_taken passed d y w.net))
           (group_value_agrees U K makes w0 w v.0 ty r p i x y like given low l d (param v q (inr (inr (ty, r)))).alike)))
 
-      value_first : (u : IsUsable U v.0) (x : Value) (y : net_value.Value) → LikeV U w0 x y → IsGivable U p i x → (w : World) → Later U K w0 w
+      value_first : (u : IsTaken U v.0) (x : Value) (y : net_value.Value) → LikeV U w0 x y → IsGivable U p i x → (w : World) → Later U K w0 w
           → Below K.base (mark w.src) → BoundHere w u ((runnable_of U).quiet p i) q.variable.owner passed (by_value x) (by_value y)
       value_first (inl r) x y like none w l low = by ((runnable_of U).quiet p i) refl
         where
@@ -397,7 +397,7 @@ module _ (U : Upgrade) (p : ℕ) (groups : GroupsAreWritten U) (S : Scope) (same
           none_agrees r.0 r.1 (fields t zs) w (target.parameter_by passed (param v q (inr (inl r))).written (by_value y) w.net) tt
       value_first (inr (inl r)) (elements e dims zs) y like none w l low = absurd (true≢false (sym (array_there v i r.0 r.1 at) ∙ none))
 
-      address_first : (u : IsUsable U v.0) (a : Address) (b : net.Address) (xs : List SourceGiven) (ys : List NetGiven) → Same U K w0 a b → IsTarget U a
+      address_first : (u : IsTaken U v.0) (a : Address) (b : net.Address) (xs : List SourceGiven) (ys : List NetGiven) → Same U K w0 a b → IsTarget U a
           → GivesWhole U p i a → IsPlain U w0 a → SuitsParameter U p i a b → Rest vs (suc i) xs ys → (w : World) → Later U K w0 w → Below K.base (mark w.src)
           → MemoryMatch U w → (o : Owner) → q.variable.owner ≡ o → is_parameter_of p o ≡ true
           → Agrees U K w (Parameters (v ∷ vs)) (parameters (runnable_of U) p i (v ∷ vs) (by_address a ∷ xs) w.src)
@@ -411,7 +411,7 @@ module _ (U : Upgrade) (p : ℕ) (groups : GroupsAreWritten U) (S : Scope) (same
           (address_agrees u id is ((runnable_of U).quiet p i) w a b alike target_is whole plain suits l h)))
       address_first u a b xs ys alike target_is whole plain suits rest w l low h _ is k = absurd (true≢false (sym k))
 
-      source_first : (u : IsUsable U v.0) (a : Address) (k : shape.Shape) (y : net_value.Value) → (runnable_of U).quiet p i ≡ true
+      source_first : (u : IsTaken U v.0) (a : Address) (k : shape.Shape) (y : net_value.Value) → (runnable_of U).quiet p i ≡ true
           → Mirrors U K w0 a (net.constant k y) → IsVariable U a → (w : World) → IsPlain U w a → Later U K w0 w
           → BoundHere w u ((runnable_of U).quiet p i) q.variable.owner passed (by_address a) (by_value y)
       source_first (inl r) a k y e mirrors target_is w plain l =
@@ -422,7 +422,7 @@ module _ (U : Upgrade) (p : ℕ) (groups : GroupsAreWritten U) (S : Scope) (same
       source_first (inr (inl r)) a k y e mirrors target_is w plain l = absurd (true≢false (sym e ∙ array_exact r.0 r.1))
       source_first (inr (inr r)) a k y e mirrors target_is w plain l = absurd (true≢false (sym e ∙ group_exact r.0 r.1))
 
-      target_first : (u : IsUsable U v.0) (x : Value) (b : net.Address) → (runnable_of U).quiet p i ≡ true → TakesAddresses U p → Mirrors U K w0 (constant x) b
+      target_first : (u : IsTaken U v.0) (x : Value) (b : net.Address) → (runnable_of U).quiet p i ≡ true → TakesAddresses U p → Mirrors U K w0 (constant x) b
           → IsTypedAs U x (net.shape_at b) → (w : World) → Later U K w0 w
           → BoundHere w u ((runnable_of U).quiet p i) q.variable.owner passed (by_value x) (by_address b)
       target_first (inl r) x b e takes mirrors typed w l =

@@ -12,7 +12,7 @@ use Rattle.written_trees.specs.Names.{Scope}
 use Rattle.written_trees.specs.Types.{type_with}
 use Rattle.run_matches.specs.Agreeing.{Agrees}
 use Rattle.run_matches.specs.CoveredVariables.{covers_type}
-use Rattle.run_matches.specs.Likeness.{scalar_word}
+use Rattle.run_matches.specs.Likeness.{SameShape, scalar_word}
 use Rattle.run_matches.specs.Maps.{Below, World, mark}
 use Rattle.run_matches.specs.Match.{MemoryMatch}
 use Rattle.run_matches.specs.Pledges.{Pledge}
@@ -20,6 +20,7 @@ use Rattle.run_matches.specs.Sites.{Site}
 use Rattle.run_matches.specs.Upgrades.{Upgrade, home_of}
 use Rattle.run_statements.specs.Written.{site_scope}
 use Rattle.expression_laws.proofs.Types.{is_group, same_of}
+use Rattle.memory_laws.proofs.GroupsMade.{group_shape_is}
 use Rattle.run_laws.specs.Entered.{IsResult}
 use Rattle.run_laws.specs.Premises.{GroupsAreWritten, MakesAlike}
 use Rattle.run_laws.proofs.AnswerTypes.{AnswerTyped}
@@ -73,5 +74,8 @@ module _ (U : Upgrade) (groups : GroupsAreWritten U) (site : Site) (home : ℕ) 
       record {
         written = d;
         shaped = ap (λ t. shape.shape_of U.written home t) (typed.written ∙ ap written_as (sym same));
-        made = λ w low start. group_is_made U K makes w h.id.0 ty r d (groups.shaped h.id.0 ty r home H.file typed.rank typed.qualified here) low start;
+        made = λ w low start.
+            group_is_made U K makes w h.id.0 ty r d
+            (subst (λ s. SameShape U s d) (sym (group_shape_is U h.id.0 ty r)) (groups.shaped ty home H.file typed.rank typed.qualified r.covers here))
+            low start;
       }

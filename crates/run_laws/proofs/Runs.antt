@@ -39,8 +39,9 @@ use Rattle.run_matches.specs.Upgrades.{Upgrade, runnable_of}
 use Rattle.run_statements.specs.Arrays.{ArraysAreMade, StaticArraysAreLaid}
 use Rattle.run_statements.specs.Frames.{IsUsable, LocalsAreMade, ValuesAreMade}
 use Rattle.run_statements.specs.Groups.{GroupsAreGiven, GroupsAreMade, StaticGroupsAreLaid}
-use Rattle.run_statements.specs.Kept.{CanCallFrom, CanMakeFrom, OwnsAreKept, SameWays, made_at, qualified_at, receiver_at}
+use Rattle.run_statements.specs.Kept.{CanCallFrom, CanMakeAtFrom, CanMakeFrom, OwnsAreKept, SameWays, made_at, qualified_at, receiver_at, used_at}
 use Rattle.run_statements.specs.Written.{Passes, SameRuns, WrittenLine, WrittenProcedure}
+use Rattle.memory_laws.specs.Statements.{AutosAreMade, StaticAutosAreLaid}
 use Rattle.agreeing_laws.specs.Beside.{beside, with_steps}
 use Rattle.agreeing_laws.proofs.Agreeing.{agrees_from, agrees_spent, then_agrees}
 use Rattle.agreeing_laws.proofs.Beside.{later_start}
@@ -55,7 +56,7 @@ use Rattle.run_laws.proofs.Covered.{CoveredProcedure, all_at, blocks_are_kept, c
 use Rattle.run_laws.proofs.Entries.{all_names, entries_agree}
 use Rattle.line_laws.proofs.Called.{use_calls, use_makes}
 use Rattle.run_laws.proofs.Callees.{call_fits, call_suits, callee_covered, can_call, call_hands}
-use Rattle.run_laws.proofs.Making.{can_make, made_covered}
+use Rattle.run_laws.proofs.Making.{can_make, can_make_at, made_covered, use_of_auto_calls, used_covered}
 use Rattle.run_laws.proofs.Names.{is_below}
 use Rattle.run_laws.proofs.Parts.{clean_unparted}
 use Rattle.run_laws.proofs.Heads.{HasAnswer, answer_sound}
@@ -129,7 +130,7 @@ module _ (U : Upgrade) (h : RunPremises U) where
         let tests = callee_covered U p q l d calls m e in
         let within : nat_lt q (count_procedures U.program) ≡ true =
         called_within U.program p q (site_of U.program.declarations p) (qualified_at d) (receiver_at d) tests.0 in
-        can_call U h.known h.procedures h.found h.methods p q c.site c.procedure c.is_site c.is_procedure W l stands call
+        can_call U h.known h.procedures h.found h.methods h.results p q c.site c.procedure c.is_site c.is_procedure W l stands call
         (qualified_at d) (receiver_at d) tests.0 (
           clean_called U.program p q c.procedure c.is_procedure within l stands call U.facts.marks pass.0,
           covered_called U.program p q c.procedure c.is_procedure within l stands call pass.1,
@@ -147,6 +148,19 @@ module _ (U : Upgrade) (h : RunPremises U) where
           clean_called U.program p q c.procedure c.is_procedure within l stands call U.facts.marks pass.0,
           covered_called U.program p q c.procedure c.is_procedure within l stands call pass.1,
         ))
+
+    -- also by uses of As New variables
+    can_make_at_from : (k : ℕ) (l : Line) → slice_get c.lines k ≡ Some l → (d : Expr) (v : ℕ) → Contains (line_uses l) d → used_at d ≡ Some v
+        → CanMakeAtFrom U p (parts p pass).site (written p pass).code v
+    can_make_at_from k l at d v m e w f g n names class is made =
+        let stands : IsLineOf U.program p l = record { lines = c.lines; are_lines = c.are_lines; place = k; stands = at } in
+        can_make_at U h.known h.procedures h.objects p c.site c.procedure c.is_procedure W l stands class
+        (used_covered U p v class l d (all_at (covers_calls U.program p) c.lines k l c.calls at) m e is)
+        (λ q begins. use_of_auto_calls U.program.declarations p q v class l d m e is begins)
+        (λ q within call. (
+          clean_called U.program p q c.procedure c.is_procedure within l stands call U.facts.marks pass.0,
+          covered_called U.program p q c.procedure c.is_procedure within l stands call pass.1,
+        )) made w f g n names
 
     -- no line is replaced, so each line and the written one of its number go the same ways
     same_ways : (n : ℕ) (o : Option SourceLine) → line_at (source.machine_of R) p n ≡ o → SameWays o (line_at (target.machine_of N) (written p pass).number n)
@@ -172,7 +186,8 @@ module _ (U : Upgrade) (h : RunPremises U) where
         line_same U h.lines h.names h.agree p c.site c.procedure c.is_site W c.lines c.are_lines k l e (blocks_are_kept U.program p c.lines c.covers)
         (h.unreplaced p c.site c.procedure c.is_site c.is_procedure W pass.0 covered k) c.names covers used
         (h.placed p c.site c.procedure c.is_site c.is_procedure W l.form used) (h.stores p c.procedure c.is_procedure k l.form here covers)
-        (can_call_from k l.form at) (can_make_from k l.form at) (h.fits p k l.form pass.0 here) (h.resizes p k l.form pass.0 here)
+        (can_call_from k l.form at) (can_make_from k l.form at) (can_make_at_from k l.form at)
+        (h.fits p k l.form pass.0 here) (h.resizes p k l.form pass.0 here)
         (record {
           is_procedure = is_below U.program.declarations.procs p c.procedure c.is_procedure;
           is_there = here;
@@ -302,16 +317,18 @@ module _ (U : Upgrade) (h : RunPremises U) where
       record { written = (written p pass).number; is_written = (written p pass).is_number; same = same_run p pass }
 
 -- what is made alike under any pledge is so under that of a call
-pub makes_in_calls : (U : Upgrade) → LocalsAreMade U → ArraysAreMade U → GroupsAreMade U → StaticArraysAreLaid U → StaticGroupsAreLaid U → ValuesAreMade U
-    → GroupsAreGiven U → CallsMakeAlike U
-makes_in_calls U scalars arrays groups static_arrays static_groups given groups_given p base me xs ys =
+pub makes_in_calls : (U : Upgrade) → LocalsAreMade U → ArraysAreMade U → GroupsAreMade U → AutosAreMade U → StaticArraysAreLaid U
+    → StaticGroupsAreLaid U → StaticAutosAreLaid U → ValuesAreMade U → GroupsAreGiven U → CallsMakeAlike U
+makes_in_calls U scalars arrays groups autos static_arrays static_groups static_autos given groups_given p base me xs ys =
     let K : Pledge = call_pledge U p base me xs ys in
     record {
       scalars = scalars K;
       arrays = arrays K;
       groups = groups K;
+      autos = autos K;
       static_arrays = static_arrays K;
       static_groups = static_groups K;
+      static_autos = static_autos K;
       scalars_given = given K;
       groups_given = groups_given K;
     }

@@ -11,14 +11,14 @@ use Rattle.run_matches.specs.CoveredVariables.{covers_type}
 use Rattle.run_matches.specs.Covered.{is_parameter_type, is_type_at}
 use Rattle.run_matches.specs.Upgrades.{Upgrade}
 use Rattle.run_matches.specs.UserTypes.{is_group_type}
-use Rattle.run_statements.specs.Frames.{IsUsable}
 use Rattle.expression_laws.specs.Statements.{IsSoundType, ParametersAreSound}
 use Rattle.expression_laws.proofs.UsedShapes.{type_covered}
 use Rattle.name_laws.proofs.Lists.{all_at}
+use Rattle.run_laws.specs.Entered.{IsTaken}
 use Rattle.run_laws.specs.Premises.{OwnedAreUsable}
 use Rattle.run_laws.proofs.Covered.{CoveredProcedure, covered_parts, own_covered_at, some_is}
-use Rattle.run_laws.proofs.Heads.{Parameter, parameter_belongs, parameter_is}
-use Rattle.run_laws.proofs.Usable.{group_type_is}
+use Rattle.run_laws.proofs.Heads.{Parameter, parameter_belongs, parameter_given, parameter_is}
+use Rattle.run_laws.proofs.Usable.{group_type_is, taken_is}
 
 no_scalar : (ty : Ty) → is_group_type ty ≡ true → covers_type ty ≡ true → ⊥
 no_scalar types.boolean h e = true≢false (sym h)
@@ -29,9 +29,9 @@ no_scalar types.currency h e = true≢false (sym h)
 no_scalar types.str h e = true≢false (sym h)
 no_scalar _ h e = true≢false (sym e)
 
--- a variable of a user type or a class that can be used is of one none of whose declarations carries an issue
+-- a parameter of a user type or a class is of one none of whose declarations carries an issue
 sound_by : (U : Upgrade) (v : ℕ) (ty : Ty) (x : Variable) → is_group_type ty ≡ true → slice_get U.program.declarations.vars v ≡ Some x → ty ≡ x.ty
-    → IsUsable U v → IsSoundType U ty
+    → IsTaken U v → IsSoundType U ty
 sound_by U v ty x group is of (inl r) =
     absurd (no_scalar ty group
     (subst (λ z. covers_type z ≡ true) (ap (λ (y : Variable). y.ty) (some_is (sym r.is_variable ∙ is)) ∙ sym of) (type_covered r.variable r.covers)))
@@ -60,4 +60,5 @@ parameters_are_sound U owned q i ty passes group is = by (slice_get (params_at (
         let x : Parameter U.program q v = parameter_is U.program q v (all_at _ c.procedure.params i v c.params at) in
         let mine = parameter_belongs q x.variable.owner x.parameter in
         sound_by U v.0 ty x.variable group x.is_variable (typed v x.variable x.is_variable h)
-        (owned q v.0 x.variable passes.0 x.is_variable mine (own_covered_at U.program q v.0 x.variable c.variables x.is_variable mine) x.loud)
+        (taken_is U v.0 x.variable x.is_variable (parameter_given q x.variable.owner x.parameter)
+        (owned q v.0 x.variable passes.0 x.is_variable mine (own_covered_at U.program q v.0 x.variable c.variables x.is_variable mine) x.loud))

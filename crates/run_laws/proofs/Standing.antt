@@ -8,9 +8,9 @@ use Rattle.bound_tree.specs.Tree.{Expr, Procedure, Variable, Line}
 use Rattle.bound_facts.specs.SelfMade.{module_of}
 use Rattle.net_tree.specs.Tree as net_tree
 use Rattle.run_base.specs.Frames.{Kept, keeps_address, keeps_nothing}
-use Rattle.run_base.specs.Positions.{Position, Root, made, shared, whole}
+use Rattle.run_base.specs.Positions.{Position, Root, made, whole}
 use Rattle.vb6_run.specs.Programs.{is_static_of}
-use Rattle.vb6_run.specs.Runnables.{is_class_file, object_root, static_root}
+use Rattle.vb6_run.specs.Runnables.{static_root}
 use Rattle.vb6_run.specs.Values.{Value}
 use Rattle.vb6_run.specs.Shapes.{variable_shape}
 use Rattle.vb6_run.specs.Store.{Address, SourceFrame}
@@ -24,7 +24,7 @@ use Rattle.run_matches.specs.Runs.{IsObject}
 use Rattle.run_matches.specs.Sites.{Own, own_variable, own_constant}
 use Rattle.run_matches.specs.Upgrades.{Upgrade, is_auto}
 use Rattle.agreeing_laws.proofs.Made.{more}
-use Rattle.run_laws.specs.Entered.{AllSound}
+use Rattle.run_laws.specs.Entered.{AllSound, static_in}
 use Rattle.run_laws.proofs.Covered.{not_none, some_is}
 use Rattle.run_laws.proofs.StaticOrder.{AllEnd}
 use Rattle.run_laws.proofs.Usable.{usable_end}
@@ -81,13 +81,12 @@ static_declared U p me v r (Some y) e h =
     by true static k = (y, e, static, k)
     by false static k = absurd (not_none k)
 
--- the root of one of a standard module
-pub static_root_is : (U : Upgrade) (p : ℕ) (x : Procedure) (me : Option ℕ) (v : ℕ) (r : Root) → slice_get U.program.declarations.procs p ≡ Some x
-    → is_class_file U.program.declarations x.module_number ≡ false
-    → static_root U.program.declarations me v (module_of (slice_get U.program.declarations.procs p)) ≡ Some r → shared (v ∷ []) ≡ r
-static_root_is U p x me v r is outer h =
-    some_is
-    (sym (ap (λ q. static_root U.program.declarations me v (module_of q)) is ∙ ap (λ c. cond c (object_root me v) (Some (shared (v ∷ [])))) outer) ∙ h)
+-- its root, where the Statics of its procedure stand
+pub static_root_is : (U : Upgrade) (p : ℕ) (x : Procedure) (me holder : Option ℕ) (v : ℕ) (r : Root) → slice_get U.program.declarations.procs p ≡ Some x
+    → static_root U.program.declarations me v (Some x.module_number) ≡ Some (static_in holder v)
+    → static_root U.program.declarations me v (module_of (slice_get U.program.declarations.procs p)) ≡ Some r → static_in holder v ≡ r
+static_root_is U p x me holder v r is stands h =
+    some_is (sym (ap (λ q. static_root U.program.declarations me v (module_of q)) is ∙ stands) ∙ h)
 
 -- names that differ still do behind others
 pub different_behind : (ns ms : List (List ℕ)) → are_different (ns ++ ms) ≡ true → are_different ms ≡ true

@@ -1,5 +1,5 @@
 -- The Statics of a covered procedure: each has the key of its place among the declarations, and the target's frame has it by its name.
-use Rattle.std.proofs.Common.{◌≡◌, ◌∙◌, refl, sym, ap, subst, inl, inr, ℕ, zero, suc, ◌+◌, Bool, true, false, cond, not, nat_eq, nat_lt, length, true≢false, Some, None, option_map, List, [], ◌∷◌, ◌++◌, map, arith}
+use Rattle.std.proofs.Common.{◌≡◌, ◌∙◌, refl, sym, ap, subst, inl, inr, ℕ, zero, suc, ◌+◌, Bool, true, false, cond, not, nat_eq, nat_lt, length, true≢false, Option, Some, None, option_map, List, [], ◌∷◌, ◌++◌, map, arith}
 use Rattle.std.specs.Prelude.{slice_get, option_and_then, position}
 use Rattle.std.specs.List.{prefix_len}
 use Rattle.std.proofs.lemmas.Bool.{eqb-true}
@@ -11,8 +11,8 @@ use Rattle.net_tree.specs.Tree as net_tree
 use Rattle.vb6_run.specs.Programs.{is_static_of, owned_from}
 use Rattle.vb6_run.specs.Store.{Address}
 use Rattle.net_run.specs.Members.{Code}
-use Rattle.net_run.specs.Names.{is_class, var_in}
-use Rattle.net_run.specs.Program.{static_key}
+use Rattle.net_run.specs.Names.{var_in}
+use Rattle.net_run.specs.Program.{static_key, static_root}
 use Rattle.net_run.specs.Store as net
 use Rattle.vb_tree.specs.declared.declared.Owner.{Owner}
 use Rattle.vb_tree.specs.declared.declared.Owner.TheVariants as owner
@@ -29,7 +29,7 @@ use Rattle.run_statements.specs.Kept.{own_dim}
 use Rattle.name_laws.proofs.Keys.{key_of_static, static_parts}
 use Rattle.name_laws.proofs.Led.{differing}
 use Rattle.name_laws.proofs.Lists.{Among}
-use Rattle.run_laws.specs.Entered.{LocalsMatch, StaticMatch, KeyAt, AllKeyed, no_locals, next_constant, next_static, next_variable}
+use Rattle.run_laws.specs.Entered.{LocalsMatch, StaticMatch, KeyAt, AllKeyed, net_static_in, no_locals, next_constant, next_static, next_variable}
 use Rattle.run_laws.proofs.Covered.{same_name, some_is}
 use Rattle.name_laws.proofs.FrameNames.{own_dim_name}
 
@@ -101,14 +101,16 @@ snoc_fails : {X : Type 0} (p : X → Bool) (ds : List X) (d : X) → AllFail p d
 snoc_fails p [] d h e = (e, tt)
 snoc_fails p (x ∷ ds) d h e = (h.0, snoc_fails p ds d h.1 e)
 
-module _ (U : Upgrade) (p : ℕ) (c : Code) (is_code : code_of U p ≡ Some c) (S : Scope) where
+module _ (U : Upgrade) (p : ℕ) (c : Code) (is_code : code_of U p ≡ Some c) (S : Scope) (me net_holder : Option ℕ) where
   abbrev vars : List Variable
   vars = U.program.declarations.vars
 
   -- what is known of each declaration
   abbrev pub IsDeclaredOwn : Own → Type 0
   IsDeclaredOwn (own_variable v x) =
-      (slice_get vars v ≡ Some x) × (is_static x.owner ≡ true → (is_static_of p x.owner ≡ true) × (is_class U.written c.home ≡ false))
+      (slice_get vars v ≡ Some x)
+      × (is_static x.owner ≡ true
+      → (is_static_of p x.owner ≡ true) × ((i : ℕ) → static_root U.written c me i ≡ Some (net_static_in net_holder (static_key c i))))
       × (others_differ (is_static_of p) v x.name 0 vars ≡ true)
   IsDeclaredOwn (own_constant d x) = Unit {0}
 
@@ -126,7 +128,7 @@ module _ (U : Upgrade) (p : ℕ) (c : Code) (is_code : code_of U p ≡ Some c) (
 
   -- the key of a Static whose declaration stands behind these
   key_here : (ds : List net_tree.Dim) (v : ℕ) (x : Variable) (os : List Own) → c.procedure.prologue ≡ ds ++ map (own_dim S) (own_variable v x ∷ os)
-      → AllFail (is_dim_named x.name) ds → IsDeclaredOwn (own_variable v x) → is_static x.owner ≡ true → KeyAt U c (length ds) v
+      → AllFail (is_dim_named x.name) ds → IsDeclaredOwn (own_variable v x) → is_static x.owner ≡ true → KeyAt U c me net_holder (length ds) v
   key_here ds v x os e h is static =
       let of : is_static_of p x.owner ≡ true = (is.1 static).0 in
       let o = static_belongs x.owner static in
@@ -142,33 +144,33 @@ module _ (U : Upgrade) (p : ℕ) (c : Code) (is_code : code_of U p ≡ Some c) (
         λ u f.
             let z = key_of_static U p x.name (static_key c (length ds)) (static_parts U p x.name (static_key c (length ds)) there) u f in
             differing (is_static_of p) v x.name 0 u vars z.0 is.2 z.1 z.2 z.3 ∙ plus_none u,
-        (is.1 static).1,
+        (is.1 static).1 (length ds),
       )
 
   pub all_keyed : (ds : List net_tree.Dim) (os : List Own) → c.procedure.prologue ≡ ds ++ map (own_dim S) os → AllBefore ds os
-      → are_different (map own_name os) ≡ true → ((o : Own) → Among os o → IsDeclaredOwn o) → AllKeyed U c (length ds) os
+      → are_different (map own_name os) ≡ true → ((o : Own) → Among os o → IsDeclaredOwn o) → AllKeyed U c me net_holder (length ds) os
   all_keyed ds [] e before different is = tt
   all_keyed ds (own_variable v x ∷ os) e before different is =
       let o : Own = own_variable v x in
       let f = first_differs o os different in (
         λ static. key_here ds v x os e (before o (inl refl)) (is o (inl refl)) static,
-        subst (λ n. AllKeyed U c n os) (snoc_length ds (own_dim S o))
+        subst (λ n. AllKeyed U c me net_holder n os) (snoc_length ds (own_dim S o))
             (all_keyed (ds ++ own_dim S o ∷ []) os (e ∙ sym (snoc_append ds (own_dim S o) (map (own_dim S) os))) (before_next ds o os before f.0) f.1
             (λ z m. is z (inr m))),
       )
   all_keyed ds (own_constant d x ∷ os) e before different is =
       let o : Own = own_constant d x in
       let f = first_differs o os different in
-      subst (λ n. AllKeyed U c n os) (snoc_length ds (own_dim S o))
+      subst (λ n. AllKeyed U c me net_holder n os) (snoc_length ds (own_dim S o))
       (all_keyed (ds ++ own_dim S o ∷ []) os (e ∙ sym (snoc_append ds (own_dim S o) (map (own_dim S) os))) (before_next ds o os before f.0) f.1
       (λ z m. is z (inr m)))
 
 -- ---- the frame of the target
 
-pub record StaticFound (U : Upgrade) (w : World) (v : ℕ) (x : Variable) (ys : List (List ℕ × net.Address)) : Type 0 where
+pub record StaticFound (U : Upgrade) (holder : Option ℕ) (w : World) (v : ℕ) (x : Variable) (ys : List (List ℕ × net.Address)) : Type 0 where
   pub address : net.Address
   pub found : var_in ys x.name ≡ Some address
-  pub match : StaticMatch U w v address
+  pub match : StaticMatch U holder w v address
 
 abbrev number_of : Own → ℕ
 number_of (own_variable v x) = v
@@ -178,9 +180,9 @@ abbrev variable_or : Variable → Own → Variable
 variable_or y (own_variable v x) = x
 variable_or y (own_constant c x) = y
 
-module _ (U : Upgrade) (K : Pledge) (w : World) (v : ℕ) (x : Variable) (static : is_static x.owner ≡ true) where
+module _ (U : Upgrade) (K : Pledge) (holder : Option ℕ) (w : World) (v : ℕ) (x : Variable) (static : is_static x.owner ≡ true) where
   behind : (o : Own) (b : List ℕ × net.Address) (os : List Own) (ys : List (List ℕ × net.Address)) → b.0 ≡ own_name o → is_named_in (own_name o) (map own_name os) ≡ false
-      → Among os (own_variable v x) → StaticFound U w v x ys → StaticFound U w v x (b ∷ ys)
+      → Among os (own_variable v x) → StaticFound U holder w v x ys → StaticFound U holder w v x (b ∷ ys)
   behind o b os ys e other m f = record {
     address = f.address;
     found =
@@ -188,8 +190,8 @@ module _ (U : Upgrade) (K : Pledge) (w : World) (v : ℕ) (x : Variable) (static
     match = f.match;
   }
 
-  pub static_found : (os : List Own) (xs : List (ℕ × Address)) (ys : List (List ℕ × net.Address)) → LocalsMatch U K w os xs ys
-      → are_different (map own_name os) ≡ true → Among os (own_variable v x) → StaticFound U w v x ys
+  pub static_found : (os : List Own) (xs : List (ℕ × Address)) (ys : List (List ℕ × net.Address)) → LocalsMatch U K holder w os xs ys
+      → are_different (map own_name os) ≡ true → Among os (own_variable v x) → StaticFound U holder w v x ys
   static_found _ _ _ no_locals different m = absurd m
   static_found _ _ _ (next_variable u y a b os xs ys local name l rest) different (inl e) =
       absurd (true≢false (sym static ∙ sym (ap (λ (o : Own). is_static (variable_or x o).owner) e) ∙ local))
@@ -202,7 +204,7 @@ module _ (U : Upgrade) (K : Pledge) (w : World) (v : ℕ) (x : Variable) (static
       record {
         address = b.1;
         found = ap (λ t. cond t (Some b.1) (var_in ys x.name)) here;
-        match = subst (λ n. StaticMatch U w n b.1) (ap number_of e) l;
+        match = subst (λ n. StaticMatch U holder w n b.1) (ap number_of e) l;
       }
   static_found _ _ _ (next_static u y b os xs ys is name l rest) different (inr m) =
       let f = first_differs (own_variable u y) os different in

@@ -1,6 +1,7 @@
 -- What the laws on runs need of declarations, names, memories and lines.
-use Rattle.std.specs.Prelude.{◌≡◌, ℕ, suc, Bool, true, false, Option, Some, None, slice_get, List, [], ◌∷◌}
+use Rattle.std.specs.Prelude.{◌≡◌, ℕ, suc, Bool, true, false, Option, Some, None, slice_get, List}
 use Rattle.std.specs.List.{Contains}
+use Rattle.vb_tree.specs.BoundTree as types
 use Rattle.vb_tree.specs.BoundTree.{Ty}
 use Rattle.vb_tree.specs.declared.declared.ProcKind.TheVariants as kind
 use Rattle.bound_tree.specs.Tree.{Expr, Line, Procedure, Variable}
@@ -10,13 +11,15 @@ use Rattle.bound_facts.specs.Facts.{AreFacts}
 use Rattle.bound_facts.specs.Parts.{line_uses}
 use Rattle.net_tree.specs.Tree as net_tree
 use Rattle.net_tree.specs.Types.{TypeName}
-use Rattle.run_base.specs.Positions.{Key, Position, shared, whole}
-use Rattle.vb6_run.specs.Shapes.{Shape, variable_shape}
+use Rattle.run_base.specs.Positions.{Key, Position, Root, whole}
+use Rattle.vb6_run.specs.Shapes.{Shape, simple, variable_shape}
 use Rattle.vb6_run.specs.Store.{make, SourceGiven, make_with, read, root}
 use Rattle.vb6_run.specs.Values.{Value}
 use Rattle.vb6_run.specs.Programs as source
 use Rattle.vb6_run.specs.Programs.{lay_if_blank}
+use Rattle.net_run.specs.Calls.{result_shape_of}
 use Rattle.net_run.specs.Expressions as expressions
+use Rattle.net_run.specs.Members.{code_at}
 use Rattle.net_run.specs.Program as target
 use Rattle.net_run.specs.Program.{made_once}
 use Rattle.net_run.specs.Shapes as shape
@@ -29,26 +32,27 @@ use Rattle.written_trees.specs.Bodies.{inside_procedure}
 use Rattle.written_trees.specs.Facts.{is_array_variable}
 use Rattle.written_trees.specs.Heads.{is_function}
 use Rattle.written_trees.specs.Types.{type_with}
-use Rattle.run_matches.specs.CoveredVariables.{belongs_to, covers_declared, covers_user, has_extents}
-use Rattle.run_matches.specs.CoveredExprs.{uses_in}
+use Rattle.run_matches.specs.CoveredVariables.{belongs_to, covers_declared, covers_group_type, covers_user, has_extents}
+use Rattle.run_matches.specs.CoveredExprs.{has_result_type, uses_in}
 use Rattle.run_matches.specs.CoveredLines.{covers_line}
 use Rattle.run_matches.specs.Covered.{IsCoveredLine, covers_procedure, is_scalar_or_loud}
 use Rattle.run_matches.specs.JoinedProperties.{is_joined}
 use Rattle.run_matches.specs.Likeness.{scalar_word, LikeV, SameShape}
-use Rattle.run_matches.specs.Maps.{Mark, World}
+use Rattle.run_matches.specs.Maps.{Mark, World, moved}
 use Rattle.run_matches.specs.Match.{MemoryMatch}
 use Rattle.run_matches.specs.Pledges.{Later, NetGiven, Pledge}
 use Rattle.run_matches.specs.Runs.{CallsAgree, call_pledge}
 use Rattle.run_matches.specs.Sites.{Site, site_of}
 use Rattle.run_matches.specs.SoundShapes.{IsSoundShape}
-use Rattle.run_matches.specs.Upgrades.{Upgrade, home_of, runnable_of, variable_key}
+use Rattle.run_matches.specs.Upgrades.{Upgrade, home_of, runnable_of, variable_key, written_number}
 use Rattle.run_statements.specs.Fitting.{FitsLine, FitsNode}
 use Rattle.run_statements.specs.Arrays.{ArraysAreMadeBy, StaticArraysAreLaidBy}
-use Rattle.run_statements.specs.Frames.{AnyUnits, AreReadable, IsGroup, IsReadable, IsUsable, MadeMatch}
+use Rattle.run_statements.specs.Frames.{AnyUnits, AreReadable, IsGroup, IsReadable, IsStaticRoot, IsUsable, MadeMatch, type_shape}
 use Rattle.run_statements.specs.Groups.{GroupMade, ValueMatch}
 use Rattle.run_statements.specs.Kept.{IsUnreplaced, LabelsAreFound, LinesAgree, LinesAreWritten, NamesAreOpen, OwnsAreKept, NoFurtherLines, StoresAreOwn, UsesArePlaced, CalleesAreFound, MethodsAreFound}
 use Rattle.run_statements.specs.Written.{ProceduresAreWritten, WrittenProcedure, Passes, site_scope}
-use Rattle.name_laws.specs.Objects.{ClassesAreFound, InitializersAreFound, NothingInitializes}
+use Rattle.memory_laws.specs.Statements.{AutosAreMadeBy, StaticAutosAreLaidBy}
+use Rattle.name_laws.specs.Objects.{AutosAreFound, ClassesAreFound, InitializersAreFound, NothingInitializes}
 
 -- ---- clean procedures that are covered
 
@@ -128,20 +132,22 @@ GroupsAreGivenBy U K =
 
 abbrev pub StaticGroupsAreLaidBy : Upgrade → Pledge → Type 0
 StaticGroupsAreLaidBy U K =
-    (w : World) (v : ℕ) (ty : Ty) (r : IsGroup U v ty) (home : ℕ) (key : Key) (d : net_tree.Variable) → MemoryMatch U w
-    → variable_key U v ≡ Some key → ((u : ℕ) → variable_key U u ≡ Some key → v ≡ u) → d.value ≡ None
+    (w : World) (v : ℕ) (ty : Ty) (r : IsGroup U v ty) (home : ℕ) (key : Key) (d : net_tree.Variable) (place : Root) → IsStaticRoot w v place
+    → MemoryMatch U w → variable_key U v ≡ Some key → ((u : ℕ) → variable_key U u ≡ Some key → v ≡ u) → d.value ≡ None
     → SameShape U (variable_shape U.program.declarations v) (shape.shape_of U.written home d.ty)
     → Agrees U K w AnyUnits
-    (lay_if_blank (variable_shape U.program.declarations v) (shared (v ∷ [])) (w.src.held (whole (shared (v ∷ [])))) w.src)
-    (made_once U.written home (shared key) d (w.net.cell (whole (shared key))) w.net)
+    (lay_if_blank (variable_shape U.program.declarations v) place (w.src.held (whole place)) w.src)
+    (made_once U.written home (moved U w.map place) d (w.net.cell (whole (moved U w.map place))) w.net)
 
 -- what is made on both sides under a pledge, and under those of calls
 pub record MakesAlike (U : Upgrade) (K : Pledge) : Type 0 where
   pub scalars : LocalsAreMadeBy U K
   pub arrays : ArraysAreMadeBy U K
   pub groups : GroupsAreMadeBy U K
+  pub autos : AutosAreMadeBy U K
   pub static_arrays : StaticArraysAreLaidBy U K
   pub static_groups : StaticGroupsAreLaidBy U K
+  pub static_autos : StaticAutosAreLaidBy U K
   pub scalars_given : ValuesAreMadeBy U K
   pub groups_given : GroupsAreGivenBy U K
 
@@ -149,12 +155,11 @@ abbrev pub CallsMakeAlike : Upgrade → Type 0
 CallsMakeAlike U =
     (p : ℕ) (base : Mark) (me : Option ℕ) (xs : List SourceGiven) (ys : List NetGiven) → MakesAlike U (call_pledge U p base me xs ys)
 
--- what is written for a variable of a user type or of a class has its shape, and nothing for it to begin with
+-- what is written for a user type or a class has its shape, and nothing for a variable of it to begin with
 pub record GroupsAreWritten (U : Upgrade) : Type 0 where
   pub shaped :
-      (v : ℕ) (ty : Ty) → IsGroup U v ty → (home file rank : ℕ) (qualified : Bool) → home_of U file ≡ Some home
-      → SameShape U (variable_shape U.program.declarations v)
-      (shape.shape_of U.written home (type_with U.program.declarations file qualified rank ty))
+      (ty : Ty) (home file rank : ℕ) (qualified : Bool) → covers_group_type U.program.declarations ty ≡ true → home_of U file ≡ Some home
+      → SameShape U (type_shape U ty) (shape.shape_of U.written home (type_with U.program.declarations file qualified rank ty))
   pub unmade : (user_type : ℕ) → covers_user U.program.declarations user_type ≡ true → U.facts.is_made user_type ≡ false
   -- the module of a procedure is the one of its file
   pub homes : (p : ℕ) (s : Site) → site_of U.program.declarations p ≡ Some s → home_of U s.source_module.file ≡ Some s.home
@@ -179,6 +184,13 @@ CleanUsesFit U =
 abbrev pub CleanResizesFit : Upgrade → Type 0
 CleanResizesFit U =
     (p k : ℕ) (l : Line) → IsClean U.program U.facts.marks p → nth_line (lines_at U.program p) (suc k) ≡ Some l → FitsLine U p l
+
+-- what gives objects of a class is written with that class
+abbrev pub ResultsAreWritten : Upgrade → Type 0
+ResultsAreWritten U =
+    (q number : ℕ) → Passes U q → written_number U q ≡ Some number → (class : ℕ)
+    → has_result_type (types.class class) (slice_get U.program.declarations.procs q) ≡ true
+    → SameShape U (simple (types.class class)) (result_shape_of U.written (code_at U.written number))
 
 -- ---- properties
 
@@ -211,9 +223,11 @@ LineResizesFit U =
 
 -- ---- new objects
 
--- classes are found by their names, and what is written for one begins its objects by what is written for its Class_Initialize
+-- classes are found by their names, and by those of the functions that make objects for As New variables; what is written for one begins its
+-- objects by what is written for its Class_Initialize
 pub record ObjectsBegin (U : Upgrade) : Type 0 where
   pub found : ClassesAreFound U
+  pub autos : AutosAreFound U
   pub begins : InitializersAreFound U
   pub nothing : NothingInitializes U
 
@@ -234,6 +248,7 @@ pub record LinePremises (U : Upgrade) : Type 0 where
   pub known : AreFacts U.program U.known
   pub found : CalleesAreFound U
   pub methods : MethodsAreFound U
+  pub results : ResultsAreWritten U
   pub objects : ObjectsBegin U
   pub calls : (n : ℕ) → CallsAgree U (Passes U) (go (source.machine_of (runnable_of U)) n) (go (target.machine_of U.written) n)
 
@@ -256,6 +271,7 @@ pub record RunPremises (U : Upgrade) : Type 0 where
   pub known : AreFacts U.program U.known
   pub found : CalleesAreFound U
   pub methods : MethodsAreFound U
+  pub results : ResultsAreWritten U
   pub objects : ObjectsBegin U
   pub makes : CallsMakeAlike U
   pub ranked : has_extents U.program ≡ true → ArraysHaveRanks U

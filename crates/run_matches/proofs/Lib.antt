@@ -9,6 +9,8 @@ mod ArraySamples
 mod ElementSamples
 mod TypeSamples
 mod ObjectSamples
+mod StaticSamples
+mod AutoSamples
 mod PropertySamples
 pub mod StoreExamples
 mod CoveredExamples

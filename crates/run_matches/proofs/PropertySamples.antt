@@ -13,8 +13,9 @@ use Rattle.vb_tree.specs.Tree as source
 use Rattle.bound_tree.specs.declared.body.Mention.{Mention}
 use Rattle.bound_tree.specs.declared.body.Mention.TheVariants as mention
 use Rattle.bound_tree.specs.declared.expression.Origin.TheVariants.{Literal}
+use Rattle.bound_tree.specs.declared.expression.Root.TheVariants as at
 use Rattle.bound_tree.specs.RuleSets.{has, none, both}
-use Rattle.bound_tree.specs.Tree.{Expr, typed, constant, variable, call, binary, convert, err_number, is_same, new_object, no_object, of_object, no_passed, Line, Program}
+use Rattle.bound_tree.specs.Tree.{Expr, typed, constant, variable, call, binary, convert, err_number, is_same, new_object, no_object, of_object, no_passed, with_object, Line, Program}
 use Rattle.bound_facts.specs.Facts.{Known}
 use Rattle.written_trees.specs.Projects.{written_project}
 use Rattle.run_base.specs.Outcomes.{outputs, printed}
@@ -37,6 +38,11 @@ use Rattle.run_matches.proofs.Samples.{any, body, declared, facts, known, line, 
 --         If c.Peer Is c Then
 --             Debug.Print 6
 --         End If
+--         Debug.Print c.Peer.Total
+--         c.Peer.Peer.Total = 9
+--         With c.Peer
+--             Debug.Print .Total
+--         End With
 --         On Error Resume Next
 --         Set c = Nothing
 --         c.Total = 1
@@ -76,11 +82,20 @@ number k = typed long (constant (v.Long (pos k)) Literal)
 abbrev level : (part : ℕ) → Expr
 level p = typed long (call (proc_id p) false no_object no_passed)
 
+abbrev total_of : (part : ℕ) → Expr → Expr
+total_of p e = typed long (call (proc_id p) false (of_object e) no_passed)
+
 abbrev total : (part : ℕ) → Expr
-total p = typed long (call (proc_id p) false (of_object (object 1)) no_passed)
+total p = total_of p (object 1)
+
+abbrev peer_of : (part : ℕ) → Expr → Expr
+peer_of p e = typed (class 0) (call (proc_id p) false (of_object e) no_passed)
 
 abbrev peer : (part : ℕ) → Expr
-peer p = typed (class 0) (call (proc_id p) false (of_object (object 1)) no_passed)
+peer p = peer_of p (object 1)
+
+abbrev kept : Expr
+kept = typed (class 0) (with_object at.Temporary)
 
 abbrev mentions : List Mention
 mentions = mention.Var (var_id 0) ∷ mention.Var (var_id 1) ∷ mention.Var (var_id 2) ∷ mention.Var (var_id 3) ∷ mention.Var (var_id 4) ∷ mention.Var (var_id 5)
@@ -111,6 +126,11 @@ main_lines =
     ∷ code (source.if_head any) (typed boolean (is_same (peer 6) (object 1)) ∷ [])
     ∷ code print (number 6 ∷ [])
     ∷ code source.end_if []
+    ∷ code print (total_of 4 (peer 6) ∷ [])
+    ∷ code assign (total_of 3 (peer_of 6 (peer 6)) ∷ number 9 ∷ [])
+    ∷ code (source.with_head any) (peer 6 ∷ [])
+    ∷ code print (total_of 4 kept ∷ [])
+    ∷ code source.end_with []
     ∷ code source.on_error_resume_next []
     ∷ code set (object 1 ∷ typed (class 0) (convert (class 0) (typed nothing (constant v.Nothing Literal))) ∷ [])
     ∷ code assign (total 3 ∷ number 1 ∷ [])
@@ -156,7 +176,7 @@ properties = record {
                 ∷ source.proc (line 1 (source.sub_head (signature (codes "Main"))))
                 (body 1
                 (source.variables var_word.Dim [] ∷ set ∷ assign ∷ assign ∷ print ∷ set ∷ source.if_head any ∷ print ∷ source.end_if
-                ∷ source.on_error_resume_next ∷ set ∷ assign ∷ print ∷ []))
+                ∷ print ∷ assign ∷ source.with_head any ∷ print ∷ source.end_with ∷ source.on_error_resume_next ∷ set ∷ assign ∷ print ∷ []))
                 (line 1 source.end_sub)
                 ∷ getter 1 (codes "Level") assign
                 ∷ letter 1 (codes "Level")
@@ -183,8 +203,8 @@ properties = record {
     vars =
         declared (codes "m") 1 0 (owner.Module 1) long
         ∷ declared (codes "c") 1 2 (owner.Local (proc_id 0)) (class 0)
-        ∷ declared (codes "Level") 1 16 (owner.Answer (proc_id 1)) long
-        ∷ declared (codes "k") 1 19 (owner.Value (proc_id 2)) long
+        ∷ declared (codes "Level") 1 21 (owner.Answer (proc_id 1)) long
+        ∷ declared (codes "k") 1 24 (owner.Value (proc_id 2)) long
         ∷ declared (codes "n") 2 0 (owner.Module 2) long
         ∷ declared (codes "other") 2 1 (owner.Module 2) (class 0)
         ∷ declared (codes "k") 2 2 (owner.Reference (proc_id 3)) long
@@ -240,10 +260,10 @@ get_peer_covered = refl
 abbrev texts : List ℕ → List ℕ
 texts s = s ++ 13 ∷ 10 ∷ []
 
-says : outputs (run_program (runnable_of property_upgrade) 0 [] 80) ≡ printed (texts (codes " 5 ")) ∷ printed (texts (codes " 6 ")) ∷ printed (texts (codes " 91 ")) ∷ []
+says : outputs (run_program (runnable_of property_upgrade) 0 [] 120) ≡ printed (texts (codes " 5 ")) ∷ printed (texts (codes " 6 ")) ∷ printed (texts (codes " 5 ")) ∷ printed (texts (codes " 9 ")) ∷ printed (texts (codes " 91 ")) ∷ []
 unfolding digits
 says = refl
 
-says_net : outputs (program_runs property_upgrade.written 80 0 []) ≡ printed (texts (codes " 5 ")) ∷ printed (texts (codes " 6 ")) ∷ printed (texts (codes " 91 ")) ∷ []
+says_net : outputs (program_runs property_upgrade.written 120 0 []) ≡ printed (texts (codes " 5 ")) ∷ printed (texts (codes " 6 ")) ∷ printed (texts (codes " 5 ")) ∷ printed (texts (codes " 9 ")) ∷ printed (texts (codes " 91 ")) ∷ []
 unfolding digits has none both
 says_net = refl

@@ -20,7 +20,7 @@ use Rattle.bound_facts.specs.Calls.{Reaches, line_calls, count_procedures}
 use Rattle.bound_facts.specs.Members.{class_files, initializer}
 use Rattle.bound_facts.specs.Effects.{params_at}
 use Rattle.bound_facts.specs.Locks.{is_same_type}
-use Rattle.bound_facts.specs.Node.{type_at, called, args_at, is_array_type}
+use Rattle.bound_facts.specs.Node.{type_at, auto_class, called, args_at, is_array_type}
 use Rattle.bound_facts.specs.Parts.{line_uses}
 use Rattle.run_base.specs.Machines.{nth_line}
 use Rattle.up_base.specs.Names.{is_same_name}
@@ -30,10 +30,12 @@ use Rattle.written_trees.specs.Heads.{is_function}
 use Rattle.written_trees.specs.Prologues.{variables_of, constants_of, is_static}
 use Rattle.vb6_run.specs.Forms.{SourceLine, body_of}
 use Rattle.vb6_run.specs.Programs.{is_local_of, owned_from, answer_in, is_static_of}
+use Rattle.vb6_run.specs.Runnables.{is_class_file}
+use Rattle.net_run.specs.Members.{is_same_flag}
 use Rattle.written_trees.specs.Names.{first_name}
 use Rattle.run_matches.specs.Callees.{frame_owns, is_found, is_once, names_in}
 use Rattle.run_matches.specs.JoinedProperties.{is_empty, is_joined}
-use Rattle.run_matches.specs.Shared.{is_outer, others_differ}
+use Rattle.run_matches.specs.Shared.{others_differ}
 use Rattle.run_matches.specs.Upgrades.{takes_array}
 use Rattle.run_matches.specs.UserTypes.{is_group_type, is_user}
 use Rattle.run_matches.specs.Sites.{Site, site_of, Own, own_variable, own_constant, own_name, owns_of, local_numbers, static_numbers, statement_of}
@@ -151,11 +153,10 @@ covers_names D =
     && (list_all (λ (c : Constant). is_free_name c.name) D.consts && list_all (λ (q : Procedure). is_free_name q.name) D.procs))
 
 abbrev pub covers_own : Declarations → (procedure : ℕ) → Own → Bool
-covers_own D p (own_variable v x) =
-    others_differ (is_static_of p) v x.name 0 D.vars && (not (is_static x.owner) || is_outer D (slice_get D.procs p))
+covers_own D p (own_variable v x) = others_differ (is_static_of p) v x.name 0 D.vars
 covers_own D p (own_constant c x) = belongs_to p x.owner && is_some x.value
 
--- its lines declare its variables, Statics in standard modules and under names of their own, and constants with values
+-- its lines declare its variables, Statics under names of their own, and constants with values
 abbrev pub covers_owns : Declarations → (procedure : ℕ) → List Own → Bool
 covers_owns D p os =
     (pointwise nat_eq (local_numbers os) (owned_from (is_local_of p) 0 D.vars)
@@ -166,11 +167,16 @@ abbrev pub has_no_static : Own → Bool
 has_no_static (own_variable v x) = not (is_static x.owner)
 has_no_static (own_constant c x) = true
 
--- all that its frame has is named differently, and a procedure of a class has no Statics
+abbrev pub is_class_number : Declarations → Option Procedure → Bool
+is_class_number D None = false
+is_class_number D (Some q) = is_class_file D q.module_number
+
+-- all that its frame has is named differently, and where it has Statics it stands in a class by the file of its module as by its place
 abbrev pub covers_site : Declarations → (procedure : ℕ) → Option Site → Bool
 covers_site D p None = false
 covers_site D p (Some s) =
-    (not s.source_module.class || list_all has_no_static (owns_of D s)) && (covers_owns D p (owns_of D s) && are_different (map own_name (frame_owns D (slice_get D.procs p) s)))
+    (list_all has_no_static (owns_of D s) || is_same_flag (is_class_number D (slice_get D.procs p)) s.source_module.class)
+    && (covers_owns D p (owns_of D s) && are_different (map own_name (frame_owns D (slice_get D.procs p) s)))
 
 -- ---- what is called
 
@@ -223,13 +229,18 @@ stands_alone D p q qualified (of_object e) = true
 abbrev pub covers_use_of : Declarations → (procedure callee : ℕ) → (qualified : Bool) → Object → Passed → Bool
 covers_use_of D p q qualified of args = cond (is_property D q) (has_none args && stands_alone D p q qualified of) true
 
+abbrev pub covers_made_by : Program → (class : Option ℕ) → Bool
+covers_made_by P None = true
+covers_made_by P (Some c) = covers_initializer P c (initializer P.declarations c)
+
 abbrev pub covers_node_term : Program → (procedure : ℕ) → Option Site → Term → Bool
 covers_node_term P p s (call q qualified of args) =
     covers_called_for P p s q.0 qualified of && covers_use_of P.declarations p q.0 qualified of args
 covers_node_term P p s (new_object c) = covers_initializer P c.0 (initializer P.declarations c.0)
+covers_node_term P p s (variable v qualified) = covers_made_by P (auto_class (slice_get P.declarations.vars v.0))
 covers_node_term P p s t = true
 
--- what a node calls is found by its name; so is the Class_Initialize of a new object
+-- what a node calls is found by its name; so is the Class_Initialize of a new object, and of one that an As New variable makes
 abbrev pub covers_node : Program → (procedure : ℕ) → Option Site → Expr → Bool
 covers_node P p s (typed ty t) = covers_node_term P p s t
 

@@ -27,6 +27,7 @@ use Rattle.bound_facts.specs.Nodes.{nodes, nodes_of_all}
 use Rattle.vb6_meaning.specs.Answers.{Answer}
 use Rattle.vb6_meaning.specs.Answers as answer
 use Rattle.vb6_meaning.specs.Values.{coerce}
+use Rattle.written_trees.specs.Heads.{is_function}
 use Rattle.written_trees.specs.Puts.{last_of}
 use Rattle.vb6_run.specs.Values.{is_typed}
 use Rattle.bound_facts.specs.Members.{class_files}
@@ -34,7 +35,7 @@ use Rattle.bound_facts.specs.SelfMade.{module_of}
 use Rattle.run_matches.specs.Sites.{Site, site_of}
 use Rattle.run_matches.specs.UserTypes.{is_class_type, is_user, is_user_of}
 use Rattle.run_matches.specs.Inward.{grown, is_apart, is_inward_in}
-use Rattle.run_matches.specs.CoveredVariables.{covers_use, covers_array_use, covers_group_use, covers_group_type, covers_made, is_named_so, field_type_in, member_type_in, is_loud, covers_type}
+use Rattle.run_matches.specs.CoveredVariables.{covers_use, covers_array_use, covers_auto_use, covers_group_use, covers_group_type, covers_made, is_named_so, field_type_in, member_type_in, is_loud, covers_type}
 
 -- ---- operators and the library
 
@@ -98,6 +99,8 @@ pub record Uses : Type 0 where
   pub scalar : VarId → Bool
   pub array : VarId → (element : Ty) → Bool
   pub group : VarId → Ty → Bool
+  -- As New variables of a class
+  pub auto : VarId → Ty → Bool
   pub field_type : (user_type field : ℕ) → Option Ty
   -- the types of the variables that objects of a class may be asked for
   pub member_type : (class field : ℕ) → Option Ty
@@ -113,6 +116,8 @@ pub record Uses : Type 0 where
   -- procedures that are no Let and no Set of a property, and those that take a value of a type as a Let or a Set
   pub gives : (procedure : ℕ) → Bool
   pub takes : (procedure : ℕ) → Ty → Bool
+  -- Functions and Gets whose result is of a type
+  pub results : (procedure : ℕ) → Ty → Bool
   -- procedures that are seen to be inward
   pub inward : (procedure : ℕ) → Bool
   pub exact : VarId → Bool
@@ -121,7 +126,8 @@ pub record Uses : Type 0 where
 
 abbrev pub IsUsed : Uses → VarId → Type 0
 IsUsed uses v =
-    (uses.scalar v ≡ true) ⊎ (((element : Ty) × (uses.array v element ≡ true)) ⊎ ((ty : Ty) × (uses.group v ty ≡ true)))
+    (uses.scalar v ≡ true)
+    ⊎ (((element : Ty) × (uses.array v element ≡ true)) ⊎ (((ty : Ty) × (uses.group v ty ≡ true)) ⊎ ((ty : Ty) × (uses.auto v ty ≡ true))))
 
 abbrev pub is_declared_as : Ty → Option Variable → Bool
 is_declared_as ty None = false
@@ -180,6 +186,11 @@ abbrev pub is_giving : Option Procedure → Bool
 is_giving None = false
 is_giving (Some q) = not (takes_value q.kind)
 
+-- a Function or a Get whose result is of a type
+abbrev pub has_result_type : Ty → Option Procedure → Bool
+has_result_type ty None = false
+has_result_type ty (Some q) = is_function q.kind && is_same_type ty q.result
+
 -- the last parameter of a Let or a Set takes the value
 abbrev pub is_taking : Declarations → Ty → Option Procedure → Bool
 is_taking D ty None = false
@@ -191,6 +202,7 @@ uses_in P p mentions = record {
   scalar = covers_use P p mentions;
   array = covers_array_use P p mentions;
   group = covers_group_use P p mentions;
+  auto = covers_auto_use P p mentions;
   field_type = field_type_in P.declarations mentions;
   member_type = member_type_in P.declarations mentions;
   me = class_of P.declarations p;
@@ -200,6 +212,7 @@ uses_in P p mentions = record {
   is_of = λ v ty. is_declared_as ty (slice_get P.declarations.vars v.0);
   gives = λ q. is_giving (slice_get P.declarations.procs q);
   takes = λ q ty. is_taking P.declarations ty (slice_get P.declarations.procs q);
+  results = λ q ty. has_result_type ty (slice_get P.declarations.procs q);
   inward = is_inward_in P;
   exact = λ v. is_loud P v.0 (slice_get P.declarations.vars v.0);
   relied = λ v. is_relied_on P v.0;
@@ -325,21 +338,24 @@ is_class_of of (types.class c) = is_number c of
 is_class_of of ty = false
 
 abbrev mutual
-  -- an object that is kept: by a variable, by a variable of such an object, or by a With; and Me
+  -- an object that is kept: by a variable, which may be As New, by a variable of such an object, or by a With; Me; and what a Function or a
+  -- property gives that is called without arguments, for no object or for one of these
   pub covers_object : Uses → Expr → Bool
   covers_object uses (typed ty t) = covers_object_term uses ty t
 
   pub covers_object_term : Uses → Ty → Term → Bool
-  covers_object_term uses ty (variable v qualified) = is_class_type ty && (uses.group v ty && uses.named v qualified)
+  covers_object_term uses ty (variable v qualified) = is_class_type ty && ((uses.group v ty || uses.auto v ty) && uses.named v qualified)
   covers_object_term uses ty (field e k) = is_class_type ty && (has_member uses (type_at e) k (is_same_type ty) && covers_object uses e)
   covers_object_term uses ty me = is_class_of uses.me ty
   covers_object_term uses ty (with_object root) = is_class_type ty && uses.given ty
+  covers_object_term uses ty (call p qualified of no_passed) =
+      is_class_type ty && (uses.given ty && (uses.gives p.0 && (uses.results p.0 ty && covers_receiver uses of)))
   covers_object_term uses ty _ = false
 
--- a call is for no object, or for one that is kept
-abbrev pub covers_receiver : Uses → Object → Bool
-covers_receiver uses no_object = true
-covers_receiver uses (of_object e) = covers_object uses e
+  -- a call is for no object, or for one of these
+  pub covers_receiver : Uses → Object → Bool
+  covers_receiver uses no_object = true
+  covers_receiver uses (of_object e) = covers_object uses e
 
 -- ---- bounds of arrays
 
@@ -392,12 +408,14 @@ abbrev mutual
   covers_term uses (is_same d e) = covers_operand uses d && covers_operand uses e
   covers_term uses (loose e rules) = false
 
-  -- a user type or an object as a value: a place, an object that an object has, what a Function gives, Me, a new object, or Nothing
+  -- a user type or an object as a value: a place, an object that an object or an As New variable has, what a Function gives, Me, a new
+  -- object, or Nothing
   pub covers_group : Uses → Expr → Bool
   covers_group uses (typed ty t) = covers_place_term uses ty t || covers_group_term uses ty t
 
   pub covers_group_term : Uses → Ty → Term → Bool
   covers_group_term uses ty (call p qualified of args) = uses.given ty && (uses.gives p.0 && (covers_receiver uses of && covers_passed uses args))
+  covers_group_term uses ty (variable v qualified) = uses.auto v ty && uses.named v qualified
   covers_group_term uses ty (field e k) = covers_object_term uses ty (field e k)
   covers_group_term uses ty me = covers_object_term uses ty me
   covers_group_term uses ty (new_object c) = is_class_of (Some c.0) ty && uses.made c.0
@@ -495,9 +513,17 @@ is_new_term t = false
 abbrev pub is_new : Expr → Bool
 is_new (typed ty t) = is_new_term t
 
+abbrev pub is_auto_use_term : Uses → Ty → Term → Bool
+is_auto_use_term uses ty (variable v qualified) = uses.auto v ty
+is_auto_use_term uses ty t = false
+
+-- the use of an As New variable
+abbrev pub is_auto_use : Uses → Expr → Bool
+is_auto_use uses (typed ty t) = is_auto_use_term uses ty t
+
 -- calls of inward procedures alone, and no new objects, whose Class_Initialize is called
 abbrev pub are_still : Uses → List Expr → Bool
-are_still uses es = list_all (λ d. not (is_new d) && is_seen_inward uses (called d)) es
+are_still uses es = list_all (λ d. not (is_new d || is_auto_use uses d) && is_seen_inward uses (called d)) es
 
 -- Both can raise, or the value is constant, or one is calm and the other still. What breaks no rule on the order of effects is mostly so;
 -- what reads an element, or has an operator, isn't calm, and a fixed array isn't told from others.
@@ -516,7 +542,7 @@ is_calm_object_term uses (with_object root) = true
 is_calm_object_term uses t = false
 
 abbrev pub is_calm_object : Uses → Expr → Bool
-is_calm_object uses (typed ty t) = is_calm_object_term uses t
+is_calm_object uses (typed ty t) = not (is_auto_use_term uses ty t) && is_calm_object_term uses t
 
 -- The object is known before the value in what is written, and behind it in VB6.
 abbrev pub keeps_object : Uses → (object value : Expr) → Bool

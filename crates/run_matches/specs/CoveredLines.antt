@@ -27,7 +27,7 @@ use Rattle.run_base.specs.Machines.{nth_line}
 use Rattle.vb6_run.specs.Forms.{SourceLine}
 use Rattle.vb6_run.specs.Programs.{is_local_of}
 use Rattle.run_matches.specs.Formed.{is_formed}
-use Rattle.run_matches.specs.CoveredExprs.{Uses, is_new, keeps_object, keeps_order, is_changeable, covers_place, covers_expr, is_variable, covers_value, covers_term, covers_receiver, covers_passed, covers_array, uses_in, covers_group, covers_object}
+use Rattle.run_matches.specs.CoveredExprs.{Uses, is_auto_use, is_new, keeps_object, keeps_order, is_changeable, covers_place, covers_expr, is_variable, covers_value, covers_term, covers_receiver, covers_passed, covers_array, uses_in, covers_group, covers_object}
 use Rattle.run_matches.specs.CoveredVariables.{covers_group_type}
 use Rattle.run_matches.specs.UserTypes.{is_class_type, is_user}
 use Rattle.bound_tree.specs.Targets.{with_round}
@@ -78,9 +78,19 @@ abbrev pub covers_store : Uses → List Expr → Bool
 covers_store uses (to ∷ e ∷ []) = covers_stored uses to e || covers_property uses to e
 covers_store uses es = false
 
+abbrev pub is_auto_target_in : Uses → Ty → Term → Bool
+is_auto_target_in uses ty (variable v qualified) = uses.auto v ty && uses.named v qualified
+is_auto_target_in uses ty t = false
+
+-- an As New variable, of which no object is made where it is set
+abbrev pub is_auto_target : Uses → Expr → Bool
+is_auto_target uses (typed ty t) = is_auto_target_in uses ty t
+
 -- a Set of a variable
 abbrev pub covers_set_variable : Uses → (target value : Expr) → Bool
-covers_set_variable uses to e = is_changeable uses to && (is_same_type (type_at to) (type_at e) && (covers_place uses to && covers_group uses e))
+covers_set_variable uses to e =
+    (is_changeable uses to && (is_same_type (type_at to) (type_at e) && (covers_place uses to && covers_group uses e)))
+    || (is_auto_target uses to && (is_same_type (type_at to) (type_at e) && covers_group uses e))
 
 -- a Set of a variable of an object
 abbrev pub covers_set_member : Uses → (target value : Expr) → Bool
@@ -189,7 +199,9 @@ covers_erased uses es = false
 
 -- a With on a place of a user type, on an object that is kept, or on a new one
 abbrev pub covers_with : Uses → List Expr → Bool
-covers_with uses (e ∷ []) = (is_user (type_at e) && covers_place uses e) || (is_class_type (type_at e) && (covers_object uses e || (is_new e && covers_group uses e)))
+covers_with uses (e ∷ []) =
+    (is_user (type_at e) && covers_place uses e)
+    || (is_class_type (type_at e) && ((not (is_auto_use uses e) && covers_object uses e) || (is_new e && covers_group uses e)))
 covers_with uses es = false
 
 -- assignments to variables, Set, calls, Debug.Print, If, Select Case, For, Do, While, With, labels, GoTo, On Error, Resume, Exit, ReDim and Erase

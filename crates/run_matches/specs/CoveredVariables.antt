@@ -28,7 +28,7 @@ use Rattle.run_matches.specs.Callees.{is_first_module, is_once, is_source_name, 
 use Rattle.run_matches.specs.Shared.{names_lead, field_leads, is_alone_field, is_alone_static, is_of_module, member_owns, others_differ, placed_module}
 use Rattle.run_matches.specs.Sites.{variable_numbers}
 use Rattle.run_matches.specs.Upgrades.{is_unknown, type_of_some}
-use Rattle.run_matches.specs.UserTypes.{type_leads, field_names, is_user, is_user_of}
+use Rattle.run_matches.specs.UserTypes.{type_leads, field_names, is_class_type, is_user, is_user_of}
 
 -- ---- types
 
@@ -116,8 +116,7 @@ abbrev pub is_loud : Program → (variable : ℕ) → Option Variable → Bool
 is_loud P v None = false
 is_loud P v (Some x) = is_loud_owner P v x.owner
 
--- Variables of the procedure, but for Statics in classes, and those of standard modules to which names lead; the line that uses them mentions
--- them.
+-- Variables of the procedure, and those of standard modules and of its own class to which names lead; the line that uses them mentions them.
 abbrev pub covers_use : Program → (procedure : ℕ) → List Mention → VarId → Bool
 covers_use P p mentions v = list_any (is_mention_of v) mentions && covers_some P.declarations p v.0 (slice_get P.declarations.vars v.0)
 
@@ -247,6 +246,26 @@ covers_group_use P p mentions v ty =
     list_any (is_mention_of v) mentions
     && (covers_some_group P.declarations p v.0 ty (slice_get P.declarations.vars v.0) && is_loud P v.0 (slice_get P.declarations.vars v.0))
 
+-- ---- As New
+
+-- those of modules, local ones and Statics
+abbrev pub covers_auto_owner : Owner → Bool
+covers_auto_owner (owner.Module file) = true
+covers_auto_owner (owner.Local p) = true
+covers_auto_owner (owner.Static p) = true
+covers_auto_owner (owner.Value p) = false
+covers_auto_owner (owner.Reference p) = false
+covers_auto_owner (owner.Answer p) = false
+covers_auto_owner (owner.Field t) = false
+
+-- an As New variable of a class
+abbrev pub covers_auto_variable : Declarations → Variable → Bool
+covers_auto_variable D x = covers_auto_owner x.owner && ((is_class_type x.ty && covers_group_type D x.ty) && x.auto)
+
+abbrev pub covers_some_auto : Declarations → (procedure variable : ℕ) → Ty → Option Variable → Bool
+covers_some_auto D p v ty None = false
+covers_some_auto D p v ty (Some x) = is_reached D p v x.name x.owner && (is_same_type ty x.ty && covers_auto_variable D x)
+
 abbrev pub field_type_of : Declarations → List Mention → Option ℕ → Option Ty
 field_type_of D mentions None = None
 field_type_of D mentions (Some v) =
@@ -274,9 +293,10 @@ member_type_of D mentions (Some file) (Some v) =
 abbrev pub member_type_in : Declarations → List Mention → (class field : ℕ) → Option Ty
 member_type_in D mentions c k = member_type_of D mentions (slice_get (class_files D.project) c) (field_of D (types.class c) k)
 
--- a scalar, an array of scalars, a user type of scalars and such user types, or an object
+-- a scalar, an array of scalars, a user type of scalars and such user types, or an object, which may be As New
 abbrev pub covers_declared : Declarations → Variable → Bool
-covers_declared D x = covers_variable x || (covers_array_variable (element_type x.ty) x || covers_group_variable D x)
+covers_declared D x =
+    covers_variable x || (covers_array_variable (element_type x.ty) x || (covers_group_variable D x || covers_auto_variable D x))
 
 -- no user types: a field of one may carry an issue
 abbrev pub covers_made_variable : Declarations → Variable → Bool
@@ -318,3 +338,13 @@ abbrev pub covers_made : Program → (class : ℕ) → Bool
 covers_made P c =
     covers_class P.declarations c
     && (covers_made_file P.declarations (slice_get (class_files P.declarations.project) c) && (declares_variables P.declarations c && has_extents P))
+
+abbrev pub is_made_type : Program → Ty → Bool
+is_made_type P (types.class c) = covers_made P c
+is_made_type P ty = false
+
+-- As New variables of the procedure, and of modules, of a class of which objects may be made, as scalars are
+abbrev pub covers_auto_use : Program → (procedure : ℕ) → List Mention → VarId → Ty → Bool
+covers_auto_use P p mentions v ty =
+    list_any (is_mention_of v) mentions
+    && (covers_some_auto P.declarations p v.0 ty (slice_get P.declarations.vars v.0) && is_made_type P ty)

@@ -186,6 +186,6 @@ abbrev pub is_outer : Declarations → Option Procedure → Bool
 is_outer D None = false
 is_outer D (Some q) = not (is_class_file D q.module_number)
 
--- the procedure stands in a standard module, and no other Static of it has the name
+-- no other Static of the procedure has the name
 abbrev pub is_alone_static : Declarations → (procedure variable : ℕ) → (name : List ℕ) → Bool
-is_alone_static D p v name = is_outer D (slice_get D.procs p) && others_differ (is_static_of p) v name 0 D.vars
+is_alone_static D p v name = others_differ (is_static_of p) v name 0 D.vars

@@ -1,10 +1,10 @@
 -- Arrays of scalars that are made in memories that match.
-use Rattle.std.specs.Prelude.{◌≡◌, ℕ, ℤ, Some, List, [], ◌∷◌}
+use Rattle.std.specs.Prelude.{◌≡◌, ℕ, ℤ, Some, List}
 use Rattle.vb_tree.specs.BoundTree.{Ty}
 use Rattle.net_tree.specs.Tree as net_tree
 use Rattle.net_tree.specs.Types.{TypeName}
 use Rattle.run_base.specs.Outcomes.{then}
-use Rattle.run_base.specs.Positions.{Key, made, shared, whole}
+use Rattle.run_base.specs.Positions.{Key, Root, made, whole}
 use Rattle.vb6_run.specs.Programs.{lay_if_blank}
 use Rattle.vb6_run.specs.Shapes.{variable_shape}
 use Rattle.vb6_run.specs.Store.{Address, make}
@@ -17,11 +17,11 @@ use Rattle.run_matches.specs.Addresses.{Same}
 use Rattle.run_matches.specs.Agreeing.{Agrees}
 use Rattle.run_matches.specs.Frames.{HasPlace}
 use Rattle.run_matches.specs.Likeness.{scalar_word}
-use Rattle.run_matches.specs.Maps.{World}
+use Rattle.run_matches.specs.Maps.{World, moved}
 use Rattle.run_matches.specs.Match.{MemoryMatch}
 use Rattle.run_matches.specs.Pledges.{Pledge}
 use Rattle.run_matches.specs.Upgrades.{Upgrade, variable_key}
-use Rattle.run_statements.specs.Frames.{AnyUnits, IsArray}
+use Rattle.run_statements.specs.Frames.{AnyUnits, IsArray, IsStaticRoot}
 
 -- ---- what is written
 
@@ -57,13 +57,13 @@ ArraysAreMade U = (K : Pledge) → ArraysAreMadeBy U K
 -- a Static array is made on both sides where none is there yet
 abbrev pub StaticArraysAreLaidBy : Upgrade → Pledge → Type 0
 StaticArraysAreLaidBy U K =
-    (w : World) (v : ℕ) (element : Ty) (r : IsArray U v element) (t : TypeName) (home : ℕ) (key : Key) (d : net_tree.Variable)
-    → (U.facts.rank v ≡ 0 → ⊥) → scalar_word element ≡ Some t → shape.shape_of U.written home t ≡ shape.scalar t → MemoryMatch U w → variable_key U v ≡ Some key
+    (w : World) (v : ℕ) (element : Ty) (r : IsArray U v element) (t : TypeName) (home : ℕ) (key : Key) (d : net_tree.Variable) (place : Root)
+    → IsStaticRoot w v place → (U.facts.rank v ≡ 0 → ⊥) → scalar_word element ≡ Some t → shape.shape_of U.written home t ≡ shape.scalar t → MemoryMatch U w → variable_key U v ≡ Some key
     → ((u : ℕ) → variable_key U u ≡ Some key → v ≡ u) → d.value ≡ Some (array_initial U v t r.known.variable.bounds)
     → shape.shape_of U.written home d.ty ≡ array_shape U v t
     → Agrees U K w AnyUnits
-    (lay_if_blank (variable_shape U.program.declarations v) (shared (v ∷ [])) (w.src.held (whole (shared (v ∷ [])))) w.src)
-    (made_once U.written home (shared key) d (w.net.cell (whole (shared key))) w.net)
+    (lay_if_blank (variable_shape U.program.declarations v) place (w.src.held (whole place)) w.src)
+    (made_once U.written home (moved U w.map place) d (w.net.cell (whole (moved U w.map place))) w.net)
 
 abbrev pub StaticArraysAreLaid : Upgrade → Type 1
 StaticArraysAreLaid U = (K : Pledge) → StaticArraysAreLaidBy U K

@@ -3,7 +3,7 @@ use Rattle.bound_facts.specs.Calls.{initialized}
 use Rattle.bound_facts.specs.Nodes.{nodes_of_passed}
 use Rattle.run_matches.specs.Keeping.{given_types}
 use Rattle.std.specs.List.{list_all}
-use Rattle.std.specs.Prelude.{◌≡◌, ◌⊎◌, ◌||◌, ℕ, ℤ, Bool, true, false, Some, [], ◌∷◌, slice_get, None, zero, suc, nat_eq, List, length, Option}
+use Rattle.std.specs.Prelude.{◌≡◌, ◌⊎◌, ◌<◌, ◌||◌, ℕ, ℤ, Bool, true, false, Some, [], ◌∷◌, slice_get, None, zero, suc, nat_eq, List, length, Option}
 use Rattle.vb_tree.specs.BoundTree as types
 use Rattle.vb_tree.specs.BoundTree.{Ty, array, user}
 use Rattle.vb_tree.specs.declared.declared.Owner.TheVariants as owner
@@ -16,11 +16,12 @@ use Rattle.bound_tree.specs.Tree.{Variable, Expr, typed, Term, constant, variabl
 use Rattle.bound_facts.specs.Facts.{is_quiet}
 use Rattle.bound_facts.specs.Locks.{Keeps}
 use Rattle.bound_facts.specs.Members.{class_files, field_of, initializer}
-use Rattle.bound_facts.specs.Node.{type_at, called}
+use Rattle.bound_facts.specs.Node.{auto_class, type_at, called}
 use Rattle.net_tree.specs.declared.declaration.NetPassing.{NetPassing}
 use Rattle.net_tree.specs.declared.declaration.NetPassing.TheVariants as passing
 use Rattle.net_tree.specs.Tree.{call_of}
 use Rattle.net_tree.specs.Types.{TypeName, named}
+use Rattle.run_base.specs.Positions as positions
 use Rattle.run_base.specs.Positions.{Key, Position, whole, made, shared}
 use Rattle.vb6_run.specs.Expressions as source
 use Rattle.vb6_run.specs.Expressions.{Context}
@@ -32,25 +33,26 @@ use Rattle.vb6_run.specs.Shapes as source_shape
 use Rattle.vb6_run.specs.Shapes.{Shape, shape_by, simple, user_shapes, variable_shape}
 use Rattle.vb6_run.specs.Store.{Address, root, Locked, SourceCalls, SourceFrame, make, read, write, make_with}
 use Rattle.vb6_run.specs.Values.{Value, scalar}
-use Rattle.net_run.specs.Calls.{passings_at}
+use Rattle.net_run.specs.Calls as net_calls
+use Rattle.net_run.specs.Calls.{passings_at, result_shape_of}
 use Rattle.net_run.specs.Expressions as target
 use Rattle.net_run.specs.Lines.{NetFrame, NetLine, scope_of}
 use Rattle.net_run.specs.Making as making
 use Rattle.net_run.specs.Making.{Jobs}
-use Rattle.net_run.specs.Members.{Code, is_new}
+use Rattle.net_run.specs.Members.{Code, code_at, is_new}
 use Rattle.net_run.specs.Names as net_names
 use Rattle.net_run.specs.Shapes as shape
 use Rattle.net_run.specs.Store as net
 use Rattle.net_run.specs.Values as net_value
 use Rattle.net_meaning.specs.declared.value.ValueN.TheVariants as n
 use Rattle.written_trees.specs.Exprs.{callee_of, exp_of, passed_of}
-use Rattle.written_trees.specs.Names.{Scope, class_path, variable_path, procedure_name, procedure_path}
+use Rattle.written_trees.specs.Names.{Scope, auto_name, class_path, variable_path, procedure_name, procedure_path}
 use Rattle.run_matches.specs.Addresses.{Same, IsPlain, IsScalarAt, IsTarget, SameIndexes}
 use Rattle.written_trees.specs.Arguments.{takes_reference}
 use Rattle.run_matches.specs.Agreeing.{Agrees}
 use Rattle.run_matches.specs.Formed.{passed_are_formed, is_formed}
-use Rattle.run_matches.specs.CoveredVariables.{covers_type, covers_group_type, covers_made, covers_variable, is_in_order, is_named_so, covers_user}
-use Rattle.run_matches.specs.CoveredExprs.{Uses, IsUsed, covers_array, covers_expr, covers_exprs, covers_passed, covers_receiver, is_declared_as, is_giving, is_relied_on, is_taking}
+use Rattle.run_matches.specs.CoveredVariables.{covers_auto_owner, covers_type, covers_group_type, covers_made, covers_variable, is_in_order, is_named_so, covers_user}
+use Rattle.run_matches.specs.CoveredExprs.{Uses, IsUsed, covers_array, covers_expr, covers_exprs, covers_passed, covers_receiver, has_result_type, is_declared_as, is_giving, is_relied_on, is_taking}
 use Rattle.run_matches.specs.Covered.{hands_passed, suits_passed}
 use Rattle.run_matches.specs.SoundShapes.{IsField, IsSoundShape}
 use Rattle.run_matches.specs.Frames.{FrameMatch, GivenAddress, HasPlace, IsOwnAddress, is_own_of, is_reference_of, lines_of}
@@ -105,6 +107,16 @@ pub record IsGroup (U : Upgrade) (v : ℕ) (ty : Ty) : Type 0 where
   pub covers : covers_group_type U.program.declarations ty ≡ true
   pub sound : IsSoundShape U (type_shape U ty)
 
+-- an As New variable of a class, whose declaration carries no issue
+pub record IsAutoOf (U : Upgrade) (v class : ℕ) : Type 0 where
+  pub variable : Variable
+  pub is_variable : slice_get U.program.declarations.vars v ≡ Some variable
+  pub is_auto : variable.auto ≡ true
+  pub sound : is_flagged U v ≡ false
+  pub is_type : variable.ty ≡ types.class class
+  pub owner : covers_auto_owner variable.owner ≡ true
+  pub covers : covers_group_type U.program.declarations (types.class class) ≡ true
+
 -- A variable that objects of a class have: it is written as a member of the class, which is found by its name behind an object, and no other
 -- variable is written as that member.
 pub record IsMember (U : Upgrade) (class field : ℕ) (ty : Ty) : Type 0 where
@@ -131,15 +143,19 @@ pub record IsReadable (U : Upgrade) (v : ℕ) : Type 0 where
   pub covers : covers_variable variable ≡ true
   pub sound : is_flagged U v ≡ false
 
--- a scalar, an array of scalars, or of a user type or a class
+-- a scalar, an array of scalars, or of a user type or a class, also an As New one
 abbrev pub IsUsable : Upgrade → (variable : ℕ) → Type 0
-IsUsable U v = IsReadable U v ⊎ (((element : Ty) × IsArray U v element) ⊎ ((ty : Ty) × IsGroup U v ty))
+IsUsable U v =
+    IsReadable U v ⊎ (((element : Ty) × IsArray U v element) ⊎ (((ty : Ty) × IsGroup U v ty) ⊎ ((class : ℕ) × IsAutoOf U v class)))
 
 -- What is known of the variables that are used where a scope is written, which has the facts of the program.
 pub record AreReadable (U : Upgrade) (T : Scope) (uses : Uses) : Type 0 where
   pub scalars : (v : VarId) → uses.scalar v ≡ true → IsReadable U v.0
   pub arrays : (v : VarId) (element : Ty) → uses.array v element ≡ true → IsArray U v.0 element
   pub groups : (v : VarId) (ty : Ty) → uses.group v ty ≡ true → IsGroup U v.0 ty
+  pub autos :
+      (v : VarId) (ty : Ty) → uses.auto v ty ≡ true
+      → (class : ℕ) × (ty ≡ types.class class) × IsAutoOf U v.0 class × (covers_made U.program class ≡ true)
   pub fields : (user_type field : ℕ) (ty : Ty) → uses.field_type user_type field ≡ Some ty → IsField U user_type field ty
   pub made : (class : ℕ) → uses.made class ≡ true → covers_made U.program class ≡ true
   pub members : (class field : ℕ) (ty : Ty) → uses.member_type class field ≡ Some ty → IsMember U class field ty
@@ -152,6 +168,7 @@ pub record AreReadable (U : Upgrade) (T : Scope) (uses : Uses) : Type 0 where
   pub types : (v : VarId) (ty : Ty) → uses.is_of v ty ≡ true → is_declared_as ty (slice_get U.program.declarations.vars v.0) ≡ true
   pub gives : (q : ℕ) → uses.gives q ≡ true → is_giving (slice_get U.program.declarations.procs q) ≡ true
   pub takes : (q : ℕ) (ty : Ty) → uses.takes q ty ≡ true → is_taking U.program.declarations ty (slice_get U.program.declarations.procs q) ≡ true
+  pub results : (q : ℕ) (ty : Ty) → uses.results q ty ≡ true → has_result_type ty (slice_get U.program.declarations.procs q) ≡ true
   pub inward : (q : ℕ) → uses.inward q ≡ true → is_inward U q ≡ true
   pub relied : (v : VarId) → uses.relied v ≡ true → is_relied_on U.program v.0 ≡ true
 
@@ -178,14 +195,13 @@ pub record IsShared (U : Upgrade) (S : net_names.Scope) (T : Scope) (v : ℕ) : 
       ≡ net_names.starts (net_names.at_place (net.root written (whole (shared key)))) []
   pub differs : (u : ℕ) → variable_key U u ≡ Some key → v ≡ u
 
--- A Static of the procedure stands in its standard module, and no other variable is written with its key.
+-- A Static of the procedure stands in its module, and no other variable is written with its key.
 pub record IsOwnStatic (U : Upgrade) (p v : ℕ) : Type 0 where
   pub variable : Variable
   pub is_variable : slice_get U.program.declarations.vars v ≡ Some variable
   pub is_static : is_static_of p variable.owner ≡ true
   pub file : ℕ
   pub is_file : module_of (slice_get U.program.declarations.procs p) ≡ Some file
-  pub standard : is_class_file U.program.declarations file ≡ false
   pub differs : (key : Key) (u : ℕ) → variable_key U v ≡ Some key → variable_key U u ≡ Some key → v ≡ u
 
 -- a parameter by reference, which the frame has bound to what can be written, or, where it is quiet, to what can be read
@@ -254,6 +270,18 @@ AnyUnits w u v = Unit {0}
 
 -- ---- making and writing
 
+-- in an object of a class, which was made
+pub record IsObjectRoot (w : World) (variable : ℕ) (r : positions.Root) : Type 0 where
+  pub object : ℕ
+  pub is_made : object < w.src.next_object
+  pub class : ℕ
+  pub is_class : w.src.class_of object ≡ Some class
+  pub stands : r ≡ positions.field object (variable ∷ [])
+
+-- where a Static stands: in its standard module, or in an object
+abbrev pub IsStaticRoot : World → (variable : ℕ) → positions.Root → Type 0
+IsStaticRoot w v r = (r ≡ shared (v ∷ [])) ⊎ IsObjectRoot w v r
+
 -- a new variable of each side: the places in which they stand are the next ones
 pub record MadeMatch (U : Upgrade) (K : Pledge) (v : ℕ) (ty : Ty) (t : TypeName) (w : World) (a : Address) (b : net.Address) : Type 0 where
   pub place : HasPlace U w v a
@@ -308,10 +336,11 @@ pub record IsOpen (S : net_names.Scope) : Type 0 where
 
 -- ---- calls
 
--- what is demanded of calls with their arguments, of new objects, of elements by their arrays and indexes, and of calls of the library that ask for bounds
+-- what is demanded of calls with their arguments, of new objects and variables that may make one, of elements by their arrays and indexes, and of calls of the library that ask for bounds
 pub record Demands : Type 1 where
   pub calls : (procedure : ℕ) → (qualified : Bool) → Object → Passed → Type 0
   pub news : (class : ℕ) → Type 0
+  pub autos : (variable : ℕ) → Type 0
   pub elements : (array : Expr) → (indexes : Exprs) → Type 0
   pub bounds : LibCall → (arguments : Exprs) → Type 0
   pub withs : Ty → Root → Type 0
@@ -323,7 +352,7 @@ abbrev mutual
 
   pub AllCalledIn : Demands → Ty → Term → Type 0
   AllCalledIn Q ty (constant x origin) = Unit {0}
-  AllCalledIn Q ty (variable v qualified) = Unit {0}
+  AllCalledIn Q ty (variable v qualified) = Q.autos v.0
   AllCalledIn Q ty (field e k) = AllCalled Q e
   AllCalledIn Q ty (element e indexes) = Q.elements e indexes × AllCalledAll Q indexes
   AllCalledIn Q ty (call p qualified of args) = Q.calls p.0 qualified of args × AllCalledFor Q args × AllCalledOf Q of
@@ -413,6 +442,10 @@ pub record CanCall (U : Upgrade) (K : Pledge) (S : net_names.Scope) (T : Scope) 
       is_giving (slice_get U.program.declarations.procs q) ≡ true → (i : ℕ)
       → passing_at (passings_at U.written (Some number)) i ≡ passing_by (takes_reference U.program.declarations q i)
   pub found : IsFound U S T way q number qualified of
+  -- what gives objects of a class is written with that class
+  pub result :
+      (class : ℕ) → has_result_type (types.class class) (slice_get U.program.declarations.procs q) ≡ true
+      → SameShape U (simple (types.class class)) (result_shape_of U.written (code_at U.written number))
 
 -- ---- new objects
 
@@ -441,6 +474,16 @@ pub record CanMake (U : Upgrade) (K : Pledge) (S : net_names.Scope) (T : Scope) 
   pub leads :
       (home : ℕ) → class_home U class ≡ Some home → shape.shape_of S.project S.home (named (class_path T.declarations class)) ≡ shape.class home
 
+-- the name of the function that makes an object for an As New variable says its class
+abbrev pub LeadsToClass : Upgrade → net_names.Scope → Scope → (class : ℕ) → Type 0
+LeadsToClass U S T class = (home : ℕ) → class_home U class ≡ Some home → net_calls.auto_class S.project (auto_name T.declarations class) ≡ shape.class home
+
+-- so it is with an object that the use of an As New variable makes, by a function that is named for its class
+abbrev pub CanMakeAt : Upgrade → Pledge → net_names.Scope → Scope → (variable : ℕ) → Type 0
+CanMakeAt U K S T v =
+    (class : ℕ) → auto_class (slice_get U.program.declarations.vars v) ≡ Some class → covers_made U.program class ≡ true
+    → CanMake U K S T class × LeadsToClass U S T class
+
 -- ---- arrays
 
 -- a line stands in a covered With, which keeps what is of a type, and of this root
@@ -461,6 +504,7 @@ abbrev pub demands : Upgrade → Pledge → (procedure : ℕ) → SourceLine →
 demands U K p l k S T = record {
   calls = CanCall U K S T p;
   news = λ class. covers_made U.program class ≡ true → CanMake U K S T class;
+  autos = λ v. CanMakeAt U K S T v;
   elements = FitsRank U;
   bounds = FitsBounds U;
   withs = StandsWithin U p l k;

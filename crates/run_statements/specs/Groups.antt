@@ -1,9 +1,9 @@
 -- What becomes of variables of user types, of their fields, and of variables of classes in frames and memories that match.
-use Rattle.std.specs.Prelude.{◌≡◌, ℕ, true, None, Some, [], ◌∷◌}
+use Rattle.std.specs.Prelude.{◌≡◌, ℕ, true, None, Some}
 use Rattle.vb_tree.specs.BoundTree.{Ty}
 use Rattle.bound_tree.specs.Tree.{typed, Term}
 use Rattle.net_tree.specs.Tree as net_tree
-use Rattle.run_base.specs.Positions.{Key, Position, made, shared, whole}
+use Rattle.run_base.specs.Positions.{Key, Position, Root, made, whole}
 use Rattle.vb6_run.specs.Expressions as source
 use Rattle.vb6_run.specs.Forms.{SourceLine}
 use Rattle.vb6_run.specs.Programs.{lay_if_blank}
@@ -26,12 +26,12 @@ use Rattle.run_matches.specs.CoveredExprs.{Uses, covers_place, covers_group}
 use Rattle.run_matches.specs.Frames.{FrameMatch, HasPlace}
 use Rattle.run_matches.specs.Kinds.{IsValueOf}
 use Rattle.run_matches.specs.Likeness.{LikeV, SameShape}
-use Rattle.run_matches.specs.Maps.{World}
+use Rattle.run_matches.specs.Maps.{World, moved}
 use Rattle.run_matches.specs.Match.{MemoryMatch}
 use Rattle.run_matches.specs.Pledges.{Later, Pledge}
 use Rattle.run_matches.specs.SoundShapes.{IsSoundShape}
 use Rattle.run_matches.specs.Upgrades.{Upgrade, variable_key}
-use Rattle.run_statements.specs.Frames.{AnyUnits, AreReadable, ArePlaced, IsGroup, MayChange, context_of, AllCalled, IsOpen, demands, type_shape}
+use Rattle.run_statements.specs.Frames.{AnyUnits, AreReadable, ArePlaced, IsGroup, MayChange, context_of, AllCalled, IsOpen, demands, type_shape, IsStaticRoot}
 use Rattle.run_matches.specs.Formed.{is_formed}
 use Rattle.run_matches.specs.Runs.{CallsAgree}
 use Rattle.run_statements.specs.Written.{Passes}
@@ -120,9 +120,10 @@ GroupsAreGiven U =
 -- a Static is made on both sides where none is there yet
 abbrev pub StaticGroupsAreLaid : Upgrade → Type 1
 StaticGroupsAreLaid U =
-    (K : Pledge) (w : World) (v : ℕ) (ty : Ty) (r : IsGroup U v ty) (home : ℕ) (key : Key) (d : net_tree.Variable) → MemoryMatch U w
+    (K : Pledge) (w : World) (v : ℕ) (ty : Ty) (r : IsGroup U v ty) (home : ℕ) (key : Key) (d : net_tree.Variable) (place : Root) → IsStaticRoot w v place
+    → MemoryMatch U w
     → variable_key U v ≡ Some key → ((u : ℕ) → variable_key U u ≡ Some key → v ≡ u) → d.value ≡ None
     → SameShape U (variable_shape U.program.declarations v) (shape.shape_of U.written home d.ty)
     → Agrees U K w AnyUnits
-    (lay_if_blank (variable_shape U.program.declarations v) (shared (v ∷ [])) (w.src.held (whole (shared (v ∷ [])))) w.src)
-    (made_once U.written home (shared key) d (w.net.cell (whole (shared key))) w.net)
+    (lay_if_blank (variable_shape U.program.declarations v) place (w.src.held (whole place)) w.src)
+    (made_once U.written home (moved U w.map place) d (w.net.cell (whole (moved U w.map place))) w.net)

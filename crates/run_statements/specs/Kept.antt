@@ -5,7 +5,7 @@ use Rattle.vb_tree.specs.declared.declared.ProcKind.{ProcKind}
 use Rattle.vb_tree.specs.declared.form_parts.Label6.{Label6}
 use Rattle.bound_tree.specs.declared.rule_set.RuleSet.{RuleSet}
 use Rattle.bound_tree.specs.Labels.{label_of, label_at, labels}
-use Rattle.bound_tree.specs.Tree.{Procedure, Constant, Variable, Line, Expr, typed, Term, call, new_object, Object, no_object, Passed}
+use Rattle.bound_tree.specs.Tree.{Procedure, Constant, Variable, Line, Expr, typed, Term, variable, call, new_object, Object, no_object, Passed}
 use Rattle.bound_facts.specs.Calls.{count_procedures}
 use Rattle.bound_facts.specs.Effects.{is_outside}
 use Rattle.bound_facts.specs.Node.{args_at, called, root}
@@ -36,7 +36,7 @@ use Rattle.run_matches.specs.Runs.{CallsAgree, line_result}
 use Rattle.run_matches.specs.Sites.{Own, own_variable, own_constant, Site, site_of, site_lines, first_statement, owns_of}
 use Rattle.run_matches.specs.Upgrades.{Upgrade, class_home, code_of, runnable_of}
 use Rattle.run_statements.specs.Fitting.{FitsLine, FitsNode}
-use Rattle.run_statements.specs.Frames.{AreReadable, IsOpen, ArePlaced, CanCall, CanMake, IsUsable}
+use Rattle.run_statements.specs.Frames.{AreReadable, IsOpen, ArePlaced, CanCall, CanMake, CanMakeAt, IsUsable}
 use Rattle.run_statements.specs.Ways.{SuitsKind, Way, callee_by}
 use Rattle.run_statements.specs.Written.{WrittenProcedure, WrittenLine, site_scope, Passes}
 use Rattle.run_matches.specs.Agreeing.{Agrees}
@@ -228,6 +228,20 @@ CanMakeFrom U p s c class =
     covers_made U.program class ≡ true → (w : World) (f : SourceFrame) (g : NetFrame) (k : NetLine) → HasNames (code_of U p) g
     → CanMake U (frame_pledge U p w f) (scope_of U.written c g k) (inside_procedure (site_scope U s) p) class
 
+-- the variable that a node uses
+abbrev pub used_in : Term → Option ℕ
+used_in (variable v qualified) = Some v.0
+used_in t = None
+
+abbrev pub used_at : Expr → Option ℕ
+used_at (typed ty t) = used_in t
+
+-- where it is an As New one, its use can make an object
+abbrev pub CanMakeAtFrom : Upgrade → (p : ℕ) → Site → Code → (variable : ℕ) → Type 0
+CanMakeAtFrom U p s c v =
+    (w : World) (f : SourceFrame) (g : NetFrame) (k : NetLine) → HasNames (code_of U p) g
+    → CanMakeAt U (frame_pledge U p w f) (scope_of U.written c g k) (inside_procedure (site_scope U s) p) v
+
 -- a covered line does the same as what is written for it, where calls of what it calls agree
 abbrev pub LinesAgree : Upgrade → Type 0
 LinesAgree U =
@@ -238,6 +252,7 @@ LinesAgree U =
     → CallsAgree U (Passes U) (go (machine_of (runnable_of U)) turns) (go (net_program.machine_of U.written) turns)
     → ((d : Expr) (q : ℕ) → Contains (line_uses l.form) d → called d ≡ Some q → CanCallFrom U p s c q (qualified_at d) (receiver_at d) (args_at d))
     → ((d : Expr) (class : ℕ) → Contains (line_uses l.form) d → made_at d ≡ Some class → CanMakeFrom U p s c class)
+    → ((d : Expr) (v : ℕ) → Contains (line_uses l.form) d → used_at d ≡ Some v → CanMakeAtFrom U p s c v)
     → ((d : Expr) → Contains (line_uses l.form) d → FitsNode U d)
     → FitsLine U p l.form
     → covers_line U.program p l.form ≡ true

@@ -9,4 +9,5 @@ pub mod Kept
 pub mod Memory
 pub mod Arrays
 pub mod Objects
+pub mod Autos
 pub mod Elements

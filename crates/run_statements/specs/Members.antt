@@ -10,7 +10,7 @@ use Rattle.vb6_run.specs.Expressions.{at_field}
 use Rattle.vb6_run.specs.Forms.{SourceLine}
 use Rattle.vb6_run.specs.Shapes.{variable_shape}
 use Rattle.vb6_run.specs.Store.{Address, root, SourceCalls, SourceFrame}
-use Rattle.vb6_run.specs.Values.{scalar}
+use Rattle.vb6_run.specs.Values.{Value, scalar}
 use Rattle.net_run.specs.Expressions as target
 use Rattle.net_run.specs.Lines.{NetFrame, NetLine, scope_of}
 use Rattle.net_run.specs.Making.{Jobs}
@@ -25,14 +25,17 @@ use Rattle.run_matches.specs.Addresses.{IsPlain, IsTarget, Same}
 use Rattle.run_matches.specs.Agreeing.{Agrees}
 use Rattle.run_matches.specs.CoveredExprs.{Uses, covers_object}
 use Rattle.run_matches.specs.CoveredVariables.{covers_type}
+use Rattle.run_matches.specs.Formed.{is_formed}
 use Rattle.run_matches.specs.Frames.{FrameMatch}
 use Rattle.run_matches.specs.Likeness.{LikeV, SameShape}
 use Rattle.run_matches.specs.Maps.{World}
 use Rattle.run_matches.specs.Match.{MemoryMatch}
 use Rattle.run_matches.specs.Pledges.{Pledge}
-use Rattle.run_matches.specs.Upgrades.{Upgrade, variable_key}
+use Rattle.run_matches.specs.Upgrades.{Upgrade, class_home, variable_key}
 use Rattle.run_matches.specs.UserTypes.{is_class_type}
-use Rattle.run_statements.specs.Frames.{AllCalled, AreReadable, ArePlaced, IsMember, context_of, demands}
+use Rattle.run_matches.specs.Runs.{CallsAgree}
+use Rattle.run_statements.specs.Frames.{AllCalled, AreReadable, ArePlaced, IsMember, IsOpen, ScalarMatch, context_of, demands}
+use Rattle.run_statements.specs.Written.{Passes}
 
 -- The variable of an object on both sides, where it isn't seen yet whether there is an object.
 pub record MemberMatch (U : Upgrade) (of_class variable : ℕ) (w : World) (x : source.Parts) (r : net_names.Parts) : Type 0 where
@@ -54,11 +57,31 @@ abbrev pub MembersAgree : Upgrade → Type 1
 MembersAgree U =
     (K : Pledge) (w : World) (p : ℕ) (f : SourceFrame) (g : NetFrame) (oracle : SourceCalls) (net_oracle : Jobs) (l : SourceLine) (k : NetLine) (c : Code)
     (T : Scope) (uses : Uses) (ty : Ty) (of_class i : ℕ) (t : Term) (member_type : Ty) (m : IsMember U of_class i member_type) → MemoryMatch U w
-    → FrameMatch U K w p f g → T.declarations ≡ U.program.declarations → AreReadable U T uses → ArePlaced U p f (scope_of U.written c g k) T uses
+    → FrameMatch U K w p f g → T.declarations ≡ U.program.declarations → IsOpen (scope_of U.written c g k) → AreReadable U T uses
+    → ArePlaced U p f (scope_of U.written c g k) T uses → CallsAgree U (Passes U) oracle net_oracle
     → AllCalled (demands U K p l k (scope_of U.written c g k) T) (typed (class of_class) t) → covers_object uses (typed (class of_class) t) ≡ true
     → Agrees U K w (ReachedMember U of_class m.number)
     (source.parts_of (context_of U oracle p f l) (typed ty (field (typed (class of_class) t) i)) w.src)
     (target.reach (scope_of U.written c g k) net_oracle false (exp_of T (typed ty (field (typed (class of_class) t) i))) w.net)
+
+-- an object, and an address of its class at which what stands for it is looked up
+pub record ObjectMatch (U : Upgrade) (of_class : ℕ) (w : World) (x : Value) (a : net.Address) : Type 0 where
+  pub like : ScalarMatch U (class of_class) w x (net.looked_up a w.net)
+  pub home : ℕ
+  pub is_home : class_home U of_class ≡ Some home
+  pub shaped : net.shape_at a ≡ shape.class home
+
+-- an object that is kept or given, where it is written by itself
+abbrev pub ObjectsAgree : Upgrade → Type 1
+ObjectsAgree U =
+    (K : Pledge) (w : World) (p : ℕ) (f : SourceFrame) (g : NetFrame) (oracle : SourceCalls) (net_oracle : Jobs) (l : SourceLine) (k : NetLine) (c : Code)
+    (T : Scope) (uses : Uses) (of_class : ℕ) (t : Term) → MemoryMatch U w → FrameMatch U K w p f g → T.declarations ≡ U.program.declarations
+    → IsOpen (scope_of U.written c g k) → AreReadable U T uses → ArePlaced U p f (scope_of U.written c g k) T uses → CallsAgree U (Passes U) oracle net_oracle
+    → AllCalled (demands U K p l k (scope_of U.written c g k) T) (typed (class of_class) t) → covers_object uses (typed (class of_class) t) ≡ true
+    → is_formed (typed (class of_class) t) ≡ true
+    → Agrees U K w (ObjectMatch U of_class)
+    (source.value_of (context_of U oracle p f l) (typed (class of_class) t) w.src)
+    (target.address_of (scope_of U.written c g k) net_oracle (exp_of T (typed (class of_class) t)) w.net)
 
 -- the address of a variable of an object that is there
 pub record MemberFound (U : Upgrade) (K : Pledge) (variable : ℕ) (w : World) (a : Address) (b : net.Address) : Type 0 where

@@ -25,7 +25,7 @@ use Rattle.run_matches.specs.Match.{MemoryMatch}
 use Rattle.run_matches.specs.Pledges.{Pledge}
 use Rattle.run_matches.specs.Upgrades.{Upgrade, class_home, is_flagged, variable_key}
 use Rattle.run_statements.specs.Arrays.{array_initial, array_shape}
-use Rattle.run_statements.specs.Frames.{IsArray, IsGroup, IsReadable}
+use Rattle.run_statements.specs.Frames.{IsArray, IsAutoOf, IsGroup, IsReadable}
 
 -- ---- how a class is written
 
@@ -58,6 +58,10 @@ pub data IsWrittenAs (U : Upgrade) (home v : ℕ) : net_tree.Variable → Type 0
       → written_shape U home d ≡ array_shape U v t → IsWrittenAs U home v d
   written_group :
       (d : net_tree.Variable) (ty : Ty) → IsGroup U v ty → d.value ≡ None
+      → SameShape U (variable_shape U.program.declarations v) (written_shape U home d) → IsWrittenAs U home v d
+  -- an As New one begins as Nothing
+  written_auto :
+      (d : net_tree.Variable) (class : ℕ) → IsAutoOf U v class → d.value ≡ None
       → SameShape U (variable_shape U.program.declarations v) (written_shape U home d) → IsWrittenAs U home v d
 
 -- The variables of a class are written in order among its members, which are numbered from one on. No other variable has the key of one. A

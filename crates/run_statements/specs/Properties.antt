@@ -29,7 +29,7 @@ use Rattle.run_matches.specs.Match.{MemoryMatch}
 use Rattle.run_matches.specs.Pledges.{Pledge}
 use Rattle.run_matches.specs.Runs.{CallsAgree}
 use Rattle.run_matches.specs.Upgrades.{Upgrade}
-use Rattle.run_statements.specs.Frames.{AllCalled, AnyUnits, AreReadable, ArePlaced, CanCall, context_of, demands, type_shape}
+use Rattle.run_statements.specs.Frames.{AllCalledOf, AnyUnits, AreReadable, ArePlaced, CanCall, IsOpen, context_of, demands, type_shape}
 use Rattle.run_statements.specs.Groups.{ValueMatch}
 use Rattle.run_statements.specs.Ways.{Way, callee_by}
 use Rattle.run_statements.specs.Written.{Passes}
@@ -40,15 +40,16 @@ pub data SetterMatch (U : Upgrade) (way : Way) (number : ℕ) : Object → World
   set_for_object : (c : ℕ) (t : Term) (w : World) (x : Value6) (y : net_value.Value) → LikeV U w (scalar (class c) x) y
       → SetterMatch U way number (of_object (typed (class c) t)) w (receiver (Some c) (scalar (class c) x)) (named (callee_by way (Some y) number))
 
--- the object of a property that takes a value
+-- The object of a property that takes a value. Under the promise of its evaluation the property needn't be called.
 abbrev pub SettersAgree : Upgrade → Type 1
 SettersAgree U =
-    (K : Pledge) (w : World) (p : ℕ) (f : SourceFrame) (g : NetFrame) (oracle : SourceCalls) (net_oracle : Jobs) (l : SourceLine) (k : NetLine) (c : Code)
+    (K L : Pledge) (w : World) (p : ℕ) (f : SourceFrame) (g : NetFrame) (oracle : SourceCalls) (net_oracle : Jobs) (l : SourceLine) (k : NetLine) (c : Code)
     (T : Scope) (uses : Uses) (ty : Ty) (q : ProcId) (qualified : Bool) (of : Object) → MemoryMatch U w → FrameMatch U K w p f g
-    → T.declarations ≡ U.program.declarations → AreReadable U T uses → ArePlaced U p f (scope_of U.written c g k) T uses
-    → (can : AllCalled (demands U K p l k (scope_of U.written c g k) T) (typed ty (call q qualified of no_passed)))
+    → T.declarations ≡ U.program.declarations → IsOpen (scope_of U.written c g k) → AreReadable U T uses
+    → ArePlaced U p f (scope_of U.written c g k) T uses → CallsAgree U (Passes U) oracle net_oracle
+    → (can : CanCall U L (scope_of U.written c g k) T p q.0 qualified of no_passed) → AllCalledOf (demands U K p l k (scope_of U.written c g k) T) of
     → is_giving (slice_get U.program.declarations.procs q.0) ≡ false → covers_receiver uses of ≡ true
-    → Agrees U K w (SetterMatch U can.0.way can.0.number of)
+    → Agrees U K w (SetterMatch U can.way can.number of)
     (source.receiver_of (context_of U oracle p f l) of w.src)
     (target.reach (scope_of U.written c g k) net_oracle false (exp_of T (typed ty (call q qualified of no_passed))) w.net)
 

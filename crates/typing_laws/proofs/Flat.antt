@@ -4,13 +4,13 @@ use Rattle.up_base.proofs.Tests.{both_true, either}
 use Rattle.vb_tree.specs.BoundTree as types
 use Rattle.vb_tree.specs.BoundTree.{Ty}
 use Rattle.vb_tree.specs.declared.declared.VarId.{VarId}
-use Rattle.bound_tree.specs.Tree.{Expr, typed, Term, variable, field, call, convert, me, new_object, with_object}
+use Rattle.bound_tree.specs.Tree.{Expr, typed, Term, variable, field, call, convert, me, new_object, with_object, no_passed}
 use Rattle.bound_tree.specs.Tree as tree
 use Rattle.bound_facts.specs.Locks.{is_same_type}
 use Rattle.bound_facts.specs.Node.{type_at}
 use Rattle.run_matches.specs.CoveredVariables.{covers_type}
 use Rattle.run_matches.specs.CoveredExprs.{Uses, covers_argument, covers_array, covers_base, covers_expr, covers_group, covers_group_term, covers_object, covers_operand, covers_place, has_inner, has_member, has_scalar, is_changeable, is_class_of, is_kept, is_nothing, is_passable, is_scalar_type, is_type}
-use Rattle.run_matches.specs.CoveredLines.{covers_copy, covers_property, covers_property_term, covers_set, covers_set_member, covers_set_variable, covers_store, covers_stored, is_member_ordered, is_ordered}
+use Rattle.run_matches.specs.CoveredLines.{covers_copy, covers_property, covers_property_term, covers_set, covers_set_member, covers_set_variable, covers_store, covers_stored, is_auto_target, is_member_ordered, is_ordered}
 use Rattle.run_matches.specs.UserTypes.{is_class_type, is_user, is_user_of}
 use Rattle.typing_laws.specs.Flat.{without_objects}
 
@@ -111,10 +111,16 @@ no_class _ h = true≢false (sym h)
 pub no_object_covered : (u : Uses) (e : Expr) → covers_object (without_objects u) e ≡ true → ⊥
 no_object_covered u (typed ty (variable v qualified)) h =
     let vs : Uses = without_objects u in
-    let a = both_true (is_class_type ty) (vs.group v ty && vs.named v qualified) h in
-    no_both ty a.0 (both_true (is_user ty) (u.group v ty) (both_true (vs.group v ty) (vs.named v qualified) a.1).0).0
+    let a = both_true (is_class_type ty) ((vs.group v ty || false) && vs.named v qualified) h in
+    by a.0
+    (either (vs.group v ty) false (both_true (vs.group v ty || false) (vs.named v qualified) a.1).0)
+  where
+    by : is_class_type ty ≡ true → ((is_user ty && u.group v ty) ≡ true) ⊎ (false ≡ true) → ⊥
+    by k (inl g) = no_both ty k (both_true (is_user ty) (u.group v ty) g).0
+    by k (inr n) = true≢false (sym n)
 no_object_covered u (typed ty me) h = no_class ty h
 no_object_covered u (typed ty (with_object root)) h = true≢false (sym (both_true (is_class_type ty) false h).1)
+no_object_covered u (typed ty (call p qualified of no_passed)) h = true≢false (sym (both_true (is_class_type ty) false h).1)
 no_object_covered u (typed ty (field e k)) h =
     let a = both_true (is_class_type ty) (has_member (without_objects u) (type_at e) k (is_same_type ty) && covers_object (without_objects u) e) h in
     no_member u (type_at e) k (is_same_type ty)
@@ -280,6 +286,28 @@ stored_of u to e h = whole (either (covers_stored vs to e) (covers_property vs t
     whole (inl c) = by (either (stores && parts) (covers_copy vs to e) c)
     whole (inr p) = absurd (no_property u to e p)
 
+no_auto_target : (u : Uses) (e : Expr) → is_auto_target (without_objects u) e ≡ true → ⊥
+no_auto_target u (typed ty (variable v qualified)) h = true≢false (sym h)
+no_auto_target u (typed ty _) h = true≢false (sym h)
+
+no_set_variable : (u : Uses) (to e : Expr) → is_class_type (type_at to) ≡ true → covers_set_variable (without_objects u) to e ≡ true → ⊥
+no_set_variable u to e k h = by (either (is_changeable vs to && kept) (is_auto_target vs to && same) h)
+  where
+    vs : Uses
+    vs = without_objects u
+
+    kept : Bool
+    kept = is_same_type (type_at to) (type_at e) && (covers_place vs to && covers_group vs e)
+
+    same : Bool
+    same = is_same_type (type_at to) (type_at e) && covers_group vs e
+
+    by : (is_changeable vs to && kept ≡ true) ⊎ (is_auto_target vs to && same ≡ true) → ⊥
+    by (inl c) =
+        let x = both_true (is_same_type (type_at to) (type_at e)) (covers_place vs to && covers_group vs e) (both_true (is_changeable vs to) kept c).1 in
+        no_both (type_at to) k (place_user u to (both_true (covers_place vs to) (covers_group vs e) x.1).0)
+    by (inr a) = no_auto_target u to (both_true (is_auto_target vs to) same a).0
+
 -- no Set is covered
 pub no_set : (u : Uses) (es : List Expr) → covers_set (without_objects u) es ≡ true → ⊥
 no_set u [] h = true≢false (sym h)
@@ -291,11 +319,7 @@ no_set u (to ∷ e ∷ []) h = whole (either (is_class_type (type_at to) && sets
     sets = covers_set_variable (without_objects u) to e || covers_set_member (without_objects u) to e
 
     by : is_class_type (type_at to) ≡ true → (covers_set_variable (without_objects u) to e ≡ true) ⊎ (covers_set_member (without_objects u) to e ≡ true) → ⊥
-    by k (inl c) =
-        let vs : Uses = without_objects u in
-        let x = both_true (is_changeable vs to) (is_same_type (type_at to) (type_at e) && (covers_place vs to && covers_group vs e)) c in
-        let y = both_true (is_same_type (type_at to) (type_at e)) (covers_place vs to && covers_group vs e) x.1 in
-        no_both (type_at to) k (place_user u to (both_true (covers_place vs to) (covers_group vs e) y.1).0)
+    by k (inl c) = no_set_variable u to e k c
     by k (inr c) =
         let vs : Uses = without_objects u in
         let x = both_true (is_member_ordered vs to e) (is_same_type (type_at to) (type_at e) && (covers_object vs to && covers_group vs e)) c in

@@ -1,5 +1,5 @@
 -- Flat procedures: Subs and Functions of standard modules over scalars, arrays of scalars, and user types of scalars. Of what is covered they
--- have no calls that give a user type, no With, no objects and no properties. These are the procedures of which the typing laws speak.
+-- have no calls that give a user type, no With, no objects, no As New variables and no properties. These are the procedures of which the typing laws speak.
 use Rattle.std.specs.Prelude.{ℕ, Bool, true, false, not, cond, ◌&&◌, ◌||◌, List, Option, Some, None, slice_get}
 use Rattle.std.specs.List.{list_all}
 use Rattle.vb_tree.specs.declared.declared.VarId.{VarId}
@@ -28,12 +28,13 @@ is_flat_user D x = is_user_of (covers_user D) x.ty
 abbrev pub is_flat : Declarations → Variable → Bool
 is_flat D x = covers_type x.ty || (covers_array_variable (element_type x.ty) x || is_flat_user D x)
 
--- the same scalars, arrays and user types, and no class or property that takes a value: Me is none, and no With is kept
+-- the same scalars, arrays and user types, and no class, As New variable or property that takes a value: Me is none, and no With is kept
 abbrev pub without_objects : Uses → Uses
 without_objects uses = record {
   scalar = uses.scalar;
   array = uses.array;
   group = λ v ty. is_user ty && uses.group v ty;
+  auto = λ v ty. false;
   field_type = uses.field_type;
   member_type = λ c k. None;
   me = None;
@@ -43,6 +44,7 @@ without_objects uses = record {
   is_of = uses.is_of;
   gives = uses.gives;
   takes = λ q ty. false;
+  results = uses.results;
   inward = uses.inward;
   relied = uses.relied;
   exact = uses.exact;
