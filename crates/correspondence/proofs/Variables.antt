@@ -22,7 +22,7 @@ use Rattle.written_trees.specs.Conversions.{one, support_call}
 use Rattle.written_trees.specs.Exprs.{exp_of, made_if, target_exp}
 use Rattle.written_trees.specs.Names.{Path, Scope, auto_name, support, module_at, is_standard_module, module_name, name_in, is_foreign, variable_path_of, owner_path}
 use Rattle.written_trees.specs.Types.{element_type}
-use Rattle.run_matches.specs.CoveredVariables.{covers_type, covers_owner, covers_variable, belongs_to, is_reached, covers_some, is_mention_of, is_loud, covers_array_owner, covers_array_variable, covers_auto_owner, covers_auto_use, covers_auto_variable, covers_bounds, covers_declared, covers_group_type, covers_group_use, covers_group_variable, covers_made, covers_some_array, covers_some_group, is_array_of, is_named_apart}
+use Rattle.run_matches.specs.CoveredVariables.{covers_type, covers_owner, covers_variable, belongs_to, is_reached, covers_some, is_mention_of, covers_array_owner, covers_array_variable, covers_auto_owner, covers_auto_use, covers_auto_variable, covers_bounds, covers_declared, covers_group_type, covers_group_use, covers_group_variable, covers_made, covers_some_array, covers_some_group, is_array_of, is_named_apart}
 use Rattle.run_matches.specs.UserTypes.{is_group_type}
 use Rattle.run_matches.specs.CoveredExprs.{Uses, covers_expr, covers_array, covers_place, is_passable, IsUsed, uses_in}
 use Rattle.run_matches.specs.Shared.{names_lead, leads_to_home}
@@ -145,8 +145,7 @@ group_at P p k ty h = by (slice_get P.declarations.vars k) refl h
 pub group_use_at : (P : Program) (p : ℕ) (mentions : List Mention) (k : VarId) (ty : Ty) → covers_group_use P p mentions k ty ≡ true → IsGroupAt P p k.0 ty
 group_use_at P p mentions k ty h =
     let o : Option Variable = slice_get P.declarations.vars k.0 in
-    let both = both_true (list_any (is_mention_of k) mentions) (covers_some_group P.declarations p k.0 ty o && is_loud P k.0 o) h in
-    group_at P p k.0 ty (both_true (covers_some_group P.declarations p k.0 ty o) (is_loud P k.0 o) both.1).0
+    group_at P p k.0 ty (both_true (list_any (is_mention_of k) mentions) (covers_some_group P.declarations p k.0 ty o) h).1
 
 -- an As New variable of a class
 pub record UsedAuto (P : Program) (p k : ℕ) (ty : Ty) : Type 0 where
@@ -178,8 +177,7 @@ used_at P p mentions k (inl h) =
     covered_at P p k.0 (both_true (list_any (is_mention_of k) mentions) (covers_some P.declarations p k.0 o) h).1
 used_at P p mentions k (inr (inl h)) =
     let o : Option Variable = slice_get P.declarations.vars k.0 in
-    let both = both_true (list_any (is_mention_of k) mentions) (covers_some_array P.declarations p k.0 h.0 o && is_loud P k.0 o) h.1 in
-    array_at P p k.0 h.0 (both_true (covers_some_array P.declarations p k.0 h.0 o) (is_loud P k.0 o) both.1).0
+    array_at P p k.0 h.0 (both_true (list_any (is_mention_of k) mentions) (covers_some_array P.declarations p k.0 h.0 o) h.1).1
 used_at P p mentions k (inr (inr (inl h))) =
     let found = group_use_at P p mentions k h.0 h.1 in
     record { variable = found.variable; covered = found.covered; made = inl found.plain }

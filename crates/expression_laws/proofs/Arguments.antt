@@ -82,15 +82,15 @@ once_in_none ks e = no_pairs ks e
 
 taken_none : (U : Upgrade) (K : Pledge) (q i : ℕ) (w : World) (xs : List SourceGiven) (ys : List NetGiven) → ArgumentsMatch U K q i w xs ys → taken_by xs ys ≡ []
 taken_none U K q _ _ _ _ (no_arguments i w) = refl
-taken_none U K q _ _ _ _ (next_value i w x y xs ys h givable none rest) =
+taken_none U K q _ _ _ _ (next_value i w x y xs ys h givable takes none rest) =
     ap (λ ks. ks ++ taken_by xs ys) none ∙ taken_none U K q (suc i) w xs ys rest
 taken_none U K q _ _ _ _ (next_address i w a b xs ys same target whole plain ranked rest) = taken_none U K q (suc i) w xs ys rest
 
 arguments_match : (U : Upgrade) (K L : Pledge) (q i : ℕ) (w : World) (xs : List SourceGiven) (ys : List NetGiven) → Weaker w K L → ArgumentsMatch U K q i w xs ys
     → ArgsMatch U L w q i xs ys
 arguments_match U K L q _ _ _ _ weaker (no_arguments i w) = no_args i
-arguments_match U K L q _ _ _ _ weaker (next_value i w x y xs ys h givable none rest) =
-    value_args i x y xs ys h givable (arguments_match U K L q (suc i) w xs ys weaker rest)
+arguments_match U K L q _ _ _ _ weaker (next_value i w x y xs ys h givable takes none rest) =
+    value_args i x y xs ys h givable takes (arguments_match U K L q (suc i) w xs ys weaker rest)
 arguments_match U K L q _ _ _ _ weaker (next_address i w a b xs ys same target whole plain ranked rest) =
     address_args i a b xs ys (address_promised U K L w w a b weaker same) target whole plain ranked (arguments_match U K L q (suc i) w xs ys weaker rest)
 

@@ -1,5 +1,5 @@
 -- Where As New variables stand: what is written for them without an object leads to their images.
-use Rattle.std.proofs.Common.{◌≡◌, ◌∙◌, refl, sym, ap, subst, inr, ℕ, Bool, true, false, [], Option, Some, None, true≢false}
+use Rattle.std.proofs.Common.{◌≡◌, ◌∙◌, refl, sym, ap, subst, inr, ℕ, Bool, true, false, [], Option, Some, None, true≢false, slice_get}
 use Rattle.std.specs.Prelude.{◌&&◌, is_some, not}
 use Rattle.vb_tree.specs.BoundTree as types
 use Rattle.vb_tree.specs.BoundTree.{Ty}
@@ -7,7 +7,7 @@ use Rattle.vb_tree.specs.declared.declared.Owner.{Owner}
 use Rattle.vb_tree.specs.declared.declared.Owner.TheVariants as owner
 use Rattle.vb_tree.specs.declared.declared.VarId.{VarId}
 use Rattle.bound_tree.specs.Tree.{typed, variable}
-use Rattle.bound_facts.specs.Facts.{is_quiet, is_quiet_owner, is_quiet_variable}
+use Rattle.bound_facts.specs.Facts.{is_quiet_owner, is_quiet_variable}
 use Rattle.net_tree.specs.Tree.{path}
 use Rattle.run_base.specs.Outcomes.{Outcome, gives, outside, some_of, then}
 use Rattle.vb6_run.specs.Expressions as source
@@ -28,7 +28,7 @@ use Rattle.run_matches.specs.Addresses.{position_of}
 use Rattle.run_matches.specs.Agreeing.{Agrees}
 use Rattle.run_matches.specs.CoveredExprs.{Uses}
 use Rattle.run_matches.specs.CoveredVariables.{covers_auto_owner, covers_made}
-use Rattle.run_matches.specs.Frames.{frame_pledge}
+use Rattle.run_matches.specs.Frames.{frame_pledge, is_mirrored, is_scalar_in}
 use Rattle.run_matches.specs.Maps.{World}
 use Rattle.run_matches.specs.Pledges.{Later, Pledge}
 use Rattle.run_matches.specs.Upgrades.{Upgrade}
@@ -67,9 +67,10 @@ match_later U K class w v a b later m = record {
 }
 
 -- it is no parameter
-auto_exact : (U : Upgrade) (v class : ℕ) → IsAutoOf U v class → is_quiet U.program.declarations U.known v ≡ false
+auto_exact : (U : Upgrade) (v class : ℕ) → IsAutoOf U v class → is_mirrored U v ≡ false
 auto_exact U v class r =
-    ap (λ o. is_quiet_variable U.known o && not (U.known.touched v)) r.is_variable ∙ ap (λ b. b && not (U.known.touched v)) (by r.variable.owner r.owner)
+    ap (λ b. b && is_scalar_in (slice_get U.program.declarations.vars v))
+    (ap (λ o. is_quiet_variable U.known o && not (U.known.touched v)) r.is_variable ∙ ap (λ b. b && not (U.known.touched v)) (by r.variable.owner r.owner))
   where
     by : (o : Owner) → covers_auto_owner o ≡ true → is_quiet_owner U.known o ≡ false
     by (owner.Reference q) covers = absurd (true≢false (sym covers))

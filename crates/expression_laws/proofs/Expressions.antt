@@ -34,7 +34,7 @@ use Rattle.written_trees.specs.Library.{low_at}
 use Rattle.written_trees.specs.Names.{Scope}
 use Rattle.run_matches.specs.Addresses.{TakesAddresses}
 use Rattle.run_matches.specs.Agreeing.{Agrees}
-use Rattle.run_matches.specs.CoveredVariables.{covers_type}
+use Rattle.run_matches.specs.CoveredVariables.{covers_type, takes_value_at}
 use Rattle.run_matches.specs.CoveredExprs.{Uses, covers_array, covers_bounded, covers_exprs, covers_library, is_bound, covers_operand, covers_operator, covers_expr, covers_group, covers_passed, covers_place, covers_receiver, is_giving, is_passable, is_variable}
 use Rattle.run_matches.specs.Covered.{is_referred, suits_array, suits_group, takes_address, suits_passed, hands_argument, hands_passed, is_group_field, is_item, is_type_at}
 use Rattle.run_matches.specs.UserTypes.{is_group_type}
@@ -73,7 +73,7 @@ use Rattle.expression_laws.proofs.IndexRows.{index_is_row}
 use Rattle.expression_laws.proofs.Elements.{IndexesLike, index_agrees, next_agrees}
 use Rattle.expression_laws.proofs.ElementValues.{element_agrees, element_value}
 use Rattle.expression_laws.proofs.ErrNumbers.{err_number_agrees}
-use Rattle.expression_laws.proofs.References.{IsPassed, or_true, further, here, passed_by, reference_agrees, scalar_passed, suited}
+use Rattle.expression_laws.proofs.References.{IsPassed, or_true, further, here, passed_by, reference_agrees, scalar_passed, suited, handed_value}
 use Rattle.expression_laws.proofs.Temporaries.{conversion_given, conversion_goes, value_goes}
 use Rattle.expression_laws.proofs.Variables.{variable_agrees}
 use Rattle.expression_laws.proofs.Seen.{IsSeen}
@@ -358,7 +358,7 @@ module _ (U : Upgrade) (p : ℕ) (f : SourceFrame) (g : NetFrame) (oracle : Sour
         (λ converts is_one any.
         let scalar : covers_expr uses e ≡ true = scalar_passed uses e passed is (ap (λ b. b || is_item e) is_one) in
         let covered : covers_type (type_at e) ≡ true = covered_type uses e scalar in
-        taken_agrees U K q i (ScalarMatch U (type_at e)) (scalar_lasts U K q i (type_at e)) w (source.value_of C e w.src) (target.value_of S net_oracle (exp_of T e) w.net)
+        taken_agrees U K q i (handed_value U.program q i e is_one hand.0) (ScalarMatch U (type_at e)) (scalar_lasts U K q i (type_at e)) w (source.value_of C e w.src) (target.value_of S net_oracle (exp_of T e) w.net)
         (source.argument_of C ((runnable_of U).quiet q i) (by_reference e) w.src)
         (target.given S net_oracle (target.first_passing modes)
         (target.reach S net_oracle false (argument_exp T (takes_reference T.declarations q i) (by_reference e) (exp_of T e)) w.net))
@@ -394,7 +394,7 @@ module _ (U : Upgrade) (p : ℕ) (f : SourceFrame) (g : NetFrame) (oracle : Sour
         let both = both_true (covers_expr uses e || covers_group uses e) (covers_passed uses rest) covers in
         let forms = both_true (is_formed e) (passed_are_formed rest) formed in
         let fit = both_true (suits_group D q i e) (suits_passed D q (suc i) rest) suits in
-        let hand = both_true true (hands_passed U.program q (suc i) rest) hands in
+        let hand = both_true (takes_value_at U.program q i) (hands_passed U.program q (suc i) rest) hands in
         let keep = λ (t : Ty) (o : IsOne (given_types rest) t). kept t (one_right (given_by (by_value e)) (given_types rest) t o) in
         let next = λ (n : ℕ). takes (suc n) ∙ ap (λ m. passing_by (takes_reference D q m)) (further i n) in
         let mode : target.first_passing modes ≡ passing_by (takes_reference D q i) = takes 0 ∙ ap (λ n. passing_by (takes_reference D q n)) (here i) in
@@ -403,7 +403,7 @@ module _ (U : Upgrade) (p : ℕ) (f : SourceFrame) (g : NetFrame) (oracle : Sour
         (stands_later U K w v p f g later stands) can.1 both.1 forms.1 fits.1 keep in
         by_either (covers_expr uses e) (covers_group uses e) both.0
         (λ scalar.
-        taken_agrees U K q i (ScalarMatch U (type_at e)) (scalar_lasts U K q i (type_at e)) w (source.value_of C e w.src) (target.value_of S net_oracle (exp_of T e) w.net)
+        taken_agrees U K q i hand.0 (ScalarMatch U (type_at e)) (scalar_lasts U K q i (type_at e)) w (source.value_of C e w.src) (target.value_of S net_oracle (exp_of T e) w.net)
         (source.argument_of C ((runnable_of U).quiet q i) (by_value e) w.src)
         (target.given S net_oracle (target.first_passing modes)
         (target.reach S net_oracle false (argument_exp T (takes_reference T.declarations q i) (by_value e) (exp_of T e)) w.net))
@@ -414,7 +414,7 @@ module _ (U : Upgrade) (p : ℕ) (f : SourceFrame) (g : NetFrame) (oracle : Sour
         (λ of_group.
         let is_group = grouped U T uses readable e of_group in
         group_goes U K p f g oracle net_oracle l k c T uses same_declarations readable w start q i ((runnable_of U).quiet q i) (target.first_passing modes) e
-        (source.args_of C q (suc i) rest) (target.args_of S net_oracle (target.rest_passings modes) (passed_of T q (suc i) rest)) mode
+        (source.args_of C q (suc i) rest) (target.args_of S net_oracle (target.rest_passings modes) (passed_of T q (suc i) rest)) mode hand.0
         (sound q i (type_at e) passes is_group
         (suited (is_group_type (type_at e)) (is_type_at D (type_at e) (slice_get (params_at (slice_get D.procs q)) i)) is_group fit.0))
         (handles_group K e w start have stands can.0 of_group)

@@ -3,7 +3,6 @@ use Rattle.std.proofs.Common.{◌≡◌, ◌⊎◌, inl, inr, refl, ap, ◌∙�
 use Rattle.vb_tree.specs.BoundTree.{Ty}
 use Rattle.bound_tree.specs.Tree.{Expr, typed, constant, variable, field, element, call, library, unary, binary, convert, new_object, me, with_object, err_number, err_raise, err_clear, is_same, loose, Exprs, no_exprs, next_expr, Object, no_object, of_object, Passed, no_passed, next_passed, by_value, by_reference}
 use Rattle.bound_facts.specs.Calls.{initializer_of}
-use Rattle.bound_facts.specs.Facts.{is_quiet}
 use Rattle.bound_facts.specs.Locks.{Keeps}
 use Rattle.bound_facts.specs.Members.{initializer}
 use Rattle.bound_facts.specs.Nodes.{nodes, nodes_of_all, nodes_of_object, nodes_of_passed}
@@ -13,6 +12,7 @@ use Rattle.vb6_run.specs.Forms.{SourceLine}
 use Rattle.net_run.specs.Lines.{NetFrame, NetLine}
 use Rattle.net_run.specs.Names as net_names
 use Rattle.net_run.specs.Store as net
+use Rattle.run_matches.specs.Frames.{is_mirrored}
 use Rattle.run_matches.specs.Addresses.{Bound, images, mirrored}
 use Rattle.run_matches.specs.CoveredExprs.{Uses}
 use Rattle.run_matches.specs.Maps.{World}
@@ -65,7 +65,7 @@ module _ (U : Upgrade) (K : Pledge) (ts : List Ty) (w : World) (start : MemoryMa
       record {
         address = x.address;
         found = x.found;
-        bound = bound_giving (not (is_quiet U.program.declarations U.known v.0)) a x.address x.bound;
+        bound = bound_giving (not (is_mirrored U v.0)) a x.address x.bound;
         of_scalars = x.of_scalars;
         whole = x.whole;
         image = λ exact. image_giving v.0 a x.address (x.image exact);

@@ -24,7 +24,7 @@ use Rattle.written_trees.specs.Arguments.{argument_exp, has_address, is_copied, 
 use Rattle.written_trees.specs.Exprs.{exp_of}
 use Rattle.written_trees.specs.Facts.{Facts, holds_array}
 use Rattle.written_trees.specs.Names.{Scope}
-use Rattle.run_matches.specs.Addresses.{IsDeclaredShape, IsGivable}
+use Rattle.run_matches.specs.Addresses.{IsDeclaredShape, IsGivable, TakesValue}
 use Rattle.run_matches.specs.Agreeing.{Agrees}
 use Rattle.run_matches.specs.CoveredExprs.{Uses, covers_group, covers_passed, covers_receiver, is_class_of}
 use Rattle.run_matches.specs.CoveredVariables.{covers_group_type}
@@ -147,15 +147,15 @@ module _ (U : Upgrade) (K : Pledge) (p : ℕ) (f : SourceFrame) (g : NetFrame) (
 
   -- a value goes as one, whatever its parameter takes
   pub group_goes : (quiet : Bool) (mode : NetPassing) (e : Expr) (rest : Memory → Outcome Memory (List SourceGiven))
-      (rest' : net.Memory → Outcome net.Memory Arguments) → mode ≡ passing_by (takes_reference U.program.declarations q i) → IsSoundType U (type_at e)
+      (rest' : net.Memory → Outcome net.Memory Arguments) → mode ≡ passing_by (takes_reference U.program.declarations q i) → TakesValue U q i → IsSoundType U (type_at e)
       → (has_address T.declarations (kept e) ≡ false
       → Handles (scope_of U.written c g k) (IsSeen (context_of U oracle p f l) (scope_of U.written c g k) net_oracle w e) (exp_of T e))
       → Agrees U K w (ValueMatch U (type_shape U (type_at e))) (source.value_of (context_of U oracle p f l) e w.src)
       (target.value_of (scope_of U.written c g k) net_oracle (exp_of T e) w.net)
       → ((v : World) → Later U K w v → Agrees U K v (ArgumentsMatch U K q (suc i)) (rest v.src) (rest' v.net)) → Goes quiet mode e rest rest'
-  group_goes quiet mode e rest rest' m of handles values more =
+  group_goes quiet mode e rest rest' m takes of handles values more =
       let ty : Ty = type_at e in
-      taken_agrees U K q i (ValueMatch U (type_shape U ty)) (group_lasts U K q i ty of) w (source.value_of C e w.src)
+      taken_agrees U K q i takes (ValueMatch U (type_shape U ty)) (group_lasts U K q i ty of) w (source.value_of C e w.src)
       (target.value_of S net_oracle (exp_of T e) w.net) (source.argument_of C quiet (tree.by_value e) w.src)
       (target.given S net_oracle mode
       (target.reach S net_oracle false (argument_exp T (takes_reference T.declarations q i) (tree.by_value e) (exp_of T e)) w.net))

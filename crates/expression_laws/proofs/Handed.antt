@@ -9,7 +9,7 @@ use Rattle.net_run.specs.Calls.{Arguments}
 use Rattle.net_run.specs.Expressions as target
 use Rattle.net_run.specs.Store as net
 use Rattle.net_run.specs.Values as net_value
-use Rattle.run_matches.specs.Addresses.{IsGivable}
+use Rattle.run_matches.specs.Addresses.{IsGivable, TakesValue}
 use Rattle.run_matches.specs.Agreeing.{Agrees}
 use Rattle.run_matches.specs.Likeness.{LikeV, Numbers, ValueLike, like_elements, like_fields, like_scalar}
 use Rattle.run_matches.specs.Maps.{World}
@@ -82,13 +82,13 @@ module _ (U : Upgrade) (K : Pledge) (w : World) (R : World → Value → net_val
 
 -- ---- arguments
 
-module _ (U : Upgrade) (K : Pledge) (q i : ℕ) (R : World → Value → net_value.Value → Type 0) (lasts : Lasts U K q i R) where
+module _ (U : Upgrade) (K : Pledge) (q i : ℕ) (takes : TakesValue U q i) (R : World → Value → net_value.Value → Type 0) (lasts : Lasts U K q i R) where
   given_later : (v u : World) (g : SourceGiven) (h : NetGiven) (xs : List SourceGiven) (ys : List NetGiven) → Later U K v u → HandedMatch R v g h
       → ArgumentsMatch U K q (suc i) u xs ys → ArgumentsMatch U K q i u (g ∷ xs) (h ∷ ys)
   given_later v u g h xs ys later m rest =
       subst (λ z. ArgumentsMatch U K q i u (z ∷ xs) (h ∷ ys)) (sym m.is_given)
       (subst (λ z. ArgumentsMatch U K q i u (by_value m.given ∷ xs) (z ∷ ys)) (sym m.is_net_given)
-      (next_value i u m.given m.net_given xs ys (lasts.later v u m.given m.net_given later m.match) (lasts.givable v m.given m.net_given m.match)
+      (next_value i u m.given m.net_given xs ys (lasts.later v u m.given m.net_given later m.match) (lasts.givable v m.given m.net_given m.match) takes
       (lasts.no_arrays v m.given m.net_given m.match) rest))
 
   value_agrees : (w : World) (r : Outcome Memory Value) (r' : Outcome net.Memory net_value.Value) (t : Outcome net.Memory NetGiven) → GoesAsValue r t r'

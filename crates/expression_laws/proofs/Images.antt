@@ -8,7 +8,6 @@ use Rattle.vb_tree.specs.declared.declared.Owner.TheVariants as owner
 use Rattle.bound_tree.specs.Tree.{Variable, Declarations}
 use Rattle.bound_facts.specs.Effects.{is_own_owner, is_own_variable}
 use Rattle.bound_facts.specs.SelfMade.{module_of}
-use Rattle.bound_facts.specs.Facts.{is_quiet}
 use Rattle.run_base.specs.Positions.{Key, Position, Root, field, made, shared, whole}
 use Rattle.written_trees.specs.Names.{Scope, alone, owner_path, variable_path, variable_path_of, variable_name_of}
 use Rattle.vb6_run.specs.Runnables.{owned_address, declared_address, variable_address, root_address, static_root}
@@ -23,7 +22,7 @@ use Rattle.run_matches.specs.Addresses.{IsTarget, Same, same_root, Bound, images
 use Rattle.run_matches.specs.CoveredExprs.{Uses}
 use Rattle.run_matches.specs.CoveredVariables.{covers_auto_owner}
 use Rattle.run_matches.specs.Covered.{is_reference_in, is_reference_owner_of}
-use Rattle.run_matches.specs.Frames.{FrameMatch, SameVariable, SameStatic, HasPlace, is_own_of, is_static_in, static_of, GivenAddress, is_reference_of}
+use Rattle.run_matches.specs.Frames.{FrameMatch, SameVariable, SameStatic, HasPlace, is_own_of, is_static_in, static_of, GivenAddress, is_reference_of, is_mirrored}
 use Rattle.run_matches.specs.Maps.{World, IsMatched, has_counterpart, is_auto_root, is_auto_variable, key_or_none, moved_at, root_variable}
 use Rattle.run_matches.specs.Match.{MemoryMatch, StoreMatch}
 use Rattle.run_matches.specs.Pledges.{Pledge}
@@ -40,9 +39,9 @@ exact_same U K w _ _ _ e (images exact a b same) = same
 exact_same U K w _ _ _ e (mirrored a b m) = absurd (cc e)
 
 -- what can be changed is the same on both sides
-changeable_same : (U : Upgrade) (K : Pledge) (w : World) (v : ℕ) (a : Address) (b : net.Address) → Bound U K w (not (is_quiet U.program.declarations U.known v)) a b
-    → is_quiet U.program.declarations U.known v ≡ false → Same U K w a b
-changeable_same U K w v a b bound e = exact_same U K w (not (is_quiet U.program.declarations U.known v)) a b (ap not e) bound
+changeable_same : (U : Upgrade) (K : Pledge) (w : World) (v : ℕ) (a : Address) (b : net.Address) → Bound U K w (not (is_mirrored U v)) a b
+    → is_mirrored U v ≡ false → Same U K w a b
+changeable_same U K w v a b bound e = exact_same U K w (not (is_mirrored U v)) a b (ap not e) bound
 
 -- ---- the procedure's own
 

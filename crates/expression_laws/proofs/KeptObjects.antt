@@ -1,10 +1,7 @@
 -- Objects that are kept or given: what is written reaches them.
-use Rattle.std.proofs.Common.{◌≡◌, refl, ⊎_elim, ◌||◌, ◌&&◌, ◌∙◌, sym, ap, subst, ℕ, Bool, true, not, true≢false, Option, Some, None}
-use Rattle.std.specs.Prelude.{slice_get}
+use Rattle.std.proofs.Common.{◌≡◌, refl, ⊎_elim, ◌||◌, ◌&&◌, ◌∙◌, sym, ap, subst, ℕ, Bool, true, true≢false}
 use Rattle.vb_tree.specs.BoundTree as types
 use Rattle.vb_tree.specs.BoundTree.{Ty}
-use Rattle.vb_tree.specs.declared.declared.ProcKind.{ProcKind}
-use Rattle.vb_tree.specs.declared.declared.ProcKind.TheVariants as kind
 use Rattle.bound_tree.specs.Tree.{Expr, typed, Term, variable, field, call, me, with_object, Object, no_object, of_object, no_passed}
 use Rattle.bound_facts.specs.Locks.{is_same_type}
 use Rattle.vb6_run.specs.Expressions as source
@@ -17,9 +14,8 @@ use Rattle.net_run.specs.Making.{Jobs}
 use Rattle.net_run.specs.Members.{Code}
 use Rattle.net_run.specs.Names as net_names
 use Rattle.written_trees.specs.Exprs.{exp_of}
-use Rattle.written_trees.specs.Heads.{is_function}
 use Rattle.written_trees.specs.Names.{Scope}
-use Rattle.run_matches.specs.CoveredExprs.{Uses, covers_object, covers_receiver, has_member, has_result_type, is_giving, takes_value}
+use Rattle.run_matches.specs.CoveredExprs.{Uses, covers_object, covers_receiver, has_member}
 use Rattle.run_matches.specs.Agreeing.{Agrees}
 use Rattle.run_matches.specs.Formed.{is_formed}
 use Rattle.run_matches.specs.Maps.{World}

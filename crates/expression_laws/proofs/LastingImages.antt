@@ -1,6 +1,5 @@
 -- Variables that are used stay images of each other.
 use Rattle.std.proofs.Common.{◌≡◌, ap, inl, inr, sym, subst, ℕ, Bool, false, true, not, Some}
-use Rattle.bound_facts.specs.Facts.{is_quiet}
 use Rattle.run_base.specs.Positions.{Position}
 use Rattle.written_trees.specs.Names.{Scope}
 use Rattle.vb6_run.specs.Shapes.{Shape, simple, group, array, endless, variable_shape}
@@ -9,7 +8,7 @@ use Rattle.net_run.specs.Names as net_names
 use Rattle.net_run.specs.Store as net
 use Rattle.run_matches.specs.Addresses.{Same, same_root, Bound, images, mirrored, IsPlain, position_of, same_item}
 use Rattle.run_matches.specs.CoveredExprs.{Uses}
-use Rattle.run_matches.specs.Frames.{StandsAs}
+use Rattle.run_matches.specs.Frames.{StandsAs, is_mirrored}
 use Rattle.run_matches.specs.Maps.{World, IsMade, is_auto_root, is_auto_variable, mark}
 use Rattle.run_matches.specs.Match.{MemoryMatch}
 use Rattle.run_matches.specs.Pledges.{Pledge, Later}
@@ -66,7 +65,7 @@ images_later U K w0 w1 f S T uses start l h v a used is =
     record {
       address = x.address;
       found = x.found;
-      bound = bound_later U K w0 w1 start l (not (is_quiet U.program.declarations U.known v.0)) a x.address x.bound;
+      bound = bound_later U K w0 w1 start l (not (is_mirrored U v.0)) a x.address x.bound;
       of_scalars = x.of_scalars;
       whole = x.whole;
       image = λ exact. image_later U K w0 w1 v.0 a x.address l (x.image exact);

@@ -5,7 +5,6 @@ use Rattle.std.proofs.lemmas.Bool.{eq-eqb}
 use Rattle.vb_tree.specs.declared.declared.Owner.TheVariants as owner
 use Rattle.vb_tree.specs.declared.declared.VarId.{VarId}
 use Rattle.bound_tree.specs.Tree.{Variable, Declarations}
-use Rattle.bound_facts.specs.Facts.{is_quiet}
 use Rattle.run_base.specs.Positions.{Position, field, shared, whole}
 use Rattle.written_trees.specs.Names.{Scope, variable_path}
 use Rattle.vb6_run.specs.Runnables.{is_class_file, owned_address, declared_address, variable_address, object_root, root_address}
@@ -17,7 +16,7 @@ use Rattle.net_run.specs.Names.{path_start, starts, at_place, own_field}
 use Rattle.net_run.specs.Store as net
 use Rattle.run_matches.specs.Addresses.{Same, same_root, Bound, images, position_of, is_element}
 use Rattle.run_matches.specs.CoveredVariables.{is_class_member, is_named_so, is_of_class}
-use Rattle.run_matches.specs.Frames.{OwnObject}
+use Rattle.run_matches.specs.Frames.{OwnObject, is_mirrored}
 use Rattle.run_matches.specs.Kinds.{AreKinds}
 use Rattle.run_matches.specs.Maps.{World, IsMatched, is_auto_root, key_or_none, moved_at}
 use Rattle.run_matches.specs.Match.{is_class_variable, StoreMatch}
@@ -28,8 +27,8 @@ use Rattle.expression_laws.specs.Images.{HasImage}
 use Rattle.expression_laws.proofs.UsedShapes.{IsDeclared, UsedShape, declared_all, declared_ranked, is_laid, stands_as}
 
 pub exactly : (U : Upgrade) (K : Pledge) (w : World) (v : ℕ) (a : Address) (b : net.Address) → Same U K w a b
-    → Bound U K w (not (is_quiet U.program.declarations U.known v)) a b
-exactly U K w v a b same = images (not (is_quiet U.program.declarations U.known v)) a b same
+    → Bound U K w (not (is_mirrored U v)) a b
+exactly U K w v a b same = images (not (is_mirrored U v)) a b same
 
 -- ---- those of standard modules
 

@@ -8,7 +8,6 @@ use Rattle.vb6_run.specs.Expressions as source
 use Rattle.vb6_run.specs.Expressions.{Context}
 use Rattle.vb6_run.specs.Shapes.{simple}
 use Rattle.vb6_run.specs.Store.{root}
-use Rattle.vb6_run.specs.Values.{Value}
 use Rattle.net_run.specs.Expressions as target
 use Rattle.net_run.specs.Making.{Jobs}
 use Rattle.net_run.specs.Names as net_names

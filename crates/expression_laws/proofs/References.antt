@@ -4,8 +4,7 @@ use Rattle.std.specs.Prelude.{slice_get}
 use Rattle.vb_tree.specs.BoundTree as types
 use Rattle.vb_tree.specs.BoundTree.{Ty}
 use Rattle.vb_tree.specs.declared.declared.VarId.{VarId}
-use Rattle.bound_tree.specs.Tree.{Declarations, Expr, typed, field, variable, by_reference, Program}
-use Rattle.bound_facts.specs.Facts.{is_quiet}
+use Rattle.bound_tree.specs.Tree.{Declarations, Expr, typed, field, variable, by_reference, Program, convert}
 use Rattle.bound_facts.specs.Node.{auto_class, is_array_type}
 use Rattle.net_tree.specs.declared.declaration.NetPassing.{NetPassing}
 use Rattle.net_tree.specs.declared.declaration.NetPassing.TheVariants as passing
@@ -33,9 +32,10 @@ use Rattle.net_run.specs.Values as net_value
 use Rattle.written_trees.specs.Arguments.{argument_exp, is_conversion, temporary_exp}
 use Rattle.written_trees.specs.Exprs.{exp_of}
 use Rattle.written_trees.specs.Names.{Scope, variable_path}
+use Rattle.run_matches.specs.Frames.{is_mirrored}
 use Rattle.run_matches.specs.Addresses.{HasParameterRank, IsDeclaredAt, IsPlain, IsTarget, Same, SuitsParameter, TakesAddresses, same_item, same_root, GivesWhole, IsScalarAt}
 use Rattle.run_matches.specs.Agreeing.{Agrees}
-use Rattle.run_matches.specs.CoveredVariables.{covers_type}
+use Rattle.run_matches.specs.CoveredVariables.{covers_type, takes_value_at}
 use Rattle.run_matches.specs.CoveredExprs.{Uses, IsUsed, covers_array, covers_expr, covers_place, is_passable, is_variable, is_relied_on}
 use Rattle.run_matches.specs.Covered.{suits_array, hands_argument, is_item, is_relied_at}
 use Rattle.run_matches.specs.Likeness.{SameShape, same_array, same_class, same_group, same_scalar}
@@ -146,7 +146,7 @@ named_by uses ty v qualified (inr (inr h)) = (both_true (uses.group v ty) (uses.
 
 -- it is no quiet parameter
 passed_exact : (U : Upgrade) (T : Scope) (uses : Uses) → AreReadable U T uses → (ty : Ty) (v : VarId) (qualified : Bool)
-    → IsPassed uses (typed ty (variable v qualified)) → is_quiet U.program.declarations U.known v.0 ≡ false
+    → IsPassed uses (typed ty (variable v qualified)) → is_mirrored U v.0 ≡ false
 passed_exact U T uses readable ty v qualified (inl h) =
     readable.exact v (both_true (uses.exact v) (covers_expr uses (typed ty (variable v qualified))) h).0
 passed_exact U T uses readable ty v qualified (inr (inl h)) =
@@ -279,6 +279,11 @@ handed_whole : (P : Program) (q i : ℕ) (ty : Ty) (v : VarId) (qualified : Bool
     → is_relied_at P q i ≡ true → is_relied_on P v.0 ≡ true
 handed_whole P q i ty v qualified h e = suited (is_relied_at P q i) (is_relied_on P v.0) e h
 
+-- what is given as a value goes to a parameter that may take one
+pub handed_value : (P : Program) (q i : ℕ) (e : Expr) → is_conversion e ≡ true → hands_argument P q i (by_reference e) ≡ true → takes_value_at P q i ≡ true
+handed_value P q i (typed ty (convert to e)) is h = h
+handed_value P q i (typed ty _) is h = absurd (true≢false (sym is))
+
 target_given : (S : net_names.Scope) (oracle : Jobs) (mode : NetPassing) (names : List (List ℕ)) (b : net.Address) (w : net.Memory) → mode ≡ passing.Reference
     → path_start S false names ≡ starts (at_place b) [] → ◌≡◌ {A = Given net_value.Value net.Address} (target.given_by b) (by_address b)
     → target.given S oracle mode (target.reach S oracle false (path names) w) ≡ gives [] (by_address b) w
@@ -348,7 +353,7 @@ module _ (U : Upgrade) (K : Pledge) (p : ℕ) (f : SourceFrame) (g : NetFrame) (
       (by (variable_address D f v.0) refl used (passed_exact U T uses readable ty v qualified passed)))
     where
       by : (o : Option Address) → variable_address U.program.declarations f v.0 ≡ o → IsUsed uses v
-          → is_quiet U.program.declarations U.known v.0 ≡ false
+          → is_mirrored U v.0 ≡ false
           → Agrees U K w (ArgumentsMatch U K q i)
           (then (some_of o (source.given_address quiet) w.src) (λ g w. then (rest w) (λ gs w. gives [] (g ∷ gs) w)))
           (then (target.given (scope_of U.written c g k) net_oracle mode

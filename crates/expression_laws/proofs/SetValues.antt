@@ -36,6 +36,7 @@ use Rattle.expression_laws.specs.Statements.{ParametersAreSound}
 use Rattle.expression_laws.proofs.Arguments.{no_arrays}
 use Rattle.expression_laws.proofs.GroupArguments.{group_lasts}
 use Rattle.expression_laws.proofs.Types.{both_true, is_group, simple_type}
+use Rattle.run_matches.specs.Addresses.{TakesValue}
 
 -- ---- parts of properties that take a value
 
@@ -134,9 +135,9 @@ takes_typed U q ty x h =
 
 -- ---- the value as an argument
 
-module _ (U : Upgrade) (K : Pledge) (q : ℕ) (w : World) (x : Value) (y : net_value.Value) where
+module _ (U : Upgrade) (K : Pledge) (q : ℕ) (takes_value : TakesValue U q 0) (w : World) (x : Value) (y : net_value.Value) where
   scalar_given : (s : Ty) (v : Value6) → LikeV U w (scalar s v) y → ArgumentsMatch U K q 0 w (by_value (scalar s v) ∷ []) (by_value y ∷ [])
-  scalar_given s v like = next_value 0 w (scalar s v) y [] [] like tt (no_arrays U w s v y like) (no_arguments 1 w)
+  scalar_given s v like = next_value 0 w (scalar s v) y [] [] like tt takes_value (no_arrays U w s v y like) (no_arguments 1 w)
 
   pub value_given : ParametersAreSound U → Passes U q → (ty : Ty) → is_taking U.program.declarations ty (slice_get U.program.declarations.procs q) ≡ true
       → (covers_type ty ≡ true) ⊎ (covers_group_type U.program.declarations ty ≡ true) → ValueMatch U (type_shape U ty) w x y
@@ -152,4 +153,4 @@ module _ (U : Upgrade) (K : Pledge) (q : ℕ) (w : World) (x : Value) (y : net_v
   value_given sound passes ty takes (inr covers) m =
       let lasts = group_lasts U K q 0 ty
       (sound q 0 ty passes (is_group U.program.declarations ty covers) (takes_typed U q ty (declared U q passes) takes)) in
-      next_value 0 w x y [] [] (lasts.like w x y m) (lasts.givable w x y m) (lasts.no_arrays w x y m) (no_arguments 1 w)
+      next_value 0 w x y [] [] (lasts.like w x y m) (lasts.givable w x y m) takes_value (lasts.no_arrays w x y m) (no_arguments 1 w)

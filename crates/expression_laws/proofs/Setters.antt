@@ -164,9 +164,9 @@ setters_agree_by U classes K L w p f g oracle net_oracle l k c T uses ty q quali
     can_of covers)
 
 pub properties_are_set_by : (U : Upgrade) → ParametersAreSound U → (K : Pledge) → PropertiesAreSetBy U K
-properties_are_set_by U sound K w p f g oracle net_oracle l k c T ty q qualified of r z x y start frames agree can sets found takes covers match =
+properties_are_set_by U sound K w p f g oracle net_oracle l k c T ty q qualified of r z x y start frames agree can sets found takes value covers match =
     setter_called U K p f g oracle net_oracle l k c T agree q qualified of can sets w x y start (stands_now U K w p f g frames)
-    (value_given U K q w x y sound can.passes ty takes covers match) r z found
+    (value_given U K q value w x y sound can.passes ty takes covers match) r z found
 
 pub setters_agree : (U : Upgrade) → ClassesAreWritten U → SettersAgree U
 setters_agree U classes K L = setters_agree_by U classes K L

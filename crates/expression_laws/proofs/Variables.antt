@@ -2,6 +2,7 @@
 use Rattle.agreeing_laws.proofs.Moves.{matched_whole}
 use Rattle.expression_laws.proofs.ElementValues.{elements_of, item_agrees, items_of}
 use Rattle.agreeing_laws.proofs.Indexes.{items_follow}
+use Rattle.run_matches.specs.Frames.{is_mirrored}
 use Rattle.run_matches.specs.Likeness.{numbers_of, SameShape, like_scalar, same_class, same_scalar}
 use Rattle.row_laws.proofs.Composing.{after_nil}
 use Rattle.std.proofs.Common.{◌≡◌, ◌∙◌, inl, refl, sym, ap, subst, ℕ, Bool, true, false, cond, not, ◌&&◌, List, [], Option, Some, None, ◌⊎◌, inr}
@@ -10,7 +11,6 @@ use Rattle.vb_tree.specs.BoundTree as types
 use Rattle.vb_tree.specs.BoundTree.{Ty}
 use Rattle.vb_tree.specs.declared.declared.VarId.{VarId}
 use Rattle.bound_tree.specs.Tree.{Variable, typed, variable}
-use Rattle.bound_facts.specs.Facts.{is_quiet}
 use Rattle.bound_facts.specs.Locks.{is_same_type}
 use Rattle.bound_facts.specs.Node.{auto_class, class_in}
 use Rattle.net_tree.specs.Tree.{path}
@@ -241,4 +241,4 @@ module _ (U : Upgrade) (K : Pledge) (p : ℕ) (f : SourceFrame) (g : NetFrame) (
           subst (λ z. Agrees U K w (ScalarMatch U ty) (after [] (then (after [] (store.read a w.src)) (Checked (context_of U oracle p f l) ty))) z)
           (sym (written r x.address (x.found qualified named)))
           (left_alone U K w (ScalarMatch U ty) (then (after [] (store.read a w.src)) (Checked (context_of U oracle p f l) ty)) (target.read x.address w.net)
-          (bound_agrees U K (context_of U oracle p f l) ty (not (is_quiet U.program.declarations U.known v.0)) a x.address w x.of_scalars covers start x.bound))
+          (bound_agrees U K (context_of U oracle p f l) ty (not (is_mirrored U v.0)) a x.address w x.of_scalars covers start x.bound))

@@ -10,7 +10,7 @@ use Rattle.net_run.specs.Members.{code_at}
 use Rattle.net_run.specs.Shapes as shape
 use Rattle.net_run.specs.Store as net
 use Rattle.net_run.specs.Values as net_value
-use Rattle.run_matches.specs.Addresses.{AllLocked, IsGivable, IsPlain, IsTarget, Same, GivesWhole, SuitsParameter}
+use Rattle.run_matches.specs.Addresses.{AllLocked, IsGivable, IsPlain, IsTarget, Same, GivesWhole, SuitsParameter, TakesValue}
 use Rattle.run_matches.specs.Agreeing.{ResultMatch}
 use Rattle.run_matches.specs.Frames.{HasOwnObject}
 use Rattle.run_matches.specs.Likeness.{LikeV}
@@ -32,7 +32,7 @@ pub record Stands (U : Upgrade) (K : Pledge) (w : World) (p : ℕ) (f : SourceFr
 pub data ArgumentsMatch (U : Upgrade) (K : Pledge) (q : ℕ) : (place : ℕ) → World → List SourceGiven → List NetGiven → Type 0 where
   no_arguments : (i : ℕ) (w : World) → ArgumentsMatch U K q i w [] []
   next_value : (i : ℕ) (w : World) (x : Value) (y : net_value.Value) (xs : List SourceGiven) (ys : List NetGiven) → LikeV U w x y → IsGivable U q i x
-      → arrays_in y ≡ [] → ArgumentsMatch U K q (suc i) w xs ys → ArgumentsMatch U K q i w (by_value x ∷ xs) (by_value y ∷ ys)
+      → TakesValue U q i → arrays_in y ≡ [] → ArgumentsMatch U K q (suc i) w xs ys → ArgumentsMatch U K q i w (by_value x ∷ xs) (by_value y ∷ ys)
   next_address : (i : ℕ) (w : World) (a : Address) (b : net.Address) (xs : List SourceGiven) (ys : List NetGiven) → Same U K w a b → IsTarget U a
       → GivesWhole U q i a → IsPlain U w a → SuitsParameter U q i a b → ArgumentsMatch U K q (suc i) w xs ys → ArgumentsMatch U K q i w (by_address a ∷ xs) (by_address b ∷ ys)
 

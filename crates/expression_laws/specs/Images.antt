@@ -1,7 +1,6 @@
 -- What an expression needs of where it stands: its variables are found on both sides, and stand for each other.
 use Rattle.std.specs.Prelude.{◌≡◌, ℕ, Bool, false, not, Some, [], ◌⊎◌, true}
 use Rattle.vb_tree.specs.declared.declared.VarId.{VarId}
-use Rattle.bound_facts.specs.Facts.{is_quiet}
 use Rattle.run_base.specs.Positions.{Position}
 use Rattle.written_trees.specs.Names.{Scope, variable_path}
 use Rattle.vb6_run.specs.Runnables.{variable_address}
@@ -13,7 +12,7 @@ use Rattle.net_run.specs.Shapes as shape
 use Rattle.net_run.specs.Store as net
 use Rattle.run_matches.specs.Addresses.{Bound, IsPlain, IsTarget, Same, IsElement, IsWhole}
 use Rattle.run_matches.specs.CoveredExprs.{Uses, IsUsed, is_relied_on}
-use Rattle.run_matches.specs.Frames.{StandsAs}
+use Rattle.run_matches.specs.Frames.{StandsAs, is_mirrored}
 use Rattle.run_matches.specs.Maps.{World, is_auto_root}
 use Rattle.run_matches.specs.Pledges.{Pledge}
 use Rattle.run_matches.specs.Upgrades.{Upgrade, is_auto}
@@ -35,10 +34,10 @@ pub record IsImage (U : Upgrade) (K : Pledge) (w : World) (v : ℕ) (a : Address
 pub record HasImage (U : Upgrade) (K : Pledge) (w : World) (S : net_names.Scope) (T : Scope) (named : (qualified : Bool) → Bool) (v : ℕ) (a : Address) : Type 0 where
   pub address : net.Address
   pub found : (qualified : Bool) → named qualified ≡ true → path_start S false (variable_path T qualified v) ≡ starts (at_place address) []
-  pub bound : Bound U K w (not (is_quiet U.program.declarations U.known v)) a address
+  pub bound : Bound U K w (not (is_mirrored U v)) a address
   pub of_scalars : IsWhole a ⊎ IsElement a
   pub whole : is_relied_on U.program v ≡ true → IsWhole a
-  pub image : is_quiet U.program.declarations U.known v ≡ false → IsImage U K w v a address
+  pub image : is_mirrored U v ≡ false → IsImage U K w v a address
 
 abbrev pub HaveImages : Upgrade → Pledge → World → SourceFrame → net_names.Scope → Scope → Uses → Type 0
 HaveImages U K w f S T uses =

@@ -42,6 +42,7 @@ use Rattle.run_statements.specs.Frames.{AnyUnits, ArrayMatch, CanCall, ElementMa
 use Rattle.run_matches.specs.Runs.{CallsAgree}
 use Rattle.run_statements.specs.Written.{Passes}
 use Rattle.run_matches.specs.Formed.{is_formed}
+use Rattle.run_matches.specs.Addresses.{TakesValue}
 
 -- ---- what is handed in
 
@@ -194,6 +195,7 @@ PropertiesAreSetBy U K =
     → FrameMatch U K w p f g → CallsAgree U (Passes U) oracle net_oracle
     → (can : CanCall U K (scope_of U.written c g k) T p q qualified of no_passed) → is_giving (slice_get U.program.declarations.procs q) ≡ false
     → SetterMatch U can.way can.number of w r reached → is_taking U.program.declarations ty (slice_get U.program.declarations.procs q) ≡ true
+    → TakesValue U q 0
     → (covers_type ty ≡ true) ⊎ (covers_group_type U.program.declarations ty ≡ true) → ValueMatch U (type_shape U ty) w x y
     → Agrees U K w AnyUnits
     (then (source.entered (context_of U oracle p f l) q r (by_value x ∷ []) w.src) (λ z w. gives [] tt w))

@@ -1,6 +1,6 @@
 -- A Set of an As New variable does the same as what is written for it: no object is made for it, and its place is the same before and behind
 -- the value.
-use Rattle.std.proofs.Common.{◌≡◌, ◌∙◌, inr, refl, sym, ap, subst, ℕ, Bool, true, false, not, ◌&&◌, Some, [], true≢false}
+use Rattle.std.proofs.Common.{◌≡◌, ◌∙◌, inr, refl, sym, ap, subst, ℕ, Bool, true, false, not, ◌&&◌, Some, [], true≢false, slice_get}
 use Rattle.std.specs.Prelude.{is_some}
 use Rattle.vb_tree.specs.BoundTree as types
 use Rattle.vb_tree.specs.BoundTree.{Ty}
@@ -9,7 +9,7 @@ use Rattle.vb_tree.specs.declared.declared.Owner.TheVariants as owner
 use Rattle.vb_tree.specs.declared.declared.VarId.{VarId}
 use Rattle.bound_tree.specs.Tree.{Expr, typed, Term, variable}
 use Rattle.bound_facts.proofs.Chains.{both_true}
-use Rattle.bound_facts.specs.Facts.{Known, is_quiet, is_quiet_owner, is_quiet_variable}
+use Rattle.bound_facts.specs.Facts.{Known, is_quiet_owner, is_quiet_variable}
 use Rattle.run_base.specs.Outcomes.{Outcome, gives, then, after, some_of}
 use Rattle.written_trees.specs.Exprs.{exp_of, target_exp}
 use Rattle.written_trees.specs.Names.{Scope, variable_path}
@@ -34,7 +34,7 @@ use Rattle.run_matches.specs.CoveredExprs.{Uses, covers_group}
 use Rattle.run_matches.specs.CoveredLines.{is_auto_target}
 use Rattle.run_matches.specs.CoveredVariables.{covers_auto_owner, covers_made}
 use Rattle.run_matches.specs.Formed.{is_formed}
-use Rattle.run_matches.specs.Frames.{FrameMatch, StandsAs}
+use Rattle.run_matches.specs.Frames.{FrameMatch, StandsAs, is_mirrored, is_scalar_in}
 use Rattle.run_matches.specs.Likeness.{SameShape}
 use Rattle.run_matches.specs.Maps.{World, is_auto_variable}
 use Rattle.run_matches.specs.Match.{MemoryMatch}
@@ -80,8 +80,10 @@ module _ (U : Upgrade) (v class : ℕ) (r : IsAutoOf U v class) where
     unreferenced = λ auto p of. no_reference p r.variable.owner r.owner of;
   }
 
-  loud : is_quiet U.program.declarations U.known v ≡ false
-  loud = ap (λ b. b && not (U.known.touched v)) (ap (is_quiet_variable U.known) r.is_variable ∙ auto_loud U.known r.variable.owner r.owner)
+  loud : is_mirrored U v ≡ false
+  loud =
+      ap (λ b. b && is_scalar_in (slice_get U.program.declarations.vars v))
+      (ap (λ b. b && not (U.known.touched v)) (ap (is_quiet_variable U.known) r.is_variable ∙ auto_loud U.known r.variable.owner r.owner))
 
   shape_is : variable_shape U.program.declarations v ≡ simple (types.class class)
   shape_is =

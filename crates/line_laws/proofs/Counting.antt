@@ -8,7 +8,6 @@ use Rattle.vb_tree.specs.declared.value.Value6.{Value6}
 use Rattle.vb_tree.specs.Tree as source_form
 use Rattle.bound_tree.specs.Tree.{Expr, typed, Term, variable}
 use Rattle.bound_facts.proofs.Chains.{both_true}
-use Rattle.bound_facts.specs.Facts.{is_quiet}
 use Rattle.bound_facts.specs.Locks.{is_same_type}
 use Rattle.bound_facts.specs.Node.{type_at}
 use Rattle.run_base.specs.Frames.{keeps_limit, keeping}
@@ -45,7 +44,7 @@ use Rattle.run_matches.specs.Formed.{is_formed}
 use Rattle.run_matches.specs.CoveredVariables.{covers_type}
 use Rattle.run_matches.specs.CoveredExprs.{Uses, covers_expr, covers_value, is_variable}
 use Rattle.run_matches.specs.CoveredLines.{covers_counter, covers_counting, covers_step, is_counter, is_local, is_local_term}
-use Rattle.run_matches.specs.Frames.{FrameMatch, HasPlace, OwnsAll, SameVariable, is_own_of}
+use Rattle.run_matches.specs.Frames.{FrameMatch, HasPlace, OwnsAll, SameVariable, is_own_of, is_mirrored}
 use Rattle.run_statements.specs.Frames.{AnyUnits, ArePlaced, ExpressionsAgree, IsOpen, IsReadable, ScalarMatch, ScalarsAreWritten, context_of, AllCalled, demands, AreReadable}
 use Rattle.run_statements.specs.Written.{Passes}
 use Rattle.run_matches.specs.Runs.{CallsAgree}
@@ -108,7 +107,7 @@ module _ (U : Upgrade) (expressions : ExpressionsAgree U) (scalars : ScalarsAreW
     found_v = F.vars v.0 a found readable_v.sound
 
     same_v : Same U K w a found_v.address
-    same_v = exactly U K w (not (is_quiet U.program.declarations U.known v.0)) a found_v.address (ap not (own_exact U v.0 readable_v p mine)) found_v.bound
+    same_v = exactly U K w (not (is_mirrored U v.0)) a found_v.address (ap not (own_exact U v.0 readable_v p mine)) found_v.bound
 
     place_v : HasPlace U w v.0 a
     place_v = F.own v.0 a found mine

@@ -1,6 +1,5 @@
 -- Frames that match go on to match at a later world, and at another line.
 use Rattle.std.proofs.Common.{◌≡◌, ◌∙◌, refl, sym, ap, subst, ℕ, suc, ◌<◌, Bool, true, false, cond, not, nat_eq, eqb-true, Option, Some, None, option_map, List, slice_get}
-use Rattle.bound_facts.specs.Facts.{is_quiet}
 use Rattle.vb_tree.specs.Tree.{Form}
 use Rattle.bound_tree.specs.Tree.{Expr, Line}
 use Rattle.run_base.specs.Frames.{Handler, Frame, Kept, keeps_address, keeping}
@@ -19,7 +18,7 @@ use Rattle.run_matches.specs.Match.{MemoryMatch}
 use Rattle.run_matches.specs.Pledges.{Pledge, Later}
 use Rattle.run_matches.specs.Addresses.{IsInPlace, KeptMatch}
 use Rattle.run_matches.specs.CoveredLines.{covers_line, is_with}
-use Rattle.run_matches.specs.Frames.{SameVariable, SameStatic, HasNames, HasPlace, KeepsPlace, KeptBy, FrameMatch, IsOwnAddress, OwnsAll, is_exact_head, is_own_line, lines_of}
+use Rattle.run_matches.specs.Frames.{SameVariable, SameStatic, HasNames, HasPlace, KeepsPlace, KeptBy, FrameMatch, IsOwnAddress, OwnsAll, is_exact_head, is_own_line, lines_of, is_mirrored}
 use Rattle.agreeing_laws.proofs.Made.{more, below_then, same_at}
 use Rattle.agreeing_laws.proofs.Moves.{all_matched_later, all_ranked_later, matched_whole, locks_later}
 use Rattle.agreeing_laws.proofs.OwnObjects.{own_object_later}
@@ -60,11 +59,11 @@ module _ (U : Upgrade) (K : Pledge) where
   variable_later w0 w1 h l v a g s = record {
     address = s.address;
     found = s.found;
-    bound = bound_later U K w0 w1 h l (not (is_quiet U.program.declarations U.known v)) a s.address s.bound;
+    bound = bound_later U K w0 w1 h l (not (is_mirrored U v)) a s.address s.bound;
     ranked = s.ranked;
     plain = λ e.
         plain_later U w0 w1 a l.extends
-        (λ q at. bound_made U K w0 (not (is_quiet U.program.declarations U.known v)) a s.address h s.bound q at) (s.plain e);
+        (λ q at. bound_made U K w0 (not (is_mirrored U v)) a s.address h s.bound q at) (s.plain e);
   }
 
   -- frames that match go on to match

@@ -7,7 +7,6 @@ use Rattle.vb_tree.specs.declared.declared.Owner.{Owner}
 use Rattle.vb_tree.specs.declared.declared.Owner.TheVariants as owner
 use Rattle.bound_tree.specs.Tree.{Variable, Declarations}
 use Rattle.bound_facts.specs.Effects.{is_own_owner, is_own_variable}
-use Rattle.bound_facts.specs.Facts.{is_quiet}
 use Rattle.bound_facts.specs.SelfMade.{module_of}
 use Rattle.run_base.specs.Positions.{Key, Position, Root, field, made, shared, whole}
 use Rattle.written_trees.specs.Names.{Scope, alone, owner_path, variable_path, variable_path_of, variable_name_of}
@@ -26,7 +25,7 @@ use Rattle.run_matches.specs.CoveredExprs.{is_relied_on}
 use Rattle.run_matches.specs.CoveredVariables.{is_class_member, is_of_class}
 use Rattle.run_matches.specs.CoveredLines.{is_local_in, is_passing_in, is_passing_of}
 use Rattle.run_matches.specs.Covered.{is_reference_in, is_reference_owner_of}
-use Rattle.run_matches.specs.Frames.{FrameMatch, GivenPlace, HasPlace, OwnObject, SameStatic, SameVariable, StandsAs, is_own_of, is_static_in, name_of, static_of}
+use Rattle.run_matches.specs.Frames.{FrameMatch, GivenPlace, HasPlace, OwnObject, SameStatic, SameVariable, StandsAs, is_own_of, is_static_in, name_of, static_of, is_mirrored}
 use Rattle.run_matches.specs.Kinds.{AreKinds}
 use Rattle.run_matches.specs.Likeness.{SameShape}
 use Rattle.run_matches.specs.Maps.{World, IsMade, is_auto_root, is_auto_variable, key_or_none, mark, moved_at, root_variable, has_counterpart}
@@ -85,7 +84,7 @@ pub record PlacedVariable (U : Upgrade) (K : Pledge) (w : World) (f : SourceFram
       (qualified : Bool) → IsNamedSo U.program.declarations v qualified → path_start S false (variable_path T qualified v) ≡ starts (at_place net_address) []
   pub plain : is_auto U v ≡ false → IsPlain U w address
   pub whole : is_relied_on U.program v ≡ true → IsWhole address
-  pub flat : MemoryMatch U w → IsFlatAs U v → is_quiet U.program.declarations U.known v ≡ false → FlatImages U K w v address net_address
+  pub flat : MemoryMatch U w → IsFlatAs U v → is_mirrored U v ≡ false → FlatImages U K w v address net_address
 
 -- ---- owners
 
@@ -188,8 +187,8 @@ module _ (U : Upgrade) (K : Pledge) (w : World) (p : ℕ) (f : SourceFrame) (g :
 
   of_frame : (a : Address) → lookup (nat_eq v) f.vars ≡ Some a → variable_address D f v ≡ lookup (nat_eq v) f.vars
       → ((qualified : Bool) → owner_path T qualified x.variable.name x.variable.owner ≡ alone x.variable.name)
-      → (is_relied_on U.program v ≡ true → IsWhole a) → (place : is_quiet D U.known v ≡ false → GivenPlace U v a)
-      → ((exact : is_quiet D U.known v ≡ false) → is_auto U v ≡ true → is_auto_root U w.map (place exact).position.root ≡ true) → At
+      → (is_relied_on U.program v ≡ true → IsWhole a) → (place : is_mirrored U v ≡ false → GivenPlace U v a)
+      → ((exact : is_mirrored U v ≡ false) → is_auto U v ≡ true → is_auto_root U w.map (place exact).position.root ≡ true) → At
   of_frame a found is path whole place auto =
       let s : SameVariable U K w v a g = F.vars v a found x.sound in
       record {
@@ -202,7 +201,7 @@ module _ (U : Upgrade) (K : Pledge) (w : World) (p : ℕ) (f : SourceFrame) (g :
         flat = λ h flat exact. record {
           position = (place exact).position;
           stands = (place exact).stands;
-          same = exactly U K w (not (is_quiet D U.known v)) a s.address (ap not exact) s.bound;
+          same = exactly U K w (not (is_mirrored U v)) a s.address (ap not exact) s.bound;
           target = (place exact).target;
           auto = auto exact;
         };

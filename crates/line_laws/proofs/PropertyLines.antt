@@ -258,7 +258,7 @@ module _ (U : Upgrade) (expressions : ExpressionsAgree U) (groups : GroupsAgree 
       })
       (λ y.
       let of_type : covers_group_type D s ≡ true =
-      group_taken U q.0 s can_to.0.passes (readable.takes q.0 s takes) (value_kind U T uses readable s from y) in
+      group_taken U q.0 s can_to.0.passes (readable.takes q.0 s takes).0 (value_kind U T uses readable s from y) in
       record {
         of_type = inr of_type;
         stored = for_any ty q qualified e takes (inr of_type) (takes_group s from can y formed) of can_to second.0 third.0;

@@ -111,7 +111,7 @@ module _ (U : Upgrade) (setters : SettersAgree U) (sets : PropertiesAreSet U) (K
   Values L u = Agrees U L u Matched (source.value_of C e u.src) (target.value_of S net_oracle (exp_of T e) u.net)
 
   taking : is_taking D (type_at e) (slice_get D.procs q.0) ≡ true
-  taking = readable.takes q.0 (type_at e) takes
+  taking = (readable.takes q.0 (type_at e) takes).0
 
   no_giving : is_giving (slice_get D.procs q.0) ≡ false
   no_giving = taking_gives D (type_at e) (slice_get D.procs q.0) taking
@@ -143,7 +143,7 @@ module _ (U : Upgrade) (setters : SettersAgree U) (sets : PropertiesAreSet U) (K
     both_enter u v start r x at more z y match =
         left_alone U K v AnyUnits (then (source.entered C q.0 r (by_value z ∷ []) v.src) (λ z s. gives [] tt s)) (assigned S net_oracle x y v.net)
         (sets K v p f g oracle net_oracle l k c T (type_at e) q.0 qualified of r x z y start (G v (later_then U K w u v h at.1 more)) agree can.0 no_giving
-        (setter_later U K u v can.0.way can.0.number of r x more at.0) taking of_type match)
+        (setter_later U K u v can.0.way can.0.number of r x more at.0) taking (readable.takes q.0 (type_at e) takes).1 of_type match)
 
     -- the value is known, and the same behind the object
     known_value : (z : Value6) → Gives C e z w.src

@@ -8,7 +8,6 @@ use Rattle.vb_tree.specs.declared.value.Value6.{Value6}
 use Rattle.vb_tree.specs.declared.value.Value6.TheVariants as v
 use Rattle.bound_tree.specs.Tree.{Expr, typed, constant, variable, convert, Exprs, no_exprs, next_expr}
 use Rattle.bound_facts.proofs.Chains.{both_true}
-use Rattle.bound_facts.specs.Facts.{is_quiet}
 use Rattle.bound_facts.specs.Locks.{is_same_type}
 use Rattle.bound_facts.specs.Node.{type_at}
 use Rattle.net_meaning.specs.declared.value.ValueN.{ValueN}
@@ -35,7 +34,7 @@ use Rattle.run_matches.specs.Addresses.{AllMatched, IsPlain, Same, same_item, sa
 use Rattle.run_matches.specs.CoveredVariables.{covers_type}
 use Rattle.run_matches.specs.CoveredExprs.{Uses, are_calm, covers_expr, covers_exprs, is_calm, is_declared_as, widens, is_relied_on}
 use Rattle.run_matches.specs.Formed.{are_formed, are_longs, is_formed, types_of}
-use Rattle.run_matches.specs.Frames.{FrameMatch, StandsAs}
+use Rattle.run_matches.specs.Frames.{FrameMatch, StandsAs, is_mirrored}
 use Rattle.run_matches.specs.Maps.{World, IsMade, is_auto_root, mark, moved_at}
 use Rattle.run_matches.specs.Agreeing.{Agrees}
 use Rattle.run_matches.specs.Match.{Holds, MemoryMatch, holds_single}
@@ -91,7 +90,7 @@ known_plain U K w p f g k c T declared F v x placed a found =
 
 -- a scalar that is relied on stands as a variable
 pub standing : (U : Upgrade) (K : Pledge) (w : World) → MemoryMatch U w → (p : ℕ) (f : SourceFrame) (g : NetFrame) (k : NetLine) (c : Code) (T : Scope)
-    → T.declarations ≡ U.program.declarations → FrameMatch U K w p f g → (v : ℕ) (r : IsReadable U v) → is_quiet U.program.declarations U.known v ≡ false
+    → T.declarations ≡ U.program.declarations → FrameMatch U K w p f g → (v : ℕ) (r : IsReadable U v) → is_mirrored U v ≡ false
     → is_relied_on U.program v ≡ true → IsPlaced U p f (scope_of U.written c g k) T v → Standing U w f v r.variable.ty
 standing U K w h p f g k c T declared F v r loud relied placed =
     let y : PlacedVariable U K w f (scope_of U.written c g k) T v = placed_variable U K w p f g k c T declared F v (known_scalar U v r) placed in

@@ -1,7 +1,6 @@
 -- What is still changes nothing that was there: the promise of it, in frames.
 use Rattle.std.proofs.Common.{◌≡◌, refl, ℕ, Bool, false, not, None}
 use Rattle.bound_tree.specs.Tree.{field}
-use Rattle.bound_facts.specs.Facts.{is_quiet}
 use Rattle.run_base.specs.Frames.{Kept}
 use Rattle.run_base.specs.Machines.{nth_line}
 use Rattle.run_base.specs.Positions.{Root, shared, made, field, Position}
@@ -11,7 +10,7 @@ use Rattle.net_run.specs.Lines.{NetFrame}
 use Rattle.net_run.specs.Store as net
 use Rattle.net_run.specs.Values as net_value
 use Rattle.run_matches.specs.Addresses.{Bound, images, mirrored, KeptMatch, both_nothing, both_limits, both_choices, both_objects, both_arrays, both_addresses}
-use Rattle.run_matches.specs.Frames.{FrameMatch, is_exact_head, lines_of}
+use Rattle.run_matches.specs.Frames.{FrameMatch, is_exact_head, lines_of, is_mirrored}
 use Rattle.run_matches.specs.Maps.{World, IsMade, is_auto_root, mark}
 use Rattle.run_matches.specs.Match.{MemoryMatch}
 use Rattle.run_matches.specs.Pledges.{IsLasting, Own, Pledge, is_own, no_places}
@@ -76,7 +75,7 @@ module _ (U : Upgrade) (K : Pledge) (w : World) (h : MemoryMatch U w) where
     names = F.names;
     vars = λ v a e s.
         let x = F.vars v a e s in
-        record { address = x.address; found = x.found; bound = bound_still (not (is_quiet U.program.declarations U.known v)) a x.address x.bound; ranked = x.ranked; plain = x.plain };
+        record { address = x.address; found = x.found; bound = bound_still (not (is_mirrored U v)) a x.address x.bound; ranked = x.ranked; plain = x.plain };
     statics = F.statics;
     own = F.own;
     own_heads = F.own_heads;

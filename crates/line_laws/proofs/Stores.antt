@@ -5,7 +5,6 @@ use Rattle.vb_tree.specs.BoundTree.{Ty}
 use Rattle.vb_tree.specs.declared.declared.VarId.{VarId}
 use Rattle.vb_tree.specs.declared.value.Value6.{Value6}
 use Rattle.bound_tree.specs.Tree.{Expr, typed, variable}
-use Rattle.bound_facts.specs.Facts.{is_quiet}
 use Rattle.bound_facts.specs.Locks.{is_same_type}
 use Rattle.bound_facts.specs.Node.{type_at}
 use Rattle.net_tree.specs.Tree as net
@@ -36,7 +35,7 @@ use Rattle.run_matches.specs.Addresses.{Same, IsTarget, IsScalarAt}
 use Rattle.run_matches.specs.Agreeing.{Agrees}
 use Rattle.run_matches.specs.CoveredVariables.{covers_type}
 use Rattle.run_matches.specs.CoveredExprs.{Uses}
-use Rattle.run_matches.specs.Frames.{StandsAs, FrameMatch, OwnsAll}
+use Rattle.run_matches.specs.Frames.{StandsAs, FrameMatch, OwnsAll, is_mirrored}
 use Rattle.run_statements.specs.Frames.{ExpressionsAgree, ScalarsAreWritten, IsKnown, IsOpen, IsReadable, ArePlaced, MayChange, ScalarMatch, AnyUnits, context_of, AllCalled, demands, AreReadable}
 use Rattle.run_matches.specs.Runs.{CallsAgree}
 use Rattle.run_statements.specs.Written.{Passes}
@@ -178,7 +177,7 @@ module _ (U : Upgrade) (expressions : ExpressionsAgree U) (scalars : ScalarsAreW
 
   -- to a variable
   pub assignment_agrees : OwnsAll U K p f → (ty : Ty) (v : VarId) (qualified : Bool) → uses.scalar v ≡ true → uses.named v qualified ≡ true
-      → is_quiet U.program.declarations U.known v.0 ≡ false → IsOwnTarget U K p f (typed ty (variable v qualified)) → Goal (typed ty (variable v qualified))
+      → is_mirrored U v.0 ≡ false → IsOwnTarget U K p f (typed ty (variable v qualified)) → Goal (typed ty (variable v qualified))
   assignment_agrees owns ty v qualified used named exact own =
       let r : IsReadable U v.0 = readable.scalars v used in
       let known : IsKnown U v.0 = known_scalar U v.0 r in

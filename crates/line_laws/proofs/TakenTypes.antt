@@ -13,7 +13,7 @@ use Rattle.bound_facts.proofs.Chains.{both_true}
 use Rattle.bound_facts.specs.Locks.{is_same_type}
 use Rattle.written_trees.specs.Puts.{last_of}
 use Rattle.written_trees.specs.Types.{element_type}
-use Rattle.run_matches.specs.Covered.{covers_all_calls, covers_body, covers_head, covers_joined, covers_names, covers_parameter, covers_procedure, covers_result, covers_site, covers_variables, is_parameter_of, is_scalar_or_loud, is_taken_in}
+use Rattle.run_matches.specs.Covered.{covers_all_calls, covers_body, covers_head, covers_joined, covers_names, covers_parameter, covers_procedure, covers_result, covers_site, covers_variables, is_parameter_of, is_parameter_in}
 use Rattle.run_matches.specs.CoveredExprs.{is_declared_as, is_taking, is_typed_variable, takes_value}
 use Rattle.run_matches.specs.CoveredVariables.{belongs_to, covers_array_owner, covers_array_variable, covers_bounds, covers_declared, covers_group_type, covers_group_variable, covers_owner, covers_type, covers_variable, has_extents, is_array_of, covers_auto_owner, covers_auto_variable}
 use Rattle.run_matches.specs.Sites.{site_of}
@@ -129,10 +129,10 @@ module _ (P : Program) (p : ℕ) (ty : Ty) (group : is_group_type ty ≡ true) (
       let y : Variable = t.variable in
       let params : Bool = list_all (covers_parameter P p) t.procedure.params in
       let heads = both_true (covers_joined D p t.procedure) (params && covers_result D p t.procedure) (sym (ap (covers_head P p) t.is_procedure) ∙ parts.0) in
-      let taken : is_taken_in P p t.last.0 (Some y) ≡ true =
-      sym (ap (is_taken_in P p t.last.0) t.is_variable)
+      let taken : is_parameter_in p (Some y) ≡ true =
+      sym (ap (is_parameter_in p) t.is_variable)
       ∙ all_last (covers_parameter P p) t.procedure.params t.last (both_true params (covers_result D p t.procedure) heads.1).0 t.is_last in
-      let mine = belongs p y.owner (both_true (is_parameter_of p y.owner) (is_scalar_or_loud P t.last.0 y) taken).0 in
+      let mine = belongs p y.owner taken in
       let owned : Variable → Bool = λ (x : Variable). cond (belongs_to p x.owner) (covers_declared D x) true in
       let declared : covers_declared D y ≡ true =
       sym (ap (λ b. cond b (covers_declared D y) true) mine)

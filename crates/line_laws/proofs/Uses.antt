@@ -10,7 +10,7 @@ use Rattle.vb_tree.specs.declared.declared.VarId.{VarId}
 use Rattle.bound_tree.specs.Tree.{Declarations, Expr, typed, variable}
 use Rattle.bound_facts.proofs.Chains.{both_true}
 use Rattle.bound_facts.specs.Effects.{is_own_owner, is_own_variable}
-use Rattle.bound_facts.specs.Facts.{Known, is_quiet, is_quiet_owner, is_quiet_variable}
+use Rattle.bound_facts.specs.Facts.{Known, is_quiet_owner, is_quiet_variable}
 use Rattle.bound_facts.specs.Node.{type_at, auto_class, class_in}
 use Rattle.net_tree.specs.Tree as net
 use Rattle.run_base.specs.Outcomes.{gives, then, some_of}
@@ -31,7 +31,7 @@ use Rattle.run_matches.specs.Formed.{is_formed}
 use Rattle.run_matches.specs.CoveredVariables.{covers_type, covers_owner}
 use Rattle.run_matches.specs.CoveredExprs.{Uses, covers_expr, covers_term}
 use Rattle.run_matches.specs.Covered.{is_reference_owner_of}
-use Rattle.run_matches.specs.Frames.{is_own_of, name_of}
+use Rattle.run_matches.specs.Frames.{is_own_of, name_of, is_mirrored, is_scalar_in}
 use Rattle.run_statements.specs.Frames.{IsReadable}
 
 -- ---- expressions
@@ -103,10 +103,11 @@ module _ (U : Upgrade) (v : ℕ) (r : IsReadable U v) where
   own_is p h = sym (ap (is_own_variable p) r.is_variable) ∙ h
 
   -- it is no quiet parameter
-  pub own_exact : (p : ℕ) → is_own_of U p v ≡ true → is_quiet D U.known v ≡ false
+  pub own_exact : (p : ℕ) → is_own_of U p v ≡ true → is_mirrored U v ≡ false
   own_exact p h =
-      ap (λ o. is_quiet_variable U.known o && not (U.known.touched v)) r.is_variable
-      ∙ ap (λ b. b && not (U.known.touched v)) (own_not_quiet U.known p r.variable.owner (own_is p h))
+      ap (λ b. b && is_scalar_in (slice_get D.vars v))
+      (ap (λ o. is_quiet_variable U.known o && not (U.known.touched v)) r.is_variable
+      ∙ ap (λ b. b && not (U.known.touched v)) (own_not_quiet U.known p r.variable.owner (own_is p h)))
 
   -- its address is in the source's frame
   pub address_is : (p : ℕ) → is_own_of U p v ≡ true → (f : SourceFrame) → variable_address D f v ≡ lookup (nat_eq v) f.vars

@@ -5,7 +5,7 @@ use Rattle.std.proofs.lemmas.Bool.{or_cases}
 use Rattle.vb_tree.specs.BoundTree as types
 use Rattle.vb_tree.specs.BoundTree.{Ty}
 use Rattle.vb_tree.specs.Tree as source_form
-use Rattle.bound_tree.specs.Tree.{Expr, typed, Term, variable, new_object}
+use Rattle.bound_tree.specs.Tree.{Expr, typed, Term, new_object}
 use Rattle.bound_facts.proofs.Chains.{both_true}
 use Rattle.bound_facts.specs.Effects.{is_outside}
 use Rattle.bound_facts.specs.Node.{root}

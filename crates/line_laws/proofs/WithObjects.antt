@@ -7,13 +7,11 @@ use Rattle.net_tree.specs.Tree as tree
 use Rattle.net_tree.specs.Types.{TypeName}
 use Rattle.run_base.specs.Frames.{Kept, keeping, keeps_address, keeps_value}
 use Rattle.run_base.specs.Outcomes.{Outcome, gives, raises, spent, outside, then}
-use Rattle.run_base.specs.Positions as position
 use Rattle.written_trees.specs.Exprs.{exp_of}
 use Rattle.written_trees.specs.Names.{Scope}
 use Rattle.vb6_run.specs.Expressions as source
 use Rattle.vb6_run.specs.Forms.{SourceLine}
 use Rattle.vb6_run.specs.Lines.{keeps_at, with_does}
-use Rattle.vb6_run.specs.Store as source_store
 use Rattle.vb6_run.specs.Store.{Address, Memory, SourceCalls, SourceFrame}
 use Rattle.vb6_run.specs.Values.{Value}
 use Rattle.net_run.specs.Expressions as target

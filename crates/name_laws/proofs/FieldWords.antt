@@ -15,7 +15,7 @@ use Rattle.written_trees.specs.Prologues.{extents, initial, object_variable, typ
 use Rattle.written_trees.specs.Types.{element_type, type_with, variable_type}
 use Rattle.vb6_run.specs.Shapes.{declared_shape, shape_by, user_shapes, variable_shape}
 use Rattle.net_run.specs.Shapes.{shape_of}
-use Rattle.run_matches.specs.CoveredVariables.{covers_array_variable, covers_auto_variable, covers_declared, covers_group_type, covers_group_variable, covers_type, covers_user, covers_variable, has_extents, is_loud_owner}
+use Rattle.run_matches.specs.CoveredVariables.{covers_array_variable, covers_auto_variable, covers_declared, covers_group_type, covers_group_variable, covers_type, covers_user, covers_variable, has_extents}
 use Rattle.run_matches.specs.Likeness.{SameShape}
 use Rattle.run_matches.specs.SoundShapes.{IsSoundShape}
 use Rattle.run_matches.specs.Upgrades.{Upgrade, home_of, is_flagged, is_unknown, type_of, type_of_some}
@@ -27,7 +27,7 @@ use Rattle.name_laws.proofs.Autos.{AutoParts, auto_known, auto_parts, sound_auto
 use Rattle.name_laws.proofs.ClassTypes.{class_led, is_class}
 use Rattle.name_laws.proofs.GroupTypes.{group_type, initial_by}
 use Rattle.name_laws.proofs.Lists.{none_of_both, some_same}
-use Rattle.name_laws.proofs.Owns.{ArrayParts, GroupParts, array_known, array_parts, covered_type, group_known, group_parts, loud_exact, sound_array, type_known}
+use Rattle.name_laws.proofs.Owns.{ArrayParts, GroupParts, array_known, array_parts, covered_type, group_known, group_parts, sound_array, type_known, other_exact, no_scalar}
 use Rattle.name_laws.proofs.Reached.{either}
 use Rattle.name_laws.proofs.Words.{VariableType, WordOf, scalar_type, word_of}
 
@@ -55,11 +55,11 @@ module _ (U : Upgrade) (I : IsWritten U) (m : Module) (home : ℕ) (at : home_of
       written_scalar (typed_variable S v x) (record { variable = x; is_variable = is; covers = h; sound = sound }) (w.plain S v x)
       (same_of (scalar_type U v x m.file home ty))
 
-  array_is_written : (e : Ty) → covers_array_variable e x ≡ true → is_loud_owner U.program v x.owner ≡ true → has_extents U.program ≡ true
+  array_is_written : (e : Ty) → covers_array_variable e x ≡ true → has_extents U.program ≡ true
       → is_flagged U v ≡ false → IsWrittenAs U home v (typed_variable S v x)
-  array_is_written e h loud dims sound =
+  array_is_written e h dims sound =
       let parts : ArrayParts e x = array_parts e x h in
-      let r : IsArray U v e = sound_array U I v x e is h loud sound in
+      let r : IsArray U v e = sound_array U I v x e is h sound in
       let w : WordOf e = word_of e parts.covers in
       let rank : ℕ = U.facts.rank v in
       let same : x ≡ r.known.variable = some_same x r.known.variable (sym is ∙ r.known.is_variable) in
@@ -78,13 +78,13 @@ module _ (U : Upgrade) (I : IsWritten U) (m : Module) (home : ℕ) (at : home_of
   group_shape users _ e h = absurd (cc h)
 
   group_written : ((t : ℕ) → x.ty ≡ types.user t → covers_user D t ≡ true → IsSoundShape U (type_shape U (types.user t)))
-      → covers_group_variable D x ≡ true → is_loud_owner U.program v x.owner ≡ true → is_flagged U v ≡ false
+      → covers_group_variable D x ≡ true → is_flagged U v ≡ false
       → IsWrittenAs U home v (typed_variable S v x)
-  group_written users h loud sound =
+  group_written users h sound =
       let parts : GroupParts D x = group_parts D x h in
       let r : IsGroup U v x.ty = record {
         known = record { variable = x; is_variable = is; plain = parts.plain; sound = sound };
-        exact = loud_exact U I.known v x is loud;
+        exact = other_exact U v x is (no_scalar D x.ty parts.covers);
         is_type = refl;
         covers = parts.covers;
         sound = group_shape users x.ty refl parts.covers;
@@ -107,25 +107,25 @@ module _ (U : Upgrade) (I : IsWritten U) (m : Module) (home : ℕ) (at : home_of
       (λ j. either (covers_group_variable D x) (covers_auto_variable D x) j (λ g. group_known D x.ty (group_parts D x g).covers)
       (λ a. auto_known D x (auto_parts D x a))))
 
-  sound_written : covers_declared D x ≡ true → is_loud_owner U.program v x.owner ≡ true → has_extents U.program ≡ true
+  sound_written : covers_declared D x ≡ true → has_extents U.program ≡ true
       → ((t : ℕ) → x.ty ≡ types.user t → covers_user D t ≡ true → IsSoundShape U (type_shape U (types.user t))) → is_flagged U v ≡ false
       → IsWrittenAs U home v (typed_variable S v x)
-  sound_written h loud dims users sound =
+  sound_written h dims users sound =
       either (covers_variable x) (covers_array_variable (element_type x.ty) x || (covers_group_variable D x || covers_auto_variable D x)) h
       (λ s. scalar_written s sound)
       (λ k. either (covers_array_variable (element_type x.ty) x) (covers_group_variable D x || covers_auto_variable D x) k
-      (λ a. array_is_written (element_type x.ty) a loud dims sound)
-      (λ j. either (covers_group_variable D x) (covers_auto_variable D x) j (λ g. group_written users g loud sound) (λ a. auto_written a sound)))
+      (λ a. array_is_written (element_type x.ty) a dims sound)
+      (λ j. either (covers_group_variable D x) (covers_auto_variable D x) j (λ g. group_written users g sound) (λ a. auto_written a sound)))
 
-  pub field_written : covers_declared D x ≡ true → is_loud_owner U.program v x.owner ≡ true → has_extents U.program ≡ true
+  pub field_written : covers_declared D x ≡ true → has_extents U.program ≡ true
       → ((t : ℕ) → x.ty ≡ types.user t → covers_user D t ≡ true → IsSoundShape U (type_shape U (types.user t)))
       → IsWrittenAs U home v (written_variable S (v, x))
-  field_written h loud dims users = by (is_flagged_variable U.facts v) refl
+  field_written h dims users = by (is_flagged_variable U.facts v) refl
     where
       by : (b : Bool) → is_flagged_variable U.facts v ≡ b → IsWrittenAs U home v (cond b (object_variable x.name) (typed_variable S v x))
       by true e =
           written_flagged (object_variable x.name) (ap (λ b. b || is_unknown (type_of U v)) e) (object_begins U home x.name)
       by false e =
-          sound_written h loud dims users
+          sound_written h dims users
           (none_of_both (is_flagged_variable U.facts v) (is_unknown (type_of U v)) e
           (ap (λ (o : Option Variable). is_unknown (type_of_some o)) is ∙ declared_known h))

@@ -19,7 +19,7 @@ use Rattle.net_run.specs.Names.{key_of}
 use Rattle.net_run.specs.Shapes.{members_of, module_at}
 use Rattle.vb6_run.specs.Programs.{owned_from}
 use Rattle.run_matches.specs.Callees.{count_named, is_once, names_in}
-use Rattle.run_matches.specs.CoveredVariables.{covers_class, covers_class_file, covers_declared, covers_made_file, covers_made_variable, declared_numbers, declares_in_order, has_extents, declares_variables, declares_variables_at, declares_variables_in, has_own_name, is_loud_owner}
+use Rattle.run_matches.specs.CoveredVariables.{covers_class, covers_class_file, covers_declared, covers_made_file, covers_made_variable, declared_numbers, declares_in_order, has_extents, declares_variables, declares_variables_at, declares_variables_in, has_own_name}
 use Rattle.run_matches.specs.Shared as shared_names
 use Rattle.run_matches.specs.Shared.{others_differ, placed_module}
 use Rattle.run_matches.specs.UserTypes.{is_user}
@@ -266,7 +266,7 @@ module _ (U : Upgrade) (I : IsWritten U) (class file home : ℕ) (is_file : slic
 
   one_written : (v : ℕ) (F : FieldOf U file home v) → IsWrittenAs U home v (written_variable S (v, F.variable))
   one_written v F =
-      field_written U I M.source home (ap (home_of U) M.is_file ∙ at) v F.variable F.is_variable F.covers (ap (is_loud_owner U.program v) F.is_owner) dims
+      field_written U I M.source home (ap (home_of U) M.is_file ∙ at) v F.variable F.is_variable F.covers dims
       (λ t e c. absurd (true≢false (sym F.no_user ∙ ap (λ ty. not (is_user ty)) e)))
 
   all_written : (before : List net.Member) (vs : List ℕ) (ms : List net.Member) (k : ℕ) → Laid S vs ms → w.members ≡ before ++ ms → k ≡ length before

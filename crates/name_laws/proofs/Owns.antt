@@ -23,7 +23,7 @@ use Rattle.written_trees.specs.Types.{element_type}
 use Rattle.net_run.specs.Members.{is_same_flag}
 use Rattle.vb6_run.specs.Programs.{is_local_of, owned_from, is_static_of}
 use Rattle.run_matches.specs.CoveredVariables.{covers_type, covers_owner, covers_variable, belongs_to, are_different, is_loud, is_loud_owner, is_touched, covers_array_owner, covers_array_variable, covers_auto_variable, covers_bounds, covers_declared, covers_group_type, covers_group_variable, has_extents, is_array_of, is_in_order}
-use Rattle.run_matches.specs.Covered.{covers_head, covers_variables, covers_body, covers_names, covers_all_calls, covers_own, covers_owns, has_no_static, is_class_number, covers_site, covers_procedure, is_scalar_or_loud}
+use Rattle.run_matches.specs.Covered.{covers_head, covers_variables, covers_body, covers_names, covers_all_calls, covers_own, covers_owns, has_no_static, is_class_number, covers_site, covers_procedure}
 use Rattle.run_matches.specs.Callees.{frame_owns}
 use Rattle.run_matches.specs.CleanLines.{IsSoundPoint}
 use Rattle.run_matches.specs.Sites.{Site, site_of, site_lines, first_statement, Own, own_variable, own_constant, own_name, owns_from, owns_of, local_number, local_numbers, static_number, static_numbers}
@@ -37,6 +37,7 @@ use Rattle.name_laws.proofs.Arrows.{constant_unbroken, variable_unflagged, const
 use Rattle.name_laws.proofs.SoundPoints.{group_sound, is_unflagged, owned_sound, sound_unbroken}
 use Rattle.name_laws.proofs.Autos.{AutoParts, auto_parts, usable_auto}
 use Rattle.name_laws.proofs.Owned.{IsOwn, lines_own, owned_is}
+use Rattle.run_matches.specs.Frames.{is_mirrored, is_scalar_in}
 
 -- ---- what can be read
 
@@ -85,6 +86,16 @@ pub loud_exact : (U : Upgrade) → AreFacts U.program U.known → (v : ℕ) (x :
 loud_exact U known v x e h =
     ap (λ o. is_quiet_variable U.known o && not (U.known.touched v)) e ∙ loud_owner U known v x.owner h
 
+not_both : (b c : Bool) → c ≡ false → (b && c) ≡ false
+not_both false c e = refl
+not_both true c e = e
+
+-- a value stands for scalars alone
+pub other_exact : (U : Upgrade) (v : ℕ) (x : Variable) → slice_get U.program.declarations.vars v ≡ Some x → covers_type x.ty ≡ false
+    → is_mirrored U v ≡ false
+other_exact U v x e h =
+    not_both (is_quiet U.program.declarations U.known v) (is_scalar_in (slice_get U.program.declarations.vars v)) (ap is_scalar_in e ∙ h)
+
 -- so is one that is changed or given by reference
 pub uses_exact : (U : Upgrade) → AreFacts U.program U.known → (v : ℕ) → is_loud U.program v (slice_get U.program.declarations.vars v) ≡ true
     → is_quiet U.program.declarations U.known v ≡ false
@@ -93,18 +104,6 @@ uses_exact U known v h = by (slice_get U.program.declarations.vars v) refl h
     by : (o : Option Variable) → slice_get U.program.declarations.vars v ≡ o → is_loud U.program v o ≡ true → is_quiet U.program.declarations U.known v ≡ false
     by None e k = absurd (cc k)
     by (Some x) e k = loud_exact U known v x e k
-
-or_last : (b c : Bool) → c ≡ true → (b || c) ≡ true
-or_last true c h = refl
-or_last false c h = h
-
-local_loud : (P : Program) (p v : ℕ) (o : Owner) → is_local_of p o ≡ true → is_loud_owner P v o ≡ true
-local_loud P p v (owner.Local q) h = refl
-local_loud P p v _ h = absurd (cc h)
-
-static_loud : (P : Program) (p v : ℕ) (o : Owner) → is_static_of p o ≡ true → is_loud_owner P v o ≡ true
-static_loud P p v (owner.Static q) h = refl
-static_loud P p v _ h = absurd (cc h)
 
 -- a covered variable whose statement breaks no rule
 pub readable : (U : Upgrade) → AreFacts U.program U.known → (v : ℕ) (x : Variable) → slice_get U.program.declarations.vars v ≡ Some x
@@ -193,12 +192,12 @@ bounds_are U I v x e rank is array sound h = by x.bounds (sym (ap (λ ty. covers
 
 -- an array variable whose declaration carries no issue
 pub sound_array : (U : Upgrade) → IsWritten U → (v : ℕ) (x : Variable) (e : Ty) → slice_get U.program.declarations.vars v ≡ Some x
-    → covers_array_variable e x ≡ true → is_loud_owner U.program v x.owner ≡ true → is_flagged U v ≡ false → IsArray U v e
-sound_array U I v x e is h loud sound =
+    → covers_array_variable e x ≡ true → is_flagged U v ≡ false → IsArray U v e
+sound_array U I v x e is h sound =
     let parts : ArrayParts e x = array_parts e x h in
     record {
       known = record { variable = x; is_variable = is; plain = parts.plain; sound = sound };
-      exact = loud_exact U I.known v x is loud;
+      exact = other_exact U v x is (ap covers_type parts.is_array);
       rank = parts.rank;
       is_array = parts.is_array;
       covers = parts.covers;
@@ -212,13 +211,8 @@ array_known e x h =
 
 -- whose statement breaks no rule
 pub usable_array : (U : Upgrade) → IsWritten U → (v : ℕ) (x : Variable) (e : Ty) → slice_get U.program.declarations.vars v ≡ Some x
-    → covers_array_variable e x ≡ true → is_loud_owner U.program v x.owner ≡ true
-    → point_broken U.program.declarations U.facts.marks (variable v) ≡ false → IsArray U v e
-usable_array U I v x e is h loud unbroken = sound_array U I v x e is h loud (is_unflagged U v x is (array_known e x h) unbroken)
-
-array_loud : (P : Program) (v : ℕ) (x : Variable) (e : Ty) → covers_array_variable e x ≡ true → is_scalar_or_loud P v x ≡ true
-    → is_loud_owner P v x.owner ≡ true
-array_loud P v x e h loud = subst (λ ty. (covers_type ty || is_loud_owner P v x.owner) ≡ true) (array_parts e x h).is_array loud
+    → covers_array_variable e x ≡ true → point_broken U.program.declarations U.facts.marks (variable v) ≡ false → IsArray U v e
+usable_array U I v x e is h unbroken = sound_array U I v x e is h (is_unflagged U v x is (array_known e x h) unbroken)
 
 -- ---- user types and classes
 
@@ -227,7 +221,7 @@ group_known D (types.user t) h = refl
 group_known D (types.class c) h = refl
 group_known D _ h = absurd (cc h)
 
-no_scalar : (D : Declarations) (ty : Ty) → covers_group_type D ty ≡ true → covers_type ty ≡ false
+pub no_scalar : (D : Declarations) (ty : Ty) → covers_group_type D ty ≡ true → covers_type ty ≡ false
 no_scalar D (types.user t) h = refl
 no_scalar D (types.class c) h = refl
 no_scalar D _ h = absurd (cc h)
@@ -246,9 +240,8 @@ group_parts D x h =
 
 -- one from which no chain leads to what breaks a rule
 pub usable_group : (U : Upgrade) → IsWritten U → (v : ℕ) (x : Variable) → slice_get U.program.declarations.vars v ≡ Some x
-    → covers_group_variable U.program.declarations x ≡ true → is_loud_owner U.program v x.owner ≡ true
-    → IsSoundPoint U.program U.facts.marks (variable v) → IsGroup U v x.ty
-usable_group U I v x is h loud sound =
+    → covers_group_variable U.program.declarations x ≡ true → IsSoundPoint U.program U.facts.marks (variable v) → IsGroup U v x.ty
+usable_group U I v x is h sound =
     let parts : GroupParts U.program.declarations x = group_parts U.program.declarations x h in
     record {
       known = record {
@@ -259,28 +252,22 @@ usable_group U I v x is h loud sound =
             is_unflagged U v x is (group_known U.program.declarations x.ty parts.covers)
             (sound_unbroken U.program U.facts.marks (variable v) sound);
       };
-      exact = loud_exact U I.known v x is loud;
+      exact = other_exact U v x is (no_scalar U.program.declarations x.ty parts.covers);
       is_type = refl;
       covers = parts.covers;
       sound = group_sound U I v x is x.ty refl parts.covers sound;
     }
 
-group_loud : (P : Program) (v : ℕ) (x : Variable) → covers_group_variable P.declarations x ≡ true → is_scalar_or_loud P v x ≡ true
-    → is_loud_owner P v x.owner ≡ true
-group_loud P v x h loud =
-    sym (ap (λ b. b || is_loud_owner P v x.owner) (no_scalar P.declarations x.ty (group_parts P.declarations x h).covers)) ∙ loud
-
 -- a scalar, an array, or of a user type or a class, also an As New one
 pub usable : (U : Upgrade) → IsWritten U → (v : ℕ) (x : Variable) → slice_get U.program.declarations.vars v ≡ Some x
-    → covers_declared U.program.declarations x ≡ true → is_scalar_or_loud U.program v x ≡ true
-    → IsSoundPoint U.program U.facts.marks (variable v) → IsUsable U v
-usable U I v x is h loud sound = by (covers_variable x) refl h
+    → covers_declared U.program.declarations x ≡ true → IsSoundPoint U.program U.facts.marks (variable v) → IsUsable U v
+usable U I v x is h sound = by (covers_variable x) refl h
   where
     unbroken : point_broken U.program.declarations U.facts.marks (variable v) ≡ false
     unbroken = sound_unbroken U.program U.facts.marks (variable v) sound
 
     no_array : (b : Bool) → covers_group_variable U.program.declarations x ≡ b → (b || covers_auto_variable U.program.declarations x) ≡ true → IsUsable U v
-    no_array true e k = inr (inr (inl (x.ty, usable_group U I v x is e (group_loud U.program v x e loud) sound)))
+    no_array true e k = inr (inr (inl (x.ty, usable_group U I v x is e sound)))
     no_array false e k =
         let parts : AutoParts U.program.declarations x = auto_parts U.program.declarations x k in
         inr (inr (inr (parts.class, usable_auto U v x is parts sound)))
@@ -288,7 +275,7 @@ usable U I v x is h loud sound = by (covers_variable x) refl h
     not_scalar : (b : Bool) → covers_array_variable (element_type x.ty) x ≡ b
         → (b || (covers_group_variable U.program.declarations x || covers_auto_variable U.program.declarations x)) ≡ true → IsUsable U v
     not_scalar true e k =
-        inr (inl (element_type x.ty, usable_array U I v x (element_type x.ty) is e (array_loud U.program v x (element_type x.ty) e loud) unbroken))
+        inr (inl (element_type x.ty, usable_array U I v x (element_type x.ty) is e unbroken))
     not_scalar false e k = no_array (covers_group_variable U.program.declarations x) refl k
 
     by : (b : Bool) → covers_variable x ≡ b
@@ -380,30 +367,29 @@ pub own_usable : (U : Upgrade) → IsWritten U → (p : ℕ) (s : Site) → Cove
 own_usable U I p s C clean v y h =
     let D = U.program.declarations in
     let stands : slice_get D.vars v ≡ Some y = own_is D s (own_variable v y) h in
-    let own = by (is_static y.owner) refl stands in
-    let owned : belongs_to p y.owner ≡ true = own.0 in
+    let owned : belongs_to p y.owner ≡ true = by (is_static y.owner) refl stands in
     let covers : covers_declared D y ≡ true =
     own_covers (belongs_to p y.owner) (covers_declared D y)
     (all_at (λ (x : Variable). cond (belongs_to p x.owner) (covers_declared D x) true) D.vars v y
     (both_true (list_all (λ (x : Variable). cond (belongs_to p x.owner) (covers_declared D x) true) D.vars) (has_extents U.program) C.vars).0 stands) owned in
-    usable U I v y stands covers (or_last (covers_type y.ty) (is_loud_owner U.program v y.owner) own.1) (owned_sound U.program U.facts.marks p v y clean stands owned)
+    usable U I v y stands covers (owned_sound U.program U.facts.marks p v y clean stands owned)
   where
     by : (b : Bool) → is_static y.owner ≡ b → slice_get U.program.declarations.vars v ≡ Some y
-        → (belongs_to p y.owner ≡ true) × (is_loud_owner U.program v y.owner ≡ true)
+        → belongs_to p y.owner ≡ true
     by true e stands =
         let D = U.program.declarations in
         let number : Among (owned_from (is_static_of p) 0 D.vars) v =
         subst (λ (ns : List ℕ). Among ns v) (same_numbers (static_numbers (owns_of D s)) (owned_from (is_static_of p) 0 D.vars) C.statics)
         (flat_among static_number (owns_of D s) (own_variable v y) v h (number_if (is_static y.owner) v e)) in
         let static = owned_is (is_static_of p) D.vars v y number stands in
-        (static_belongs p y.owner static, static_loud U.program p v y.owner static)
+        static_belongs p y.owner static
     by false e stands =
         let D = U.program.declarations in
         let number : Among (owned_from (is_local_of p) 0 D.vars) v =
         subst (λ (ns : List ℕ). Among ns v) (same_numbers (local_numbers (owns_of D s)) (owned_from (is_local_of p) 0 D.vars) C.locals)
         (flat_among local_number (owns_of D s) (own_variable v y) v h (number_unless (is_static y.owner) v e)) in
         let local = owned_is (is_local_of p) D.vars v y number stands in
-        (local_belongs p y.owner local, local_loud U.program p v y.owner local)
+        local_belongs p y.owner local
 
 pub own_unflagged : (U : Upgrade) (p : ℕ) (s : Site) → Covers U.program p s → IsClean U.program U.facts.marks p → (c : ℕ) (y : Constant)
     → Among (owns_of U.program.declarations s) (own_constant c y) → is_flagged_constant U.facts c ≡ false

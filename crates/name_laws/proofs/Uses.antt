@@ -17,8 +17,8 @@ use Rattle.vb6_run.specs.Forms.{SourceLine, with_aims, body_of}
 use Rattle.vb6_run.specs.Lines.{source_lines}
 use Rattle.vb6_run.specs.Programs.{machine_of}
 use Rattle.run_matches.specs.CleanLines.{IsCleanLine, IsSoundPoint, lines_at, or_none, line_points}
-use Rattle.run_matches.specs.CoveredVariables.{covers_variable, is_reached, covers_some, is_loud, is_loud_owner, is_mention_of, covers_use, covers_array_use, covers_array_variable, covers_auto_use, covers_made, covers_some_array, is_named_apart, covers_group_type, covers_group_use, covers_group_variable, covers_some_group, field_type_in, field_type_of, is_member, member_type_in, member_type_of}
-use Rattle.run_matches.specs.CoveredExprs.{uses_in}
+use Rattle.run_matches.specs.CoveredVariables.{covers_variable, is_reached, covers_some, is_mention_of, covers_use, covers_array_use, covers_array_variable, covers_auto_use, covers_made, covers_some_array, is_named_apart, covers_group_type, covers_group_use, covers_group_variable, covers_some_group, field_type_in, field_type_of, is_member, member_type_in, member_type_of, takes_value_at}
+use Rattle.run_matches.specs.CoveredExprs.{uses_in, is_taking}
 use Rattle.run_matches.specs.SoundShapes.{IsField}
 use Rattle.run_matches.specs.Upgrades.{Upgrade, field_variable, is_unknown, runnable_of, type_of_some}
 use Rattle.written_trees.specs.Names.{Scope}
@@ -35,6 +35,7 @@ use Rattle.name_laws.proofs.Members.{object_member}
 use Rattle.name_laws.proofs.SoundPoints.{clean_sound, is_unflagged, sound_unbroken}
 use Rattle.name_laws.proofs.Sets.{unbroken_line, unbroken_that}
 use Rattle.name_laws.proofs.Owns.{group_parts, readable, usable_array, usable_group, uses_exact}
+use Rattle.run_matches.specs.Frames.{is_scalar_in}
 
 -- a covered use is of a variable that is reached
 pub record CoveredUse (P : Program) (p v : ℕ) : Type 0 where
@@ -59,30 +60,26 @@ pub record ArrayUse (P : Program) (p v : ℕ) (element : Ty) : Type 0 where
   pub reached : is_reached P.declarations p v used.name used.owner ≡ true
   pub covers : covers_array_variable element used ≡ true
   pub apart : is_named_apart (slice_get P.declarations.procs p) used.name ≡ true
-  pub loud : is_loud_owner P v used.owner ≡ true
 
 array_use_of : (P : Program) (p v : ℕ) (element : Ty) → covers_some_array P.declarations p v element (slice_get P.declarations.vars v) ≡ true
-    → is_loud P v (slice_get P.declarations.vars v) ≡ true → ArrayUse P p v element
-array_use_of P p v element h loud = by (slice_get P.declarations.vars v) refl h loud
+    → ArrayUse P p v element
+array_use_of P p v element h = by (slice_get P.declarations.vars v) refl h
   where
-    by : (o : Option Variable) → slice_get P.declarations.vars v ≡ o → covers_some_array P.declarations p v element o ≡ true → is_loud P v o ≡ true
-        → ArrayUse P p v element
-    by None e k l = absurd (cc k)
-    by (Some x) e k l =
+    by : (o : Option Variable) → slice_get P.declarations.vars v ≡ o → covers_some_array P.declarations p v element o ≡ true → ArrayUse P p v element
+    by None e k = absurd (cc k)
+    by (Some x) e k =
         let apart = is_named_apart (slice_get P.declarations.procs p) x.name in
         let b = both_true (is_reached P.declarations p v x.name x.owner) (covers_array_variable element x && apart) k in
         let c = both_true (covers_array_variable element x) apart b.1 in
-        record { used = x; is_used = e; reached = b.0; covers = c.0; apart = c.1; loud = l }
+        record { used = x; is_used = e; reached = b.0; covers = c.0; apart = c.1 }
 
 -- what a line mentions, and what is covered of it
 pub array_parts : (P : Program) (p : ℕ) (mentions : List Mention) (v : VarId) (element : Ty) → covers_array_use P p mentions v element ≡ true
     → (list_any (is_mention_of v) mentions ≡ true) × ArrayUse P p v.0 element
 array_parts P p mentions v element h =
     let covers = covers_some_array P.declarations p v.0 element (slice_get P.declarations.vars v.0) in
-    let loud = is_loud P v.0 (slice_get P.declarations.vars v.0) in
-    let b = both_true (list_any (is_mention_of v) mentions) (covers && loud) h in
-    let c = both_true covers loud b.1 in
-    (b.0, array_use_of P p v.0 element c.0 c.1)
+    let b = both_true (list_any (is_mention_of v) mentions) covers h in
+    (b.0, array_use_of P p v.0 element b.1)
 
 pub used_parts : (P : Program) (p : ℕ) (mentions : List Mention) (v : VarId) → covers_use P p mentions v ≡ true
     → (list_any (is_mention_of v) mentions ≡ true) × CoveredUse P p v.0
@@ -112,7 +109,6 @@ pub record GroupUse (P : Program) (p v : ℕ) (ty : Ty) : Type 0 where
   pub reached : is_reached P.declarations p v used.name used.owner ≡ true
   pub is_type : used.ty ≡ ty
   pub covers : covers_group_variable P.declarations used ≡ true
-  pub loud : is_loud_owner P v used.owner ≡ true
 
 same_user : (t : ℕ) (ty : Ty) → is_same_type ty (types.user t) ≡ true → types.user t ≡ ty
 same_user t (types.user u) h = ap types.user (sym (eqb-true u t h))
@@ -128,26 +124,23 @@ same_group D (types.class c) ty h e = same_class c ty e
 same_group D _ ty h e = absurd (cc h)
 
 group_use_of : (P : Program) (p v : ℕ) (ty : Ty) → covers_some_group P.declarations p v ty (slice_get P.declarations.vars v) ≡ true
-    → is_loud P v (slice_get P.declarations.vars v) ≡ true → GroupUse P p v ty
-group_use_of P p v ty h loud = by (slice_get P.declarations.vars v) refl h loud
+    → GroupUse P p v ty
+group_use_of P p v ty h = by (slice_get P.declarations.vars v) refl h
   where
-    by : (o : Option Variable) → slice_get P.declarations.vars v ≡ o → covers_some_group P.declarations p v ty o ≡ true → is_loud P v o ≡ true
-        → GroupUse P p v ty
-    by None e k l = absurd (cc k)
-    by (Some x) e k l =
+    by : (o : Option Variable) → slice_get P.declarations.vars v ≡ o → covers_some_group P.declarations p v ty o ≡ true → GroupUse P p v ty
+    by None e k = absurd (cc k)
+    by (Some x) e k =
         let b = both_true (is_reached P.declarations p v x.name x.owner) (is_same_type ty x.ty && covers_group_variable P.declarations x) k in
         let c = both_true (is_same_type ty x.ty) (covers_group_variable P.declarations x) b.1 in
         let same : x.ty ≡ ty = same_group P.declarations x.ty ty (group_parts P.declarations x c.1).covers c.0 in
-        record { used = x; is_used = e; reached = b.0; is_type = same; covers = c.1; loud = l }
+        record { used = x; is_used = e; reached = b.0; is_type = same; covers = c.1 }
 
 pub group_use : (P : Program) (p : ℕ) (mentions : List Mention) (v : VarId) (ty : Ty) → covers_group_use P p mentions v ty ≡ true
     → (list_any (is_mention_of v) mentions ≡ true) × GroupUse P p v.0 ty
 group_use P p mentions v ty h =
     let covers = covers_some_group P.declarations p v.0 ty (slice_get P.declarations.vars v.0) in
-    let loud = is_loud P v.0 (slice_get P.declarations.vars v.0) in
-    let b = both_true (list_any (is_mention_of v) mentions) (covers && loud) h in
-    let c = both_true covers loud b.1 in
-    (b.0, group_use_of P p v.0 ty c.0 c.1)
+    let b = both_true (list_any (is_mention_of v) mentions) covers h in
+    (b.0, group_use_of P p v.0 ty b.1)
 
 -- ---- what can be read
 
@@ -170,13 +163,13 @@ module _ (U : Upgrade) (I : IsWritten U) (p : ℕ) (mentions : List Mention)
   array_readable v element h =
       let b = array_parts U.program p mentions v element h in
       let used : ArrayUse U.program p v.0 element = b.1 in
-      usable_array U I v.0 used.used element used.is_used used.covers used.loud (unbroken v b.0)
+      usable_array U I v.0 used.used element used.is_used used.covers (unbroken v b.0)
 
   group_readable : (v : VarId) (ty : Ty) → covers_group_use U.program p mentions v ty ≡ true → IsGroup U v.0 ty
   group_readable v ty h =
       let b = group_use U.program p mentions v ty h in
       let used : GroupUse U.program p v.0 ty = b.1 in
-      subst (λ z. IsGroup U v.0 z) used.is_type (usable_group U I v.0 used.used used.is_used used.covers used.loud (sound v b.0))
+      subst (λ z. IsGroup U v.0 z) used.is_type (usable_group U I v.0 used.used used.is_used used.covers (sound v b.0))
 
   auto_readable : (v : VarId) (ty : Ty) → covers_auto_use U.program p mentions v ty ≡ true
       → (class : ℕ) × (ty ≡ types.class class) × IsAutoOf U v.0 class × (covers_made U.program class ≡ true)
@@ -250,11 +243,12 @@ module _ (U : Upgrade) (I : IsWritten U) (p : ℕ) (mentions : List Mention)
     members = member_readable;
     given = λ ty h. h;
     flat = holds_no_array U I;
-    exact = λ v h. uses_exact U I.known v.0 h;
+    exact = λ v h. ap (λ b. b && is_scalar_in (slice_get U.program.declarations.vars v.0)) (uses_exact U I.known v.0 h);
     facts = same;
     types = λ v ty h. h;
     gives = λ q h. h;
-    takes = λ q ty h. h;
+    takes = λ q ty h.
+        both_true (is_taking U.program.declarations ty (slice_get U.program.declarations.procs q)) (takes_value_at U.program q 0) h;
     results = λ q ty h. h;
     inward = λ q h. seen_inward U.program U.known I.known q h;
     relied = λ v h. h;

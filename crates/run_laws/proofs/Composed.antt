@@ -67,7 +67,7 @@ scalars_are_read : (U : Upgrade) → ScalarsAreRead U
 scalars_are_read U K w a b ty covers h same at = variables_are_read U K w true a b ty covers h (images true a b same) at
 
 owned_usable : (U : Upgrade) → IsWritten U → OwnedAreUsable U
-owned_usable U w p v x clean e owned covers loud = usable U w v x e covers loud (owned_sound U.program U.facts.marks p v x clean e owned)
+owned_usable U w p v x clean e owned covers = usable U w v x e covers (owned_sound U.program U.facts.marks p v x clean e owned)
 
 objects_begin : (U : Upgrade) → IsWritten U → ObjectsBegin U
 objects_begin U w =

@@ -32,7 +32,7 @@ use Rattle.run_matches.specs.Agreeing.{Agrees}
 use Rattle.run_laws.proofs.Given.{stands_itself, locks_given, locks_joined}
 use Rattle.run_matches.specs.CoveredVariables.{are_different, belongs_to}
 use Rattle.run_matches.specs.CoveredLines.{covers_line}
-use Rattle.run_matches.specs.Covered.{covers_parameter, covers_own, is_scalar_or_loud}
+use Rattle.run_matches.specs.Covered.{covers_parameter, covers_own}
 use Rattle.run_matches.specs.Frames.{FrameMatch, HasNames, HasOwnObject, SameVariable, declared_names, dim_name, result_names, static_of, SameStatic, name_of, GivenAddress, frame_pledge, is_own_of, lines_of, stands_in, is_own_place, is_kept_from}
 use Rattle.run_matches.specs.CleanLines.{or_none}
 use Rattle.run_matches.specs.Callees.{answer_owns, own_of_some, parameter_owns}
@@ -57,7 +57,7 @@ use Rattle.name_laws.proofs.Lists.{Among, all_among, among_right, flat_among, ma
 use Rattle.name_laws.proofs.Owned.{owned_is}
 use Rattle.name_laws.proofs.Owns.{number_if, own_is}
 use Rattle.run_laws.specs.Entered.{AllKeyed, AllSound, GivenVariable, IsHolder, IsResult, LocalsMatch, OwnPlace, RunMatch, StaticMatch, static_in, next_constant, next_static, next_variable, no_locals}
-use Rattle.run_laws.specs.Premises.{ArraysHaveRanks, GetsAreFirst, GroupsAreWritten, MakesAlike}
+use Rattle.run_laws.specs.Premises.{ArraysHaveRanks, GetsAreFirst, GroupsAreWritten, MakesAlike, LoudAreSeen}
 use Rattle.run_laws.proofs.Covered.{CoveredProcedure}
 use Rattle.run_laws.proofs.Heads.{HasAnswer, HasNone, Parameter, a_result, answer_names, answer_parts, no_result, parameter_belongs, parameter_given, parameter_is}
 use Rattle.run_laws.proofs.Names.{code_is}
@@ -83,8 +83,8 @@ none_before j = omega arith
 module _ (U : Upgrade) (p : ℕ) (c : CoveredProcedure U.program p) (W : WrittenProcedure U p c.site c.procedure)
     (kept : OwnsAreKept U p c.site c.procedure W)
     (usable : (v : ℕ) (x : Variable) → slice_get U.program.declarations.vars v ≡ Some x → belongs_to p x.owner ≡ true
-    → is_scalar_or_loud U.program v x ≡ true → IsUsable U v) (answers : (h : HasAnswer U.program.declarations p c.procedure) → IsResult U h.id.0) (ranked : ArraysHaveRanks U)
-    (groups : GroupsAreWritten U) (firsts : GetsAreFirst U) where
+    → IsUsable U v) (answers : (h : HasAnswer U.program.declarations p c.procedure) → IsResult U h.id.0) (ranked : ArraysHaveRanks U)
+    (groups : GroupsAreWritten U) (firsts : GetsAreFirst U) (loud : LoudAreSeen U) where
   abbrev D : Declarations
   D = U.program.declarations
 
@@ -126,7 +126,7 @@ module _ (U : Upgrade) (p : ℕ) (c : CoveredProcedure U.program p) (W : Written
   pub parameter_sound : AreParameters U p
   parameter_sound v q =
       taken_is U v.0 q.variable q.is_variable (parameter_given p q.variable.owner q.parameter)
-      (usable v.0 q.variable q.is_variable (parameter_belongs p q.variable.owner q.parameter) q.loud)
+      (usable v.0 q.variable q.is_variable (parameter_belongs p q.variable.owner q.parameter))
 
   parameters_sound : (vs : List VarId) → list_all (covers_parameter U.program p) vs ≡ true → AllSound U S (parameter_owns D vs)
   parameters_sound [] h = tt
@@ -484,9 +484,9 @@ module _ (U : Upgrade) (p : ℕ) (c : CoveredProcedure U.program p) (W : Written
         let r' = target.parameters U.written W.code.home (heads.params_of H part x.params) ys w.net in
         subst (λ z. Agrees U K w R z (enter U.written W.number to tt ys w.net)) (sym (source_entry w.src))
         (subst (λ z. Agrees U K w R (then r source_rest) z) (sym (target_entry to w.net))
-        (then_agrees U K w (Parameters U p groups H refl refl W.code.home home part is_part K hold.holder makes w0 start parameter_sound x.params) R r r'
+        (then_agrees U K w (Parameters U p groups H refl refl W.code.home home part is_part loud K hold.holder makes w0 start parameter_sound x.params) R r r'
         source_rest (target_rest to) h
-        (parameters_agree U p groups H refl refl W.code.home home part is_part K hold.holder makes w0 start parameter_sound x.params c.params 0 placed xs ys args
+        (parameters_agree U p groups H refl refl W.code.home home part is_part loud K hold.holder makes w0 start parameter_sound x.params c.params 0 placed xs ys args
         w l low h)
         (λ ds gs u m later.
         then_agrees U K u (Locals U K hold.holder others) R (all_others x.answer u.src) (net_others (result_of W.code) to u.net)

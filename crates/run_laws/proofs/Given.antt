@@ -286,12 +286,12 @@ given_locks U K w _ _ xs (same_item e s d q k j path keeps m has part sh) rest =
 pub locks_given : (U : Upgrade) (K : Pledge) (w : World) (p i : ℕ) (xs : List SourceGiven) (ys : List NetGiven) → ArgsMatch U K w p i xs ys
     → AllLocked U K w (locked_by xs)
 locks_given U K w p _ _ _ (no_args i) = tt
-locks_given U K w p _ _ _ (value_args i x y xs ys like none rest) = locks_given U K w p (suc i) xs ys rest
+locks_given U K w p _ _ _ (value_args i x y xs ys like none value rest) = locks_given U K w p (suc i) xs ys rest
 locks_given U K w p _ _ _ (address_args i a b xs ys same target whole plain ranked rest) =
     given_locks U K w a b xs same (locks_given U K w p (suc i) xs ys rest)
-locks_given U K w p _ _ _ (source_bound i a s y xs ys quiet mirrors target there plain rest) =
+locks_given U K w p _ _ _ (source_bound i a s y xs ys quiet value mirrors target there plain rest) =
     subst (λ ls. AllLocked U K w ls) (sym (given_unlocked U a xs target)) (locks_given U K w p (suc i) xs ys rest)
-locks_given U K w p _ _ _ (target_bound i x b xs ys quiet takes mirrors typed rest) = locks_given U K w p (suc i) xs ys rest
+locks_given U K w p _ _ _ (target_bound i x b xs ys quiet value takes mirrors typed rest) = locks_given U K w p (suc i) xs ys rest
 
 pub locks_joined : (U : Upgrade) (K : Pledge) (w : World) (xs ys : Locked) → AllLocked U K w xs → AllLocked U K w ys → AllLocked U K w (xs ++ ys)
 locks_joined U K w [] ys h k = k

@@ -1,5 +1,5 @@
 -- What is written for a procedure that passes gives objects as of the class of its result.
-use Rattle.std.proofs.Common.{◌≡◌, ◌∙◌, ◌⊎◌, inl, inr, sym, ap, subst, ℕ, Bool, true, false, ◌&&◌, Option, Some, true≢false}
+use Rattle.std.proofs.Common.{◌≡◌, ◌∙◌, ◌⊎◌, inl, inr, sym, ap, subst, ℕ, true, Some, true≢false}
 use Rattle.std.specs.Prelude.{slice_get}
 use Rattle.up_base.proofs.Tests.{both_true}
 use Rattle.vb_tree.specs.BoundTree as types
@@ -25,7 +25,7 @@ use Rattle.run_laws.specs.Entered.{IsResult}
 use Rattle.run_laws.specs.Premises.{GetsAreFirst, GroupsAreWritten, OwnedAreUsable, ResultsAreWritten}
 use Rattle.run_laws.proofs.AnswerTypes.{AnswerTyped, answer_typed}
 use Rattle.run_laws.proofs.Covered.{CoveredProcedure, covered_parts, own_covered_at, some_is}
-use Rattle.run_laws.proofs.Heads.{HasAnswer, HasNone, a_result, answer_parts, answer_sound}
+use Rattle.run_laws.proofs.Heads.{HasAnswer, HasNone, a_result, answer_parts}
 use Rattle.run_laws.proofs.ParametersMade.{readable_type}
 use Rattle.run_laws.proofs.Parts.{clean_unparted}
 use Rattle.run_laws.proofs.Usable.{result_is}
@@ -61,7 +61,7 @@ module _ (U : Upgrade) (procedures : ProceduresAreWritten U) (owned : OwnedAreUs
       let own : belongs_to q a.variable.owner ≡ true = ap (belongs_to q) a.owner ∙ a.own in
       let covers = own_covered_at U.program q a.id.0 a.variable c.variables a.is_variable own in
       result_is U a.id.0 a.variable a.is_variable (ap covers_array_owner a.owner) covers
-      (owned q a.id.0 a.variable pass.0 a.is_variable own covers (answer_sound U q a))
+      (owned q a.id.0 a.variable pass.0 a.is_variable own covers)
 
   module _ (class : ℕ) (h : has_result_type (types.class class) (slice_get U.program.declarations.procs q) ≡ true) where
     result : (is_function c.procedure.kind ≡ true) × (c.procedure.result ≡ types.class class)

@@ -1,5 +1,5 @@
 -- What is written for the head of a covered procedure: its parameters, and the result variable of a Function or a Get.
-use Rattle.std.proofs.Common.{◌≡◌, ◌⊎◌, inl, inr, refl, sym, ap, ◌∙◌, ℕ, zero, suc, Bool, true, false, not, ◌&&◌, nat_eq, true≢false, Option, Some, None, List, [], ◌∷◌, ◌++◌, map, ◌||◌}
+use Rattle.std.proofs.Common.{◌≡◌, ◌⊎◌, inl, inr, refl, sym, ap, ◌∙◌, ℕ, zero, suc, Bool, true, false, not, ◌&&◌, nat_eq, true≢false, Option, Some, None, List, [], ◌∷◌, ◌++◌, map}
 use Rattle.std.specs.Prelude.{is_some, slice_get}
 use Rattle.std.specs.Cmp.Lexicographic.{pointwise}
 use Rattle.std.specs.List.{list_all}
@@ -22,9 +22,9 @@ use Rattle.written_trees.specs.Heads as heads
 use Rattle.written_trees.specs.Heads.{is_function}
 use Rattle.written_trees.specs.Names.{Scope}
 use Rattle.run_matches.specs.Callees.{answer_owns, own_of_some}
-use Rattle.run_matches.specs.CoveredVariables.{belongs_to, covers_auto_owner, covers_type, is_loud_owner}
+use Rattle.run_matches.specs.CoveredVariables.{belongs_to, covers_auto_owner}
 use Rattle.run_matches.specs.CoveredExprs.{takes_value}
-use Rattle.run_matches.specs.Covered.{covers_joined, covers_parameter, has_answer, has_result, is_answer_of, is_result_in, is_parameter_of, is_scalar_or_loud, is_taken_in}
+use Rattle.run_matches.specs.Covered.{covers_joined, covers_parameter, has_answer, has_result, is_answer_of, is_result_in, is_parameter_of, is_parameter_in}
 use Rattle.run_matches.specs.Frames.{result_names}
 use Rattle.run_matches.specs.Sites.{Site, own_name}
 use Rattle.run_matches.specs.Upgrades.{Upgrade}
@@ -40,16 +40,13 @@ pub record Parameter (P : Program) (p : ℕ) (v : VarId) : Type 0 where
   pub variable : Variable
   pub is_variable : slice_get P.declarations.vars v.0 ≡ Some variable
   pub parameter : is_parameter_of p variable.owner ≡ true
-  pub loud : is_scalar_or_loud P v.0 variable ≡ true
 
 pub parameter_is : (P : Program) (p : ℕ) (v : VarId) → covers_parameter P p v ≡ true → Parameter P p v
 parameter_is P p v h = by (slice_get P.declarations.vars v.0) refl h
   where
-    by : (o : Option Variable) → slice_get P.declarations.vars v.0 ≡ o → is_taken_in P p v.0 o ≡ true → Parameter P p v
+    by : (o : Option Variable) → slice_get P.declarations.vars v.0 ≡ o → is_parameter_in p o ≡ true → Parameter P p v
     by None e k = absurd (true≢false (sym k))
-    by (Some y) e k =
-        let both = both_true (is_parameter_of p y.owner) (is_scalar_or_loud P v.0 y) k in
-        record { variable = y; is_variable = e; parameter = both.0; loud = both.1 }
+    by (Some y) e k = record { variable = y; is_variable = e; parameter = k }
 
 -- it belongs to its procedure
 pub parameter_belongs : (p : ℕ) (o : Owner) → is_parameter_of p o ≡ true → belongs_to p o ≡ true
@@ -207,11 +204,3 @@ answer_names U p s x W (inr h) =
     ∙ ap (λ o. map own_name (own_of_some h.id.0 o)) h.is_variable
     ∙ ap {B = List (List ℕ)} (λ n. n ∷ []) h.name
     ∙ sym (ap result_names (a_result U p s x W h))
-
--- it is no quiet parameter
-pub answer_sound : (U : Upgrade) (p : ℕ) {x : Procedure} (a : HasAnswer U.program.declarations p x) → is_scalar_or_loud U.program a.id.0 a.variable ≡ true
-answer_sound U p a = or_last (covers_type a.variable.ty) (is_loud_owner U.program a.id.0 a.variable.owner) (ap (is_loud_owner U.program a.id.0) a.owner)
-  where
-    or_last : (b c : Bool) → c ≡ true → (b || c) ≡ true
-    or_last true c h = refl
-    or_last false c h = h

@@ -6,7 +6,6 @@ use Rattle.std.specs.Map.{lookup}
 use Rattle.up_base.proofs.Tests.{both_true, either, neither, not_true}
 use Rattle.up_base.specs.Names.{is_same_name}
 use Rattle.bound_tree.specs.Tree.{Variable}
-use Rattle.bound_facts.specs.Facts.{is_quiet}
 use Rattle.run_base.specs.Positions.{Position, Root, made, shared, field, whole}
 use Rattle.vb6_run.specs.Programs.{is_local_of, owned_from}
 use Rattle.vb6_run.specs.Shapes.{Shape, variable_shape}
@@ -17,7 +16,7 @@ use Rattle.written_trees.specs.Names.{Scope}
 use Rattle.run_matches.specs.Addresses.{Same, position_of, same_item, same_root}
 use Rattle.run_matches.specs.CoveredVariables.{are_different, is_named_in}
 use Rattle.run_matches.specs.CoveredLines.{is_local_in}
-use Rattle.run_matches.specs.Frames.{IsOwnAddress, is_own_of, is_place, stands_in}
+use Rattle.run_matches.specs.Frames.{IsOwnAddress, is_own_of, is_place, stands_in, is_mirrored}
 use Rattle.run_matches.specs.Maps.{Below, IsMade, World, mark}
 use Rattle.run_matches.specs.Match.{MemoryMatch}
 use Rattle.run_matches.specs.Pledges.{IsOld, Later, Pledge}
@@ -72,7 +71,7 @@ new_place K w a s low e q is old =
 pub local_later : (U : Upgrade) (K : Pledge) (w0 w1 : World) (v : ℕ) (a : Address) (b : net.Address) → MemoryMatch U w0 → Later U K w0 w1
     → LocalMatch U K w0 v a b → LocalMatch U K w1 v a b
 local_later U K w0 w1 v a b h l m = record {
-  bound = bound_later U K w0 w1 h l (not (is_quiet U.program.declarations U.known v)) a b m.bound;
+  bound = bound_later U K w0 w1 h l (not (is_mirrored U v)) a b m.bound;
   ranked = m.ranked;
   standing = by m.standing;
 }
@@ -89,7 +88,7 @@ local_later U K w0 w1 v a b h l m = record {
     })
     by (inr x) = inr (record {
       given = x.given;
-      plain = plain_later U w0 w1 a l.extends (λ q e. bounds.bound_made U K w0 (not (is_quiet U.program.declarations U.known v)) a b h m.bound q e) x.plain;
+      plain = plain_later U w0 w1 a l.extends (λ q e. bounds.bound_made U K w0 (not (is_mirrored U v)) a b h m.bound q e) x.plain;
       foreign = x.foreign;
     })
 

@@ -4,7 +4,6 @@ use Rattle.std.specs.Prelude.{slice_get}
 use Rattle.vb_tree.specs.BoundTree as types
 use Rattle.vb_tree.specs.BoundTree.{Ty}
 use Rattle.bound_tree.specs.Tree.{Declarations, Variable}
-use Rattle.bound_facts.specs.Facts.{is_quiet}
 use Rattle.run_base.specs.Outcomes.{Outcome, gives, raises, spent, outside, then}
 use Rattle.run_base.specs.Positions.{Position, Root, made, whole}
 use Rattle.vb6_run.specs.Shapes.{Shape, variable_shape}
@@ -18,6 +17,7 @@ use Rattle.net_run.specs.Structures.{initial_value}
 use Rattle.net_tree.specs.Tree as net_tree
 use Rattle.net_tree.specs.Types.{TypeName}
 use Rattle.written_trees.specs.Names.{Scope}
+use Rattle.run_matches.specs.Frames.{is_mirrored}
 use Rattle.run_matches.specs.Addresses.{images}
 use Rattle.run_matches.specs.Agreeing.{Agrees}
 use Rattle.run_matches.specs.Likeness.{SameShape}
@@ -109,7 +109,7 @@ module _ (U : Upgrade) (K : Pledge) (makes : MakesAlike U K) (ranked : ArraysHav
       (λ u a b x. (
         refl,
         record {
-          bound = images (not (is_quiet U.program.declarations U.known v)) a b x.0.same;
+          bound = images (not (is_mirrored U v)) a b x.0.same;
           ranked = subst (λ d. HasRankOf U v (net.shape_at d)) (sym x.0.target_shape.1) tt;
           standing = inl (record { place = x.0.place; own = new_place K w a s low x.1 });
         },
@@ -133,7 +133,7 @@ module _ (U : Upgrade) (K : Pledge) (makes : MakesAlike U K) (ranked : ArraysHav
       (λ u a b x. (
         refl,
         record {
-          bound = images (not (is_quiet U.program.declarations U.known v)) a b x.0.same;
+          bound = images (not (is_mirrored U v)) a b x.0.same;
           ranked = subst (λ d. HasRankOf U v (net.shape_at d)) (sym x.0.target_shape.1) refl;
           standing = inl (record { place = x.0.place; own = new_place K w a s low x.1 });
         },
@@ -165,7 +165,7 @@ module _ (U : Upgrade) (K : Pledge) (makes : MakesAlike U K) (ranked : ArraysHav
       (λ u a b x. (
         refl,
         record {
-          bound = images (not (is_quiet U.program.declarations U.known v)) a b x.0.same;
+          bound = images (not (is_mirrored U v)) a b x.0.same;
           ranked = subst (λ z. HasRankOf U v (net.shape_at z)) (sym x.0.target_shape.1) (unranked d m.same);
           standing = inl (record { place = x.0.place; own = new_place K w a s low x.1 });
         },

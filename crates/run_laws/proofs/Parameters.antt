@@ -1,7 +1,7 @@
 -- The parameters and the result variable of an entry are made on both sides.
 use Rattle.line_laws.proofs.Standing.{whole_stands}
 use Rattle.vb_tree.specs.declared.declared.Owner.{Owner}
-use Rattle.std.proofs.Common.{◌≡◌, refl, sym, ap, subst, ◌∙◌, ℕ, suc, Bool, true, false, not, ◌&&◌, true≢false, Option, Some, List, [], ◌∷◌, ◌++◌, inl, inr, cond, ◌+◌, arith, ◌⊎◌}
+use Rattle.std.proofs.Common.{◌≡◌, refl, sym, ap, subst, ◌∙◌, ℕ, suc, Bool, true, false, not, ◌&&◌, true≢false, Option, Some, List, [], ◌∷◌, ◌++◌, inl, inr, cond, ◌+◌, arith, ◌⊎◌, ◌||◌}
 use Rattle.std.specs.Prelude.{slice_get}
 use Rattle.std.specs.List.{list_all}
 use Rattle.up_base.proofs.Lists.{all_first, all_rest}
@@ -32,12 +32,12 @@ use Rattle.written_trees.specs.Heads as heads
 use Rattle.written_trees.specs.Facts.{is_array_variable}
 use Rattle.written_trees.specs.Names.{Scope}
 use Rattle.written_trees.specs.Prologues.{is_static}
-use Rattle.run_matches.specs.Addresses.{ArgsMatch, Bound, IsPlain, IsTarget, IsTypedAs, Mirrors, Same, address_args, images, mirrored, no_args, source_bound, target_bound, value_args, GivesWhole, IsElement, IsVariable, IsWhole, is_element, IsGivable, SuitsParameter, TakesAddresses}
+use Rattle.run_matches.specs.Addresses.{ArgsMatch, Bound, IsPlain, IsTarget, IsTypedAs, Mirrors, Same, address_args, images, mirrored, no_args, source_bound, target_bound, value_args, GivesWhole, IsElement, IsVariable, IsWhole, is_element, IsGivable, SuitsParameter, TakesAddresses, TakesValue}
 use Rattle.run_matches.specs.Agreeing.{Agrees}
 use Rattle.run_matches.specs.Callees.{own_of_some, parameter_owns}
-use Rattle.run_matches.specs.CoveredVariables.{covers_type}
+use Rattle.run_matches.specs.CoveredVariables.{covers_type, is_loud, is_loud_owner, is_scalar_or_loud, takes_value_by}
 use Rattle.run_matches.specs.Covered.{covers_parameter, is_parameter_of, is_relied_id}
-use Rattle.run_matches.specs.Frames.{GivenPlace, StandsAs, is_own_of}
+use Rattle.run_matches.specs.Frames.{GivenPlace, StandsAs, is_own_of, is_mirrored, is_scalar_in}
 use Rattle.run_matches.specs.Likeness.{LikeV, scalar_word}
 use Rattle.run_matches.specs.Maps.{Below, World, mark}
 use Rattle.run_matches.specs.Match.{MemoryMatch, StoreMatch}
@@ -61,9 +61,10 @@ use Rattle.run_laws.proofs.Dims.{WordOf, word_of}
 use Rattle.run_laws.proofs.Given.{IsNoElements, given_place, made_none, rank_for, value_bound, value_taken, scalar_declared}
 use Rattle.run_laws.proofs.Heads.{Parameter, parameter_is}
 use Rattle.run_laws.proofs.Locals.{local_later}
-use Rattle.run_laws.specs.Premises.{GroupsAreWritten, MakesAlike}
+use Rattle.run_laws.specs.Premises.{GroupsAreWritten, MakesAlike, LoudAreSeen}
 use Rattle.run_laws.proofs.ParametersMade.{Local, group_value_agrees, readable_type, value_is_made}
 use Rattle.run_laws.proofs.ParameterTypes.{ParamWritten, param_written, passing_as}
+use Rattle.name_laws.proofs.Owns.{no_scalar}
 
 none_more : (i : ℕ) → i ≡ i + 0
 none_more i = omega arith
@@ -100,7 +101,7 @@ quiet_reference F _ b h = absurd (true≢false (sym h))
 -- ---- one parameter
 
 module _ (U : Upgrade) (p : ℕ) (groups : GroupsAreWritten U) (S : Scope) (same : S.declarations ≡ U.program.declarations) (facts : S.facts ≡ U.facts) (home : ℕ)
-    (here : home_of U S.file ≡ Some home) (part : Bool) (is_part : is_property U.program.declarations p ≡ part) where
+    (here : home_of U S.file ≡ Some home) (part : Bool) (is_part : is_property U.program.declarations p ≡ part) (loud : LoudAreSeen U) where
   abbrev D : Declarations
   D = U.program.declarations
 
@@ -205,13 +206,16 @@ module _ (U : Upgrade) (p : ℕ) (groups : GroupsAreWritten U) (S : Scope) (same
             (value_is_made U K makes w0 w v.0 r m.word x y word low l like))
 
         module _ (quiet : is_quiet D U.known v.0 ≡ true) (id : ProcId) (is : q.variable.owner ≡ owner.Reference id) where
+          mirrors_value : is_mirrored U v.0 ≡ true
+          mirrors_value = ap (λ b. b && is_scalar_in (slice_get D.vars v.0)) quiet ∙ (ap is_scalar_in r.is_variable ∙ readable_type U v.0 r)
+
           -- a quiet one stands for values
           quiet_local : (t : TypeName) (u : World) (a : Address) (b : net.Address) → QuietMatch U K t u a b → LocalMatch U K u v.0 a b
           quiet_local t u a b n = record {
-            bound = subst (λ t. Bound U K u (not t) a b) (sym quiet) (mirrored a b n.mirrors);
+            bound = subst (λ t. Bound U K u (not t) a b) (sym mirrors_value) (mirrored a b n.mirrors);
             ranked = subst (λ d. HasRankOf U v.0 d) (sym n.shape_is) tt;
             standing =
-                inr (record { given = record { of_scalars = inl n.whole; whole = λ relied. n.whole; place = λ exact. absurd (true≢false (sym quiet ∙ exact)) }; plain = n.plain; foreign = foreign id is });
+                inr (record { given = record { of_scalars = inl n.whole; whole = λ relied. n.whole; place = λ exact. absurd (true≢false (sym mirrors_value ∙ exact)) }; plain = n.plain; foreign = foreign id is });
           }
 
           quiet_agrees : (w : World) (z : Outcome Memory Address) (z' : Outcome net.Memory net.Address)
@@ -282,7 +286,7 @@ module _ (U : Upgrade) (p : ℕ) (groups : GroupsAreWritten U) (S : Scope) (same
               subst (λ t. Agrees U K w (Local U K v.0) (gives [] a w.src) (cond t (gives [] b w.net) (outside []))) (sym taken)
               (agrees_gives U K w (Local U K v.0) a b h
               (record {
-                bound = images (not (is_quiet D U.known v.0)) a b (address_later U K w0 w a b l alike);
+                bound = images (not (is_mirrored U v.0)) a b (address_later U K w0 w a b l alike);
                 ranked = rank;
                 standing =
                     inr (record {
@@ -348,54 +352,64 @@ module _ (U : Upgrade) (p : ℕ) (groups : GroupsAreWritten U) (S : Scope) (same
           quiet_reference U.known q.variable.owner (U.known.touched v.0)
           (sym (ap (λ o. is_quiet_variable U.known o && not (U.known.touched v.0)) q.is_variable) ∙ (sym quiet_at ∙ is))
 
-      -- an array is no quiet one
-      array_exact : (e : Ty) → IsArray U v.0 e → (runnable_of U).quiet p i ≡ false
-      array_exact e r = quiet_at ∙ r.exact
+      one_loud : (x : Variable) → covers_type x.ty ≡ false → is_scalar_or_loud U.program v.0 (Some x) ≡ true → is_loud U.program v.0 (Some x) ≡ true
+      one_loud x other h = sym (ap (λ b. b || is_loud_owner U.program v.0 x.owner) other) ∙ h
 
-      group_exact : (ty : Ty) → IsGroup U v.0 ty → (runnable_of U).quiet p i ≡ false
-      group_exact ty r = quiet_at ∙ r.exact
+      -- what is no scalar and may be given a value is no quiet one
+      other_exact : (x : Variable) → slice_get D.vars v.0 ≡ Some x → covers_type x.ty ≡ false → TakesValue U p i → (runnable_of U).quiet p i ≡ false
+      other_exact x is other takes =
+          quiet_at
+          ∙ loud v.0
+          (ap (is_loud U.program v.0) is
+          ∙ one_loud x other (sym (ap (is_scalar_or_loud U.program v.0) is) ∙ (sym (ap (takes_value_by U.program) at) ∙ takes)))
+
+      array_exact : (e : Ty) → IsArray U v.0 e → TakesValue U p i → (runnable_of U).quiet p i ≡ false
+      array_exact e r = other_exact r.known.variable r.known.is_variable (ap covers_type r.is_array)
+
+      group_exact : (ty : Ty) → IsGroup U v.0 ty → TakesValue U p i → (runnable_of U).quiet p i ≡ false
+      group_exact ty r = other_exact r.known.variable r.known.is_variable (ap covers_type r.is_type ∙ no_scalar D ty r.covers)
 
       -- ---- one argument
 
       -- a value that is no array, at a parameter that is one
-      none_agrees : (element : Ty) (r : IsArray U v.0 element) (x : Value) (w : World) (z' : Outcome net.Memory net.Address) → IsNoElements x
+      none_agrees : (element : Ty) (r : IsArray U v.0 element) → TakesValue U p i → (x : Value) (w : World) (z' : Outcome net.Memory net.Address) → IsNoElements x
           → Agrees U K w (Local U K v.0) (bound_to ((runnable_of U).quiet p i) q.variable.owner s (by_value x) w.src) z'
-      none_agrees element r x w z' n =
+      none_agrees element r takes x w z' n =
           let R = Local U K v.0 in
-          subst (λ t. Agrees U K w R (bound_to t q.variable.owner s (by_value x) w.src) z') (sym (array_exact element r))
+          subst (λ t. Agrees U K w R (bound_to t q.variable.owner s (by_value x) w.src) z') (sym (array_exact element r takes))
           (subst (λ z. Agrees U K w R z z') (sym (value_bound p q.variable.owner q.parameter s x w.src))
           (subst (λ d. Agrees U K w R (make_with d x w.src) z') (sym (array_shape_is U v.0 element r))
           (subst (λ z. Agrees U K w R z z') (then_gives (make_with (array (simple element) r.known.variable.bounds) x w.src))
           (made_none U K w R (simple element) r.known.variable.bounds x n (λ a w. gives [] a w) z'))))
 
       -- a value at a parameter of a user type or of a class: one of another type makes none
-      group_first : (ty : Ty) (r : IsGroup U v.0 ty) (x : Value) (y : net_value.Value) → LikeV U w0 x y → IsGivable U p i x → (w : World) → Later U K w0 w
+      group_first : (ty : Ty) (r : IsGroup U v.0 ty) (x : Value) (y : net_value.Value) → LikeV U w0 x y → IsGivable U p i x → TakesValue U p i → (w : World) → Later U K w0 w
           → Below K.base (mark w.src)
           → BoundHere w (inr (inr (ty, r))) ((runnable_of U).quiet p i) q.variable.owner passed (by_value x) (by_value y)
-      group_first ty r x y like given w l low =
+      group_first ty r x y like given takes w l low =
           let R = Local U K v.0 in
           let d : shape.Shape = (param v q (inr (inr (ty, r)))).written in
           let z' = target.parameter_by passed d (by_value y) w.net in
-          subst (λ b. Agrees U K w R (bound_to b q.variable.owner s (by_value x) w.src) z') (sym (group_exact ty r))
+          subst (λ b. Agrees U K w R (bound_to b q.variable.owner s (by_value x) w.src) z') (sym (group_exact ty r takes))
           (subst (λ z. Agrees U K w R z z') (sym (value_bound p q.variable.owner q.parameter s x w.src))
           (subst (λ z. Agrees U K w R (make_with s x w.src) z) (sym (value_taken passed d y w.net))
           (group_value_agrees U K makes w0 w v.0 ty r p i x y like given low l d (param v q (inr (inr (ty, r)))).alike)))
 
-      value_first : (u : IsTaken U v.0) (x : Value) (y : net_value.Value) → LikeV U w0 x y → IsGivable U p i x → (w : World) → Later U K w0 w
+      value_first : (u : IsTaken U v.0) (x : Value) (y : net_value.Value) → LikeV U w0 x y → IsGivable U p i x → TakesValue U p i → (w : World) → Later U K w0 w
           → Below K.base (mark w.src) → BoundHere w u ((runnable_of U).quiet p i) q.variable.owner passed (by_value x) (by_value y)
-      value_first (inl r) x y like none w l low = by ((runnable_of U).quiet p i) refl
+      value_first (inl r) x y like none takes w l low = by ((runnable_of U).quiet p i) refl
         where
           by : (t : Bool) → (runnable_of U).quiet p i ≡ t → BoundHere w (inl r) t q.variable.owner passed (by_value x) (by_value y)
           by false e = scalar_agrees r w x y like l low
           by true e =
               let o = by_reference_here e in
               subst (λ z. BoundHere w (inl r) true z passed (by_value x) (by_value y)) (sym o.1) (quiet_value r (sym quiet_at ∙ e) o.0 o.1 w x y like l)
-      value_first (inr (inr r)) x y like given w l low = group_first r.0 r.1 x y like given w l low
-      value_first (inr (inl r)) (scalar ty z) y like none w l low =
-          none_agrees r.0 r.1 (scalar ty z) w (target.parameter_by passed (param v q (inr (inl r))).written (by_value y) w.net) tt
-      value_first (inr (inl r)) (fields t zs) y like none w l low =
-          none_agrees r.0 r.1 (fields t zs) w (target.parameter_by passed (param v q (inr (inl r))).written (by_value y) w.net) tt
-      value_first (inr (inl r)) (elements e dims zs) y like none w l low = absurd (true≢false (sym (array_there v i r.0 r.1 at) ∙ none))
+      value_first (inr (inr r)) x y like given takes w l low = group_first r.0 r.1 x y like given takes w l low
+      value_first (inr (inl r)) (scalar ty z) y like none takes w l low =
+          none_agrees r.0 r.1 takes (scalar ty z) w (target.parameter_by passed (param v q (inr (inl r))).written (by_value y) w.net) tt
+      value_first (inr (inl r)) (fields t zs) y like none takes w l low =
+          none_agrees r.0 r.1 takes (fields t zs) w (target.parameter_by passed (param v q (inr (inl r))).written (by_value y) w.net) tt
+      value_first (inr (inl r)) (elements e dims zs) y like none takes w l low = absurd (true≢false (sym (array_there v i r.0 r.1 at) ∙ none))
 
       address_first : (u : IsTaken U v.0) (a : Address) (b : net.Address) (xs : List SourceGiven) (ys : List NetGiven) → Same U K w0 a b → IsTarget U a
           → GivesWhole U p i a → IsPlain U w0 a → SuitsParameter U p i a b → Rest vs (suc i) xs ys → (w : World) → Later U K w0 w → Below K.base (mark w.src)
@@ -412,63 +426,63 @@ module _ (U : Upgrade) (p : ℕ) (groups : GroupsAreWritten U) (S : Scope) (same
       address_first u a b xs ys alike target_is whole plain suits rest w l low h _ is k = absurd (true≢false (sym k))
 
       source_first : (u : IsTaken U v.0) (a : Address) (k : shape.Shape) (y : net_value.Value) → (runnable_of U).quiet p i ≡ true
-          → Mirrors U K w0 a (net.constant k y) → IsVariable U a → (w : World) → IsPlain U w a → Later U K w0 w
+          → TakesValue U p i → Mirrors U K w0 a (net.constant k y) → IsVariable U a → (w : World) → IsPlain U w a → Later U K w0 w
           → BoundHere w u ((runnable_of U).quiet p i) q.variable.owner passed (by_address a) (by_value y)
-      source_first (inl r) a k y e mirrors target_is w plain l =
+      source_first (inl r) a k y e value mirrors target_is w plain l =
           let o = by_reference_here e in
           subst (λ t. BoundHere w (inl r) t q.variable.owner passed (by_address a) (by_value y)) (sym e)
           (subst (λ z. BoundHere w (inl r) true z passed (by_address a) (by_value y)) (sym o.1)
           (source_agrees r (sym quiet_at ∙ e) o.0 o.1 w a k y mirrors target_is plain l))
-      source_first (inr (inl r)) a k y e mirrors target_is w plain l = absurd (true≢false (sym e ∙ array_exact r.0 r.1))
-      source_first (inr (inr r)) a k y e mirrors target_is w plain l = absurd (true≢false (sym e ∙ group_exact r.0 r.1))
+      source_first (inr (inl r)) a k y e value mirrors target_is w plain l = absurd (true≢false (sym e ∙ array_exact r.0 r.1 value))
+      source_first (inr (inr r)) a k y e value mirrors target_is w plain l = absurd (true≢false (sym e ∙ group_exact r.0 r.1 value))
 
-      target_first : (u : IsTaken U v.0) (x : Value) (b : net.Address) → (runnable_of U).quiet p i ≡ true → TakesAddresses U p → Mirrors U K w0 (constant x) b
+      target_first : (u : IsTaken U v.0) (x : Value) (b : net.Address) → (runnable_of U).quiet p i ≡ true → TakesValue U p i → TakesAddresses U p → Mirrors U K w0 (constant x) b
           → IsTypedAs U x (net.shape_at b) → (w : World) → Later U K w0 w
           → BoundHere w u ((runnable_of U).quiet p i) q.variable.owner passed (by_value x) (by_address b)
-      target_first (inl r) x b e takes mirrors typed w l =
+      target_first (inl r) x b e value takes mirrors typed w l =
           let o = by_reference_here e in
           subst (λ t. BoundHere w (inl r) t q.variable.owner passed (by_value x) (by_address b)) (sym e)
           (subst (λ z. BoundHere w (inl r) true q.variable.owner z (by_value x) (by_address b)) (sym (passed_by o.0 o.1 takes))
           (subst (λ z. BoundHere w (inl r) true z passing.Reference (by_value x) (by_address b)) (sym o.1)
           (target_agrees r (sym quiet_at ∙ e) o.0 o.1 w x b mirrors typed l)))
-      target_first (inr (inl r)) x b e takes mirrors typed w l = absurd (true≢false (sym e ∙ array_exact r.0 r.1))
-      target_first (inr (inr r)) x b e takes mirrors typed w l = absurd (true≢false (sym e ∙ group_exact r.0 r.1))
+      target_first (inr (inl r)) x b e value takes mirrors typed w l = absurd (true≢false (sym e ∙ array_exact r.0 r.1 value))
+      target_first (inr (inr r)) x b e value takes mirrors typed w l = absurd (true≢false (sym e ∙ group_exact r.0 r.1 value))
 
     -- the parameters from one on
     pub parameters_agree : (vs : List VarId) → list_all (covers_parameter U.program p) vs ≡ true → (i : ℕ)
         → ((j : ℕ) → slice_get ps (i + j) ≡ slice_get vs j) → (xs : List SourceGiven) (ys : List NetGiven) → ArgsMatch U K w0 p i xs ys → Rest vs i xs ys
     parameters_agree [] h i there _ _ (no_args _) w l low m =
         agrees_gives U K w (Parameters []) [] [] m no_locals
-    parameters_agree [] h i there _ ys (value_args _ x y xs others like none rest) w l low m =
+    parameters_agree [] h i there _ ys (value_args _ x y xs others like none takes rest) w l low m =
         agrees_outside U K w (Parameters []) (target.parameters U.written home [] ys w.net)
     parameters_agree [] h i there _ ys (address_args _ a b xs others same target_is whole plain suits rest) w l low m =
         agrees_outside U K w (Parameters []) (target.parameters U.written home [] ys w.net)
-    parameters_agree [] h i there _ ys (source_bound _ a s y xs others is mirrors target_is made_there plain rest) w l low m =
+    parameters_agree [] h i there _ ys (source_bound _ a s y xs others is value mirrors target_is made_there plain rest) w l low m =
         agrees_outside U K w (Parameters []) (target.parameters U.written home [] ys w.net)
-    parameters_agree [] h i there _ ys (target_bound _ x b xs others is takes mirrors typed rest) w l low m =
+    parameters_agree [] h i there _ ys (target_bound _ x b xs others is value takes mirrors typed rest) w l low m =
         agrees_outside U K w (Parameters []) (target.parameters U.written home [] ys w.net)
     parameters_agree (v ∷ vs) h i there _ ys (no_args _) w l low m =
         agrees_outside U K w (Parameters (v ∷ vs)) (target.parameters U.written home (heads.params_of S part (v ∷ vs)) ys w.net)
-    parameters_agree (v ∷ vs) h i there _ _ (value_args _ x y xs ys like none rest) w l low m =
+    parameters_agree (v ∷ vs) h i there _ _ (value_args _ x y xs ys like none takes rest) w l low m =
         let q : Parameter U.program p v = parameter_is U.program p v (all_first (covers_parameter U.program p) v vs h) in
         let at : slice_get ps i ≡ Some v = first_there i v vs there in
         next_agrees v q i at vs (readable v q) (by_value x) (by_value y) xs ys
         (parameters_agree vs (all_rest (covers_parameter U.program p) v vs h) (suc i) (rest_there i v vs there) xs ys rest) w l low m
-        (value_first v q i at vs (readable v q) x y like none w l low)
+        (value_first v q i at vs (readable v q) x y like none takes w l low)
     parameters_agree (v ∷ vs) h i there _ _ (address_args _ a b xs ys same target_is whole plain suits rest) w l low m =
         let q : Parameter U.program p v = parameter_is U.program p v (all_first (covers_parameter U.program p) v vs h) in
         address_first v q i (first_there i v vs there) vs (readable v q) a b xs ys same target_is whole plain suits
         (parameters_agree vs (all_rest (covers_parameter U.program p) v vs h) (suc i) (rest_there i v vs there) xs ys rest) w l low m
         q.variable.owner refl q.parameter
-    parameters_agree (v ∷ vs) h i there _ _ (source_bound _ a s y xs ys is mirrors target_is made_there plain rest) w l low m =
+    parameters_agree (v ∷ vs) h i there _ _ (source_bound _ a s y xs ys is value mirrors target_is made_there plain rest) w l low m =
         let q : Parameter U.program p v = parameter_is U.program p v (all_first (covers_parameter U.program p) v vs h) in
         let at : slice_get ps i ≡ Some v = first_there i v vs there in
         next_agrees v q i at vs (readable v q) (by_address a) (by_value y) xs ys
         (parameters_agree vs (all_rest (covers_parameter U.program p) v vs h) (suc i) (rest_there i v vs there) xs ys rest) w l low m
-        (source_first v q i at vs (readable v q) a s y is mirrors target_is w (plain_later U w0 w a l.extends made_there plain) l)
-    parameters_agree (v ∷ vs) h i there _ _ (target_bound _ x b xs ys is takes mirrors typed rest) w l low m =
+        (source_first v q i at vs (readable v q) a s y is value mirrors target_is w (plain_later U w0 w a l.extends made_there plain) l)
+    parameters_agree (v ∷ vs) h i there _ _ (target_bound _ x b xs ys is value takes mirrors typed rest) w l low m =
         let q : Parameter U.program p v = parameter_is U.program p v (all_first (covers_parameter U.program p) v vs h) in
         let at : slice_get ps i ≡ Some v = first_there i v vs there in
         next_agrees v q i at vs (readable v q) (by_value x) (by_address b) xs ys
         (parameters_agree vs (all_rest (covers_parameter U.program p) v vs h) (suc i) (rest_there i v vs there) xs ys rest) w l low m
-        (target_first v q i at vs (readable v q) x b is takes mirrors typed w l)
+        (target_first v q i at vs (readable v q) x b is value takes mirrors typed w l)

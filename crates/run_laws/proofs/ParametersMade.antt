@@ -3,7 +3,6 @@ use Rattle.std.proofs.Common.{refl, Bool, false, true≢false, ap, ◌∙◌, �
 use Rattle.up_base.proofs.Tests.{both_true}
 use Rattle.vb_tree.specs.BoundTree as types
 use Rattle.vb_tree.specs.BoundTree.{Ty}
-use Rattle.bound_facts.specs.Facts.{is_quiet}
 use Rattle.bound_facts.specs.Locks.{is_same_type}
 use Rattle.net_tree.specs.Types.{TypeName}
 use Rattle.run_base.specs.Outcomes.{Outcome, gives, then}
@@ -14,6 +13,7 @@ use Rattle.vb6_run.specs.Values.{Value, scalar, elements, fields, if_of_shape, i
 use Rattle.net_run.specs.Shapes as shape
 use Rattle.net_run.specs.Store as net
 use Rattle.net_run.specs.Values as net_value
+use Rattle.run_matches.specs.Frames.{is_mirrored}
 use Rattle.run_matches.specs.Addresses.{images, IsDeclaredShape, IsGivable}
 use Rattle.run_matches.specs.Agreeing.{Agrees}
 use Rattle.run_matches.specs.CoveredVariables.{covers_group_type, covers_owner, covers_type}
@@ -103,7 +103,7 @@ module _ (U : Upgrade) (K : Pledge) (makes : MakesAlike U K) where
       let Q : Address → Memory → Type 0 = λ a u. a ≡ root s (whole (made w.src.next)) in
       agrees_weaker U K w (λ u a b. MadeMatch U K v ty t u a b × Q a u.src) (Local U K v) r r'
       (λ u a b l m. record {
-        bound = images (not (is_quiet U.program.declarations U.known v)) a b m.0.same;
+        bound = images (not (is_mirrored U v)) a b m.0.same;
         ranked = subst (λ d. HasRankOf U v (net.shape_at d)) (sym m.0.target_shape.1) tt;
         standing = inl (record { place = m.0.place; own = new_place K w a s low m.1 });
       }) (agrees_yields U K w (MadeMatch U K v ty t) Q r r' y h)
@@ -137,7 +137,7 @@ module _ (U : Upgrade) (K : Pledge) (makes : MakesAlike U K) where
       let Q : Address → Memory → Type 0 = λ a u. a ≡ root s (whole (made w.src.next)) in
       agrees_weaker U K w (λ u a b. GroupMade U K v d u a b × Q a u.src) (Local U K v) z z'
       (λ u a b later m. record {
-        bound = images (not (is_quiet U.program.declarations U.known v)) a b m.0.same;
+        bound = images (not (is_mirrored U v)) a b m.0.same;
         ranked = subst (λ e. HasRankOf U v (net.shape_at e)) (sym m.0.target_shape.1) (group_unranked U v ty r d same);
         standing = inl (record { place = m.0.place; own = new_place K w a s low m.1 });
       }) (agrees_yields U K w (GroupMade U K v d) Q z z' y h)

@@ -6,7 +6,6 @@ use Rattle.std.specs.Prelude.{slice_get}
 use Rattle.std.proofs.lemmas.Bool.{eqb-true, false_from_ne_true}
 use Rattle.up_base.proofs.Tests.{both_true, either}
 use Rattle.bound_tree.specs.Tree.{Line}
-use Rattle.bound_facts.specs.Facts.{is_quiet}
 use Rattle.run_base.specs.Frames.{Kept, keeps_nothing, keeps_limit, keeps_value, keeps_address}
 use Rattle.run_base.specs.Machines.{nth_line}
 use Rattle.run_base.specs.Positions.{Position, Root, made, shared, field}
@@ -16,7 +15,7 @@ use Rattle.net_run.specs.Lines.{NetFrame}
 use Rattle.net_run.specs.Store as net
 use Rattle.net_run.specs.Values as net_value
 use Rattle.run_matches.specs.Addresses.{position_of, AllLocked, Bound, KeptMatch, LockOk, Same, both_addresses, both_arrays, both_choices, both_limits, both_nothing, both_objects, images, mirrored, same_item, same_root}
-use Rattle.run_matches.specs.Frames.{FrameMatch, NextMatch, OwnsAll, SameVariable, frame_pledge, is_exact_head, is_kept_from, is_kept_in, is_own_line, is_own_of, is_own_place, is_place, lines_of, own_of, stands_in}
+use Rattle.run_matches.specs.Frames.{FrameMatch, NextMatch, OwnsAll, SameVariable, frame_pledge, is_exact_head, is_kept_from, is_kept_in, is_own_line, is_own_of, is_own_place, is_place, lines_of, own_of, stands_in, is_mirrored}
 use Rattle.run_matches.specs.Maps.{Below, Mark, World, mark}
 use Rattle.run_matches.specs.Match.{MemoryMatch}
 use Rattle.run_matches.specs.Pledges.{IsOld, NetGiven, Pledge, is_own, is_that_object, own_object}
@@ -84,7 +83,7 @@ module _ (U : Upgrade) (K L : Pledge) (w : World) (h : MemoryMatch U w) (weaker 
           record {
             address = x.address;
             found = x.found;
-            bound = bound_with (not (is_quiet U.program.declarations U.known v)) a x.address x.bound;
+            bound = bound_with (not (is_mirrored U v)) a x.address x.bound;
             plain = x.plain;
             ranked = x.ranked;
           }

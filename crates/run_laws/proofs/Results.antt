@@ -8,7 +8,6 @@ use Rattle.up_base.proofs.Tests.{both_true, not_true}
 use Rattle.up_base.specs.Names.{is_same_name}
 use Rattle.bound_tree.specs.Tree.{Declarations, Procedure}
 use Rattle.bound_facts.specs.Effects.{is_own_owner, is_own_variable}
-use Rattle.bound_facts.specs.Facts.{is_quiet}
 use Rattle.net_tree.specs.Tree as net_tree
 use Rattle.run_base.specs.Outcomes.{gives, some_of, then}
 use Rattle.run_base.specs.Positions.{Position, made, whole}
@@ -30,7 +29,7 @@ use Rattle.written_trees.specs.Names.{variable_name_of}
 use Rattle.run_matches.specs.Addresses.{Bound, IsDeclaredShape, Same, images, mirrored, same_item, same_root}
 use Rattle.run_matches.specs.Agreeing.{Agrees, ResultMatch, HasAllFields, SentMatch}
 use Rattle.run_matches.specs.CoveredVariables.{are_different, is_named_in}
-use Rattle.run_matches.specs.Frames.{FrameMatch, HasPlace, SameVariable, declared_names, dim_name, frame_pledge, is_own_of, result_names}
+use Rattle.run_matches.specs.Frames.{FrameMatch, HasPlace, SameVariable, declared_names, dim_name, frame_pledge, is_own_of, result_names, is_mirrored}
 use Rattle.run_matches.specs.Kinds.{IsValueOf}
 use Rattle.run_matches.specs.Maps.{Mark, World}
 use Rattle.run_matches.specs.Match.{MemoryMatch}
@@ -208,7 +207,7 @@ module _ (U : Upgrade) (p : ℕ) (c : CoveredProcedure U.program p) (W : Written
         let same : Same U K w (root s q) b.address =
         subst (λ z. Same U K w z b.address) place.stands
         (of_call w f a b.address
-        (exact_is U (frame_pledge U p w f) w (not (is_quiet D U.known h.id.0)) a b.address (ap not (result_exact U h.id.0 p is_own r)) b.bound)) in
+        (exact_is U (frame_pledge U p w f) w (not (is_mirrored U h.id.0)) a b.address (ap not (result_exact U h.id.0 p is_own r)) b.bound)) in
         subst (λ z. Agrees U K w (ResultMatch U) (then (read a w.src) (λ x w. gives [] (Some x) w)) (gives [] (Some (net.looked_up z w.net)) w.net)) (sym same_address)
         (subst (λ z. Agrees U K w (ResultMatch U) (then (read z w.src) (λ x w. gives [] (Some x) w)) (gives [] (Some (net.looked_up b.address w.net)) w.net))
         (sym place.stands)

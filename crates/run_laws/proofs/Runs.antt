@@ -28,7 +28,7 @@ use Rattle.run_matches.specs.CleanLines.{lines_at, or_none}
 use Rattle.run_matches.specs.CoveredVariables.{are_different, belongs_to, covers_array_owner}
 use Rattle.run_matches.specs.CoveredExprs.{uses_in}
 use Rattle.run_matches.specs.CoveredLines.{covers_in_block, covers_line, has_sound_label}
-use Rattle.run_matches.specs.Covered.{covers_procedure, keeps_blocks, covers_calls, is_scalar_or_loud}
+use Rattle.run_matches.specs.Covered.{covers_procedure, keeps_blocks, covers_calls}
 use Rattle.run_matches.specs.Frames.{HasOwnObject, lines_of, declared_names}
 use Rattle.run_matches.specs.Maps.{World, mark, Below, Mark}
 use Rattle.run_matches.specs.Match.{MemoryMatch, StoreMatch}
@@ -59,7 +59,7 @@ use Rattle.run_laws.proofs.Callees.{call_fits, call_suits, callee_covered, can_c
 use Rattle.run_laws.proofs.Making.{can_make, can_make_at, made_covered, use_of_auto_calls, used_covered}
 use Rattle.run_laws.proofs.Names.{is_below}
 use Rattle.run_laws.proofs.Parts.{clean_unparted}
-use Rattle.run_laws.proofs.Heads.{HasAnswer, answer_sound}
+use Rattle.run_laws.proofs.Heads.{HasAnswer}
 use Rattle.run_laws.proofs.Keeping.{line_keeps}
 use Rattle.run_laws.proofs.Lines.{LineSame, body_is, line_is, line_same}
 use Rattle.run_laws.proofs.Reaching.{IsLineOf, clean_called, covered_called}
@@ -67,6 +67,7 @@ use Rattle.run_laws.proofs.Receiving.{called_within}
 use Rattle.run_laws.proofs.Results.{results_agree}
 use Rattle.run_laws.proofs.Usable.{result_is}
 use Rattle.run_laws.proofs.Turns.{BodyRuns, LineRuns, Rest, body_agrees}
+use Rattle.name_laws.proofs.Owns.{uses_exact}
 
 -- ---- a procedure that passes
 
@@ -99,9 +100,8 @@ module _ (U : Upgrade) (h : RunPremises U) where
     kept = h.owns p c.site c.procedure c.is_site c.is_procedure W pass.0 covered
 
     -- what it owns can be used
-    usable : (v : ℕ) (x : Variable) → slice_get U.program.declarations.vars v ≡ Some x → belongs_to p x.owner ≡ true
-        → is_scalar_or_loud U.program v x ≡ true → IsUsable U v
-    usable v x e owned loud = h.owned p v x pass.0 e owned (own_covered_at U.program p v x c.variables e owned) loud
+    usable : (v : ℕ) (x : Variable) → slice_get U.program.declarations.vars v ≡ Some x → belongs_to p x.owner ≡ true → IsUsable U v
+    usable v x e owned = h.owned p v x pass.0 e owned (own_covered_at U.program p v x c.variables e owned)
 
     -- and each array has a dimension
     ranked : ArraysHaveRanks U
@@ -113,7 +113,7 @@ module _ (U : Upgrade) (h : RunPremises U) where
         let owned : belongs_to p a.variable.owner ≡ true = ap (belongs_to p) a.owner ∙ a.own in
         result_is U a.id.0 a.variable a.is_variable (ap covers_array_owner a.owner)
         (own_covered_at U.program p a.id.0 a.variable c.variables a.is_variable owned)
-        (usable a.id.0 a.variable a.is_variable owned (answer_sound U p a))
+        (usable a.id.0 a.variable a.is_variable owned)
 
     -- ---- lines
 
@@ -208,7 +208,7 @@ module _ (U : Upgrade) (h : RunPremises U) where
         }
 
     names_differ : are_different (declared_names (written p pass).code) ≡ true
-    names_differ = subst (λ ns. are_different ns ≡ true) (all_names U p c W kept usable answer_is ranked h.groups h.firsts) c.different
+    names_differ = subst (λ ns. are_different ns ≡ true) (all_names U p c W kept usable answer_is ranked h.groups h.firsts (uses_exact U h.known)) c.different
 
     pub body : BodyRuns U p (written p pass).number
     body = record {
@@ -245,7 +245,7 @@ module _ (U : Upgrade) (h : RunPremises U) where
       then_agrees U K w (RunMatch U K p me) (ResultMatch U) (entered_as R p me locked xs w.src)
       (target.enter N W.number (option_map w.map.objects me) tt ys w.net) (λ f s. go (source.machine_of R) n (runs p f) s)
       (λ g t. go (target.machine_of N) n (runs W.number g) t) m
-      (entries_agree U p c W (kept p pass) (usable p pass) (answer_is p pass) (ranked p pass) h.groups h.firsts base me xs ys (h.makes p base me xs ys) locked w0 w start args
+      (entries_agree U p c W (kept p pass) (usable p pass) (answer_is p pass) (ranked p pass) h.groups h.firsts (uses_exact U h.known) base me xs ys (h.makes p base me xs ys) locked w0 w start args
       l obj own held low m)
       (λ f g u r later. turns.rests p pass base me xs ys u f g r later.match)
 

@@ -61,4 +61,4 @@ parameters_are_sound U owned q i ty passes group is = by (slice_get (params_at (
         let mine = parameter_belongs q x.variable.owner x.parameter in
         sound_by U v.0 ty x.variable group x.is_variable (typed v x.variable x.is_variable h)
         (taken_is U v.0 x.variable x.is_variable (parameter_given q x.variable.owner x.parameter)
-        (owned q v.0 x.variable passes.0 x.is_variable mine (own_covered_at U.program q v.0 x.variable c.variables x.is_variable mine) x.loud))
+        (owned q v.0 x.variable passes.0 x.is_variable mine (own_covered_at U.program q v.0 x.variable c.variables x.is_variable mine)))

@@ -6,7 +6,6 @@ use Rattle.vb_tree.specs.BoundTree.{Ty}
 use Rattle.vb_tree.specs.declared.declared.Owner.{Owner}
 use Rattle.vb_tree.specs.declared.declared.Owner.TheVariants as owner
 use Rattle.bound_tree.specs.Tree.{Variable}
-use Rattle.bound_facts.specs.Facts.{is_quiet}
 use Rattle.bound_facts.specs.Locks.{is_same_type}
 use Rattle.bound_facts.specs.Node.{is_array_type}
 use Rattle.written_trees.specs.Facts.{is_array_variable}
@@ -22,7 +21,7 @@ use Rattle.net_run.specs.Store as net
 use Rattle.net_tree.specs.Types.{TypeName}
 use Rattle.run_matches.specs.Addresses.{AllMatched, AllRanked, IsDeclaredShape}
 use Rattle.run_matches.specs.CoveredVariables.{covers_array_owner, covers_auto_owner, covers_declared}
-use Rattle.run_matches.specs.Frames.{is_own_of}
+use Rattle.run_matches.specs.Frames.{is_own_of, is_mirrored}
 use Rattle.run_matches.specs.Kinds.{IsKind, AreKinds}
 use Rattle.run_matches.specs.Likeness.{Numbers, SameShape, numbers_of, same_array, same_scalar, scalar_word}
 use Rattle.run_matches.specs.Maps.{World, is_fixed_variable, moved_at}
@@ -129,7 +128,7 @@ result_declared U v (inl r) = subst (λ s. IsDeclaredShape U s) (sym (readable_s
 result_declared U v (inr g) = subst (λ s. IsDeclaredShape U s) (sym (group_shape_is U v g.0 g.1)) (declared_group U g.0 g.1.covers)
 
 -- it is no quiet parameter
-pub result_exact : (U : Upgrade) (v p : ℕ) → is_own_of U p v ≡ true → IsResult U v → is_quiet U.program.declarations U.known v ≡ false
+pub result_exact : (U : Upgrade) (v p : ℕ) → is_own_of U p v ≡ true → IsResult U v → is_mirrored U v ≡ false
 result_exact U v p own (inl r) = own_exact U v r p own
 result_exact U v p own (inr g) = g.1.exact
 

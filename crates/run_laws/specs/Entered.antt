@@ -3,7 +3,6 @@ use Rattle.std.specs.Prelude.{◌≡◌, ℕ, suc, true, false, not, Option, Som
 use Rattle.std.specs.Map.{lookup}
 use Rattle.vb_tree.specs.BoundTree.{Ty}
 use Rattle.bound_tree.specs.Tree.{Constant, Variable}
-use Rattle.bound_facts.specs.Facts.{is_quiet}
 use Rattle.run_base.specs.Positions.{Key, Root, field, made, shared, whole}
 use Rattle.vb6_run.specs.Shapes.{variable_shape}
 use Rattle.vb6_run.specs.Store.{Address, SourceFrame}
@@ -15,7 +14,7 @@ use Rattle.net_run.specs.Store as net
 use Rattle.written_trees.specs.Names.{Scope}
 use Rattle.written_trees.specs.Prologues.{constant_dim, is_static}
 use Rattle.run_matches.specs.Addresses.{AllMatched, AllRanked, Bound, IsPlain}
-use Rattle.run_matches.specs.Frames.{FrameMatch, GivenAddress, HasPlace, IsOwnAddress, frame_pledge, is_own_of, is_reference_of, is_own_place}
+use Rattle.run_matches.specs.Frames.{FrameMatch, GivenAddress, HasPlace, IsOwnAddress, frame_pledge, is_own_of, is_reference_of, is_own_place, is_mirrored}
 use Rattle.run_matches.specs.Likeness.{SameShape}
 use Rattle.run_matches.specs.Maps.{Below, World, mark, moved_at}
 use Rattle.run_matches.specs.Pledges.{Pledge, IsOld}
@@ -40,7 +39,7 @@ pub record GivenVariable (U : Upgrade) (w : World) (v : ℕ) (a : Address) : Typ
 
 -- a variable of a procedure on both sides; an array has the rank of its declaration
 pub record LocalMatch (U : Upgrade) (K : Pledge) (w : World) (v : ℕ) (a : Address) (b : net.Address) : Type 0 where
-  pub bound : Bound U K w (not (is_quiet U.program.declarations U.known v)) a b
+  pub bound : Bound U K w (not (is_mirrored U v)) a b
   pub ranked : HasRankOf U v (net.shape_at b)
   pub standing : OwnPlace U K w v a ⊎ GivenVariable U w v a
 

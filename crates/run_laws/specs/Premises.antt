@@ -7,7 +7,7 @@ use Rattle.vb_tree.specs.declared.declared.ProcKind.TheVariants as kind
 use Rattle.bound_tree.specs.Tree.{Expr, Line, Procedure, Variable}
 use Rattle.bound_facts.specs.Clean.{IsClean}
 use Rattle.run_base.specs.Machines.{nth_line, go}
-use Rattle.bound_facts.specs.Facts.{AreFacts}
+use Rattle.bound_facts.specs.Facts.{AreFacts, is_quiet}
 use Rattle.bound_facts.specs.Parts.{line_uses}
 use Rattle.net_tree.specs.Tree as net_tree
 use Rattle.net_tree.specs.Types.{TypeName}
@@ -32,10 +32,10 @@ use Rattle.written_trees.specs.Bodies.{inside_procedure}
 use Rattle.written_trees.specs.Facts.{is_array_variable}
 use Rattle.written_trees.specs.Heads.{is_function}
 use Rattle.written_trees.specs.Types.{type_with}
-use Rattle.run_matches.specs.CoveredVariables.{belongs_to, covers_declared, covers_group_type, covers_user, has_extents}
+use Rattle.run_matches.specs.CoveredVariables.{belongs_to, covers_declared, covers_group_type, covers_user, has_extents, is_loud}
 use Rattle.run_matches.specs.CoveredExprs.{has_result_type, uses_in}
 use Rattle.run_matches.specs.CoveredLines.{covers_line}
-use Rattle.run_matches.specs.Covered.{IsCoveredLine, covers_procedure, is_scalar_or_loud}
+use Rattle.run_matches.specs.Covered.{IsCoveredLine, covers_procedure}
 use Rattle.run_matches.specs.JoinedProperties.{is_joined}
 use Rattle.run_matches.specs.Likeness.{scalar_word, LikeV, SameShape}
 use Rattle.run_matches.specs.Maps.{Mark, World, moved}
@@ -87,11 +87,15 @@ CoveredStoresAreOwn U =
     (p : ℕ) (x : Procedure) → slice_get U.program.declarations.procs p ≡ Some x → (k : ℕ) (l : Line)
     → nth_line (lines_at U.program p) (suc k) ≡ Some l → covers_line U.program p l ≡ true → StoresAreOwn U p l
 
+-- what is changed, or given by reference, or a parameter of a procedure with an outward line, is seen to be no quiet parameter
+abbrev pub LoudAreSeen : Upgrade → Type 0
+LoudAreSeen U = (v : ℕ) → is_loud U.program v (slice_get U.program.declarations.vars v) ≡ true → is_quiet U.program.declarations U.known v ≡ false
+
 -- what a clean procedure owns can be used where it is covered
 abbrev pub OwnedAreUsable : Upgrade → Type 0
 OwnedAreUsable U =
     (p v : ℕ) (x : Variable) → IsClean U.program U.facts.marks p → slice_get U.program.declarations.vars v ≡ Some x → belongs_to p x.owner ≡ true
-    → covers_declared U.program.declarations x ≡ true → is_scalar_or_loud U.program v x ≡ true → IsUsable U v
+    → covers_declared U.program.declarations x ≡ true → IsUsable U v
 
 -- a local variable is made on both sides, under a pledge
 abbrev pub LocalsAreMadeBy : Upgrade → Pledge → Type 0

@@ -4,6 +4,7 @@ pub mod UpgradeExamples
 pub mod Examples
 pub mod CallSamples
 mod ReferenceSamples
+mod QuietArrays
 mod QuietSamples
 mod ArraySamples
 mod ElementSamples

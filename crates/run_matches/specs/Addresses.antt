@@ -16,7 +16,7 @@ use Rattle.net_run.specs.Store as net
 use Rattle.net_run.specs.Values as net_value
 use Rattle.written_trees.specs.Arguments.{is_property}
 use Rattle.run_matches.specs.Covered.{is_relied_at}
-use Rattle.run_matches.specs.CoveredVariables.{covers_type}
+use Rattle.run_matches.specs.CoveredVariables.{covers_type, takes_value_at}
 use Rattle.run_matches.specs.Upgrades.{Upgrade, class_home, variable_key, is_flagged_field, parameter_rank, runnable_of, takes_array}
 use Rattle.run_matches.specs.Maps.{World, mark, IsMade, IsMatched, moved_at, is_auto_root, is_fixed_position}
 use Rattle.run_matches.specs.Likeness.{SameShape, LikeV, ShapedAs}
@@ -266,23 +266,27 @@ IsTypedAs U x s = (ty : Ty) (z : Value6) → x ≡ scalar ty z → SameShape U (
 abbrev pub GivesWhole : Upgrade → (procedure place : ℕ) → Address → Type 0
 GivesWhole U p i a = is_relied_at U.program p i ≡ true → IsWhole a
 
--- Arguments from a place on. An ordinary reference parameter is bound by reference on both sides, quiet or not. At a quiet one either
--- side alone may have a value, and the target has one where it is an index parameter of a property.
+-- an array, a user type and an object are given by reference to a quiet parameter
+abbrev pub TakesValue : Upgrade → (procedure place : ℕ) → Type 0
+TakesValue U p i = takes_value_at U.program p i ≡ true
+
+-- Arguments from a place on. An ordinary reference parameter is bound by reference on both sides, quiet or not. At a quiet one that is a
+-- scalar either side alone may have a value, and the target has one where it is an index parameter of a property.
 pub data ArgsMatch (U : Upgrade) (K : Pledge) (w : World) (p : ℕ) : (place : ℕ) → List SourceGiven → List NetGiven → Type 0 where
   no_args : (i : ℕ) → ArgsMatch U K w p i [] []
   value_args :
       (i : ℕ) (x : Value) (y : net_value.Value) (xs : List SourceGiven) (ys : List NetGiven) → LikeV U w x y → IsGivable U p i x
-      → ArgsMatch U K w p (suc i) xs ys → ArgsMatch U K w p i (by_value x ∷ xs) (by_value y ∷ ys)
+      → TakesValue U p i → ArgsMatch U K w p (suc i) xs ys → ArgsMatch U K w p i (by_value x ∷ xs) (by_value y ∷ ys)
   address_args :
       (i : ℕ) (a : Address) (b : net.Address) (xs : List SourceGiven) (ys : List NetGiven) → Same U K w a b → IsTarget U a → GivesWhole U p i a
       → IsPlain U w a → SuitsParameter U p i a b → ArgsMatch U K w p (suc i) xs ys
       → ArgsMatch U K w p i (by_address a ∷ xs) (by_address b ∷ ys)
   source_bound :
       (i : ℕ) (a : Address) (s : shape.Shape) (y : net_value.Value) (xs : List SourceGiven) (ys : List NetGiven) → (runnable_of U).quiet p i ≡ true
-      → Mirrors U K w a (net.constant s y) → IsVariable U a → IsThere w a → IsPlain U w a → ArgsMatch U K w p (suc i) xs ys → ArgsMatch U K w p i (by_address a ∷ xs) (by_value y ∷ ys)
+      → TakesValue U p i → Mirrors U K w a (net.constant s y) → IsVariable U a → IsThere w a → IsPlain U w a → ArgsMatch U K w p (suc i) xs ys → ArgsMatch U K w p i (by_address a ∷ xs) (by_value y ∷ ys)
   target_bound :
       (i : ℕ) (x : Value) (b : net.Address) (xs : List SourceGiven) (ys : List NetGiven) → (runnable_of U).quiet p i ≡ true
-      → TakesAddresses U p → Mirrors U K w (constant x) b → IsTypedAs U x (net.shape_at b) → ArgsMatch U K w p (suc i) xs ys → ArgsMatch U K w p i (by_value x ∷ xs) (by_address b ∷ ys)
+      → TakesValue U p i → TakesAddresses U p → Mirrors U K w (constant x) b → IsTypedAs U x (net.shape_at b) → ArgsMatch U K w p (suc i) xs ys → ArgsMatch U K w p i (by_value x ∷ xs) (by_address b ∷ ys)
 
 -- The arguments match, and each array in a value occurs once, in no position that is compared.
 pub record ArgsOk (U : Upgrade) (K : Pledge) (w : World) (p : ℕ) (xs : List SourceGiven) (ys : List NetGiven) : Type 0 where

@@ -14,7 +14,7 @@ use Rattle.vb_tree.specs.ProjectLines.{is_reserved}
 use Rattle.vb_tree.specs.Tree.{Form, Module}
 use Rattle.vb_tree.specs.Tree as source
 use Rattle.bound_tree.specs.declared.body.Mention.{Mention}
-use Rattle.bound_tree.specs.Tree.{Variable, Constant, Procedure, Declarations, Program, Expr, typed, Term, variable, element, Argument, by_value, by_reference, Passed, no_passed, next_passed, field, call, new_object, Object, no_object, of_object}
+use Rattle.bound_tree.specs.Tree.{Variable, Constant, Procedure, Declarations, Program, Expr, typed, Term, variable, element, Argument, by_value, by_reference, Passed, no_passed, next_passed, field, call, convert, new_object, Object, no_object, of_object}
 use Rattle.bound_tree.specs.Tree as tree
 use Rattle.bound_facts.specs.Calls.{Reaches, line_calls, count_procedures}
 use Rattle.bound_facts.specs.Members.{class_files, initializer}
@@ -39,7 +39,7 @@ use Rattle.run_matches.specs.Shared.{others_differ}
 use Rattle.run_matches.specs.Upgrades.{takes_array}
 use Rattle.run_matches.specs.UserTypes.{is_group_type, is_user}
 use Rattle.run_matches.specs.Sites.{Site, site_of, Own, own_variable, own_constant, own_name, owns_of, local_numbers, static_numbers, statement_of}
-use Rattle.run_matches.specs.CoveredVariables.{covers_type, is_loud_owner, belongs_to, covers_class, covers_declared, has_extents, are_different, is_mention_of}
+use Rattle.run_matches.specs.CoveredVariables.{takes_value_at, belongs_to, covers_class, covers_declared, has_extents, are_different, is_mention_of}
 use Rattle.run_matches.specs.CoveredExprs.{is_element_term, is_number, is_variable, is_relied_on}
 use Rattle.run_matches.specs.CoveredLines.{covers_line, covers_in_block, jump_of, resumes}
 
@@ -90,17 +90,9 @@ abbrev pub is_parameter_in : (procedure : ℕ) → Option Variable → Bool
 is_parameter_in p None = false
 is_parameter_in p (Some x) = is_parameter_of p x.owner
 
--- a scalar, or no quiet parameter: an array, a user type or an object
-abbrev pub is_scalar_or_loud : Program → (variable : ℕ) → Variable → Bool
-is_scalar_or_loud P v x = covers_type x.ty || is_loud_owner P v x.owner
-
-abbrev pub is_taken_in : Program → (procedure variable : ℕ) → Option Variable → Bool
-is_taken_in P p v None = false
-is_taken_in P p v (Some x) = is_parameter_of p x.owner && is_scalar_or_loud P v x
-
--- parameters by value and by reference; an array, a user type and an object are no quiet ones
+-- parameters by value and by reference
 abbrev pub covers_parameter : Program → (procedure : ℕ) → VarId → Bool
-covers_parameter P p v = is_taken_in P p v.0 (slice_get P.declarations.vars v.0)
+covers_parameter P p v = is_parameter_in p (slice_get P.declarations.vars v.0)
 
 abbrev pub is_result_in : (procedure : ℕ) → Procedure → Option Variable → Bool
 is_result_in p x None = false
@@ -299,17 +291,19 @@ abbrev pub is_relied_id : Program → Option VarId → Bool
 is_relied_id P None = false
 is_relied_id P (Some v) = is_relied_on P v.0
 
--- what takes a parameter's place is relied on where the parameter is, which all lines of the program fulfil
+-- What takes a parameter's place is relied on where the parameter is, which all lines of the program fulfil, and it is a value where the
+-- parameter may be given one.
 abbrev pub is_relied_at : Program → (procedure place : ℕ) → Bool
 is_relied_at P q i = is_relied_id P (slice_get (params_at (slice_get P.declarations.procs q)) i)
 
 abbrev pub hands_term : Program → (procedure place : ℕ) → Term → Bool
 hands_term P q i (variable v qualified) = not (is_relied_at P q i) || is_relied_on P v.0
 hands_term P q i (element a indexes) = not (is_relied_at P q i)
+hands_term P q i (convert to e) = takes_value_at P q i
 hands_term P q i t = true
 
 abbrev pub hands_argument : Program → (procedure place : ℕ) → Argument → Bool
-hands_argument P q i (by_value e) = true
+hands_argument P q i (by_value e) = takes_value_at P q i
 hands_argument P q i (by_reference (typed ty t)) = hands_term P q i t
 
 abbrev pub hands_passed : Program → (procedure place : ℕ) → Passed → Bool

@@ -35,7 +35,7 @@ use Rattle.bound_facts.specs.SelfMade.{module_of}
 use Rattle.run_matches.specs.Sites.{Site, site_of}
 use Rattle.run_matches.specs.UserTypes.{is_class_type, is_user, is_user_of}
 use Rattle.run_matches.specs.Inward.{grown, is_apart, is_inward_in}
-use Rattle.run_matches.specs.CoveredVariables.{covers_use, covers_array_use, covers_auto_use, covers_group_use, covers_group_type, covers_made, is_named_so, field_type_in, member_type_in, is_loud, covers_type}
+use Rattle.run_matches.specs.CoveredVariables.{takes_value_at, covers_use, covers_array_use, covers_auto_use, covers_group_use, covers_group_type, covers_made, is_named_so, field_type_in, member_type_in, is_loud, covers_type}
 
 -- ---- operators and the library
 
@@ -211,7 +211,7 @@ uses_in P p mentions = record {
   given = covers_group_type P.declarations;
   is_of = λ v ty. is_declared_as ty (slice_get P.declarations.vars v.0);
   gives = λ q. is_giving (slice_get P.declarations.procs q);
-  takes = λ q ty. is_taking P.declarations ty (slice_get P.declarations.procs q);
+  takes = λ q ty. is_taking P.declarations ty (slice_get P.declarations.procs q) && takes_value_at P q 0;
   results = λ q ty. has_result_type ty (slice_get P.declarations.procs q);
   inward = is_inward_in P;
   exact = λ v. is_loud P v.0 (slice_get P.declarations.vars v.0);

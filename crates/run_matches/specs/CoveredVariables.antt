@@ -15,7 +15,7 @@ use Rattle.bound_tree.specs.declared.declared.TypeDecl.{TypeDecl}
 use Rattle.bound_tree.specs.Tree.{Variable, Procedure, Declarations, Program}
 use Rattle.bound_facts.specs.Bounds.{ranks}
 use Rattle.bound_facts.specs.Calls.{count_variables}
-use Rattle.bound_facts.specs.Effects.{touched}
+use Rattle.bound_facts.specs.Effects.{params_at, touched}
 use Rattle.bound_facts.specs.Facts.{acts}
 use Rattle.bound_facts.specs.Leading.{is_in}
 use Rattle.bound_facts.specs.Locks.{is_same_type}
@@ -116,6 +116,19 @@ abbrev pub is_loud : Program → (variable : ℕ) → Option Variable → Bool
 is_loud P v None = false
 is_loud P v (Some x) = is_loud_owner P v x.owner
 
+-- a scalar, or no quiet parameter: an array, a user type and an object as a quiet one are given by reference alone
+abbrev pub is_scalar_or_loud : Program → (variable : ℕ) → Option Variable → Bool
+is_scalar_or_loud P v None = false
+is_scalar_or_loud P v (Some x) = covers_type x.ty || is_loud_owner P v x.owner
+
+abbrev pub takes_value_by : Program → Option VarId → Bool
+takes_value_by P None = false
+takes_value_by P (Some v) = is_scalar_or_loud P v.0 (slice_get P.declarations.vars v.0)
+
+-- the parameter at a place may be given a value
+abbrev pub takes_value_at : Program → (procedure place : ℕ) → Bool
+takes_value_at P q i = takes_value_by P (slice_get (params_at (slice_get P.declarations.procs q)) i)
+
 -- Variables of the procedure, and those of standard modules and of its own class to which names lead; the line that uses them mentions them.
 abbrev pub covers_use : Program → (procedure : ℕ) → List Mention → VarId → Bool
 covers_use P p mentions v = list_any (is_mention_of v) mentions && covers_some P.declarations p v.0 (slice_get P.declarations.vars v.0)
@@ -169,8 +182,7 @@ has_extents P = list_all has_rank (ranks P)
 -- array variables of the procedure, and of standard modules, as scalars are, which don't have its name
 abbrev pub covers_array_use : Program → (procedure : ℕ) → List Mention → VarId → (element : Ty) → Bool
 covers_array_use P p mentions v e =
-    list_any (is_mention_of v) mentions
-    && (covers_some_array P.declarations p v.0 e (slice_get P.declarations.vars v.0) && is_loud P v.0 (slice_get P.declarations.vars v.0))
+    list_any (is_mention_of v) mentions && covers_some_array P.declarations p v.0 e (slice_get P.declarations.vars v.0)
 
 -- ---- user types
 
@@ -243,8 +255,7 @@ covers_some_group D p v ty (Some x) = is_reached D p v x.name x.owner && (is_sam
 -- variables of user types and of classes, as arrays are
 abbrev pub covers_group_use : Program → (procedure : ℕ) → List Mention → VarId → Ty → Bool
 covers_group_use P p mentions v ty =
-    list_any (is_mention_of v) mentions
-    && (covers_some_group P.declarations p v.0 ty (slice_get P.declarations.vars v.0) && is_loud P v.0 (slice_get P.declarations.vars v.0))
+    list_any (is_mention_of v) mentions && covers_some_group P.declarations p v.0 ty (slice_get P.declarations.vars v.0)
 
 -- ---- As New
 

@@ -33,6 +33,7 @@ use Rattle.net_run.specs.Shapes as shape
 use Rattle.net_run.specs.Store as net
 use Rattle.net_run.specs.Values as net_value
 use Rattle.run_matches.specs.CleanLines.{lines_at}
+use Rattle.run_matches.specs.CoveredVariables.{covers_type}
 use Rattle.run_matches.specs.CoveredExprs.{IsUsed, is_relied_on, uses_in}
 use Rattle.run_matches.specs.CoveredLines.{covers_line, is_local_in, is_passing_in, is_with}
 use Rattle.run_matches.specs.Covered.{is_reference_in}
@@ -49,11 +50,19 @@ use Rattle.run_matches.specs.SoundShapes.{IsSoundShape}
 abbrev pub name_of : Upgrade → (variable : ℕ) → List ℕ
 name_of U v = variable_name_of (slice_get U.program.declarations.vars v)
 
--- A variable of the source's frame by its number stands for one of the target's by its name. A quiet parameter may be bound to a value.
+abbrev pub is_scalar_in : Option Variable → Bool
+is_scalar_in None = false
+is_scalar_in (Some x) = covers_type x.ty
+
+-- a quiet parameter that is a scalar, which may be bound to a value
+abbrev pub is_mirrored : Upgrade → (variable : ℕ) → Bool
+is_mirrored U v = is_quiet U.program.declarations U.known v && is_scalar_in (slice_get U.program.declarations.vars v)
+
+-- A variable of the source's frame by its number stands for one of the target's by its name.
 pub record SameVariable (U : Upgrade) (K : Pledge) (w : World) (v : ℕ) (a : Address) (g : NetFrame) : Type 0 where
   pub address : net.Address
   pub found : var_in g.vars (name_of U v) ≡ Some address
-  pub bound : Bound U K w (not (is_quiet U.program.declarations U.known v)) a address
+  pub bound : Bound U K w (not (is_mirrored U v)) a address
   -- an array has the rank of its declaration
   pub ranked : (element : shape.Shape) (rank : ℕ) → net.shape_at address ≡ shape.array element rank → rank ≡ U.facts.rank v
   pub plain : is_auto U v ≡ false → IsPlain U w a
@@ -113,23 +122,23 @@ is_own_line U p l = is_own_head U p l.source.form l.bindings.exprs
 abbrev pub lines_of : Upgrade → (procedure : ℕ) → List Line
 lines_of U p = lines_at U.program p
 
-abbrev pub is_quiet_root : Upgrade → expression.Root → Bool
-is_quiet_root U (at.Variable v) = is_quiet U.program.declarations U.known v.0
-is_quiet_root U at.Object = false
-is_quiet_root U at.Temporary = false
+abbrev pub is_mirrored_root : Upgrade → expression.Root → Bool
+is_mirrored_root U (at.Variable v) = is_mirrored U v.0
+is_mirrored_root U at.Object = false
+is_mirrored_root U at.Temporary = false
 
-abbrev pub is_quiet_first : Upgrade → List Expr → Bool
-is_quiet_first U [] = false
-is_quiet_first U (e ∷ es) = is_quiet_root U (node.root e)
+abbrev pub is_mirrored_first : Upgrade → List Expr → Bool
+is_mirrored_first U [] = false
+is_mirrored_first U (e ∷ es) = is_mirrored_root U (node.root e)
 
-abbrev pub is_quiet_head : Upgrade → Form → List Expr → Bool
-is_quiet_head U (with_head e) es = is_quiet_first U es
-is_quiet_head U f es = false
+abbrev pub is_mirrored_head : Upgrade → Form → List Expr → Bool
+is_mirrored_head U (with_head e) es = is_mirrored_first U es
+is_mirrored_head U f es = false
 
--- all heads but those of a With on a quiet parameter
+-- all heads but those of a With on such a parameter
 abbrev pub is_exact_head : Upgrade → Option Line → Bool
 is_exact_head U None = true
-is_exact_head U (Some l) = not (is_quiet_head U l.source.form l.bindings.exprs)
+is_exact_head U (Some l) = not (is_mirrored_head U l.source.form l.bindings.exprs)
 
 -- ---- places
 
@@ -277,11 +286,11 @@ pub record GivenPlace (U : Upgrade) (v : ℕ) (a : Address) : Type 0 where
   pub stands : StandsAs (variable_shape U.program.declarations v) a position
   pub target : IsTarget U a
 
--- a quiet parameter may stand for a value
+-- a mirrored one may stand for a value
 pub record GivenAddress (U : Upgrade) (v : ℕ) (a : Address) : Type 0 where
   pub of_scalars : IsWhole a ⊎ IsElement a
   pub whole : is_relied_on U.program v ≡ true → IsWhole a
-  pub place : is_quiet U.program.declarations U.known v ≡ false → GivenPlace U v a
+  pub place : is_mirrored U v ≡ false → GivenPlace U v a
 
 -- so it is with those that a line uses
 abbrev pub GivenStand : Upgrade → (procedure : ℕ) → SourceFrame → Line → Type 0

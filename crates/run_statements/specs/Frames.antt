@@ -13,7 +13,6 @@ use Rattle.vb_tree.specs.declared.declared.ProcId.{ProcId}
 use Rattle.vb_tree.specs.declared.declared.VarId.{VarId}
 use Rattle.vb_tree.specs.declared.value.Value6.{Value6}
 use Rattle.bound_tree.specs.Tree.{Variable, Expr, typed, Term, constant, variable, field, element, call, library, unary, binary, convert, new_object, me, with_object, err_number, err_raise, err_clear, is_same, loose, Object, no_object, of_object, Exprs, no_exprs, next_expr, Argument, by_value, by_reference, Passed, no_passed, next_passed, Line}
-use Rattle.bound_facts.specs.Facts.{is_quiet}
 use Rattle.bound_facts.specs.Locks.{Keeps}
 use Rattle.bound_facts.specs.Members.{class_files, field_of, initializer}
 use Rattle.bound_facts.specs.Node.{auto_class, type_at, called}
@@ -47,7 +46,7 @@ use Rattle.net_run.specs.Values as net_value
 use Rattle.net_meaning.specs.declared.value.ValueN.TheVariants as n
 use Rattle.written_trees.specs.Exprs.{callee_of, exp_of, passed_of}
 use Rattle.written_trees.specs.Names.{Scope, auto_name, class_path, variable_path, procedure_name, procedure_path}
-use Rattle.run_matches.specs.Addresses.{Same, IsPlain, IsScalarAt, IsTarget, SameIndexes}
+use Rattle.run_matches.specs.Addresses.{Same, IsPlain, IsScalarAt, IsTarget, SameIndexes, TakesValue}
 use Rattle.written_trees.specs.Arguments.{takes_reference}
 use Rattle.run_matches.specs.Agreeing.{Agrees}
 use Rattle.run_matches.specs.Formed.{passed_are_formed, is_formed}
@@ -55,7 +54,7 @@ use Rattle.run_matches.specs.CoveredVariables.{covers_auto_owner, covers_type, c
 use Rattle.run_matches.specs.CoveredExprs.{Uses, IsUsed, covers_array, covers_expr, covers_exprs, covers_passed, covers_receiver, has_result_type, is_declared_as, is_giving, is_relied_on, is_taking}
 use Rattle.run_matches.specs.Covered.{hands_passed, suits_passed}
 use Rattle.run_matches.specs.SoundShapes.{IsField, IsSoundShape}
-use Rattle.run_matches.specs.Frames.{FrameMatch, GivenAddress, HasPlace, IsOwnAddress, is_own_of, is_reference_of, lines_of}
+use Rattle.run_matches.specs.Frames.{FrameMatch, GivenAddress, HasPlace, IsOwnAddress, is_mirrored, is_own_of, is_reference_of, lines_of}
 use Rattle.run_matches.specs.Likeness.{LikeV, SameShape, scalar_word}
 use Rattle.run_matches.specs.Maps.{IsMatched, World, is_auto_root}
 use Rattle.run_matches.specs.Match.{HasArray, MemoryMatch, is_class_variable}
@@ -86,10 +85,10 @@ abbrev pub AreBounds : (rank : ℕ) → List (ℤ × ℤ) → Type 0
 AreBounds rank [] = Unit {0}
 AreBounds rank (b ∷ bounds) = (length (b ∷ bounds) ≡ rank) × (list_all is_in_order (b ∷ bounds) ≡ true)
 
--- an array of elements of a covered type, which is no quiet parameter
+-- an array of elements of a covered type, for which no value stands
 pub record IsArray (U : Upgrade) (v : ℕ) (element : Ty) : Type 0 where
   pub known : IsKnown U v
-  pub exact : is_quiet U.program.declarations U.known v ≡ false
+  pub exact : is_mirrored U v ≡ false
   pub rank : ℕ
   pub is_array : known.variable.ty ≡ array element rank
   pub covers : covers_type element ≡ true
@@ -99,10 +98,10 @@ pub record IsArray (U : Upgrade) (v : ℕ) (element : Ty) : Type 0 where
 abbrev pub type_shape : Upgrade → Ty → Shape
 type_shape U ty = shape_by (user_shapes U.program.declarations) [] ty
 
--- a variable of a covered user type or class, which is no quiet parameter
+-- a variable of a covered user type or class, for which no value stands
 pub record IsGroup (U : Upgrade) (v : ℕ) (ty : Ty) : Type 0 where
   pub known : IsKnown U v
-  pub exact : is_quiet U.program.declarations U.known v ≡ false
+  pub exact : is_mirrored U v ≡ false
   pub is_type : known.variable.ty ≡ ty
   pub covers : covers_group_type U.program.declarations ty ≡ true
   pub sound : IsSoundShape U (type_shape U ty)
@@ -163,11 +162,13 @@ pub record AreReadable (U : Upgrade) (T : Scope) (uses : Uses) : Type 0 where
   pub given : (ty : Ty) → uses.given ty ≡ true → covers_group_type U.program.declarations ty ≡ true
   -- a covered user type holds no array, so that what is written copies it with all that it holds
   pub flat : (user_type : ℕ) → covers_user U.program.declarations user_type ≡ true → U.facts.holds_array user_type ≡ false
-  pub exact : (v : VarId) → uses.exact v ≡ true → is_quiet U.program.declarations U.known v.0 ≡ false
+  pub exact : (v : VarId) → uses.exact v ≡ true → is_mirrored U v.0 ≡ false
   pub facts : T.facts ≡ U.facts
   pub types : (v : VarId) (ty : Ty) → uses.is_of v ty ≡ true → is_declared_as ty (slice_get U.program.declarations.vars v.0) ≡ true
   pub gives : (q : ℕ) → uses.gives q ≡ true → is_giving (slice_get U.program.declarations.procs q) ≡ true
-  pub takes : (q : ℕ) (ty : Ty) → uses.takes q ty ≡ true → is_taking U.program.declarations ty (slice_get U.program.declarations.procs q) ≡ true
+  pub takes :
+      (q : ℕ) (ty : Ty) → uses.takes q ty ≡ true
+      → (is_taking U.program.declarations ty (slice_get U.program.declarations.procs q) ≡ true) × TakesValue U q 0
   pub results : (q : ℕ) (ty : Ty) → uses.results q ty ≡ true → has_result_type ty (slice_get U.program.declarations.procs q) ≡ true
   pub inward : (q : ℕ) → uses.inward q ≡ true → is_inward U q ≡ true
   pub relied : (v : VarId) → uses.relied v ≡ true → is_relied_on U.program v.0 ≡ true

@@ -33,6 +33,7 @@ use Rattle.run_statements.specs.Frames.{AllCalledOf, AnyUnits, AreReadable, AreP
 use Rattle.run_statements.specs.Groups.{ValueMatch}
 use Rattle.run_statements.specs.Ways.{Way, callee_by}
 use Rattle.run_statements.specs.Written.{Passes}
+use Rattle.run_matches.specs.Addresses.{TakesValue}
 
 -- the object of a property on one side, and on the other what takes a value, where it isn't seen yet whether there is an object
 pub data SetterMatch (U : Upgrade) (way : Way) (number : ℕ) : Object → World → Receiver → Reached → Type 0 where
@@ -61,6 +62,7 @@ PropertiesAreSet U =
     → FrameMatch U K w p f g → CallsAgree U (Passes U) oracle net_oracle
     → (can : CanCall U K (scope_of U.written c g k) T p q qualified of no_passed) → is_giving (slice_get U.program.declarations.procs q) ≡ false
     → SetterMatch U can.way can.number of w r reached → is_taking U.program.declarations ty (slice_get U.program.declarations.procs q) ≡ true
+    → TakesValue U q 0
     → (covers_type ty ≡ true) ⊎ (covers_group_type U.program.declarations ty ≡ true) → ValueMatch U (type_shape U ty) w x y
     → Agrees U K w AnyUnits
     (then (source.entered (context_of U oracle p f l) q r (by_value x ∷ []) w.src) (λ z w. gives [] tt w))

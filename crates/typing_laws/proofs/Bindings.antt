@@ -19,8 +19,8 @@ use Rattle.vb6_run.specs.Shapes.{Shape, simple, is_same_shape, part_shape, varia
 use Rattle.vb6_run.specs.Store.{Address, root, item, constant, single, Memory, SourceGiven, is_address_of, is_some_shape, laid, make, make_with, provided, with_held, write}
 use Rattle.vb6_run.specs.Values.{Value, is_makeable, kept_as, scalar, first_scalar}
 use Rattle.run_matches.specs.CoveredVariables.{covers_type, is_loud}
-use Rattle.run_matches.specs.Covered.{covers_parameter, is_parameter_of}
-use Rattle.typing_laws.specs.Flat.{has_flat_variables, is_flat}
+use Rattle.run_matches.specs.Covered.{is_parameter_of}
+use Rattle.typing_laws.specs.Flat.{has_flat_variables, is_flat, is_flat_parameter}
 use Rattle.typing_laws.specs.Frames.{AreGiven, Fills, Footprint, Ground, IsGiven, IsPlace, IsSound, Keeps, Stands, ground}
 use Rattle.typing_laws.specs.Plain.{Holds, IsShapeOf, IsValue, IsValueOf, IsWhole, array_shape, holds_scalar, scalar_shape, user_shape}
 use Rattle.run_matches.specs.UserTypes.{is_user}
@@ -284,14 +284,14 @@ module _ (R : Runnable) (p : ℕ) (variables : has_flat_variables R.program p �
       (h.0, h.1)
   one_bound k y s (by_address (constant x)) quiet w allowed parts_allowed is kind loud shape h = absurd h
 
-  pub parameters_end : (place : ℕ) (vs : List VarId) (gs : List SourceGiven) (w : Memory) → IsSound K w → list_all (covers_parameter R.program p) vs ≡ true
+  pub parameters_end : (place : ℕ) (vs : List VarId) (gs : List SourceGiven) (w : Memory) → IsSound K w → list_all (is_flat_parameter R.program p) vs ≡ true
       → ((j : ℕ) (v : VarId) → slice_get vs j ≡ Some v → is_loud R.program v.0 (slice_get D.vars v.0) ≡ true → R.quiet p (place + j) ≡ false) → AreGiven K w vs gs
       → Ends K (λ u bs. Bound R.program F u (map (λ (v : VarId). v.0) vs) bs) E w (parameters R p place vs gs w)
   parameters_end place [] [] w sound c loud h = (keeps_self K w, no_bound R.program F w)
   parameters_end place [] (g ∷ gs) w sound c loud h = absurd h
   parameters_end place (v ∷ vs) [] w sound c loud h = absurd h
   parameters_end place (v ∷ vs) (g ∷ gs) w sound c loud h =
-      let y : Parameter R.program p v = parameter_of R.program p v variables (all_first (covers_parameter R.program p) v vs c) in
+      let y : Parameter R.program p v = parameter_of R.program p v variables (all_first (is_flat_parameter R.program p) v vs c) in
       let s : Shape = variable_shape D v.0 in
       let shape : IsShapeOf D y.variable.ty s = shape_of_variable D v.0 y.variable y.is_variable y.flat in
       let Q = λ (u : Memory) (bs : Bindings). Bound R.program F u (map (λ (z : VarId). z.0) (v ∷ vs)) bs in
@@ -305,7 +305,7 @@ module _ (R : Runnable) (p : ℕ) (variables : has_flat_variables R.program p �
       (subst (λ o. IsGiven K w o g) y.is_variable h.0)))
       (λ o a u one k there.
       then_ends K (λ m bs. Bound R.program F m (map (λ (z : VarId). z.0) vs) bs) Q E u (parameters R p (suc place) vs gs u) (λ rest m. gives [] ((v.0, a) ∷ rest) m)
-      (parameters_end (suc place) vs gs u (sound_later K w u k sound) (all_rest (covers_parameter R.program p) v vs c)
+      (parameters_end (suc place) vs gs u (sound_later K w u k sound) (all_rest (is_flat_parameter R.program p) v vs c)
       (λ j z at l. ap (λ n. R.quiet p n) (sym (next_place place j)) ∙ loud (suc j) z at l) (all_given K w u vs gs k h.1))
       (λ o2 rest m two l b. (
         keeps_self K m,

@@ -194,7 +194,7 @@ entered_ends R p me locked gs w F E ready x is sound given out =
     then (lay_statics D me (Some y.module_number) ss m) (λ z n. gives [] (first_frame me all (bs ++ cs)) n)) in
     subst (λ o. Ends K Good E w (some_of o (λ x w. entry R p me locked gs x w) w)) (sym parts.head.is_procedure)
     (then_ends K (λ u bs. Bound R.program F u ks bs) Good E w (parameters R p 0 y.params gs w) J
-    (parameters_end R p parts.variables F E 0 y.params gs w sound parts.head.params (loud_at R p y parts.head.is_procedure (ready.loud p (empty p)))
+    (parameters_end R p parts.variables F E 0 y.params gs w sound parts.params (loud_at R p y parts.head.is_procedure (ready.loud p (empty p)))
     (subst (λ (z : Procedure). AreGiven K w z.params gs) same given))
     (λ o bs u one k b.
     then_ends K (λ m cs. Bound R.program F m os cs) Good E u (made_each D os u)

@@ -15,12 +15,12 @@ use Rattle.bound_facts.specs.Locks.{is_same_type}
 use Rattle.vb6_run.specs.Forms.{body_of}
 use Rattle.vb6_run.specs.Programs.{answer_in, owned_from}
 use Rattle.vb6_run.specs.Runnables.{Runnable, is_class_file}
-use Rattle.run_matches.specs.CoveredVariables.{belongs_to, covers_declared, has_extents, covers_type, is_loud, is_loud_owner}
+use Rattle.run_matches.specs.CoveredVariables.{belongs_to, covers_declared, has_extents, covers_type, is_loud, is_loud_owner, is_scalar_or_loud}
 use Rattle.run_matches.specs.CoveredLines.{covers_in_block, covers_line}
-use Rattle.run_matches.specs.Covered.{covers_all_calls, covers_body, covers_calls, covers_head, covers_joined, covers_names, covers_parameter, covers_procedure, covers_result, covers_site, covers_variables, has_answer, has_result, is_answer_of, is_parameter_of, is_plain, is_plain_kind, is_result_in, is_scalar_or_loud, is_taken_in}
+use Rattle.run_matches.specs.Covered.{covers_all_calls, covers_body, covers_calls, covers_head, covers_joined, covers_names, covers_parameter, covers_procedure, covers_result, covers_site, covers_variables, has_answer, has_result, is_answer_of, is_parameter_of, is_plain, is_plain_kind, is_result_in, is_parameter_in}
 use Rattle.run_matches.specs.Shared.{is_outer}
 use Rattle.run_matches.specs.Sites.{site_of}
-use Rattle.typing_laws.specs.Flat.{are_flat_lines, has_flat_variables, is_flat, is_flat_line}
+use Rattle.typing_laws.specs.Flat.{are_flat_lines, has_flat_variables, is_flat, is_flat_line, is_flat_parameter, has_flat_parameters}
 use Rattle.typing_laws.specs.Calls.{IsReady}
 use Rattle.typing_laws.specs.Typed.{are_typed_lines, gives_what_it_has, is_typed_line}
 use Rattle.typing_laws.proofs.Uses.{own_flat}
@@ -69,6 +69,7 @@ pub record Parts (P : Program) (p : ℕ) : Type 0 where
   -- it stands in a standard module
   pub outer : not (is_class_file P.declarations head.procedure.module_number) ≡ true
   pub variables : has_flat_variables P p ≡ true
+  pub params : list_all (is_flat_parameter P p) head.procedure.params ≡ true
   pub body : Body P p
   -- each ReDim of the project gives its arrays a bound
   pub extents : has_extents P ≡ true
@@ -90,15 +91,19 @@ parts_of R p ready =
     let c = both_true at (covers_variables P p && body) b.1 in
     let d = both_true (covers_variables P p) body c.1 in
     let outer = is_outer D (slice_get D.procs p) in
-    let k = both_true (is_plain (slice_get D.procs p)) (outer && (are_flat_lines P p (slice_get P.bodies p) && has_flat_variables P p)) (ready.flat p (empty p)) in
-    let f = both_true outer (are_flat_lines P p (slice_get P.bodies p) && has_flat_variables P p) k.1 in
-    let s = both_true (are_flat_lines P p (slice_get P.bodies p)) (has_flat_variables P p) f.1 in
+    let flat = are_flat_lines P p (slice_get P.bodies p) && has_flat_variables P p in
+    let parameters = has_flat_parameters P p (slice_get D.procs p) in
+    let k = both_true (is_plain (slice_get D.procs p)) (outer && (flat && parameters)) (ready.flat p (empty p)) in
+    let f = both_true outer (flat && parameters) k.1 in
+    let r = both_true flat parameters f.1 in
+    let s = both_true (are_flat_lines P p (slice_get P.bodies p)) (has_flat_variables P p) r.0 in
     let x : Head P p = head_in P p (slice_get D.procs p) refl b.0 in
     record {
       head = x;
       plain = sym (ap is_plain x.is_procedure) ∙ k.0;
       outer = sym (ap (is_outer D) x.is_procedure) ∙ f.0;
       variables = s.1;
+      params = sym (ap (has_flat_parameters P p) x.is_procedure) ∙ r.1;
       extents = (both_true (list_all (λ (x : Variable). cond (belongs_to p x.owner) (covers_declared D x) true) D.vars) (has_extents P) d.0).1;
       body = body_in P p (slice_get P.bodies p) refl d.1 z.0 (ready.typed p (empty p)) s.0;
       gives = ready.results p (empty p);
@@ -124,13 +129,13 @@ parameter_belongs p (owner.Answer q) h = absurd (true≢false (sym h))
 parameter_belongs p (owner.Field q) h = absurd (true≢false (sym h))
 
 parameter_in : (P : Program) (p : ℕ) (v : VarId) (o : Option Variable) → slice_get P.declarations.vars v.0 ≡ o → has_flat_variables P p ≡ true
-    → is_taken_in P p v.0 o ≡ true → Parameter P p v
+    → is_parameter_in p o && is_scalar_or_loud P v.0 o ≡ true → Parameter P p v
 parameter_in P p v None is c h = absurd (true≢false (sym h))
 parameter_in P p v (Some y) is c h =
-    let b = both_true (is_parameter_of p y.owner) (is_scalar_or_loud P v.0 y) h in
+    let b = both_true (is_parameter_of p y.owner) (is_scalar_or_loud P v.0 (Some y)) h in
     record { variable = y; is_variable = is; is_parameter = b.0; flat = own_flat P p v.0 y c is (parameter_belongs p y.owner b.0); loud = either (covers_type y.ty) (is_loud_owner P v.0 y.owner) b.1 }
 
-pub parameter_of : (P : Program) (p : ℕ) (v : VarId) → has_flat_variables P p ≡ true → covers_parameter P p v ≡ true → Parameter P p v
+pub parameter_of : (P : Program) (p : ℕ) (v : VarId) → has_flat_variables P p ≡ true → is_flat_parameter P p v ≡ true → Parameter P p v
 parameter_of P p v c h = parameter_in P p v (slice_get P.declarations.vars v.0) refl c h
 
 -- ---- results

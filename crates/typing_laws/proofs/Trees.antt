@@ -22,9 +22,9 @@ use Rattle.vb6_run.specs.Expressions.{Context, declared, value_of, scalar_value,
 use Rattle.vb6_run.specs.Store.{Memory}
 use Rattle.run_matches.specs.CoveredVariables.{covers_type}
 use Rattle.run_matches.specs.CoveredExprs.{Uses, covers_argument, covers_array, covers_expr, covers_exprs, covers_object, covers_operand, covers_operator, covers_passed, covers_term}
-use Rattle.run_matches.specs.Covered.{covers_parameter, suits_argument, suits_passed}
+use Rattle.run_matches.specs.Covered.{suits_argument, suits_passed}
 use Rattle.run_matches.specs.Formed.{are_formed, are_longs, has_elements, is_formed, is_formed_argument, is_row_of_call, is_row_of_one, is_row_of_two, passed_are_formed, types_of}
-use Rattle.typing_laws.specs.Flat.{flat_uses, outer_uses}
+use Rattle.typing_laws.specs.Flat.{flat_uses, outer_uses, is_flat_parameter}
 use Rattle.typing_laws.specs.Calls.{CallsAreSuited, CallsKeep, Each, IsSuited, SourceJob}
 use Rattle.typing_laws.specs.Frames.{AreGiven, IsGiven}
 use Rattle.typing_laws.specs.Leaving.{Leaves, ExprsLeave, PassedLeave, in_first, in_later, in_argument, behind_argument, passed_value}
@@ -124,7 +124,7 @@ module _ (C : Context) (F : Footprint) (X : SourceJob → Memory → Type 0) (ca
               (call_value C F X calls mentions w ty (call q qualified no_object args) x L both.0 callee.same
               (sym (ap gives_what_it_has callee.parts.head.is_procedure) ∙ callee.parts.gives)
               (call_ends C F X calls mentions w fits ty q qualified args callee
-              (passed_end q.0 (called_of C q.0 ty args callee) x.params 0 (λ j. ap (λ n. slice_get x.params n) (no_place j)) callee.parts.head.params args given.1 formed
+              (passed_end q.0 (called_of C q.0 ty args callee) x.params 0 (λ j. ap (λ n. slice_get x.params n) (no_place j)) callee.parts.params args given.1 formed
               types.0 callee.fits suited.0.suits suited.1 w fits))),
           tt,
         )
@@ -206,7 +206,7 @@ module _ (C : Context) (F : Footprint) (X : SourceJob → Memory → Type 0) (ca
         (in_later e rest w v o x one) (values_end rest operands.1 inner.1 types.1 parts.1 v (fits_later C F w v k fits)))
         (λ o2 xs u two l q. (keeps_self K u, (p, q))))
 
-    passed_end : (q : ℕ) (k : Called C q) (vs : List VarId) (i : ℕ) → StandFrom C F X calls mentions k.procedure i vs → list_all (covers_parameter C.runnable.program q) vs ≡ true
+    passed_end : (q : ℕ) (k : Called C q) (vs : List VarId) (i : ℕ) → StandFrom C F X calls mentions k.procedure i vs → list_all (is_flat_parameter C.runnable.program q) vs ≡ true
         → (args : Passed) → covers_passed uses args ≡ true → passed_are_formed args ≡ true → are_typed_passed D args ≡ true → fits_parameters D vs args ≡ true
         → suits_passed D q i args ≡ true → Each (IsSuited C.runnable) (nodes_of_passed args) → (w : Memory) → Fits C F w
         → Ends K (λ v gs. AreGiven K v vs gs) (PassedLeave C X q i args w) w (args_of C q i args w)
@@ -221,7 +221,7 @@ module _ (C : Context) (F : Footprint) (X : SourceJob → Memory → Type 0) (ca
         let ss = both_true (suits_argument D q i a) (suits_passed D q (suc i) rest) suit in
         let ns = both_each (IsSuited C.runnable) (nodes_of_argument a) (nodes_of_passed rest) suited in
         let y : Parameter C.runnable.program q p =
-        parameter_of C.runnable.program q p k.variables (all_first (covers_parameter C.runnable.program q) p vs params) in
+        parameter_of C.runnable.program q p k.variables (all_first (is_flat_parameter C.runnable.program q) p vs params) in
         let L : Type 0 = PassedLeave C X q i (next_passed a rest) w in
         then_ends K (λ v g. IsGiven K v (slice_get D.vars p.0) g) (λ v gs. AreGiven K v (p ∷ vs) gs) L w (argument_of C (C.runnable.quiet q i) a w)
         (λ g v. then (args_of C q (suc i) rest v) (λ gs u. gives [] (g ∷ gs) u))
@@ -233,7 +233,7 @@ module _ (C : Context) (F : Footprint) (X : SourceJob → Memory → Type 0) (ca
         then_ends K (λ u hs. AreGiven K u vs hs) (λ v gs. AreGiven K v (p ∷ vs) gs) L v (args_of C q (suc i) rest v) (λ hs u. gives [] (g ∷ hs) u)
         (ends_weaker K (λ u hs. AreGiven K u vs hs) (PassedLeave C X q (suc i) rest v) L v (args_of C q (suc i) rest v) (behind_argument q i a rest w v o g one)
         (passed_end q k vs (suc i) (λ j. stand (suc j) ∙ ap (λ n. slice_get k.procedure.params n) (next_place i j))
-        (all_rest (covers_parameter C.runnable.program q) p vs params) rest cs.1 fs.1 ts.1 gs.1 ss.1 ns.1 v (fits_later C F w v l fits)))
+        (all_rest (is_flat_parameter C.runnable.program q) p vs params) rest cs.1 fs.1 ts.1 gs.1 ss.1 ns.1 v (fits_later C F w v l fits)))
         (λ o2 hs u two m more. (keeps_self K u, (given_later K v u (slice_get D.vars p.0) g m good, more))))
 
     passed_right : (a : Argument) → is_formed_argument a ≡ true → is_typed_argument D a ≡ true → Each (IsSuited C.runnable) (nodes_of_argument a)
@@ -256,5 +256,5 @@ module _ (C : Context) (F : Footprint) (X : SourceJob → Memory → Type 0) (ca
       → Ends K (λ v gs. AreGiven K v callee.parts.head.procedure.params gs) (PassedLeave C X q.0 0 args w) w (args_of C q.0 0 args w)
   call_args_end ty q args callee covers formed typing suit suited w fits =
       let x : Procedure = callee.parts.head.procedure in
-      passed_end q.0 (called_of C q.0 ty args callee) x.params 0 (λ j. ap (λ n. slice_get x.params n) (no_place j)) callee.parts.head.params args covers formed
+      passed_end q.0 (called_of C q.0 ty args callee) x.params 0 (λ j. ap (λ n. slice_get x.params n) (no_place j)) callee.parts.params args covers formed
       typing callee.fits suit suited w fits

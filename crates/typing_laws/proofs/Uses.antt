@@ -22,7 +22,7 @@ use Rattle.run_matches.specs.Shared.{is_alone_static}
 use Rattle.run_matches.specs.UserTypes.{is_user}
 use Rattle.bound_facts.specs.Locks.{is_same_type}
 use Rattle.typing_laws.specs.Frames.{Footprint, HasOwn, IsPlace, IsSound, ground, shared_place}
-use Rattle.typing_laws.specs.Flat.{has_flat_variables, is_flat, is_flat_in, stands_outside}
+use Rattle.typing_laws.specs.Flat.{has_flat_variables, is_flat, is_flat_in, stands_outside, is_loud_variable}
 use Rattle.typing_laws.proofs.Made.{FlatKind, array_flat, array_type, flat_kinds, scalar_flat, shape_of_variable}
 use Rattle.typing_laws.proofs.Places.{all_at}
 
@@ -129,14 +129,14 @@ array_in D p v e (Some x) is out h =
     none_of false = refl
 
 pub array_use_is : (P : Program) (p : ℕ) (mentions : List Mention) (v : VarId) (e : Ty)
-    → covers_array_use P p mentions v e && stands_outside P.declarations v ≡ true → UsedArray P.declarations p v e × (is_loud P v.0 (slice_get P.declarations.vars v.0) ≡ true)
+    → (covers_array_use P p mentions v e && is_loud_variable P v) && stands_outside P.declarations v ≡ true → UsedArray P.declarations p v e × (is_loud P v.0 (slice_get P.declarations.vars v.0) ≡ true)
 array_use_is P p mentions v e h =
     let D : Declarations = P.declarations in
     let o = slice_get D.vars v.0 in
-    let used = both_true (covers_array_use P p mentions v e) (stands_outside D v) h in
-    let a = both_true (list_any (is_mention_of v) mentions) (covers_some_array D p v.0 e o && is_loud P v.0 o) used.0 in
-    let b = both_true (covers_some_array D p v.0 e o) (is_loud P v.0 o) a.1 in
-    (array_in D p v e o refl used.1 b.0, b.1)
+    let used = both_true (covers_array_use P p mentions v e && is_loud_variable P v) (stands_outside D v) h in
+    let a = both_true (covers_array_use P p mentions v e) (is_loud_variable P v) used.0 in
+    let b = both_true (list_any (is_mention_of v) mentions) (covers_some_array D p v.0 e o) a.0 in
+    (array_in D p v e o refl used.1 b.1, a.1)
 
 -- ---- addresses
 
@@ -242,12 +242,12 @@ group_in P p v ty (Some x) is user out h loud flat =
     }
 
 pub group_use_is : (P : Program) (p : ℕ) (mentions : List Mention) (v : VarId) (ty : Ty) → is_user ty ≡ true
-    → covers_group_use P p mentions v ty && (stands_outside P.declarations v && is_flat_in P.declarations (slice_get P.declarations.vars v.0)) ≡ true → UsedGroup P p v ty
+    → (covers_group_use P p mentions v ty && is_loud_variable P v) && (stands_outside P.declarations v && is_flat_in P.declarations (slice_get P.declarations.vars v.0)) ≡ true → UsedGroup P p v ty
 group_use_is P p mentions v ty user h =
     let D : Declarations = P.declarations in
     let o = slice_get D.vars v.0 in
-    let used = both_true (covers_group_use P p mentions v ty) (stands_outside D v && is_flat_in D o) h in
+    let used = both_true (covers_group_use P p mentions v ty && is_loud_variable P v) (stands_outside D v && is_flat_in D o) h in
     let stands = both_true (stands_outside D v) (is_flat_in D o) used.1 in
-    let a = both_true (list_any (is_mention_of v) mentions) (covers_some_group D p v.0 ty o && is_loud P v.0 o) used.0 in
-    let b = both_true (covers_some_group D p v.0 ty o) (is_loud P v.0 o) a.1 in
-    group_in P p v ty o refl user stands.0 b.0 b.1 stands.1
+    let a = both_true (covers_group_use P p mentions v ty) (is_loud_variable P v) used.0 in
+    let b = both_true (list_any (is_mention_of v) mentions) (covers_some_group D p v.0 ty o) a.0 in
+    group_in P p v ty o refl user stands.0 b.1 a.1 stands.1

@@ -6,15 +6,15 @@ use Rattle.vb_tree.specs.declared.declared.VarId.{VarId}
 use Rattle.vb_tree.specs.Tree.{Form}
 use Rattle.vb_tree.specs.Tree as source
 use Rattle.bound_tree.specs.declared.body.Mention.{Mention}
-use Rattle.bound_tree.specs.Tree.{Declarations, Variable, Expr, typed, field, Line, Program}
+use Rattle.bound_tree.specs.Tree.{Declarations, Variable, Procedure, Expr, typed, field, Line, Program}
 use Rattle.bound_facts.specs.Members.{field_of}
 use Rattle.bound_facts.specs.Node.{type_at, variable_number}
 use Rattle.bound_facts.specs.Parts.{line_uses}
 use Rattle.written_trees.specs.Types.{element_type}
-use Rattle.run_matches.specs.CoveredVariables.{belongs_to, covers_array_variable, covers_type, covers_user, is_class_member}
+use Rattle.run_matches.specs.CoveredVariables.{belongs_to, covers_array_variable, covers_type, covers_user, is_class_member, is_loud, is_scalar_or_loud}
 use Rattle.run_matches.specs.CoveredExprs.{Uses, uses_in}
 use Rattle.run_matches.specs.CoveredLines.{covers_form}
-use Rattle.run_matches.specs.Covered.{is_plain}
+use Rattle.run_matches.specs.Covered.{is_plain, covers_parameter}
 use Rattle.run_matches.specs.Formed.{is_formed}
 use Rattle.run_matches.specs.Shared.{is_outer}
 use Rattle.run_matches.specs.UserTypes.{is_user, is_user_of}
@@ -58,16 +58,21 @@ abbrev pub is_flat_in : Declarations → Option Variable → Bool
 is_flat_in D None = false
 is_flat_in D (Some x) = is_flat D x
 
-abbrev pub outside_classes : Declarations → Uses → Uses
-outside_classes D uses = record uses {
-  scalar = λ v. uses.scalar v && stands_outside D v;
-  array = λ v e. uses.array v e && stands_outside D v;
-  group = λ v ty. uses.group v ty && (stands_outside D v && is_flat_in D (slice_get D.vars v.0));
+abbrev pub is_loud_variable : Program → VarId → Bool
+is_loud_variable P v = is_loud P v.0 (slice_get P.declarations.vars v.0)
+
+abbrev pub outside_classes : Program → Uses → Uses
+outside_classes P uses = record uses {
+  scalar = λ v. uses.scalar v && stands_outside P.declarations v;
+  array = λ v e. (uses.array v e && is_loud_variable P v) && stands_outside P.declarations v;
+  group = λ v ty.
+      (uses.group v ty && is_loud_variable P v)
+      && (stands_outside P.declarations v && is_flat_in P.declarations (slice_get P.declarations.vars v.0));
 }
 
--- what a line of a procedure uses and mentions, but for variables of its class and user types that aren't flat
+-- what a line of a procedure uses and mentions, but for variables of its class, user types that aren't flat, and quiet arrays and user types
 abbrev pub outer_uses : Program → (procedure : ℕ) → List Mention → Uses
-outer_uses P p mentions = outside_classes P.declarations (uses_in P p mentions)
+outer_uses P p mentions = outside_classes P (uses_in P p mentions)
 
 abbrev pub flat_uses : Program → (procedure : ℕ) → List Mention → Uses
 flat_uses P p mentions = without_objects (outer_uses P p mentions)
@@ -96,8 +101,16 @@ are_flat_lines P p (Some lines) = list_all (is_flat_line P p) lines
 abbrev pub has_flat_variables : Program → (procedure : ℕ) → Bool
 has_flat_variables P p = list_all (λ (x : Variable). cond (belongs_to p x.owner) (is_flat P.declarations x) true) P.declarations.vars
 
--- a Sub or a Function of a standard module without objects: its lines, if there are any, and its variables
+-- a parameter that is a scalar, or no quiet one
+abbrev pub is_flat_parameter : Program → (procedure : ℕ) → VarId → Bool
+is_flat_parameter P p v = covers_parameter P p v && is_scalar_or_loud P v.0 (slice_get P.declarations.vars v.0)
+
+abbrev pub has_flat_parameters : Program → (procedure : ℕ) → Option Procedure → Bool
+has_flat_parameters P p None = false
+has_flat_parameters P p (Some x) = list_all (is_flat_parameter P p) x.params
+
+-- a Sub or a Function of a standard module without objects: its lines, if there are any, its variables, and its parameters
 abbrev pub is_flat_procedure : Program → (procedure : ℕ) → Bool
 is_flat_procedure P p =
     is_plain (slice_get P.declarations.procs p)
-    && (is_outer P.declarations (slice_get P.declarations.procs p) && (are_flat_lines P p (slice_get P.bodies p) && has_flat_variables P p))
+    && (is_outer P.declarations (slice_get P.declarations.procs p) && ((are_flat_lines P p (slice_get P.bodies p) && has_flat_variables P p) && has_flat_parameters P p (slice_get P.declarations.procs p)))
