@@ -1,9 +1,10 @@
 -- How both sides come to what is called, and to its arguments.
-use Rattle.std.proofs.Common.{◌≡◌, refl, sym, ap, subst, ◌∙◌, ℕ, Bool, true, false, true≢false, not, ◌&&◌, Option, Some, None, List, []}
+use Rattle.std.proofs.Common.{◌≡◌, ◌⊎◌, inl, inr, refl, sym, ap, subst, ◌∙◌, ℕ, Bool, true, false, true≢false, not, ◌&&◌, Option, Some, None, List, []}
 use Rattle.std.specs.Prelude.{slice_get}
+use Rattle.up_base.proofs.Tests.{by_test}
 use Rattle.vb_tree.specs.BoundTree.{Ty}
 use Rattle.vb_tree.specs.declared.declared.ProcId.{ProcId}
-use Rattle.bound_tree.specs.Tree.{Declarations, Expr, typed, call, Object, no_object, of_object, Passed, no_passed, next_passed}
+use Rattle.bound_tree.specs.Tree.{Expr, typed, call, Object, no_object, of_object, Passed, no_passed, next_passed}
 use Rattle.bound_facts.specs.Node.{class_in, type_at}
 use Rattle.net_tree.specs.Tree.{Exp, Exps, call_of, no_exps, path}
 use Rattle.run_base.specs.Outcomes.{Outcome, after, gives, then}
@@ -28,7 +29,6 @@ use Rattle.run_matches.specs.Upgrades.{Upgrade}
 use Rattle.run_statements.specs.Ways.{IsWay, LeadsAlone, Way, as_get, as_procedure, as_set, callee_by}
 use Rattle.row_laws.proofs.Composing.{after_nil, then_assoc, then_gives}
 use Rattle.agreeing_laws.proofs.Members.{member_behind}
-use Rattle.expression_laws.proofs.Types.{both_true}
 
 -- a procedure that is no part of a property is called
 pub callee_is : (T : written_names.Scope) (ty : Ty) (q : ProcId) (qualified : Bool) (of : Object) (args : Passed) → is_property T.declarations q.0 ≡ false
@@ -36,27 +36,27 @@ pub callee_is : (T : written_names.Scope) (ty : Ty) (q : ProcId) (qualified : Bo
 callee_is T ty q qualified of args h =
     ap (λ b. written.called (b && (has_none args && not (reads_itself T q.0 qualified of))) (callee_of T q.0 qualified of) (passed_of T q.0 0 args)) h
 
--- What is written for a call suits the way of its procedure: a Get goes by its name alone, or stands before no arguments as a call by
--- itself does.
+-- What is written for a call suits the way of its procedure: a Get without arguments goes by its name alone, or stands before no arguments
+-- as a call by itself does.
 abbrev pub IsCalled : Scope → written_names.Scope → Way → (bare : Bool) → (callee : ℕ) → (qualified : Bool) → Object → Passed → Type 0
 IsCalled S T as_procedure bare q qualified of args = bare ≡ false
-IsCalled S T (as_get set) bare q qualified of args = (args ≡ no_passed) × LeadsAlone S T q qualified of
+IsCalled S T (as_get set) bare q qualified of args = ((args ≡ no_passed) × LeadsAlone S T q qualified of) ⊎ (bare ≡ false)
 IsCalled S T (as_set get) bare q qualified of args = ⊥
 
 none_passed : (args : Passed) → has_none args ≡ true → args ≡ no_passed
 none_passed no_passed h = refl
 none_passed (next_passed a rest) h = absurd (true≢false (sym h))
 
-bare_has_none : (D : Declarations) (q : ℕ) (args : Passed) (b : Bool) → (is_property D q && (has_none args && b)) ≡ true → args ≡ no_passed
-bare_has_none D q args b h =
-    none_passed args (both_true (has_none args) b (both_true (is_property D q) (has_none args && b) h).1).0
+not_bare : (b c d : Bool) → b ≡ false → (c && (b && d)) ≡ false
+not_bare b true d h = ap (λ z. z && d) h
+not_bare b false d h = refl
 
 module _ (U : Upgrade) (S : Scope) (T : written_names.Scope) (q : ℕ) (qualified : Bool) (of : Object) (args : Passed) where
   -- a procedure that gives is called before its arguments
   pub called_apart : (way : Way) → IsWay U S T way q qualified of args → is_giving (slice_get U.program.declarations.procs q) ≡ true
       → IsCalled S T way false q qualified of args
   called_apart as_procedure is giving = refl
-  called_apart (as_get set) is giving = (bare_has_none T.declarations q args (not (reads_itself T q qualified of)) is.0.bare, is.0.leads)
+  called_apart (as_get set) is giving = inr refl
   called_apart (as_set get) is giving = absurd (true≢false (sym giving ∙ is.1))
 
   -- and so it is as it is written
@@ -64,14 +64,17 @@ module _ (U : Upgrade) (S : Scope) (T : written_names.Scope) (q : ℕ) (qualifie
       → is_giving (slice_get U.program.declarations.procs q) ≡ true → IsCalled S T way (is_bare T q qualified of args) q qualified of args
   called_as_written same as_procedure is giving =
       ap (λ b. b && (has_none args && not (reads_itself T q qualified of))) (ap (λ D. is_property D q) same ∙ is)
-  called_as_written same (as_get set) is giving = called_apart (as_get set) is giving
+  called_as_written same (as_get set) is giving =
+      by_test (has_none args) (λ b. has_none args ≡ b → IsCalled S T (as_get set) (is_bare T q qualified of args) q qualified of args)
+      (λ none e. inl (none_passed args none, (is.0.alone none).leads))
+      (λ some e. inr (not_bare (has_none args) (is_property T.declarations q) (not (reads_itself T q qualified of)) some)) refl
   called_as_written same (as_set get) is giving = called_apart (as_set get) is giving
 
   -- what is no property is called as a procedure
-  pub way_of_procedure : (way : Way) → IsWay U S T way q qualified of args → is_property T.declarations q ≡ false → way ≡ as_procedure
+  pub way_of_procedure : (way : Way) → IsWay U S T way q qualified of args → is_property U.program.declarations q ≡ false → way ≡ as_procedure
   way_of_procedure as_procedure is none = refl
-  way_of_procedure (as_get set) is none = absurd (true≢false (sym is.0.bare ∙ ap (λ b. b && (has_none args && not (reads_itself T q qualified of))) none))
-  way_of_procedure (as_set get) is none = absurd (true≢false (sym is.0.bare ∙ ap (λ b. b && (has_none args && not (reads_itself T q qualified of))) none))
+  way_of_procedure (as_get set) is none = absurd (true≢false (sym is.0.property ∙ none))
+  way_of_procedure (as_set get) is none = absurd (true≢false (sym is.0.property ∙ none))
 
 -- ---- the target
 
@@ -104,7 +107,17 @@ module _ (S : Scope) (oracle : Jobs) where
       then_assoc A take ends ∙ ap (λ k. then A k) (λ i gs w. after_nil (ends (called (to_procedure object n) gs) w) i)
       ∙ ap (λ k. then A k) (λ i gs w. through_parts (procedure_does S oracle object n gs w) i)
 
-  -- a Get goes without arguments
+  -- so is a Get with its arguments
+  property_takes : (args : Exps) (object : Option net_value.Value) (n : ℕ) (set : Option ℕ) (w : net.Memory)
+      → takes false args (named (to_property object (Some n) set)) w ≡ does args object n w
+  property_takes args object n set w =
+      let A = target.args_of S oracle (passings_at S.project (Some n)) args w in
+      let take = λ (gs : Arguments) (w : net.Memory). gives [] (called (to_property object (Some n) set) gs) w in
+      let ends = λ (r : Reached) (w : net.Memory). then (target.parts_by S oracle r w) target.finished in
+      then_assoc A take ends ∙ ap (λ k. then A k) (λ i gs w. after_nil (ends (called (to_property object (Some n) set) gs) w) i)
+      ∙ ap (λ k. then A k) (λ i gs w. through_parts (procedure_does S oracle object n gs w) i)
+
+  -- and one without arguments by its name alone
   get_takes : (bare : Bool) (object : Option net_value.Value) (n : ℕ) (set : Option ℕ) (w : net.Memory)
       → takes bare no_exps (named (to_property object (Some n) set)) w ≡ does no_exps object n w
   get_takes true object n set w = through_parts (procedure_does S oracle object n [] w) ∙ sym (after_nil (procedure_does S oracle object n [] w))
@@ -121,9 +134,11 @@ module _ (S : Scope) (oracle : Jobs) where
         ≡ then (target.args_of S oracle (passings_at S.project (Some n)) (passed_of T q 0 args) w) (λ gs w. procedure_does S oracle object n gs w)
     named_does of as_procedure bare is object n w =
         subst (λ b. takes b passed (named (to_procedure object n)) w ≡ does passed object n w) (sym is) (procedure_takes passed object n w)
-    named_does of (as_get set) bare is object n w =
+    named_does of (as_get set) bare (inl is) object n w =
         subst (λ a. takes bare (passed_of T q 0 a) (named (to_property object (Some n) set)) w ≡ does (passed_of T q 0 a) object n w) (sym is.0)
         (get_takes bare object n set w)
+    named_does of (as_get set) bare (inr is) object n w =
+        subst (λ b. takes b passed (named (to_property object (Some n) set)) w ≡ does passed object n w) (sym is) (property_takes passed object n set w)
     named_does of (as_set get) bare is object n w = absurd is
 
     called_address : (bare : Bool) (e : Exp) (w : net.Memory)
@@ -138,8 +153,9 @@ module _ (S : Scope) (oracle : Jobs) where
     path_leads : (way : Way) (bare : Bool) → IsCalled S T way bare q qualified no_object args
         → path_start S (not bare) (procedure_path T qualified q) ≡ path_start S true (procedure_path T qualified q)
     path_leads as_procedure bare is = ap (λ b. path_start S (not b) (procedure_path T qualified q)) is
-    path_leads (as_get set) true is = is.1
-    path_leads (as_get set) false is = refl
+    path_leads (as_get set) true (inl is) = is.1
+    path_leads (as_get set) false (inl is) = refl
+    path_leads (as_get set) bare (inr is) = ap (λ b. path_start S (not b) (procedure_path T qualified q)) is
     path_leads (as_set get) bare is = absurd is
 
     pub call_address : (way : Way) (bare : Bool) → IsCalled S T way bare q qualified no_object args → (n : ℕ)

@@ -1,5 +1,5 @@
 -- An object that a Function or a property gives, which is called without arguments: what is written reaches it.
-use Rattle.std.proofs.Common.{◌≡◌, ◌∙◌, refl, sym, ap, subst, ℕ, Bool, true, false, [], Option, Some, None}
+use Rattle.std.proofs.Common.{◌≡◌, ◌∙◌, refl, sym, ap, subst, ℕ, Bool, true, false, [], Option, Some, None, inl, inr, true≢false}
 use Rattle.std.specs.Prelude.{slice_get}
 use Rattle.vb_tree.specs.BoundTree as types
 use Rattle.vb_tree.specs.declared.declared.ProcId.{ProcId}
@@ -125,7 +125,8 @@ module _ (U : Upgrade) (K : Pledge) (p : ℕ) (f : SourceFrame) (g : NetFrame) (
       → exp_of T (whole no_object) ≡ called b (path (procedure_path T qualified q.0)) no_exps → (n : ℕ)
       → path_start S true (procedure_path T qualified q.0) ≡ starts (named (callee_by way None n)) [] → Leads no_object
   none_leads as_procedure b by_way is n found = as_call no_object b by_way is
-  none_leads (as_get set) true by_way is n found = (
+  none_leads (as_get set) true (inr apart) is n found = absurd (true≢false apart)
+  none_leads (as_get set) true (inl by_way) is n found = (
     _,
     path_reaches S net_oracle T (whole no_object) (named (to_property None (Some n) set)) (procedure_path T qualified q.0) is (λ name. refl)
         (λ more t. ap (λ z. target.started S net_oracle z t) (property_more S None (Some n) set (procedure_path T qualified q.0) more (by_way.1 ∙ found))),

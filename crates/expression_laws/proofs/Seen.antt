@@ -56,7 +56,8 @@ module _ (U : Upgrade) (C : Context) (S : Scope) (oracle : Jobs) (w : World) whe
   me_seen f ty d x = leads (subst (λ b. Yields IsHandled (gives [] (at_place b) w.net)) (sym x.written) tt)
 
   module _ (K : Pledge) (T : written_names.Scope) (p : ℕ) (ty : Ty) (q : ProcId) (qualified : Bool) (d : ℕ) (t : Term) (args : Passed)
-      (can : CanCall U K S T p q.0 qualified (of_object (typed (types.class d) t)) args) (plain : is_property T.declarations q.0 ≡ false) where
+      (can : CanCall U K S T p q.0 qualified (of_object (typed (types.class d) t)) args)
+      (none : is_property U.program.declarations q.0 ≡ false) (plain : is_property T.declarations q.0 ≡ false) where
     abbrev object : Expr
     object = typed (types.class d) t
 
@@ -89,7 +90,7 @@ module _ (U : Upgrade) (C : Context) (S : Scope) (oracle : Jobs) (w : World) whe
     named_is v x a o s =
         ap (λ b. net_names.member_by S a b name s) o.shaped ∙ can.found d o.home (net.looked_up a s) refl o.is_home
         ∙ ap (λ y. named (callee_by y (Some (net.looked_up a s)) can.number))
-        (way_of_procedure U S T q.0 qualified (of_object object) args can.way can.is_way plain)
+        (way_of_procedure U S T q.0 qualified (of_object object) args can.way can.is_way none)
 
     abbrev Whole : Outcome net.Memory net.Address → Outcome net.Memory Reached
     Whole z = then (then z member_of_it) take

@@ -1,7 +1,7 @@
 -- The value that a Let or a Set of a property takes, as its only argument.
 use Rattle.std.proofs.Common.{◌≡◌, ◌⊎◌, inl, inr, refl, sym, ap, subst, ◌∙◌, ℕ, zero, suc, Bool, true, false, cond, not, ◌&&◌, true≢false, eq-eqb, Option, Some, None, List, [], ◌∷◌}
 use Rattle.std.specs.List.{list_all}
-use Rattle.std.specs.Prelude.{nat_eq, slice_get}
+use Rattle.std.specs.Prelude.{slice_get}
 use Rattle.vb_tree.specs.BoundTree.{Ty}
 use Rattle.vb_tree.specs.declared.declared.ProcKind.{ProcKind}
 use Rattle.vb_tree.specs.declared.declared.ProcKind.TheVariants as kind
@@ -16,13 +16,11 @@ use Rattle.vb6_run.specs.Values.{Value, scalar, fields, elements}
 use Rattle.net_run.specs.Values as net_value
 use Rattle.written_trees.specs.Arguments.{is_property, is_property_at, is_property_kind}
 use Rattle.written_trees.specs.Heads.{is_function, without_last}
-use Rattle.written_trees.specs.Names.{procedure_name}
 use Rattle.written_trees.specs.Puts.{last_of}
-use Rattle.std.specs.Cmp.Lexicographic.{pointwise}
 use Rattle.run_matches.specs.Covered.{covers_all_calls, covers_body, covers_head, covers_joined, covers_names, covers_parameter, covers_procedure, covers_result, covers_site, covers_variables, is_type_at}
 use Rattle.run_matches.specs.CoveredExprs.{is_giving, is_taking, is_typed_variable, takes_value}
 use Rattle.run_matches.specs.CoveredVariables.{covers_group_type, covers_type}
-use Rattle.run_matches.specs.JoinedProperties.{has_no_index, has_no_indexes, is_empty, is_joined, is_like_first, is_placed_part}
+use Rattle.run_matches.specs.JoinedProperties.{has_no_index, is_empty}
 use Rattle.run_matches.specs.Likeness.{LikeV}
 use Rattle.run_matches.specs.Maps.{World}
 use Rattle.run_matches.specs.Pledges.{Pledge}
@@ -105,18 +103,9 @@ takes_no_other kind.Sub h = absurd (true≢false (sym h))
 takes_no_other kind.Function h = absurd (true≢false (sym h))
 takes_no_other _ h = refl
 
--- a Let or Set that is covered has no parameter but that of its value
-one_parameter : (D : Declarations) (q : ℕ) (x : Procedure) → slice_get D.procs q ≡ Some x → covers_joined D q x ≡ true → takes_value x.kind ≡ true
-    → slice_get x.params 0 ≡ last_of x.params
-one_parameter D q x is joined takes =
-    let one = λ (y : Procedure). cond (nat_eq y.first.0 x.first.0) (is_property_kind y.kind && has_no_index y) true in
-    let so : is_joined D q x ≡ true = sym (ap (λ b. cond b (is_joined D q x) true) (takes_no_other x.kind takes)) ∙ joined in
-    let like = pointwise nat_eq (procedure_name D x.first.0) x.name && is_like_first D x (slice_get D.procs x.first.0) in
-    let all =
-    (both_true (has_no_indexes D x.first.0) (is_placed_part D q x) (both_true (has_no_indexes D x.first.0 && is_placed_part D q x) like so).0).0 in
-    let own : (is_property_kind x.kind && has_no_index x) ≡ true =
-    sym (ap (λ b. cond b (is_property_kind x.kind && has_no_index x) true) (eq-eqb x.first.0 x.first.0 refl)) ∙ one_of_all one D.procs q x all is in
-    one_alone x.params (without_indexes x.kind x.params takes (both_true (is_property_kind x.kind) (has_no_index x) own).1)
+-- a Let or Set without index parameters has no parameter but that of its value
+one_parameter : (x : Procedure) → takes_value x.kind ≡ true → has_no_index x ≡ true → slice_get x.params 0 ≡ last_of x.params
+one_parameter x takes none = one_alone x.params (without_indexes x.kind x.params takes none)
 
 first_is_typed : (D : Declarations) (ty : Ty) (o : Option VarId) → is_typed_variable D ty o ≡ true → is_type_at D ty o ≡ true
 first_is_typed D ty None h = h
@@ -127,11 +116,12 @@ takes_typed : (U : Upgrade) (q : ℕ) (ty : Ty) → IsDeclared U q → is_taking
     → is_type_at U.program.declarations ty (slice_get (params_at (slice_get U.program.declarations.procs q)) 0) ≡ true
 takes_typed U q ty x h =
     let D : Declarations = U.program.declarations in
-    let both =
-    both_true (takes_value x.procedure.kind) (is_typed_variable D ty (last_of x.procedure.params)) (sym (ap (is_taking D ty) x.is_procedure) ∙ h) in
+    let typed = is_typed_variable D ty (last_of x.procedure.params) in
+    let both = both_true (takes_value x.procedure.kind) (has_no_index x.procedure && typed) (sym (ap (is_taking D ty) x.is_procedure) ∙ h) in
+    let rest = both_true (has_no_index x.procedure) typed both.1 in
     ap (λ o. is_type_at D ty (slice_get (params_at o) 0)) x.is_procedure
-    ∙ ap (is_type_at D ty) (one_parameter D q x.procedure x.is_procedure x.joined both.0)
-    ∙ first_is_typed D ty (last_of x.procedure.params) both.1
+    ∙ ap (is_type_at D ty) (one_parameter x.procedure both.0 rest.0)
+    ∙ first_is_typed D ty (last_of x.procedure.params) rest.1
 
 -- ---- the value as an argument
 

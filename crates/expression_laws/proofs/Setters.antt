@@ -60,8 +60,8 @@ module _ (U : Upgrade) (S : Scope) (T : written_names.Scope) (q : ℕ) (qualifie
   setter_stands : Passes U q → is_giving (slice_get U.program.declarations.procs q) ≡ false → (way : Way) → IsWay U S T way q qualified of no_passed
       → StandsBare S T q qualified of no_passed
   setter_stands passes sets as_procedure is = absurd (true≢false (sym (is_part U q (declared U q passes) sets) ∙ is))
-  setter_stands passes sets (as_get set) is = is.0
-  setter_stands passes sets (as_set get) is = is.0
+  setter_stands passes sets (as_get set) is = is.0.alone refl
+  setter_stands passes sets (as_set get) is = is.0.alone refl
 
   -- it takes the value as its argument
   setter_does : (oracle : Jobs) → Passes U q → is_giving (slice_get U.program.declarations.procs q) ≡ false → (way : Way)

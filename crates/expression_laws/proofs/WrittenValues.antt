@@ -265,12 +265,12 @@ module _ (U : Upgrade) (K : Pledge) (p : ℕ) (f : SourceFrame) (g : NetFrame) (
       let plain : is_property T.declarations q.0 ≡ false = ap (λ D. is_property D q.0) same_declarations ∙ none in
       subst (λ a. Handles S (Seen e) a) (sym (callee_is T ty q qualified no_object args plain))
       (as_call (to_procedure None can.number) (procedure_path T qualified q.0) (passed_of T q.0 0 args)
-      (can.found ∙ ap (λ y. starts (named (callee_by y None can.number)) []) (way_of_procedure U S T q.0 qualified no_object args can.way can.is_way plain))
+      (can.found ∙ ap (λ y. starts (named (callee_by y None can.number)) []) (way_of_procedure U S T q.0 qualified no_object args can.way can.is_way none))
       tt)
   called_handles ty q qualified _ args can none (for_object d t object) =
       let e : Expr = typed ty (call q qualified (of_object (typed (types.class d) t)) args) in
       as_seen (exp_of T e)
-      (object_call_seen U C S net_oracle w K T p ty q qualified d t args can (ap (λ D. is_property D q.0) same_declarations ∙ none) object)
+      (object_call_seen U C S net_oracle w K T p ty q qualified d t args can none (ap (λ D. is_property D q.0) same_declarations ∙ none) object)
 
   receiver : (of : Object) → AllCalledOf (demands U K p l k S T) of → covers_receiver uses of ≡ true → ReceiverIs U K C S net_oracle T w of
   receiver = receiver_is U K p f g oracle net_oracle l k c T uses same_declarations readable w start have opened agree classes stands

@@ -122,7 +122,7 @@ objects_are_written = record {
   arrays = none_hold objects.declarations is_array_type refl;
   made = none_hold objects.declarations is_made_type refl;
   named = all_named objects.declarations.vars refl;
-  apart = λ p x e k h n. unshaped object_facts x.first.0 0 objects.declarations.procs no_head;
+  apart = λ p x e k h. unshaped object_facts x.first.0 0 objects.declarations.procs no_head;
   homes = homes;
 }
 

@@ -143,7 +143,7 @@ sample_is_written = record {
   arrays = none_hold program.declarations is_array_type refl;
   made = none_hold program.declarations is_made_type refl;
   named = all_named program.declarations.vars refl;
-  apart = λ p x e k h n. unshaped sample_facts x.first.0 0 program.declarations.procs no_head;
+  apart = λ p x e k h. unshaped sample_facts x.first.0 0 program.declarations.procs no_head;
   homes = homes;
 }
 

@@ -1,5 +1,5 @@
 -- A Let or a Set of a property takes its value on both sides, whichever of its object and the value is evaluated first.
-use Rattle.std.proofs.Common.{◌≡◌, ◌∙◌, ◌⊎◌, refl, sym, ap, subst, ⊎_elim, ℕ, Bool, true, false, not, Option, Some, None, List, [], ◌∷◌, slice_get, true≢false}
+use Rattle.std.proofs.Common.{◌≡◌, ◌∙◌, ◌⊎◌, refl, sym, ap, subst, ⊎_elim, ℕ, Bool, true, false, not, Option, Some, None, List, [], ◌∷◌, slice_get, true≢false, ◌&&◌}
 use Rattle.vb_tree.specs.BoundTree as types
 use Rattle.vb_tree.specs.BoundTree.{Ty}
 use Rattle.vb_tree.specs.declared.declared.ProcId.{ProcId}
@@ -59,6 +59,7 @@ use Rattle.line_laws.proofs.Still.{frame_still, still}
 use Rattle.line_laws.proofs.StillCalls.{receiver_in_still}
 use Rattle.line_laws.proofs.Targets.{SameStore, outside_stored}
 use Rattle.bound_facts.specs.Nodes.{nodes_of_object}
+use Rattle.run_matches.specs.JoinedProperties.{has_no_index}
 
 -- ---- procedures that take a value
 
@@ -69,18 +70,18 @@ value_kind _ h = absurd (true≢false (sym h))
 
 taking_property : (D : Declarations) (ty : Ty) (o : Option Procedure) → is_taking D ty o ≡ true → is_property_at o ≡ true
 taking_property D ty None h = absurd (true≢false (sym h))
-taking_property D ty (Some x) h = value_kind x.kind (both_true (takes_value x.kind) (is_typed_variable D ty (last_of x.params)) h).0
+taking_property D ty (Some x) h = value_kind x.kind (both_true (takes_value x.kind) (has_no_index x && is_typed_variable D ty (last_of x.params)) h).0
 
 taking_gives : (D : Declarations) (ty : Ty) (o : Option Procedure) → is_taking D ty o ≡ true → is_giving o ≡ false
 taking_gives D ty None h = refl
-taking_gives D ty (Some x) h = ap not (both_true (takes_value x.kind) (is_typed_variable D ty (last_of x.params)) h).0
+taking_gives D ty (Some x) h = ap not (both_true (takes_value x.kind) (has_no_index x && is_typed_variable D ty (last_of x.params)) h).0
 
 -- what is written for one stands bare
 taking_bare : (U : Upgrade) (S : net_names.Scope) (T : Scope) (way : Way) (q : ℕ) (qualified : Bool) (of : Object) → IsWay U S T way q qualified of no_passed
     → is_property U.program.declarations q ≡ true → is_giving (slice_get U.program.declarations.procs q) ≡ false → is_bare T q qualified of no_passed ≡ true
 taking_bare U S T as_procedure q qualified of way property giving = absurd (true≢false (sym property ∙ way))
 taking_bare U S T (as_get set) q qualified of way property giving = absurd (true≢false (sym way.1 ∙ giving))
-taking_bare U S T (as_set get) q qualified of way property giving = way.0.bare
+taking_bare U S T (as_set get) q qualified of way property giving = (way.0.alone refl).bare
 
 -- ---- its object
 

@@ -21,6 +21,7 @@ use Rattle.run_matches.specs.Upgrades.{Upgrade}
 use Rattle.run_matches.specs.UserTypes.{is_group_type, is_class_type}
 use Rattle.run_statements.specs.Written.{Passes}
 use Rattle.agreeing_laws.proofs.WithPlaces.{class_is, same_user}
+use Rattle.run_matches.specs.JoinedProperties.{has_no_index}
 
 -- ---- lists
 
@@ -47,7 +48,9 @@ pub record TakesTo (D : Declarations) (ty : Ty) (o : Option Procedure) : Type 0 
 
 takes_to : (D : Declarations) (ty : Ty) (o : Option Procedure) → is_taking D ty o ≡ true → TakesTo D ty o
 takes_to D ty None h = absurd (true≢false (sym h))
-takes_to D ty (Some x) h = by_last (last_of x.params) refl (both_true (takes_value x.kind) (is_typed_variable D ty (last_of x.params)) h).1
+takes_to D ty (Some x) h =
+    let typed = is_typed_variable D ty (last_of x.params) in
+    by_last (last_of x.params) refl (both_true (has_no_index x) typed (both_true (takes_value x.kind) (has_no_index x && typed) h).1).1
   where
     by_variable : (v : VarId) → last_of x.params ≡ Some v → (o : Option Variable) → slice_get D.vars v.0 ≡ o → is_declared_as ty o ≡ true
         → TakesTo D ty (Some x)

@@ -13,7 +13,7 @@ use Rattle.written_trees.specs.Facts.{head_set}
 use Rattle.written_trees.specs.Names.{procedure_name}
 use Rattle.written_trees.specs.Properties.{is_counted, is_kind, is_number, is_part, part_number}
 use Rattle.run_matches.specs.Covered.{covers_joined}
-use Rattle.run_matches.specs.JoinedProperties.{has_no_index, has_no_indexes, have_same_type, is_joined, is_like_first, is_placed_part, part_value, variable_at}
+use Rattle.run_matches.specs.JoinedProperties.{have_same_type, is_joined, is_like_first, is_placed_part, part_value, variable_at, are_like_params, are_parts}
 use Rattle.run_matches.specs.Sites.{Site, site_of}
 use Rattle.run_matches.specs.Upgrades.{Upgrade}
 use Rattle.run_statements.specs.Written.{IsWritten}
@@ -21,6 +21,7 @@ use Rattle.placing_laws.proofs.Counts.{same_kind}
 use Rattle.placing_laws.proofs.Lists.{FoundAt, found_position, same_item}
 use Rattle.placing_laws.proofs.Members.{site_number}
 use Rattle.placing_laws.proofs.Parts.{IsPartOf}
+use Rattle.written_trees.specs.Heads.{index_params}
 
 -- the first part of a property in the module of a part, with what is known of both
 pub record HasFirst (U : Upgrade) (p : ℕ) (s : Site) (x : Procedure) : Type 0 where
@@ -55,22 +56,30 @@ some_value (Some x) y h = (x, refl)
 like_first : (D : Declarations) (x q : Procedure) (o : Option Procedure) → o ≡ Some q → is_like_first D x o ≡ true
     → (y : Variable) × (variable_at D (part_value x) ≡ Some y)
 like_first D x q None e h = absurd (cc e)
-like_first D x q (Some z) e h = some_value (variable_at D (part_value x)) (variable_at D (part_value z)) h
+like_first D x q (Some z) e h =
+    some_value (variable_at D (part_value x)) (variable_at D (part_value z))
+    (both_true (have_same_type (variable_at D (part_value x)) (variable_at D (part_value z))) (are_like_params D (index_params x) (index_params z)) h).0
 
--- each part of a property without index parameters has none
-abbrev no_index_in : (first : ℕ) → Procedure → Bool
-no_index_in first q = cond (nat_eq q.first.0 first) (is_property_kind q.kind && has_no_index q) true
+like_indexes : (D : Declarations) (x q : Procedure) (o : Option Procedure) → o ≡ Some q → is_like_first D x o ≡ true
+    → are_like_params D (index_params x) (index_params q) ≡ true
+like_indexes D x q None e h = absurd (cc e)
+like_indexes D x q (Some z) e h =
+    ap (λ (y : Procedure). are_like_params D (index_params x) (index_params y)) (sym (same_item z q e))
+    ∙ (both_true (have_same_type (variable_at D (part_value x)) (variable_at D (part_value z))) (are_like_params D (index_params x) (index_params z)) h).1
+
+-- what has its first part is a part of it
+abbrev is_part_in : (first : ℕ) → Procedure → Bool
+is_part_in first q = cond (nat_eq q.first.0 first) (is_property_kind q.kind) true
 
 item_passes : (f : Procedure → Bool) (qs : List Procedure) (i : ℕ) (q : Procedure) → list_all f qs ≡ true → slice_get qs i ≡ Some q → f q ≡ true
 item_passes f [] i q h e = absurd (cc e)
 item_passes f (z ∷ qs) zero q h e = ap f (sym (same_item z q e)) ∙ all_first f z qs h
 item_passes f (z ∷ qs) (suc i) q h e = item_passes f qs i q (all_rest f z qs h) e
 
-part_without : (D : Declarations) (first i : ℕ) (q : Procedure) → has_no_indexes D first ≡ true → slice_get D.procs i ≡ Some q → q.first.0 ≡ first
-    → (is_property_kind q.kind ≡ true) × (has_no_index q ≡ true)
-part_without D first i q h e is =
-    both_true (is_property_kind q.kind) (has_no_index q)
-    (ap (λ b. cond b (is_property_kind q.kind && has_no_index q) true) (sym (eq-eqb q.first.0 first is)) ∙ item_passes (no_index_in first) D.procs i q h e)
+part_kind : (D : Declarations) (first i : ℕ) (q : Procedure) → are_parts D first ≡ true → slice_get D.procs i ≡ Some q → q.first.0 ≡ first
+    → is_property_kind q.kind ≡ true
+part_kind D first i q h e is =
+    ap (λ b. cond b (is_property_kind q.kind) true) (sym (eq-eqb q.first.0 first is)) ∙ item_passes (is_part_in first) D.procs i q h e
 
 -- ---- the number of the first part
 
@@ -117,11 +126,11 @@ has_first U w p s x site e property covers unparted =
     let same = site_number D n t f.5 in
     let joined : is_joined D p x ≡ true = ap (λ b. cond b (is_joined D p x) true) (sym property) ∙ covers in
     let halves =
-    both_true (has_no_indexes D n && is_placed_part D p x) (pointwise nat_eq (procedure_name D n) x.name && is_like_first D x (slice_get D.procs n)) joined in
-    let front = both_true (has_no_indexes D n) (is_placed_part D p x) halves.0 in
+    both_true (are_parts D n && is_placed_part D p x) (pointwise nat_eq (procedure_name D n) x.name && is_like_first D x (slice_get D.procs n)) joined in
+    let front = both_true (are_parts D n) (is_placed_part D p x) halves.0 in
     let back = both_true (pointwise nat_eq (procedure_name D n) x.name) (is_like_first D x (slice_get D.procs n)) halves.1 in
     let placed = both_true (is_counted D p x) (not (is_kind kind.Set x.kind) || not (is_some (part_number D kind.Let n))) front.1 in
-    let first = part_without D n n q front.0 f.2 f.3 in
+    let first = part_kind D n n q front.0 f.2 f.3 in
     let value = like_first D x q (slice_get D.procs n) f.2 back.1 in
     let is_part : IsPartOf U p x n q =
     record {
@@ -131,15 +140,14 @@ has_first U w p s x site e property covers unparted =
       is_numbered = is_that_number p (part_number D x.kind n) placed.0;
       is_only = without_let x.kind (part_number D kind.Let n) placed.1;
       is_named = (bytes_decides (procedure_name D n) x.name).0 back.0;
-      no_index = (part_without D n p x front.0 e refl).1;
+      indexes = like_indexes D x q (slice_get D.procs n) f.2 back.1;
       value = value.0;
       is_value = value.1;
       first_there = f.2;
-      first_property = first.0;
+      first_property = first;
       is_first = f.3;
-      first_number = first_numbered U w n q f.2 f.3 first.0;
-      first_no_index = first.1;
-      is_whole = w.apart p x e property unparted front.0;
+      first_number = first_numbered U w n q f.2 f.3 first;
+      is_whole = w.apart p x e property unparted;
     } in
     let beside = w.parts p x t e property f.5 in
     record {

@@ -24,7 +24,7 @@ use Rattle.written_trees.specs.Properties.{Part, carries_shape, head_comments, i
 use Rattle.net_run.specs.Members as members
 use Rattle.net_run.specs.Members.{Code, codes_of_member, codes_of_members, part_code}
 use Rattle.run_matches.specs.CoveredExprs.{takes_value}
-use Rattle.run_matches.specs.JoinedProperties.{is_empty, part_value, variable_at}
+use Rattle.run_matches.specs.JoinedProperties.{part_value, variable_at, are_like_params}
 use Rattle.run_matches.specs.Sites.{Site, member_sites}
 use Rattle.run_matches.specs.Upgrades.{Upgrade, is_that}
 use Rattle.run_statements.specs.Written.{first_type, part_head, site_scope}
@@ -33,7 +33,7 @@ use Rattle.placing_laws.proofs.Codes.{behind_codeless, comments_codeless}
 use Rattle.placing_laws.proofs.Counts.{HasParts, NumbersPart, get_numbered, let_or_set, part_is, part_stands}
 use Rattle.placing_laws.proofs.Lists.{Halves, Lacks, at_position, same_item, split}
 use Rattle.placing_laws.proofs.Members.{member_count, sites_among}
-use Rattle.placing_laws.proofs.PartHeads.{chosen_part, no_params, part_params, part_result}
+use Rattle.placing_laws.proofs.PartHeads.{chosen_part, part_params, part_result, same_params}
 use Rattle.placing_laws.proofs.Standing.{Stands, StandsAt, StandsOnlyAt, stands_as}
 
 -- A part of a property that is written as one, and its first part, which is the procedure n.
@@ -44,14 +44,13 @@ pub record IsPartOf (U : Upgrade) (p : ℕ) (x : Procedure) (n : ℕ) (q : Proce
   pub is_numbered : part_number U.program.declarations x.kind n ≡ Some p
   pub is_only : x.kind ≡ kind.Set → part_number U.program.declarations kind.Let n ≡ None
   pub is_named : procedure_name U.program.declarations n ≡ x.name
-  pub no_index : is_empty (index_params x) ≡ true
+  pub indexes : are_like_params U.program.declarations (index_params x) (index_params q) ≡ true
   pub value : Variable
   pub is_value : variable_at U.program.declarations (part_value x) ≡ Some value
   pub first_there : slice_get U.program.declarations.procs n ≡ Some q
   pub first_property : is_property_kind q.kind ≡ true
   pub is_first : q.first.0 ≡ n
   pub first_number : part_number U.program.declarations q.kind n ≡ Some n
-  pub first_no_index : is_empty (index_params q) ≡ true
   pub is_whole : carries_shape U.facts n 0 U.program.declarations.procs ≡ false
 
 -- ---- the part of a number among the members of a module
@@ -279,9 +278,9 @@ module _ (U : Upgrade) (p : ℕ) (x : Procedure) (n : ℕ) (q : Procedure) (h : 
   number_as k e = ap (λ z. part_number U.program.declarations z n) (sym e) ∙ h.is_numbered
 
 module _ (U : Upgrade) (p : ℕ) (s : Site) (x : Procedure) (t : Site) (q : Procedure) (h : IsPartOf U p x t.placed.at.procedure q) where
-  part_fits : (home j : ℕ) (sets : Bool) (r : net.Property) → home ≡ s.home → r.name ≡ x.name → r.params ≡ [] → r.ty ≡ property_type (site_scope U s) q
+  part_fits : (home j : ℕ) (sets : Bool) (r : net.Property) → home ≡ s.home → r.name ≡ x.name → r.params ≡ params_of (site_scope U s) true (index_params x) → r.ty ≡ property_type (site_scope U s) q
       → sets ≡ takes_value x.kind → IsWrittenFor U s x (code_in home j sets r (part_procedure U.program (site_scope U s) s.placed s.body x))
-  part_fits home j sets r at name none ty takes =
+  part_fits home j sets r at name same ty takes =
       let P = U.program in
       let S = site_scope U s in
       let close = chosen_part (procedure_with P S s.placed s.body) (set_head S x) (is_function x.kind) in
@@ -294,7 +293,7 @@ module _ (U : Upgrade) (p : ℕ) (s : Site) (x : Procedure) (t : Site) (q : Proc
         joined = λ b. record { property = r; is_property = refl; name = name; sets = takes; is_head = refl };
         params =
             ap (λ (y : net.Procedure). members.params_by (Some r) y.head) close
-            ∙ part_params S x r h.value (is_function x.kind) none h.no_index h.is_value
+            ∙ part_params S x r h.value (is_function x.kind) same h.is_value
             ∙ ap (λ b. params_of S b x.params) (sym h.is_property);
         result =
             ap (λ (y : net.Procedure). members.result_by (Some r) y.head) close
@@ -361,7 +360,7 @@ module _ (U : Upgrade) (p : ℕ) (s : Site) (x : Procedure) (t : Site) (q : Proc
 
       fits : (j : ℕ) (sets : Bool) → sets ≡ takes_value x.kind
           → IsWrittenFor U s x (code_in home j sets r (part_procedure U.program (site_scope U s) s.placed s.body x))
-      fits j sets takes = part_fits home j sets r at h.is_named (no_params (site_scope U s) (index_params q) h.first_no_index) refl takes
+      fits j sets takes = part_fits home j sets r at h.is_named (same_params (site_scope U s) (index_params x) (index_params q) h.indexes) refl takes
 
       as_set : (j : ℕ) (kk : ProcKind) → x.kind ≡ kk → is_kind kind.Get kk ≡ false → true ≡ takes_value kk → writes ≡ Some p
           → Stands (IsWrittenFor U s x) p (parts_of U.program.declarations t.placed.at.procedure) (codes_of_member home j (net.property r))

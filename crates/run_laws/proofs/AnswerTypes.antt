@@ -1,6 +1,7 @@
 -- What is written for the type of a result variable is like its type.
 use Rattle.std.proofs.Common.{◌≡◌, refl, sym, ap, subst, ◌∙◌, ℕ, Bool, true, false, cond, true≢false, Option, Some, None, option_map}
 use Rattle.std.specs.Prelude.{slice_get}
+use Rattle.up_base.proofs.Tests.{both_true}
 use Rattle.vb_tree.specs.BoundTree.{Ty}
 use Rattle.vb_tree.specs.declared.declared.ProcKind.{ProcKind}
 use Rattle.vb_tree.specs.declared.declared.ProcKind.TheVariants as kind
@@ -9,12 +10,12 @@ use Rattle.bound_tree.specs.Tree.{Declarations, Procedure, Variable}
 use Rattle.bound_facts.specs.Locks.{is_same_type}
 use Rattle.written_trees.specs.Arguments.{is_property_kind}
 use Rattle.written_trees.specs.Heads as heads
-use Rattle.written_trees.specs.Heads.{is_function}
+use Rattle.written_trees.specs.Heads.{index_params, is_function}
 use Rattle.written_trees.specs.Names.{Scope}
 use Rattle.written_trees.specs.Puts.{last_of}
 use Rattle.written_trees.specs.Types.{type_with}
 use Rattle.run_matches.specs.Covered.{covers_joined}
-use Rattle.run_matches.specs.JoinedProperties.{have_same_type, is_joined, is_like_first, part_value, variable_at}
+use Rattle.run_matches.specs.JoinedProperties.{are_like_params, have_same_type, is_joined, is_like_first, part_value, variable_at}
 use Rattle.run_matches.specs.Sites.{Site}
 use Rattle.run_matches.specs.Upgrades.{Upgrade}
 use Rattle.run_statements.specs.Written.{first_type, site_scope}
@@ -43,7 +44,11 @@ have_one D y (Some u) h = by (slice_get D.vars u.0) refl h
 like_first : (D : Declarations) (x : Procedure) (o : Option Procedure) → is_like_first D x o ≡ true
     → (f : Procedure) × (o ≡ Some f) × (have_same_type (variable_at D (part_value x)) (variable_at D (part_value f)) ≡ true)
 like_first D x None h = absurd (true≢false (sym h))
-like_first D x (Some f) h = (f, refl, h)
+like_first D x (Some f) h = (
+  f,
+  refl,
+  (both_true (have_same_type (variable_at D (part_value x)) (variable_at D (part_value f))) (are_like_params D (index_params x) (index_params f)) h).0,
+)
 
 module _ (U : Upgrade) (s : Site) (p : ℕ) (x : Procedure) (h : HasAnswer U.program.declarations p x) where
   abbrev D : Declarations

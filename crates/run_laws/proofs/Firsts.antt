@@ -16,7 +16,7 @@ use Rattle.run_statements.specs.Written.{FirstsAreParts}
 use Rattle.run_laws.specs.Premises.{GetsAreFirst}
 use Rattle.run_laws.proofs.Covered.{some_is}
 use Rattle.run_laws.proofs.Names.{below}
-use Rattle.run_laws.proofs.Parts.{JoinedPart, joined_part, without_index}
+use Rattle.run_laws.proofs.Parts.{JoinedPart, joined_part, part_kind}
 
 -- what passes doesn't stand before the first that does
 least : {X : Type 0} (test : X → Bool) (xs : List X) (i k : ℕ) (x : X) → position test xs ≡ Some i → slice_get xs k ≡ Some x → test x ≡ true → k ≤ i → k ≡ i
@@ -48,7 +48,7 @@ gets_are_first U firsts p x f here is joined at function =
     let found = firsts p x here (ap is_property_kind is) in
     let part : JoinedPart D p x = joined_part D p x joined in
     let own : f.first.0 ≡ n = ap (λ (q : Procedure). q.first.0) (some_is (sym at ∙ found.2)) ∙ found.3 in
-    let get : f.kind ≡ kind.Get = getter f.kind (without_index D n n f part.no_indexes at own).0 function in
+    let get : f.kind ≡ kind.Get = getter f.kind (part_kind D n n f part.parts at own) function in
     let counted : part_number D kind.Get n ≡ Some p =
     number_is p (part_number D kind.Get n)
     (subst (λ k. is_number p (part_number D k n) ≡ true) is

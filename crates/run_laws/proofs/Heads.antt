@@ -31,7 +31,7 @@ use Rattle.run_matches.specs.Upgrades.{Upgrade}
 use Rattle.run_statements.specs.Frames.{passing_at, passing_by}
 use Rattle.run_statements.specs.Written.{WrittenProcedure, first_type, site_scope, written_result}
 use Rattle.run_laws.proofs.Covered.{same_numbers}
-use Rattle.run_laws.proofs.Parts.{JoinedPart, get_params, giving_part, joined_part, part_joined}
+use Rattle.run_laws.proofs.Parts.{JoinedPart, get_takes_values, giving_part, joined_part, part_joined}
 
 -- ---- parameters
 
@@ -176,7 +176,18 @@ params_pass U s q (v ∷ vs) h i =
     by y e (suc n) more =
         ap (λ o. passing_at (passings (heads.param_by (site_scope U s) false v.0 o ++ heads.params_of (site_scope U s) false vs)) (suc n)) e ∙ more n
 
--- so are those of what gives a result: a Get has none
+-- all that is written for the parameters of a part of a property takes values
+values_pass : (S : Scope) (vs : List VarId) (i : ℕ) → passing_at (passings (heads.params_of S true vs)) i ≡ passing.Value
+values_pass S [] i = none_at i
+values_pass S (v ∷ vs) i = by (slice_get S.declarations.vars v.0) i (λ n. values_pass S vs n)
+  where
+    by : (o : Option Variable) (n : ℕ) → ((m : ℕ) → passing_at (passings (heads.params_of S true vs)) m ≡ passing.Value)
+        → passing_at (passings (heads.param_by S true v.0 o ++ heads.params_of S true vs)) n ≡ passing.Value
+    by None n more = more n
+    by (Some y) zero more = refl
+    by (Some y) (suc n) more = more n
+
+-- so are those of what gives a result: a Get takes values
 pub params_given : (U : Upgrade) (s : Site) (q : ℕ) (x : Procedure) → slice_get U.program.declarations.procs q ≡ Some x
     → covers_joined U.program.declarations q x ≡ true → list_all (covers_parameter U.program q) x.params ≡ true → not (takes_value x.kind) ≡ true → (i : ℕ)
     → passing_at (passings (heads.params_of (site_scope U s) (is_property_kind x.kind) x.params)) i
@@ -188,9 +199,8 @@ params_given U s q x is joined h gives i = by (is_property_kind x.kind) refl
     by false e = params_pass U s q x.params h i
     by true e =
         let part : JoinedPart U.program.declarations q x = joined_part U.program.declarations q x (part_joined U.program.declarations q x joined e) in
-        let none : x.params ≡ [] = get_params U.program.declarations q x is part (giving_part x.kind (not_true (takes_value x.kind) gives) e) in
-        ap (λ vs. passing_at (passings (heads.params_of (site_scope U s) true vs)) i) none ∙ none_at i
-        ∙ sym (ap (λ vs. passing_by (takes_reference_of U.program.declarations (slice_get vs i))) none)
+        values_pass (site_scope U s) x.params i
+        ∙ sym (ap passing_by (get_takes_values U.program.declarations q x part (giving_part x.kind (not_true (takes_value x.kind) gives) e) i))
 
 -- ---- names
 

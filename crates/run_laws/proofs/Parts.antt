@@ -1,5 +1,5 @@
 -- Parts of properties that are written as one: their heads carry no rule, and their values have the type of the first part.
-use Rattle.std.proofs.Common.{◌≡◌, refl, sym, ap, subst, ◌∙◌, ℕ, Bool, true, false, cond, ◌&&◌, true≢false, Some, List, [], ◌∷◌, nat_eq, eq-eqb, eqb-true}
+use Rattle.std.proofs.Common.{◌≡◌, refl, sym, ap, subst, ◌∙◌, ℕ, Bool, true, false, cond, ◌&&◌, true≢false, zero, suc, Option, Some, None, List, [], ◌∷◌, nat_eq, eq-eqb, eqb-true}
 use Rattle.std.specs.Prelude.{◌||◌, is_some, slice_get}
 use Rattle.std.specs.Cmp.Lexicographic.{pointwise}
 use Rattle.std.specs.List.{list_any}
@@ -8,20 +8,25 @@ use Rattle.vb_tree.specs.declared.declared.ProcKind.{ProcKind}
 use Rattle.vb_tree.specs.declared.declared.ProcKind.TheVariants as kind
 use Rattle.bound_tree.specs.declared.marks.Marks.{Marks}
 use Rattle.bound_tree.specs.RuleSets.{first, has, rule_numbers}
-use Rattle.bound_tree.specs.Tree.{Declarations, Procedure, Program}
+use Rattle.bound_tree.specs.Tree.{Declarations, Procedure, Program, Variable}
 use Rattle.bound_facts.specs.Clean.{IsClean, procedure, set_broken, sets_broken, stays}
-use Rattle.written_trees.specs.Arguments.{is_property_kind}
+use Rattle.written_trees.specs.Arguments.{is_property_kind, is_reference_owner, takes_reference_at, takes_reference_of}
 use Rattle.written_trees.specs.Facts.{head_set}
-use Rattle.written_trees.specs.Heads.{is_function, without_last}
+use Rattle.written_trees.specs.Heads.{is_function, without_last, index_params}
 use Rattle.written_trees.specs.Names.{procedure_name}
 use Rattle.run_matches.specs.Covered.{covers_joined}
 use Rattle.run_matches.specs.CoveredExprs.{takes_value}
-use Rattle.run_matches.specs.JoinedProperties.{has_no_index, has_no_indexes, is_empty, is_joined, is_like_first, is_placed_part}
+use Rattle.run_matches.specs.JoinedProperties.{is_joined, is_like_first, is_placed_part, are_like_params, are_parts, have_same_type, is_by_value, is_like_param, part_value, variable_at}
 use Rattle.run_matches.specs.Upgrades.{Upgrade}
 use Rattle.run_statements.specs.Written.{IsUnparted}
 use Rattle.name_laws.proofs.Lists.{neither}
 use Rattle.name_laws.proofs.Sets.{unbroken_set}
 use Rattle.run_laws.proofs.Covered.{all_at, same_numbers}
+use Rattle.vb_tree.specs.declared.declared.Owner.{Owner}
+use Rattle.vb_tree.specs.declared.declared.Owner.TheVariants as owner
+use Rattle.vb_tree.specs.declared.declared.VarId.{VarId}
+use Rattle.run_matches.specs.CoveredVariables.{covers_type}
+use Rattle.bound_facts.specs.Locks.{is_same_type}
 
 -- ---- heads that carry no rule
 
@@ -80,7 +85,7 @@ giving_part kind.Set h e = absurd (true≢false h)
 
 -- what is known of a part that is written in one with the others
 pub record JoinedPart (D : Declarations) (p : ℕ) (x : Procedure) : Type 0 where
-  pub no_indexes : has_no_indexes D x.first.0 ≡ true
+  pub parts : are_parts D x.first.0 ≡ true
   pub placed : is_placed_part D p x ≡ true
   pub name : procedure_name D x.first.0 ≡ x.name
   pub like : is_like_first D x (slice_get D.procs x.first.0) ≡ true
@@ -88,29 +93,55 @@ pub record JoinedPart (D : Declarations) (p : ℕ) (x : Procedure) : Type 0 wher
 pub joined_part : (D : Declarations) (p : ℕ) (x : Procedure) → is_joined D p x ≡ true → JoinedPart D p x
 joined_part D p x h =
     let named = pointwise nat_eq (procedure_name D x.first.0) x.name in
-    let a = both_true (has_no_indexes D x.first.0 && is_placed_part D p x) (named && is_like_first D x (slice_get D.procs x.first.0)) h in
-    let b = both_true (has_no_indexes D x.first.0) (is_placed_part D p x) a.0 in
+    let a = both_true (are_parts D x.first.0 && is_placed_part D p x) (named && is_like_first D x (slice_get D.procs x.first.0)) h in
+    let b = both_true (are_parts D x.first.0) (is_placed_part D p x) a.0 in
     let c = both_true named (is_like_first D x (slice_get D.procs x.first.0)) a.1 in
-    record { no_indexes = b.0; placed = b.1; name = same_numbers (procedure_name D x.first.0) x.name c.0; like = c.1 }
+    record { parts = b.0; placed = b.1; name = same_numbers (procedure_name D x.first.0) x.name c.0; like = c.1 }
 
--- a part of a property without index parameters
-abbrev has_none_of : (first : ℕ) → Procedure → Bool
-has_none_of first q = cond (nat_eq q.first.0 first) (is_property_kind q.kind && has_no_index q) true
+-- what has its first part is a part of it
+abbrev is_part_of : (first : ℕ) → Procedure → Bool
+is_part_of first q = cond (nat_eq q.first.0 first) (is_property_kind q.kind) true
 
-pub without_index : (D : Declarations) (first p : ℕ) (x : Procedure) → has_no_indexes D first ≡ true → slice_get D.procs p ≡ Some x → x.first.0 ≡ first
-    → (is_property_kind x.kind ≡ true) × (has_no_index x ≡ true)
-without_index D first p x h e of =
-    both_true (is_property_kind x.kind) (has_no_index x)
-    (subst (λ b. cond b (is_property_kind x.kind && has_no_index x) true ≡ true) (eq-eqb x.first.0 first of)
-    (all_at (has_none_of first) D.procs p x h e))
+pub part_kind : (D : Declarations) (first p : ℕ) (x : Procedure) → are_parts D first ≡ true → slice_get D.procs p ≡ Some x → x.first.0 ≡ first
+    → is_property_kind x.kind ≡ true
+part_kind D first p x h e of =
+    subst (λ b. cond b (is_property_kind x.kind) true ≡ true) (eq-eqb x.first.0 first of) (all_at (is_part_of first) D.procs p x h e)
 
-none_there : {A : Type 0} (xs : List A) → is_empty xs ≡ true → xs ≡ []
-none_there [] h = refl
-none_there (x ∷ xs) h = absurd (true≢false (sym h))
+-- its index parameters are like those of the first part
+pub indexes_like : (D : Declarations) (x : Procedure) (o : Option Procedure) → is_like_first D x o ≡ true
+    → (f : Procedure) × (o ≡ Some f) × (are_like_params D (index_params x) (index_params f) ≡ true)
+indexes_like D x None h = absurd (true≢false (sym h))
+indexes_like D x (Some f) h = (
+  f,
+  refl,
+  (both_true (have_same_type (variable_at D (part_value x)) (variable_at D (part_value f))) (are_like_params D (index_params x) (index_params f)) h).1,
+)
 
--- a Get has no parameters
-pub get_params : (D : Declarations) (p : ℕ) (x : Procedure) → slice_get D.procs p ≡ Some x → JoinedPart D p x → x.kind ≡ kind.Get → x.params ≡ []
-get_params D p x e part is =
-    none_there x.params
-    (subst (λ b. is_empty (cond b x.params (without_last x.params)) ≡ true) (ap is_function is)
-    (without_index D x.first.0 p x part.no_indexes e refl).1)
+-- they go by value
+pub values_taken : (D : Declarations) (vs ws : List VarId) → are_like_params D vs ws ≡ true → (i : ℕ) → takes_reference_of D (slice_get vs i) ≡ false
+values_taken D [] ws h i = refl
+values_taken D (v ∷ vs) [] h i = absurd (true≢false (sym h))
+values_taken D (v ∷ vs) (w ∷ ws) h zero =
+    one (slice_get D.vars v.0) (slice_get D.vars w.0)
+    (both_true (is_like_param (slice_get D.vars v.0) (slice_get D.vars w.0)) (are_like_params D vs ws) h).0
+  where
+    by : (o : Owner) → is_by_value o ≡ true → is_reference_owner o ≡ false
+    by (owner.Value p) k = refl
+    by _ k = absurd (true≢false (sym k))
+
+    one : (x y : Option Variable) → is_like_param x y ≡ true → takes_reference_at x ≡ false
+    one None y k = absurd (true≢false (sym k))
+    one (Some x) None k = absurd (true≢false (sym k))
+    one (Some x) (Some y) k =
+        let like = is_same_type x.ty y.ty && pointwise nat_eq x.name y.name in
+        by x.owner (both_true (is_by_value x.owner) (covers_type x.ty) (both_true (is_by_value x.owner && covers_type x.ty) like k).0).0
+values_taken D (v ∷ vs) (w ∷ ws) h (suc i) =
+    values_taken D vs ws (both_true (is_like_param (slice_get D.vars v.0) (slice_get D.vars w.0)) (are_like_params D vs ws) h).1 i
+
+-- so do the parameters of a Get
+pub get_takes_values : (D : Declarations) (p : ℕ) (x : Procedure) → JoinedPart D p x → x.kind ≡ kind.Get → (i : ℕ)
+    → takes_reference_of D (slice_get x.params i) ≡ false
+get_takes_values D p x part is i =
+    let l = indexes_like D x (slice_get D.procs x.first.0) part.like in
+    subst (λ b. takes_reference_of D (slice_get (cond b x.params (without_last x.params)) i) ≡ false) (ap is_function is)
+    (values_taken D (index_params x) (index_params l.0) l.2 i)

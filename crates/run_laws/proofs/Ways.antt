@@ -1,5 +1,5 @@
 -- How what is written for a procedure is called from where it is found.
-use Rattle.std.proofs.Common.{◌≡◌, refl, sym, ap, subst, ◌∙◌, ℕ, Bool, true, false, cond, not, ◌&&◌, nat_eq, Option, Some, None, List}
+use Rattle.std.proofs.Common.{◌≡◌, refl, sym, ap, subst, ◌∙◌, ℕ, Bool, true, false, cond, not, ◌&&◌, nat_eq, Option, Some, None, List, ◌||◌}
 use Rattle.std.specs.Prelude.{slice_get}
 use Rattle.up_base.proofs.Tests.{and_true, both_true, not_true}
 use Rattle.vb_tree.specs.declared.declared.ProcKind.{ProcKind}
@@ -12,7 +12,7 @@ use Rattle.written_trees.specs.Exprs.{has_none, reads_itself}
 use Rattle.written_trees.specs.Names.{Scope}
 use Rattle.net_run.specs.Members.{code_number, member_named}
 use Rattle.net_run.specs.Names as net_names
-use Rattle.net_run.specs.Names.{Reached, found_at, member_reached, named, named_member, procedure_reached, some_member, to_procedure, to_property}
+use Rattle.net_run.specs.Names.{Reached, member_reached, named, named_member, procedure_reached, some_member, to_procedure, to_property}
 use Rattle.net_run.specs.Shapes.{members_of, module_at}
 use Rattle.net_run.specs.Values as net_value
 use Rattle.run_matches.specs.Covered.{covers_use_of, is_result_of, stands_alone}
@@ -20,7 +20,7 @@ use Rattle.run_matches.specs.CoveredExprs.{is_giving, takes_value}
 use Rattle.run_matches.specs.Sites.{Site}
 use Rattle.run_matches.specs.Upgrades.{Upgrade}
 use Rattle.run_statements.specs.Frames.{IsFound}
-use Rattle.run_statements.specs.Ways.{IsWay, LeadsAlone, StandsBare, SuitsKind, Way, as_get, as_procedure, as_set, callee_by}
+use Rattle.run_statements.specs.Ways.{IsPart, IsWay, LeadsAlone, SuitsKind, Way, as_get, as_procedure, as_set, callee_by}
 use Rattle.run_statements.specs.Written.{site_scope}
 use Rattle.run_laws.proofs.Parts.{taking_part}
 
@@ -97,7 +97,7 @@ module _ (S : net_names.Scope) (a b : net_value.Value) (n : ℕ) where
       → named_member S (Some b) home name ≡ named (callee_by way (Some b) n)
   same_way way home name e = some_way way home (member_named name (members_of (module_at S.project home))) e
 
--- ---- a part of a property is used by its name alone
+-- ---- a part of a property without arguments is used by its name alone
 
 not_further : (a b : Bool) → not (a && b) ≡ true → not (a && (b && true)) ≡ true
 not_further true true h = h
@@ -134,22 +134,29 @@ module _ (U : Upgrade) (p q number : ℕ) (s : Site) (x y : Procedure) (is_proce
       ∙ not_true other (both_true (not (nat_eq p q && not qualified)) (not other) h).1)
   leads (of_object e) h alone = tt
 
-  bare : is_property_kind y.kind ≡ true → StandsBare S T q qualified of args
-  bare property =
+  -- what is covered of its use where it has no arguments
+  stands : is_property D q ≡ true → has_none args ≡ true → stands_alone D p q qualified of ≡ true
+  stands part none =
+      subst (λ b. (not b || stands_alone D p q qualified of) ≡ true) none
+      (subst (λ b. cond b (not (has_none args) || stands_alone D p q qualified of) true ≡ true) part covers)
+
+  used : is_property_kind y.kind ≡ true → IsPart D S T q qualified of args
+  used property =
       let part : is_property D q ≡ true = ap is_property_at is_other ∙ property in
-      let rest = has_none args && stands_alone D p q qualified of in
-      let tests = both_true (has_none args) (stands_alone D p q qualified of) (subst (λ b. cond b rest true ≡ true) part covers) in
       record {
-        bare =
-            and_true (is_property D q) (has_none args && not (reads_itself T q qualified of)) part
-            (and_true (has_none args) (not (reads_itself T q qualified of)) tests.0 (unread of tests.1));
-        leads = leads of tests.1 F.alone;
+        property = part;
+        alone = λ none. record {
+          bare =
+              and_true (is_property D q) (has_none args && not (reads_itself T q qualified of)) part
+              (and_true (has_none args) (not (reads_itself T q qualified of)) none (unread of (stands part none)));
+          leads = leads of (stands part none) F.alone;
+        };
       }
 
   by : (way : Way) → SuitsKind way y.kind → IsWay U S T way q qualified of args
   by as_procedure suits = ap is_property_at is_other ∙ suits
-  by (as_get other) suits = (bare (ap is_property_kind suits), ap is_giving is_other ∙ ap (λ k. not (takes_value k)) suits)
-  by (as_set other) suits = (bare (taking_part y.kind suits), ap is_giving is_other ∙ ap not suits)
+  by (as_get other) suits = (used (ap is_property_kind suits), ap is_giving is_other ∙ ap (λ k. not (takes_value k)) suits)
+  by (as_set other) suits = (used (taking_part y.kind suits), ap is_giving is_other ∙ ap not suits)
 
   pub way_is : IsWay U S (inside_procedure (site_scope U s) p) F.way q qualified of args
   way_is = by F.way F.suits

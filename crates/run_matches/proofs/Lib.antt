@@ -13,6 +13,7 @@ mod ObjectSamples
 mod StaticSamples
 mod AutoSamples
 mod PropertySamples
+mod IndexSamples
 pub mod StoreExamples
 mod CoveredExamples
 mod LibraryExamples

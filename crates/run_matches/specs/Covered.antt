@@ -45,7 +45,7 @@ use Rattle.run_matches.specs.CoveredLines.{covers_line, covers_in_block, jump_of
 
 -- ---- procedures
 
--- Subs and Functions, and parts of properties that are written as one, without index parameters
+-- Subs and Functions, and parts of properties that are written as one, with index parameters by value
 abbrev pub covers_joined : Declarations → (procedure : ℕ) → Procedure → Bool
 covers_joined D p x = cond (is_property_kind x.kind) (is_joined D p x) true
 
@@ -217,9 +217,9 @@ stands_alone D p q qualified no_object =
     not (nat_eq p q && not qualified) && not (is_result_of (slice_get D.procs p) (slice_get D.procs q))
 stands_alone D p q qualified (of_object e) = true
 
--- a property is used without arguments
+-- a property without arguments is used by its name alone
 abbrev pub covers_use_of : Declarations → (procedure callee : ℕ) → (qualified : Bool) → Object → Passed → Bool
-covers_use_of D p q qualified of args = cond (is_property D q) (has_none args && stands_alone D p q qualified of) true
+covers_use_of D p q qualified of args = cond (is_property D q) (not (has_none args) || stands_alone D p q qualified of) true
 
 abbrev pub covers_made_by : Program → (class : Option ℕ) → Bool
 covers_made_by P None = true

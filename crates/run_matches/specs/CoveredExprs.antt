@@ -36,6 +36,7 @@ use Rattle.run_matches.specs.Sites.{Site, site_of}
 use Rattle.run_matches.specs.UserTypes.{is_class_type, is_user, is_user_of}
 use Rattle.run_matches.specs.Inward.{grown, is_apart, is_inward_in}
 use Rattle.run_matches.specs.CoveredVariables.{takes_value_at, covers_use, covers_array_use, covers_auto_use, covers_group_use, covers_group_type, covers_made, is_named_so, field_type_in, member_type_in, is_loud, covers_type}
+use Rattle.run_matches.specs.JoinedProperties.{has_no_index}
 
 -- ---- operators and the library
 
@@ -191,10 +192,10 @@ abbrev pub has_result_type : Ty → Option Procedure → Bool
 has_result_type ty None = false
 has_result_type ty (Some q) = is_function q.kind && is_same_type ty q.result
 
--- the last parameter of a Let or a Set takes the value
+-- the only parameter of a Let or a Set takes the value
 abbrev pub is_taking : Declarations → Ty → Option Procedure → Bool
 is_taking D ty None = false
-is_taking D ty (Some q) = takes_value q.kind && is_typed_variable D ty (last_of q.params)
+is_taking D ty (Some q) = takes_value q.kind && (has_no_index q && is_typed_variable D ty (last_of q.params))
 
 -- those that a line of a procedure uses and mentions
 abbrev pub uses_in : Program → (procedure : ℕ) → List Mention → Uses

@@ -1,4 +1,4 @@
--- Properties whose parts are written as one, without index parameters.
+-- Properties whose parts are written as one, with index parameters by value.
 use Rattle.std.specs.Prelude.{ℕ, Bool, true, false, cond, not, ◌&&◌, ◌||◌, nat_eq, Option, Some, None, is_some, List, [], ◌∷◌, slice_get}
 use Rattle.std.specs.Cmp.Lexicographic.{pointwise}
 use Rattle.std.specs.List.{list_all}
@@ -11,6 +11,9 @@ use Rattle.written_trees.specs.Heads.{index_params, is_function}
 use Rattle.written_trees.specs.Names.{procedure_name}
 use Rattle.written_trees.specs.Properties.{is_counted, is_kind, part_number}
 use Rattle.written_trees.specs.Puts.{last_of}
+use Rattle.vb_tree.specs.declared.declared.Owner.{Owner}
+use Rattle.vb_tree.specs.declared.declared.Owner.TheVariants as owner
+use Rattle.run_matches.specs.CoveredVariables.{covers_type}
 
 abbrev pub is_empty : {A : Type 0} → List A → Bool
 is_empty [] = true
@@ -19,9 +22,25 @@ is_empty (x ∷ xs) = false
 abbrev pub has_no_index : Procedure → Bool
 has_no_index q = is_empty (index_params q)
 
--- no part of the property with this first part has index parameters
-abbrev pub has_no_indexes : Declarations → (first : ℕ) → Bool
-has_no_indexes D first = list_all (λ (q : Procedure). cond (nat_eq q.first.0 first) (is_property_kind q.kind && has_no_index q) true) D.procs
+-- all that has this first part is a part of the property
+abbrev pub are_parts : Declarations → (first : ℕ) → Bool
+are_parts D first = list_all (λ (q : Procedure). cond (nat_eq q.first.0 first) (is_property_kind q.kind) true) D.procs
+
+abbrev pub is_by_value : Owner → Bool
+is_by_value (owner.Value p) = true
+is_by_value _ = false
+
+-- an index parameter is a scalar by value, and the first part has one of its name and type in its place
+abbrev pub is_like_param : Option Variable → Option Variable → Bool
+is_like_param None y = false
+is_like_param (Some x) None = false
+is_like_param (Some x) (Some y) = (is_by_value x.owner && covers_type x.ty) && (is_same_type x.ty y.ty && pointwise nat_eq x.name y.name)
+
+abbrev pub are_like_params : Declarations → List VarId → List VarId → Bool
+are_like_params D [] [] = true
+are_like_params D [] (w ∷ ws) = false
+are_like_params D (v ∷ vs) [] = false
+are_like_params D (v ∷ vs) (w ∷ ws) = is_like_param (slice_get D.vars v.0) (slice_get D.vars w.0) && are_like_params D vs ws
 
 -- what a part gives or takes: the result variable of a Get, and the last parameter of a Let or Set
 abbrev pub part_value : Procedure → Option VarId
@@ -38,14 +57,15 @@ variable_at D (Some v) = slice_get D.vars v.0
 
 abbrev pub is_like_first : Declarations → Procedure → Option Procedure → Bool
 is_like_first D q None = false
-is_like_first D q (Some first) = have_same_type (variable_at D (part_value q)) (variable_at D (part_value first))
+is_like_first D q (Some first) =
+    have_same_type (variable_at D (part_value q)) (variable_at D (part_value first)) && are_like_params D (index_params q) (index_params first)
 
 -- the part of its kind; a Set is one where there is no Let
 abbrev pub is_placed_part : Declarations → (procedure : ℕ) → Procedure → Bool
 is_placed_part D p q = is_counted D p q && (not (is_kind kind.Set q.kind) || not (is_some (part_number D kind.Let q.first.0)))
 
--- a part of a property that goes by its own name, with a value of the type of the first part
+-- a part of a property that goes by its own name, with a value and index parameters like those of the first part
 abbrev pub is_joined : Declarations → (procedure : ℕ) → Procedure → Bool
 is_joined D p q =
-    (has_no_indexes D q.first.0 && is_placed_part D p q)
+    (are_parts D q.first.0 && is_placed_part D p q)
     && (pointwise nat_eq (procedure_name D q.first.0) q.name && is_like_first D q (slice_get D.procs q.first.0))

@@ -2,9 +2,9 @@
 use Rattle.std.specs.Prelude.{◌≡◌, ℕ, Bool, true, false, Option, Some, slice_get}
 use Rattle.vb_tree.specs.declared.declared.ProcKind.{ProcKind}
 use Rattle.vb_tree.specs.declared.declared.ProcKind.TheVariants as kind
-use Rattle.bound_tree.specs.Tree.{Object, no_object, of_object, Passed}
+use Rattle.bound_tree.specs.Tree.{Object, no_object, of_object, Passed, Declarations}
 use Rattle.written_trees.specs.Arguments.{is_property, is_property_kind}
-use Rattle.written_trees.specs.Exprs.{is_bare}
+use Rattle.written_trees.specs.Exprs.{is_bare, has_none}
 use Rattle.written_trees.specs.Names.{Scope, procedure_path}
 use Rattle.net_run.specs.Names as net_names
 use Rattle.net_run.specs.Names.{Callee, to_procedure, to_property}
@@ -34,15 +34,20 @@ abbrev pub LeadsAlone : net_names.Scope → Scope → (callee : ℕ) → (qualif
 LeadsAlone S T q qualified no_object = net_names.path_start S false (procedure_path T qualified q) ≡ net_names.path_start S true (procedure_path T qualified q)
 LeadsAlone S T q qualified (of_object e) = Unit {0}
 
--- a part of a property, which is used without arguments
+-- by its name alone, where it has no arguments
 pub record StandsBare (S : net_names.Scope) (T : Scope) (callee : ℕ) (qualified : Bool) (of : Object) (args : Passed) : Type 0 where
   pub bare : is_bare T callee qualified of args ≡ true
   pub leads : LeadsAlone S T callee qualified of
+
+-- a part of a property
+pub record IsPart (D : Declarations) (S : net_names.Scope) (T : Scope) (callee : ℕ) (qualified : Bool) (of : Object) (args : Passed) : Type 0 where
+  pub property : is_property D callee ≡ true
+  pub alone : has_none args ≡ true → StandsBare S T callee qualified of args
 
 -- a procedure is called in a way that suits it
 abbrev pub IsWay : Upgrade → net_names.Scope → Scope → Way → (callee : ℕ) → (qualified : Bool) → Object → Passed → Type 0
 IsWay U S T as_procedure q qualified of args = is_property U.program.declarations q ≡ false
 IsWay U S T (as_get set) q qualified of args =
-    StandsBare S T q qualified of args × (is_giving (slice_get U.program.declarations.procs q) ≡ true)
+    IsPart U.program.declarations S T q qualified of args × (is_giving (slice_get U.program.declarations.procs q) ≡ true)
 IsWay U S T (as_set get) q qualified of args =
-    StandsBare S T q qualified of args × (is_giving (slice_get U.program.declarations.procs q) ≡ false)
+    IsPart U.program.declarations S T q qualified of args × (is_giving (slice_get U.program.declarations.procs q) ≡ false)

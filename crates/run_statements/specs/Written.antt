@@ -36,7 +36,6 @@ use Rattle.run_matches.specs.CoveredVariables.{has_extents}
 use Rattle.written_trees.specs.Properties.{carries_shape}
 use Rattle.run_matches.specs.Covered.{IsCovered, IsCoveredLine, covers_joined}
 use Rattle.run_matches.specs.CoveredExprs.{takes_value}
-use Rattle.run_matches.specs.JoinedProperties.{has_no_indexes}
 use Rattle.run_matches.specs.CleanLines.{IsCleanLine, lines_at}
 use Rattle.run_matches.specs.Runs.{RunsTheSame, LineDoesTheSame}
 use Rattle.run_matches.specs.Sites.{Site, site_of, site_lines, first_statement}
@@ -96,11 +95,10 @@ pub record IsWritten (U : Upgrade) : Type 0 where
   pub made : (t : ℕ) → IsTrue (U.facts.is_made t) ↔ deciding.Holds U.program.declarations deciding.is_made_type t
   -- a variable of a user type has the type that its declaration names
   pub named : (v : ℕ) (x : Variable) (t : ℕ) → slice_get U.program.declarations.vars v ≡ Some x → x.ty ≡ user t → x.named ≡ user t
-  -- the parts of a property without index parameters are written as one where one of them is
+  -- the parts of a property are written as one where one of them is
   pub apart :
       (p : ℕ) (x : Procedure) → slice_get U.program.declarations.procs p ≡ Some x → is_property_kind x.kind ≡ true
-      → has (head_set U.facts p) 7 ≡ false → has_no_indexes U.program.declarations x.first.0 ≡ true
-      → carries_shape U.facts x.first.0 0 U.program.declarations.procs ≡ false
+      → has (head_set U.facts p) 7 ≡ false → carries_shape U.facts x.first.0 0 U.program.declarations.procs ≡ false
   -- the module of a procedure is the one of its file
   pub homes : (p : ℕ) (s : Site) → site_of U.program.declarations p ≡ Some s → home_of U s.source_module.file ≡ Some s.home
 

@@ -96,7 +96,7 @@ written_for P u is orderly =
       arrays = w.are_facts.are.arrays;
       made = w.are_facts.are.made;
       named = types_are_named P b is.is_bound;
-      apart = λ p x e property whole plain.
+      apart = λ p x e property whole.
           properties_apart P b is.is_bound is.made.found is.made.are_found w.facts w.are_facts.marks p x e property whole;
       homes = sites_are_home P b is.is_bound orderly;
     }
