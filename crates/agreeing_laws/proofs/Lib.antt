@@ -18,3 +18,6 @@ pub mod Members
 pub mod FieldPlaces
 pub mod WithPlaces
 pub mod Indexes
+pub mod Still
+pub mod PlainUses
+pub mod StillCalls

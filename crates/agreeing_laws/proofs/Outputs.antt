@@ -1,5 +1,6 @@
 -- What was put out stays, and computations one after another.
 use Rattle.std.proofs.Common.{◌≡◌, List, [], ◌++◌, refl, ap, ◌∙◌, append_assoc}
+use Rattle.agreeing_laws.specs.Promises.{Yields}
 use Rattle.run_base.specs.Outcomes.{Output, Outcome, gives, raises, spent, outside, outputs, after, then}
 
 pub outputs_after : {M A : Type 0} (o : List Output) (r : Outcome M A) → outputs (after o r) ≡ o ++ outputs r
@@ -40,3 +41,17 @@ then_then (gives o a w) k j = then_after o (k a w) j
 then_then (raises o e w) k j = refl
 then_then (spent o w) k j = refl
 then_then (outside o) k j = refl
+
+-- ---- what a computation yields
+
+pub yields_after : {M A : Type 0} (Q : A → M → Type 0) (o : List Output) (r : Outcome M A) → Yields Q r → Yields Q (after o r)
+yields_after Q o (gives p a w) h = h
+yields_after Q o (raises p e w) h = tt
+yields_after Q o (spent p w) h = tt
+yields_after Q o (outside p) h = tt
+
+pub yields_then : {M A B : Type 0} (Q : B → M → Type 0) (r : Outcome M A) (k : A → M → Outcome M B) → ((a : A) (w : M) → Yields Q (k a w)) → Yields Q (then r k)
+yields_then Q (gives o a w) k h = yields_after Q o (k a w) (h a w)
+yields_then Q (raises o e w) k h = tt
+yields_then Q (spent o w) k h = tt
+yields_then Q (outside o) k h = tt

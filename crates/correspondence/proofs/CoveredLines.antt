@@ -9,7 +9,7 @@ use Rattle.vb_tree.specs.Tree.{CaseItem, Form, ReDimItem}
 use Rattle.vb_tree.specs.Tree as source
 use Rattle.bound_tree.specs.declared.body.Mention.{Mention}
 use Rattle.bound_tree.specs.Labels.{Label}
-use Rattle.bound_tree.specs.Tree.{Program, Expr, typed, Line, Term, library, Exprs, no_exprs, next_expr, Declarations, call, Passed, no_passed, err_raise, err_clear, Object}
+use Rattle.bound_tree.specs.Tree.{Program, Expr, typed, Line, Term, library, Exprs, no_exprs, next_expr, Declarations, call, Passed, err_raise, err_clear, Object}
 use Rattle.vb_tree.specs.declared.bound.LibCall.{LibCall}
 use Rattle.vb_tree.specs.declared.bound.LibCall.TheVariants as lib
 use Rattle.bound_facts.specs.Locks.{is_same_type}
@@ -39,7 +39,7 @@ use Rattle.correspondence.proofs.GroupLines.{IsSettable, auto_target, copy_parts
 use Rattle.correspondence.proofs.Objects.{object_counted}
 use Rattle.correspondence.proofs.Places.{place_names}
 use Rattle.correspondence.proofs.PropertyNames.{taken_names}
-use Rattle.correspondence.proofs.StoredValues.{IsValueType, TakesValue, copied_value, formed_names, property_target, stored_plain, takes_value, target_type}
+use Rattle.correspondence.proofs.StoredValues.{IsValueType, TakesValue, copied_value, formed_names, property_target, stored_plain, taken_formed, takes_value, target_type}
 use Rattle.correspondence.proofs.Rights.{any_either, is_shared_test, own_right, shared_right}
 
 no_bound : (g : LibCall) → is_box g ≡ true → is_bound g ≡ true → ⊥
@@ -93,26 +93,30 @@ module _ (P : Program) (S : Scope) (same : S.declarations ≡ P.declarations) (p
   last_formed : (to e : Expr) → list_all is_formed (to ∷ e ∷ []) ≡ true → is_formed e ≡ true
   last_formed to e f = (both_true (is_formed e) true (both_true (is_formed to) (list_all is_formed (e ∷ [])) f).1).0
 
+  first_formed : (to e : Expr) → list_all is_formed (to ∷ e ∷ []) ≡ true → is_formed to ≡ true
+  first_formed to e f = (both_true (is_formed to) (list_all is_formed (e ∷ [])) f).0
+
   -- a property and what is written for the value that it takes
-  property_uses : (to e : Expr) → (T : TakesValue (uses_in P p mentions) to e) → is_formed e ≡ true → (a : Exp)
+  property_uses : (to e : Expr) → (T : TakesValue (uses_in P p mentions) to e) → is_formed to ≡ true → is_formed e ≡ true → (a : Exp)
       → ((count : Path → ℕ) → ((name : List ℕ) → count (support name) ≡ 0) → names count a ≡ names count (exp_of S e))
       → SameUses S p (to ∷ e ∷ []) (exp_of S to ∷ a ∷ [])
-  property_uses to e T f a is =
+  property_uses to e T f_to f a is =
       subst (λ (d : Expr). SameUses S p (d ∷ e ∷ []) (exp_of S d ∷ a ∷ [])) (sym T.is_call)
-      (same_uses (typed T.ty (call T.procedure T.qualified T.of no_passed) ∷ e ∷ [])
-      (exp_of S (typed T.ty (call T.procedure T.qualified T.of no_passed)) ∷ a ∷ [])
-      (λ v count test right free. taken_names P S same p v count test mentions right T.ty T.procedure T.qualified T.of e T.receiver T.value f free a
+      (same_uses (typed T.ty (call T.procedure T.qualified T.of T.args) ∷ e ∷ [])
+      (exp_of S (typed T.ty (call T.procedure T.qualified T.of T.args)) ∷ a ∷ [])
+      (λ v count test right free. taken_names P S same p v count test mentions right T.ty T.procedure T.qualified T.of T.args e T.receiver
+      (T.passed, taken_formed (uses_in P p mentions) to e T f_to) T.value f free a
       (is count right.no_support)))
 
   -- an assignment to a property
-  property_stored : (target value : source.Exp) (to e : Expr) → covers_property (uses_in P p mentions) to e ≡ true → is_formed e ≡ true
-      → FormCorresponds S p (source.assign target value) (to ∷ e ∷ []) (line_of S labels (source.assign target value) (to ∷ e ∷ []))
-  property_stored target value to e h f =
+  property_stored : (target value : source.Exp) (to e : Expr) → covers_property (uses_in P p mentions) to e ≡ true → is_formed to ≡ true
+      → is_formed e ≡ true → FormCorresponds S p (source.assign target value) (to ∷ e ∷ []) (line_of S labels (source.assign target value) (to ∷ e ∷ []))
+  property_stored target value to e h f_to f =
       let T : TakesValue (uses_in P p mentions) to e = takes_value (uses_in P p mentions) to e h in
       let whole = target_type P S same p mentions T.ty e T.same T.value in
       let whole_at = subst (λ (d : Expr). IsValueType P S same p mentions (type_at d)) (sym T.is_call) whole in
       stored target value (to ∷ e ∷ []) (order_shows S.declarations to e) (put_type (type_at to)) (exp_of S to) (stored_value S to e)
-      (property_uses to e T f (stored_value S to e)
+      (property_uses to e T f_to f (stored_value S to e)
       (λ count no_support. formed_names P S same p mentions count no_support (target_rank S to) (type_at to) (exp_of S e) whole_at))
 
   assigned : (target value : source.Exp) (es : List Expr) → covers_store (uses_in P p mentions) es ≡ true → list_all is_formed es ≡ true
@@ -122,7 +126,7 @@ module _ (P : Program) (S : Scope) (same : S.declarations ≡ P.declarations) (p
   assigned target value (to ∷ e ∷ d ∷ es) h f = absurd (cc h)
   assigned target value (to ∷ e ∷ []) h f =
       elim (or_cases (covers_stored (uses_in P p mentions) to e) (covers_property (uses_in P p mentions) to e) h)
-      [ inl c ↦ kept c | inr c ↦ property_stored target value to e c (last_formed to e f) ]
+      [ inl c ↦ kept c | inr c ↦ property_stored target value to e c (first_formed to e f) (last_formed to e f) ]
     where
       scalar : (covers_expr (uses_in P p mentions) to && covers_expr (uses_in P p mentions) e) ≡ true
           → FormCorresponds S p (source.assign target value) (to ∷ e ∷ []) (line_of S labels (source.assign target value) (to ∷ e ∷ []))
@@ -202,7 +206,7 @@ module _ (P : Program) (S : Scope) (same : S.declarations ≡ P.declarations) (p
       property : TakesValue (uses_in P p mentions) to e → SameUses S p (to ∷ e ∷ []) (target_exp S to ∷ exp_of S e ∷ [])
       property T =
           subst (λ (t : Exp). SameUses S p (to ∷ e ∷ []) (t ∷ exp_of S e ∷ [])) (sym (property_target S (uses_in P p mentions) to e T))
-          (property_uses to e T form (exp_of S e) (λ count no_support. refl))
+          (property_uses to e T (first_formed to e f) form (exp_of S e) (λ count no_support. refl))
 
   resized : (preserve : Bool) (items : List ReDimItem) (es : List Expr) → covers_resizes (uses_in P p mentions) preserve (resizes items es) ≡ true
       → list_all is_formed es ≡ true → FormCorresponds S p (source.redim preserve items) es (line_of S labels (source.redim preserve items) es)

@@ -255,7 +255,7 @@ module _ (P : Program) (S : Scope) (same : S.declarations ≡ P.declarations) (f
         let both = both_true (covers_expr (uses_in P p mentions) e) (covers_exprs (uses_in P p mentions) rest) h in
         known_append D (paths_of_exp (exp_of S e)) (paths_of_exps (exps_of S rest)) (expr_known e both.0) (args_known rest both.1)
 
-    passed_known : (q i : ℕ) (args : Passed) → covers_passed (uses_in P p mentions) args ≡ true → AreKnown D (paths_of_exps (passed_of S q i args))
+    pub passed_known : (q i : ℕ) (args : Passed) → covers_passed (uses_in P p mentions) args ≡ true → AreKnown D (paths_of_exps (passed_of S q i args))
     passed_known q i no_passed h = tt
     passed_known q i (next_passed (by_reference e) rest) h =
         let cover = uses_in P p mentions in

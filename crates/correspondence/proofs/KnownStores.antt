@@ -8,17 +8,17 @@ use Rattle.vb_tree.specs.declared.declared.ProcId.{ProcId}
 use Rattle.vb_tree.specs.Tree as source
 use Rattle.bound_tree.specs.declared.body.Mention.{Mention}
 use Rattle.bound_tree.specs.Labels.{Label}
-use Rattle.bound_tree.specs.Tree.{Declarations, Program, Expr, typed, call, Object, no_object, of_object, no_passed}
+use Rattle.bound_tree.specs.Tree.{Declarations, Program, Expr, typed, call, Object, no_object, of_object, Passed}
 use Rattle.bound_facts.specs.Node.{type_at}
 use Rattle.net_tree.specs.Tree.{Exp}
 use Rattle.net_tree.specs.Tree as net
-use Rattle.written_trees.specs.Exprs.{exp_of, is_bare, member_of, target_exp, term_exp}
+use Rattle.written_trees.specs.Exprs.{exp_of, is_bare, member_of, passed_of, target_exp, term_exp}
 use Rattle.written_trees.specs.Lines.{line_of, set_line}
 use Rattle.written_trees.specs.Names.{Scope, procedure_name, procedure_path}
 use Rattle.written_trees.specs.Facts.{holds_array}
 use Rattle.written_trees.specs.Puts.{formed, order_shows, put_type, store_by, store_line, target_rank, user_copy}
 use Rattle.run_matches.specs.CoveredVariables.{covers_user}
-use Rattle.run_matches.specs.CoveredExprs.{is_changeable, covers_expr, uses_in, covers_receiver}
+use Rattle.run_matches.specs.CoveredExprs.{is_changeable, covers_expr, uses_in, covers_passed, covers_receiver}
 use Rattle.run_matches.specs.CoveredLines.{covers_copy, covers_property, covers_stored, is_member_ordered, is_ordered, covers_store, covers_set}
 use Rattle.run_matches.specs.Covered.{covers_names}
 use Rattle.run_matches.specs.UserTypes.{is_class_type, is_user}
@@ -30,7 +30,7 @@ use Rattle.correspondence.proofs.Among.{or_cases}
 use Rattle.correspondence.proofs.KnownPlaces.{behind_known, flat_type, object_known, place_flat, place_known}
 use Rattle.correspondence.proofs.KnownArrays.{set_path_known, stored_known}
 use Rattle.correspondence.proofs.KnownPaths.{AreKnown, HasKnown, known_append, path_known}
-use Rattle.correspondence.proofs.KnownExprs.{call_known, called_known_by, expr_known, group_known}
+use Rattle.correspondence.proofs.KnownExprs.{call_known, called_known_by, expr_known, group_known, passed_known}
 
 module _ (P : Program) (S : Scope) (same : S.declarations ≡ P.declarations) (free : covers_names P.declarations ≡ true)
     (flat : (t : ℕ) → covers_user P.declarations t ≡ true → S.facts.holds_array t ≡ false) (p : ℕ) (mentions : List Mention) where
@@ -44,18 +44,18 @@ module _ (P : Program) (S : Scope) (same : S.declarations ≡ P.declarations) (f
       subst (λ (b : Bool). AreKnown D (paths_of_line (net.assign t (user_copy b u a)))) (sym none) (known_append D (paths_of_exp t) (paths_of_exp a) k l)
   copied_known shows rank _ t a h none k l = absurd (cc h)
 
-  -- the use of a property without arguments
-  bare_known : (ty : Ty) (q : ProcId) (qualified : Bool) (of : Object) → covers_receiver (uses_in P p mentions) of ≡ true
-      → HasKnown D (term_exp S ty (call q qualified of no_passed))
-  bare_known ty q qualified no_object h =
-      call_known D (is_bare S q.0 qualified no_object no_passed) (procedure_path S qualified q.0) net.no_exps
-      (path_known P.declarations S same free qualified q.0) tt
-  bare_known ty q qualified (of_object d) h =
-      called_known_by D (is_bare S q.0 qualified (of_object d) no_passed) (member_of d (exp_of S d) (procedure_name S.declarations q.0)) net.no_exps
-      (behind_known P S same p mentions free d (procedure_name S.declarations q.0) h) tt
+  -- the use of a property
+  used_known : (ty : Ty) (q : ProcId) (qualified : Bool) (of : Object) (args : Passed) → covers_receiver (uses_in P p mentions) of ≡ true
+      → covers_passed (uses_in P p mentions) args ≡ true → HasKnown D (term_exp S ty (call q qualified of args))
+  used_known ty q qualified no_object args h k =
+      call_known D (is_bare S q.0 qualified no_object args) (procedure_path S qualified q.0) (passed_of S q.0 0 args)
+      (path_known P.declarations S same free qualified q.0) (passed_known P S same free flat p mentions q.0 0 args k)
+  used_known ty q qualified (of_object d) args h k =
+      called_known_by D (is_bare S q.0 qualified (of_object d) args) (member_of d (exp_of S d) (procedure_name S.declarations q.0)) (passed_of S q.0 0 args)
+      (behind_known P S same p mentions free d (procedure_name S.declarations q.0) h) (passed_known P S same free flat p mentions q.0 0 args k)
 
   taking_known : (to e : Expr) → TakesValue (uses_in P p mentions) to e → HasKnown D (exp_of S to)
-  taking_known to e T = subst (λ (d : Expr). HasKnown D (exp_of S d)) (sym T.is_call) (bare_known T.ty T.procedure T.qualified T.of T.receiver)
+  taking_known to e T = subst (λ (d : Expr). HasKnown D (exp_of S d)) (sym T.is_call) (used_known T.ty T.procedure T.qualified T.of T.args T.receiver T.passed)
 
   value_exp_known : (e : Expr) → IsValue P S same p mentions e → HasKnown D (exp_of S e)
   value_exp_known e (inl h) = expr_known P S same free flat p mentions e h

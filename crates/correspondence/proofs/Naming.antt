@@ -424,7 +424,7 @@ module _ (P : Program) (S : Scope) (same : S.declarations ≡ P.declarations) (p
         let more = args_names rest both.1 forms.1 parted.1 in
         omega (arith, here, more)
 
-    passed_names : (q i : ℕ) (args : Passed) → covers_passed (uses_in P p mentions) args ≡ true → passed_are_formed args ≡ true
+    pub passed_names : (q i : ℕ) (args : Passed) → covers_passed (uses_in P p mentions) args ≡ true → passed_are_formed args ≡ true
         → Free (nodes_of_passed args) → passed_uses v args ≡ exps_name count (passed_of S q i args)
     passed_names q i no_passed h f free = refl
     passed_names q i (next_passed (by_reference e) rest) h f free =

@@ -6,7 +6,7 @@ use Rattle.vb_tree.specs.BoundTree as types
 use Rattle.vb_tree.specs.BoundTree.{Ty}
 use Rattle.vb_tree.specs.declared.declared.ProcId.{ProcId}
 use Rattle.bound_tree.specs.declared.body.Mention.{Mention}
-use Rattle.bound_tree.specs.Tree.{Program, Expr, typed, Object, call, no_passed, next_passed}
+use Rattle.bound_tree.specs.Tree.{Program, Expr, typed, Object, call, Passed}
 use Rattle.bound_facts.specs.Locks.{is_same_type}
 use Rattle.bound_facts.specs.Node.{type_at}
 use Rattle.net_tree.specs.Tree.{Exp}
@@ -15,8 +15,9 @@ use Rattle.written_trees.specs.Names.{Scope, Path, copy_name, support}
 use Rattle.written_trees.specs.Puts.{formed, order_shows, put_type, store_by, store_line, target_rank, user_copy}
 use Rattle.run_matches.specs.CoveredVariables.{covers_type}
 use Rattle.run_matches.specs.UserTypes.{is_class_type, is_user}
-use Rattle.run_matches.specs.CoveredExprs.{Uses, covers_expr, covers_group, covers_receiver, uses_in}
-use Rattle.run_matches.specs.CoveredLines.{covers_property, covers_property_term, is_receiver_ordered}
+use Rattle.run_matches.specs.CoveredExprs.{Uses, count_passed, covers_passed, covers_expr, covers_group, covers_receiver, uses_in}
+use Rattle.run_matches.specs.CoveredLines.{covers_property, covers_property_term, is_property_ordered}
+use Rattle.run_matches.specs.Formed.{is_formed, passed_are_formed}
 use Rattle.correspondence.specs.Uses.{names}
 use Rattle.correspondence.proofs.Among.{or_cases}
 use Rattle.correspondence.proofs.KnownPlaces.{IsFlatType, value_flat}
@@ -112,36 +113,39 @@ pub record TakesValue (cover : Uses) (to e : Expr) : Type 0 where
   pub procedure : ProcId
   pub qualified : Bool
   pub of : Object
-  pub is_call : to ≡ typed ty (call procedure qualified of no_passed)
+  pub args : Passed
+  pub is_call : to ≡ typed ty (call procedure qualified of args)
   pub same : is_same_type ty (type_at e) ≡ true
   pub receiver : covers_receiver cover of ≡ true
+  pub passed : covers_passed cover args ≡ true
   pub value : (covers_expr cover e ≡ true) ⊎ (covers_group cover e ≡ true)
 
 pub takes_value : (cover : Uses) (to e : Expr) → covers_property cover to e ≡ true → TakesValue cover to e
-takes_value cover (typed ty (call q qualified of no_passed)) e h =
+takes_value cover (typed ty (call q qualified of args)) e h =
     let value : Bool = covers_expr cover e || covers_group cover e in
-    let object : Bool = is_receiver_ordered cover of e && (covers_receiver cover of && value) in
-    let a = both_true (is_same_type ty (type_at e)) (covers_property_term cover (call q qualified of no_passed) e) h in
-    let b = both_true (cover.takes q.0 (type_at e) && true) object a.1 in
-    let c = both_true (is_receiver_ordered cover of e) (covers_receiver cover of && value) b.1 in
-    let d = both_true (covers_receiver cover of) value c.1 in
+    let taken : Bool = cover.takes q.0 (count_passed args) (type_at e) && is_property_ordered cover of args e in
+    let a = both_true (is_same_type ty (type_at e)) (covers_property_term cover (call q qualified of args) e) h in
+    let b = both_true taken (covers_receiver cover of && (covers_passed cover args && value)) a.1 in
+    let c = both_true (covers_receiver cover of) (covers_passed cover args && value) b.1 in
+    let d = both_true (covers_passed cover args) value c.1 in
     record {
       ty = ty;
       procedure = q;
       qualified = qualified;
       of = of;
+      args = args;
       is_call = refl;
       same = a.0;
-      receiver = d.0;
+      receiver = c.0;
+      passed = d.0;
       value = or_cases (covers_expr cover e) (covers_group cover e) d.1;
     }
-takes_value cover (typed ty (call q qualified of (next_passed g rest))) e h =
-    let a = both_true (is_same_type ty (type_at e)) (covers_property_term cover (call q qualified of (next_passed g rest)) e) h in
-    let object : Bool = is_receiver_ordered cover of e && (covers_receiver cover of && (covers_expr cover e || covers_group cover e)) in
-    let b = both_true (cover.takes q.0 (type_at e) && false) object a.1 in
-    absurd (cc (both_true (cover.takes q.0 (type_at e)) false b.0).1)
 takes_value cover (typed ty _) e h = absurd (cc (both_true (is_same_type ty (type_at e)) false h).1)
 
 -- it is written as it is used
 pub property_target : (S : Scope) (cover : Uses) (to e : Expr) → TakesValue cover to e → target_exp S to ≡ exp_of S to
 property_target S cover to e T = subst (λ (d : Expr). target_exp S d ≡ exp_of S d) (sym T.is_call) refl
+
+-- and its indexes are well formed where it is
+pub taken_formed : (cover : Uses) (to e : Expr) (T : TakesValue cover to e) → is_formed to ≡ true → passed_are_formed T.args ≡ true
+taken_formed cover to e T f = subst (λ (d : Expr). is_formed d ≡ true) T.is_call f

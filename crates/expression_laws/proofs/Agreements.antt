@@ -1,7 +1,7 @@
 -- The laws, under any pledge and under that of a frame.
 use Rattle.run_matches.specs.Keeping.{given_types}
 use Rattle.expression_laws.proofs.Giving.{giving}
-use Rattle.std.proofs.Common.{◌≡◌, inr, refl, ℕ, true, false, ◌&&◌, Some, inl}
+use Rattle.std.proofs.Common.{◌≡◌, inr, refl, ℕ, true, false, ◌&&◌, inl}
 use Rattle.std.specs.Prelude.{slice_get}
 use Rattle.bound_tree.specs.Tree.{typed, variable, element, call}
 use Rattle.bound_facts.specs.Node.{type_at}
@@ -9,7 +9,6 @@ use Rattle.net_tree.specs.Tree.{call_of}
 use Rattle.vb6_run.specs.Expressions as source
 use Rattle.vb6_run.specs.Expressions.{Context}
 use Rattle.vb6_run.specs.Store.{SourceFrame}
-use Rattle.net_run.specs.Calls.{passings_at}
 use Rattle.net_run.specs.Expressions as target
 use Rattle.net_run.specs.Lines.{scope_of}
 use Rattle.net_run.specs.Names as net_names
@@ -23,6 +22,7 @@ use Rattle.run_statements.specs.Elements.{IndexesAgree}
 use Rattle.run_statements.specs.Groups.{GroupsAgree, PlacesAgree}
 use Rattle.run_statements.specs.Members.{MembersAgree, ObjectsAgree}
 use Rattle.run_statements.specs.Objects.{ClassesAreWritten}
+use Rattle.run_statements.specs.Ways.{passings_by}
 use Rattle.run_statements.specs.Frames.{ArraysAgree, ElementsAgree, AnyParts, CallsAreMade, context_of, ExpressionsAgree}
 use Rattle.run_matches.specs.Formed.{are_formed, are_longs, has_elements, types_of}
 use Rattle.agreeing_laws.proofs.Agreeing.{agrees_weaker}
@@ -126,7 +126,7 @@ calls_are_made U sound classes K w p f g oracle net_oracle l k c T uses ty q qua
     (called_apart U S T q.0 qualified of args can.0.way can.0.is_way giving_one) receiver
     (λ v match there now asked.
     passed_agree U p f g oracle net_oracle l k c T uses declarations opened readable placed.leads agree sound classes (giving K (given_types args)) q.0 0
-    can.0.passes args (passings_at U.written (Some can.0.number)) v (from_first U p f g oracle net_oracle l k c T agree K can.0 giving_one) can.0.suits can.0.hands
+    can.0.passes args (passings_by U.written can.0.way can.0.number) v (from_first U p f g oracle net_oracle l k c T agree K can.0) can.0.suits can.0.hands can.0.quiet
     match there now asked covers formed can.0.ranks (λ t o. inr o)))
 
 -- under the pledge of a frame

@@ -6,6 +6,7 @@ use Rattle.vb_tree.specs.BoundTree.{Ty}
 use Rattle.vb_tree.specs.declared.declared.ProcId.{ProcId}
 use Rattle.bound_tree.specs.Tree.{Expr, typed, call, Object, no_object, of_object, Passed, no_passed, next_passed}
 use Rattle.bound_facts.specs.Node.{class_in, type_at}
+use Rattle.net_tree.specs.declared.declaration.NetPassing.{NetPassing}
 use Rattle.net_tree.specs.Tree.{Exp, Exps, call_of, no_exps, path}
 use Rattle.run_base.specs.Outcomes.{Outcome, after, gives, then}
 use Rattle.vb6_run.specs.Expressions as source
@@ -26,7 +27,7 @@ use Rattle.written_trees.specs.Names as written_names
 use Rattle.written_trees.specs.Names.{procedure_path}
 use Rattle.run_matches.specs.CoveredExprs.{is_giving}
 use Rattle.run_matches.specs.Upgrades.{Upgrade}
-use Rattle.run_statements.specs.Ways.{IsWay, LeadsAlone, Way, as_get, as_procedure, as_set, callee_by}
+use Rattle.run_statements.specs.Ways.{IsWay, LeadsAlone, Way, as_get, as_procedure, as_set, callee_by, passings_by}
 use Rattle.row_laws.proofs.Composing.{after_nil, then_assoc, then_gives}
 use Rattle.agreeing_laws.proofs.Members.{member_behind}
 
@@ -43,11 +44,11 @@ IsCalled S T as_procedure bare q qualified of args = bare ≡ false
 IsCalled S T (as_get set) bare q qualified of args = ((args ≡ no_passed) × LeadsAlone S T q qualified of) ⊎ (bare ≡ false)
 IsCalled S T (as_set get) bare q qualified of args = ⊥
 
-none_passed : (args : Passed) → has_none args ≡ true → args ≡ no_passed
+pub none_passed : (args : Passed) → has_none args ≡ true → args ≡ no_passed
 none_passed no_passed h = refl
 none_passed (next_passed a rest) h = absurd (true≢false (sym h))
 
-not_bare : (b c d : Bool) → b ≡ false → (c && (b && d)) ≡ false
+pub not_bare : (b c d : Bool) → b ≡ false → (c && (b && d)) ≡ false
 not_bare b true d h = ap (λ z. z && d) h
 not_bare b false d h = refl
 
@@ -93,13 +94,12 @@ module _ (S : Scope) (oracle : Jobs) where
       then (target.applied S oracle (λ m w. target.args_of S oracle m args w) (λ w. target.values_of S oracle args w) r w)
       (λ r w. then (target.parts_by S oracle r w) target.finished)
 
-  abbrev does : Exps → (object : Option net_value.Value) → (number : ℕ) → net.Memory → Outcome net.Memory net.Address
-  does args object n w =
-      then (target.args_of S oracle (passings_at S.project (Some n)) args w) (λ gs w. procedure_does S oracle object n gs w)
+  abbrev does : List NetPassing → Exps → (object : Option net_value.Value) → (number : ℕ) → net.Memory → Outcome net.Memory net.Address
+  does modes args object n w = then (target.args_of S oracle modes args w) (λ gs w. procedure_does S oracle object n gs w)
 
   -- a procedure is called with its arguments
   procedure_takes : (args : Exps) (object : Option net_value.Value) (n : ℕ) (w : net.Memory)
-      → takes false args (named (to_procedure object n)) w ≡ does args object n w
+      → takes false args (named (to_procedure object n)) w ≡ does (passings_at S.project (Some n)) args object n w
   procedure_takes args object n w =
       let A = target.args_of S oracle (passings_at S.project (Some n)) args w in
       let take = λ (gs : Arguments) (w : net.Memory). gives [] (called (to_procedure object n) gs) w in
@@ -109,9 +109,9 @@ module _ (S : Scope) (oracle : Jobs) where
 
   -- so is a Get with its arguments
   property_takes : (args : Exps) (object : Option net_value.Value) (n : ℕ) (set : Option ℕ) (w : net.Memory)
-      → takes false args (named (to_property object (Some n) set)) w ≡ does args object n w
+      → takes false args (named (to_property object (Some n) set)) w ≡ does [] args object n w
   property_takes args object n set w =
-      let A = target.args_of S oracle (passings_at S.project (Some n)) args w in
+      let A = target.args_of S oracle [] args w in
       let take = λ (gs : Arguments) (w : net.Memory). gives [] (called (to_property object (Some n) set) gs) w in
       let ends = λ (r : Reached) (w : net.Memory). then (target.parts_by S oracle r w) target.finished in
       then_assoc A take ends ∙ ap (λ k. then A k) (λ i gs w. after_nil (ends (called (to_property object (Some n) set) gs) w) i)
@@ -119,7 +119,7 @@ module _ (S : Scope) (oracle : Jobs) where
 
   -- and one without arguments by its name alone
   get_takes : (bare : Bool) (object : Option net_value.Value) (n : ℕ) (set : Option ℕ) (w : net.Memory)
-      → takes bare no_exps (named (to_property object (Some n) set)) w ≡ does no_exps object n w
+      → takes bare no_exps (named (to_property object (Some n) set)) w ≡ does [] no_exps object n w
   get_takes true object n set w = through_parts (procedure_does S oracle object n [] w) ∙ sym (after_nil (procedure_does S oracle object n [] w))
   get_takes false object n set w = ap (λ r. after [] r) (through_parts (procedure_does S oracle object n [] w))
 
@@ -131,14 +131,14 @@ module _ (S : Scope) (oracle : Jobs) where
     pub named_does : (of : Object) (way : Way) (bare : Bool) → IsCalled S T way bare q qualified of args → (object : Option net_value.Value) (n : ℕ)
         (w : net.Memory)
         → takes bare (passed_of T q 0 args) (named (callee_by way object n)) w
-        ≡ then (target.args_of S oracle (passings_at S.project (Some n)) (passed_of T q 0 args) w) (λ gs w. procedure_does S oracle object n gs w)
+        ≡ then (target.args_of S oracle (passings_by S.project way n) (passed_of T q 0 args) w) (λ gs w. procedure_does S oracle object n gs w)
     named_does of as_procedure bare is object n w =
-        subst (λ b. takes b passed (named (to_procedure object n)) w ≡ does passed object n w) (sym is) (procedure_takes passed object n w)
+        subst (λ b. takes b passed (named (to_procedure object n)) w ≡ does (passings_at S.project (Some n)) passed object n w) (sym is) (procedure_takes passed object n w)
     named_does of (as_get set) bare (inl is) object n w =
-        subst (λ a. takes bare (passed_of T q 0 a) (named (to_property object (Some n) set)) w ≡ does (passed_of T q 0 a) object n w) (sym is.0)
+        subst (λ a. takes bare (passed_of T q 0 a) (named (to_property object (Some n) set)) w ≡ does [] (passed_of T q 0 a) object n w) (sym is.0)
         (get_takes bare object n set w)
     named_does of (as_get set) bare (inr is) object n w =
-        subst (λ b. takes b passed (named (to_property object (Some n) set)) w ≡ does passed object n w) (sym is) (property_takes passed object n set w)
+        subst (λ b. takes b passed (named (to_property object (Some n) set)) w ≡ does [] passed object n w) (sym is) (property_takes passed object n set w)
     named_does of (as_set get) bare is object n w = absurd is
 
     called_address : (bare : Bool) (e : Exp) (w : net.Memory)
@@ -161,7 +161,7 @@ module _ (S : Scope) (oracle : Jobs) where
     pub call_address : (way : Way) (bare : Bool) → IsCalled S T way bare q qualified no_object args → (n : ℕ)
         → path_start S true (procedure_path T qualified q) ≡ starts (named (callee_by way None n)) [] → (w : net.Memory)
         → target.address_of S oracle (written.called bare (path (procedure_path T qualified q)) (passed_of T q 0 args)) w
-        ≡ then (target.args_of S oracle (passings_at S.project (Some n)) (passed_of T q 0 args) w) (λ gs w. procedure_does S oracle None n gs w)
+        ≡ then (target.args_of S oracle (passings_by S.project way n) (passed_of T q 0 args) w) (λ gs w. procedure_does S oracle None n gs w)
     call_address way bare is n h w =
         called_address bare (path (procedure_path T qualified q)) w
         ∙ ap (λ s. then (target.started S oracle s w) (takes bare passed)) (path_leads way bare is ∙ h)

@@ -24,7 +24,7 @@ use Rattle.vb6_run.specs.Objects.{is_class}
 use Rattle.vb6_run.specs.Store.{Memory, SourceCalls, SourceFrame, SourceGiven, provided, Address}
 use Rattle.vb6_run.specs.Values.{Value, is_of_shape, scalar}
 use Rattle.net_run.specs.Calls as net_calls
-use Rattle.net_run.specs.Calls.{Arguments, passings_at, procedure_does, result_address}
+use Rattle.net_run.specs.Calls.{Arguments, procedure_does, result_address}
 use Rattle.net_run.specs.Expressions as target
 use Rattle.net_run.specs.Lines.{NetFrame, NetLine, scope_of}
 use Rattle.net_run.specs.Making.{Jobs}
@@ -50,6 +50,7 @@ use Rattle.run_matches.specs.Runs.{CallsAgree, IsObject, call_pledge}
 use Rattle.run_matches.specs.Upgrades.{Upgrade}
 use Rattle.run_statements.specs.Members.{ObjectMatch}
 use Rattle.run_statements.specs.Frames.{CanCall, ScalarMatch, context_of}
+use Rattle.run_statements.specs.Ways.{Way, passings_by}
 use Rattle.run_statements.specs.Written.{Passes}
 use Rattle.row_laws.proofs.Composing.{then_assoc}
 use Rattle.agreeing_laws.specs.Promises.{Weaker}
@@ -59,8 +60,9 @@ use Rattle.agreeing_laws.proofs.Lasting.{later_now}
 use Rattle.agreeing_laws.proofs.Members.{member_reached}
 use Rattle.agreeing_laws.proofs.Moves.{address_later, locks_promised}
 use Rattle.agreeing_laws.proofs.Scalars.{scalar_later}
-use Rattle.expression_laws.specs.Calls.{ArgumentsMatch, GivenMatch, Stands, next_address, result_shape}
-use Rattle.expression_laws.proofs.Arguments.{arguments_ok, callee_is_weaker, stands_later}
+use Rattle.run_statements.specs.Arguments.{ArgumentsMatch, next_address}
+use Rattle.expression_laws.specs.Calls.{GivenMatch, Stands, result_shape}
+use Rattle.expression_laws.proofs.Arguments.{arguments_ok, callee_is_weaker, callee_lasts, stands_later}
 use Rattle.expression_laws.proofs.Callees.{IsCalled, back, call_address, enters_with, member_address, named_does, object_parts, takes}
 use Rattle.expression_laws.proofs.LastingImages.{plain_later}
 use Rattle.expression_laws.proofs.Checks.{value_checked}
@@ -132,7 +134,7 @@ module _ (U : Upgrade) (K : Pledge) (p : ℕ) (f : SourceFrame) (g : NetFrame) (
       (agrees_promised U K L w (ResultMatch U) (oracle (enters q me f.env xs) w.src) (net_oracle (enters can.number me' tt ys) w.net) start weaker
       (subst (λ m. Agrees U L w (ResultMatch U) (oracle (enters q me f.env xs) w.src) (net_oracle (enters can.number m tt ys) w.net)) (sym same)
       (agree q can.number me (mark w.src) f.env xs ys w can.passes can.is_number (below_self (mark w.src)) object own
-      (locks_promised U K L w w f.env weaker locks) (arguments_ok U K L w q xs ys weaker h) start)))
+      (locks_promised U K L w w f.env weaker locks) (arguments_ok U K L w q xs ys weaker (callee_lasts U q w me xs ys) h) start)))
       (λ x r v m later. agrees_gives U K v (GivenMatch U can.number) (result_parts x) (result_address (result_shape U can.number) r) later.match
       (record { given = x; net_given = r; is_given = refl; is_net_given = refl; match = m }))
 
@@ -162,21 +164,21 @@ module _ (U : Upgrade) (K : Pledge) (p : ℕ) (f : SourceFrame) (g : NetFrame) (
     object_entered _ _ (like_scalar _ x y m) = scalar_entered x y m
 
   module _ (ty : Ty) (q : ProcId) (qualified : Bool) (args : Passed) where
-    abbrev Takes : (number : ℕ) → World → Type 0
-    Takes n v =
+    abbrev Takes : Way → (number : ℕ) → World → Type 0
+    Takes way n v =
         Agrees U K v (ArgumentsMatch U K q.0 0) (source.args_of (context_of U oracle p f l) q.0 0 args v.src)
-        (target.args_of (scope_of U.written c g k) net_oracle (passings_at U.written (Some n)) (passed_of T q.0 0 args) v.net)
+        (target.args_of (scope_of U.written c g k) net_oracle (passings_by U.written way n) (passed_of T q.0 0 args) v.net)
 
     -- A call whose arguments agree where they are evaluated.
     -- its object is found under another pledge, which is kept too
     pub call_agrees : (L : Pledge) → ((v : World) → Weaker v L K) → (of : Object) (can : CanCall U K S T p q.0 qualified of args) (bare : Bool)
         → IsCalled S T can.way bare q.0 qualified of args → (w : World) → ReceiverIs U L C S net_oracle T w of
-        → ((v : World) → Later U L w v → Stands U K v p f g) → MemoryMatch U w → ((v : World) → Later U L w v → Takes can.number v)
+        → ((v : World) → Later U L w v → Stands U K v p f g) → MemoryMatch U w → ((v : World) → Later U L w v → Takes can.way can.number v)
         → Agrees U L w (GivenMatch U can.number) (source.term_parts C ty (call q qualified of args) w.src)
         (target.address_of S net_oracle (called bare (callee_of T q.0 qualified of) (passed_of T q.0 0 args)) w.net)
     call_agrees L weaker _ can bare is w for_none stands start given =
         let r = source.args_of C q.0 0 args w.src in
-        let r' = target.args_of S net_oracle (passings_at U.written (Some can.number)) (passed_of T q.0 0 args) w.net in
+        let r' = target.args_of S net_oracle (passings_by U.written can.way can.number) (passed_of T q.0 0 args) w.net in
         let go = λ (gs : List SourceGiven) (w : Memory). then (oracle (enters q.0 f.me f.env gs) w) back in
         let go' = λ (gs : Arguments) (w : net.Memory). procedure_does S net_oracle None can.number gs w in
         subst (λ z. Agrees U L w (GivenMatch U can.number) (after [] (then r go)) z)
@@ -201,7 +203,7 @@ module _ (U : Upgrade) (K : Pledge) (p : ℕ) (f : SourceFrame) (g : NetFrame) (
         let callee : Exp = callee_of T q.0 qualified (of_object e) in
         let G = GivenMatch U can.number in
         let take = takes S net_oracle bare (passed_of T q.0 0 args) in
-        let r' = λ (v : World). target.args_of S net_oracle (passings_at U.written (Some can.number)) (passed_of T q.0 0 args) v.net in
+        let r' = λ (v : World). target.args_of S net_oracle (passings_by U.written can.way can.number) (passed_of T q.0 0 args) v.net in
         subst (λ z. Agrees U L w G z (target.address_of S net_oracle (called bare callee (passed_of T q.0 0 args)) w.net))
         (sym (object_parts C ty q qualified e args w.src))
         (subst (λ z. Agrees U L w G (then (source.value_of C e w.src) (λ x s. enters_with C q.0 args (receiver (Some d) x) s)) z)

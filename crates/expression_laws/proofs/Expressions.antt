@@ -1,8 +1,8 @@
 -- Covered expressions do the same as what is written for them.
 use Rattle.run_matches.specs.Keeping.{given_types, given_by}
 use Rattle.expression_laws.proofs.Giving.{giving}
-use Rattle.std.proofs.Common.{◌≡◌, inr, ◌∙◌, refl, sym, ap, subst, ℕ, suc, ◌+◌, ◌≤◌, length, true, false, true≢false, ◌&&◌, ◌||◌, List, [], ◌∷◌, Some, inl, ◌++◌}
-use Rattle.std.specs.Prelude.{is_some, not, slice_get}
+use Rattle.std.proofs.Common.{◌≡◌, inr, ◌∙◌, refl, sym, ap, subst, ℕ, suc, ◌+◌, ◌≤◌, length, true, false, true≢false, ◌&&◌, ◌||◌, List, [], ◌∷◌, inl, ◌++◌}
+use Rattle.std.specs.Prelude.{cond, is_some, not, slice_get}
 use Rattle.vb_tree.specs.BoundTree as types
 use Rattle.vb_tree.specs.BoundTree.{Ty}
 use Rattle.vb6_meaning.specs.Values.{operate}
@@ -10,7 +10,8 @@ use Rattle.bound_tree.specs.Tree.{Expr, typed, constant, variable, field, elemen
 use Rattle.bound_facts.specs.Effects.{params_at}
 use Rattle.bound_facts.specs.Locks.{is_same_type}
 use Rattle.bound_facts.specs.Node.{type_at}
-use Rattle.up_base.proofs.Tests.{by_test, not_true}
+use Rattle.bound_facts.specs.Nodes.{nodes_of_passed}
+use Rattle.up_base.proofs.Tests.{by_test}
 use Rattle.net_tree.specs.declared.declaration.NetPassing.{NetPassing}
 use Rattle.net_tree.specs.declared.declaration.NetPassing.TheVariants as passing
 use Rattle.net_meaning.specs.declared.value.ValueN.TheVariants as net_scalar
@@ -20,7 +21,6 @@ use Rattle.vb6_run.specs.Expressions as source
 use Rattle.vb6_run.specs.Expressions.{Context}
 use Rattle.vb6_run.specs.Forms.{SourceLine}
 use Rattle.vb6_run.specs.Store.{SourceCalls, SourceFrame}
-use Rattle.net_run.specs.Calls.{passings_at}
 use Rattle.net_run.specs.Expressions as target
 use Rattle.net_run.specs.Lines.{NetFrame, NetLine, scope_of}
 use Rattle.net_run.specs.Making.{Jobs}
@@ -37,26 +37,31 @@ use Rattle.run_matches.specs.Agreeing.{Agrees}
 use Rattle.run_matches.specs.CoveredVariables.{covers_type, takes_value_at}
 use Rattle.run_matches.specs.CoveredExprs.{Uses, covers_array, covers_bounded, covers_exprs, covers_library, is_bound, covers_operand, covers_operator, covers_expr, covers_group, covers_passed, covers_place, covers_receiver, is_giving, is_passable, is_variable}
 use Rattle.run_matches.specs.Covered.{is_referred, suits_array, suits_group, takes_address, suits_passed, hands_argument, hands_passed, is_group_field, is_item, is_type_at}
+use Rattle.run_matches.specs.IndexArguments.{goes_as_index, hands_index, is_seen_quiet}
 use Rattle.run_matches.specs.UserTypes.{is_group_type}
 use Rattle.run_matches.specs.Likeness.{are_same}
 use Rattle.run_matches.specs.Maps.{World}
 use Rattle.run_matches.specs.Match.{MemoryMatch}
-use Rattle.run_matches.specs.Pledges.{Pledge, Later}
+use Rattle.run_matches.specs.Pledges.{Pledge, Later, is_inward, still}
 use Rattle.run_matches.specs.Upgrades.{Upgrade, runnable_of}
 use Rattle.run_matches.specs.Runs.{CallsAgree}
 use Rattle.run_statements.specs.Fitting.{FitsPassed}
 use Rattle.run_statements.specs.Frames.{AllCalled, AllCalledAll, AllCalledFor, Demands, demands, ScalarMatch, PlainMatch, IsOpen, context_of, AreReadable, passing_at, passing_by, IsOne, type_shape}
 use Rattle.run_statements.specs.Groups.{ValueMatch}
 use Rattle.run_statements.specs.Objects.{ClassesAreWritten}
+use Rattle.run_statements.specs.Ways.{passings_by}
 use Rattle.run_statements.specs.Written.{Passes}
 use Rattle.row_laws.proofs.Stated as rows
 use Rattle.run_matches.specs.Formed.{are_formed, are_longs, has_elements, types_of, is_row_of_one, is_row_of_two, passed_are_formed, is_formed}
 use Rattle.agreeing_laws.proofs.Agreeing.{agrees_gives}
-use Rattle.expression_laws.specs.Calls.{ArgumentsMatch, Stands, no_arguments}
+use Rattle.agreeing_laws.proofs.Still.{still_more}
+use Rattle.agreeing_laws.proofs.StillCalls.{passed_in_still}
+use Rattle.run_statements.specs.Arguments.{ArgumentsMatch, no_arguments}
+use Rattle.expression_laws.specs.Calls.{Stands}
 use Rattle.expression_laws.proofs.Types.{both_true, covered_type, covered_typed}
 use Rattle.expression_laws.proofs.Checks.{TermMatch, term_agrees, plain_agrees}
 use Rattle.expression_laws.proofs.Conversions.{formed_constant, constant_agrees, conversion_agrees}
-use Rattle.expression_laws.proofs.Arguments.{stands_later}
+use Rattle.expression_laws.proofs.Arguments.{stands_later, stands_still}
 use Rattle.expression_laws.proofs.Calls.{no_copy}
 use Rattle.expression_laws.proofs.CallValues.{call_gives, call_value}
 use Rattle.expression_laws.proofs.GroupArguments.{group_goes, grouped}
@@ -73,11 +78,12 @@ use Rattle.expression_laws.proofs.IndexRows.{index_is_row}
 use Rattle.expression_laws.proofs.Elements.{IndexesLike, index_agrees, next_agrees}
 use Rattle.expression_laws.proofs.ElementValues.{element_agrees, element_value}
 use Rattle.expression_laws.proofs.ErrNumbers.{err_number_agrees}
-use Rattle.expression_laws.proofs.References.{IsPassed, or_true, further, here, passed_by, reference_agrees, scalar_passed, suited, handed_value}
-use Rattle.expression_laws.proofs.Temporaries.{conversion_given, conversion_goes, value_goes}
+use Rattle.expression_laws.proofs.IndexReferences.{nothing_changes, variable_as_index}
+use Rattle.expression_laws.proofs.References.{IsPassed, conversion_passed, or_true, further, here, passed_by, reference_agrees, scalar_passed, suited, handed_value}
+use Rattle.expression_laws.proofs.Temporaries.{conversion_as_value, conversion_given, conversion_goes, value_goes}
 use Rattle.expression_laws.proofs.Variables.{variable_agrees}
 use Rattle.expression_laws.proofs.Seen.{IsSeen}
-use Rattle.expression_laws.proofs.Withs.{HavePlaces, places_later}
+use Rattle.expression_laws.proofs.Withs.{HavePlaces, places_later, places_promised}
 use Rattle.expression_laws.proofs.WrittenValues.{exp_handles, group_handles}
 use Rattle.expression_laws.proofs.RowsAgree.{any_same}
 use Rattle.expression_laws.proofs.Operators.{binary_agrees, formed_held, same_operator, same_unary, typed_binary, typed_unary, unary_agrees}
@@ -118,6 +124,10 @@ module _ (U : Upgrade) (p : ℕ) (f : SourceFrame) (g : NetFrame) (oracle : Sour
   -- what is written for a value without an address
   abbrev Written : World → Expr → Type 0
   Written w e = has_address T.declarations (kept e) ≡ false → Handles S (IsSeen C S net_oracle w e) (exp_of T e)
+
+  -- a parameter that is seen to be quiet is so
+  abbrev QuietAt : ℕ → Type 0
+  QuietAt q = (i : ℕ) → is_seen_quiet U.program q i ≡ true → ((runnable_of U).quiet q i ≡ true) × (is_inward U q ≡ true)
 
   handles : (K : Pledge) (e : Expr) (w : World) → MemoryMatch U w → Have K w → Stands U K w p f g → AllCalled (Asked K) e → covers_expr uses e ≡ true
       → is_formed e ≡ true → Written w e
@@ -205,8 +215,8 @@ module _ (U : Upgrade) (p : ℕ) (f : SourceFrame) (g : NetFrame) (oracle : Sour
         (call_placed U p f g oracle net_oracle l k c T agree uses same_declarations readable opened classes K ty q qualified of args w start have stands can
         (is_bare T q.0 qualified of args) (called_as_written U S T q.0 qualified of args same_declarations can.0.way can.0.is_way giving_one) parts.0
         (λ v start_there there now asked.
-        passed_agree (giving K (given_types args)) q.0 0 can.0.passes args (passings_at U.written (Some can.0.number)) v
-        (from_first U p f g oracle net_oracle l k c T agree K can.0 giving_one) can.0.suits can.0.hands start_there there now asked parts.1 formed can.0.ranks (λ t o. inr o)))
+        passed_agree (giving K (given_types args)) q.0 0 can.0.passes args (passings_by U.written can.0.way can.0.number) v
+        (from_first U p f g oracle net_oracle l k c T agree K can.0) can.0.suits can.0.hands can.0.quiet start_there there now asked parts.1 formed can.0.ranks (λ t o. inr o)))
     expression_agrees K (typed ty (library function no_exprs)) w start have stands can covers formed =
         let args : Exprs = no_exprs in
         let both = both_true (covers_type ty) ((covers_library function && covers_exprs uses args) || (is_bound function && covers_bounded uses args)) covers in
@@ -281,8 +291,8 @@ module _ (U : Upgrade) (p : ℕ) (f : SourceFrame) (g : NetFrame) (oracle : Sour
         (call_placed U p f g oracle net_oracle l k c T agree uses same_declarations readable opened classes K ty q qualified of args w start have stands can
         (is_bare T q.0 qualified of args) (called_as_written U S T q.0 qualified of args same_declarations can.0.way can.0.is_way giving_one) parts.0
         (λ v start_there there now asked.
-        passed_agree (giving K (given_types args)) q.0 0 can.0.passes args (passings_at U.written (Some can.0.number)) v
-        (from_first U p f g oracle net_oracle l k c T agree K can.0 giving_one) can.0.suits can.0.hands start_there there now asked parts.1 formed can.0.ranks (λ t o. inr o)))
+        passed_agree (giving K (given_types args)) q.0 0 can.0.passes args (passings_by U.written can.0.way can.0.number) v
+        (from_first U p f g oracle net_oracle l k c T agree K can.0) can.0.suits can.0.hands can.0.quiet start_there there now asked parts.1 formed can.0.ranks (λ t o. inr o)))
     group_agrees K (typed ty (convert to e)) w start have stands can covers formed =
         nothing_agrees U K C S net_oracle T w start ty to e (nothing_converted (uses.given ty) ty to e covers)
     group_agrees K (typed ty _) w start have stands can covers formed = absurd (true≢false (sym covers))
@@ -322,27 +332,67 @@ module _ (U : Upgrade) (p : ℕ) (f : SourceFrame) (g : NetFrame) (oracle : Sour
 
     -- arguments from a place on, as they are taken
     pub passed_agree : (K : Pledge) (q i : ℕ) (passes : Passes U q) (args : Passed) (modes : List NetPassing) (w : World)
-        → ((n : ℕ) → passing_at modes n ≡ passing_by (takes_reference U.program.declarations q (i + n))) → suits_passed U.program.declarations q i args ≡ true
-        → hands_passed U.program q i args ≡ true → MemoryMatch U w → Have K w → Stands U K w p f g → AllCalledFor (Asked K) args → covers_passed uses args ≡ true
+        → ((n : ℕ) → passing_at modes n ≡ passing_by (takes_address U.program.declarations q (i + n))) → suits_passed U.program.declarations q i args ≡ true
+        → hands_passed U.program q i args ≡ true → QuietAt q → MemoryMatch U w → Have K w → Stands U K w p f g → AllCalledFor (Asked K) args → covers_passed uses args ≡ true
         → passed_are_formed args ≡ true → FitsPassed U q i args → ((t : Ty) → IsOne (given_types args) t → K.keeps t)
         → Agrees U K w (ArgumentsMatch U K q i) (source.args_of C q i args w.src) (target.args_of S net_oracle modes (passed_of T q i args) w.net)
-    passed_agree K q i passes no_passed modes w takes suits hands start have stands can covers formed fits kept = agrees_gives U K w (ArgumentsMatch U K q i) [] [] start (no_arguments i w)
-    passed_agree K q i passes (next_passed (by_reference e) rest) modes w takes suits hands start have stands can covers formed fits kept =
+    passed_agree K q i passes no_passed modes w takes suits hands quiet start have stands can covers formed fits kept = agrees_gives U K w (ArgumentsMatch U K q i) [] [] start (no_arguments i w)
+    passed_agree K q i passes (next_passed (by_reference e) rest) modes w takes suits hands quiet start have stands can covers formed fits kept =
         let D = U.program.declarations in
         let both = both_true ((is_passable uses e && covers_expr uses e) || (covers_array uses e || covers_place uses e)) (covers_passed uses rest) covers in
         let passed : IsPassed uses e = passed_by uses e both.0 in
-        let fit = both_true (takes_address D q i && (is_referred e && (suits_array D q i e && suits_group D q i e))) (suits_passed D q (suc i) rest) suits in
-        let hand = both_true (hands_argument U.program q i (by_reference e)) (hands_passed U.program q (suc i) rest) hands in
-        let one = both_true (takes_address D q i) (is_referred e && (suits_array D q i e && suits_group D q i e)) fit.0 in
+        let fit = both_true (takes_reference D q i && (is_referred e && (suits_array D q i e && suits_group D q i e))) (suits_passed D q (suc i) rest) suits in
+        let index = hands_index U.program q i (by_reference e) rest in
+        let hand_first = both_true (hands_argument U.program q i (by_reference e)) (index && hands_passed U.program q (suc i) rest) hands in
+        let hand_rest = both_true index (hands_passed U.program q (suc i) rest) hand_first.1 in
+        let one = both_true (takes_reference D q i) (is_referred e && (suits_array D q i e && suits_group D q i e)) fit.0 in
         let referred = both_true (is_referred e) (suits_array D q i e && suits_group D q i e) one.1 in
         let types = both_true (suits_array D q i e) (suits_group D q i e) referred.1 in
-        let taken = both_true (not (is_property D q)) (takes_reference D q i) one.0 in
-        let addresses : TakesAddresses U q = not_true (is_property D q) taken.0 in
         let forms = both_true (is_formed e) (passed_are_formed rest) formed in
-        let next = λ (n : ℕ). takes (suc n) ∙ ap (λ m. passing_by (takes_reference D q m)) (further i n) in
+        let next = λ (n : ℕ). takes (suc n) ∙ ap (λ m. passing_by (takes_address D q m)) (further i n) in
         let keep = λ (t : Ty) (o : IsOne (given_types rest) t). kept t (one_right (given_by (by_reference e)) (given_types rest) t o) in
+        let as_taken : target.first_passing modes ≡ passing_by (takes_address D q i) = takes 0 ∙ ap (λ n. passing_by (takes_address D q n)) (here i) in
+        by_test (is_property D q) (λ b. is_property D q ≡ b
+        → Agrees U K w (ArgumentsMatch U K q i) (source.args_of C q i (next_passed (by_reference e) rest) w.src)
+        (target.args_of S net_oracle modes (passed_of T q i (next_passed (by_reference e) rest)) w.net))
+        (λ part is_part.
+        let mode : target.first_passing modes ≡ passing.Value = as_taken ∙ ap (λ b. passing_by (not b && takes_reference D q i)) part in
+        let goes : goes_as_index U.program q i (by_reference e) rest ≡ true =
+        subst (λ b. cond b (goes_as_index U.program q i (by_reference e) rest) true ≡ true) part hand_rest.0 in
+        by_test (is_conversion e) (λ b. is_conversion e ≡ b
+        → Agrees U K w (ArgumentsMatch U K q i) (source.args_of C q i (next_passed (by_reference e) rest) w.src)
+        (target.args_of S net_oracle modes (passed_of T q i (next_passed (by_reference e) rest)) w.net))
+        (λ is_one any.
+        let scalar : covers_expr uses e ≡ true = conversion_passed uses e passed is_one in
+        let covered : covers_type (type_at e) ≡ true = covered_type uses e scalar in
+        taken_agrees U K q i (handed_value U.program q i e is_one hand_first.0) (ScalarMatch U (type_at e)) (scalar_lasts U K q i (type_at e)) w (source.value_of C e w.src) (target.value_of S net_oracle (exp_of T e) w.net)
+        (source.argument_of C ((runnable_of U).quiet q i) (by_reference e) w.src)
+        (target.given S net_oracle (target.first_passing modes)
+        (target.reach S net_oracle false (argument_exp T (takes_reference T.declarations q i) (by_reference e) (exp_of T e)) w.net))
+        (source.args_of C q (suc i) rest) (target.args_of S net_oracle (target.rest_passings modes) (passed_of T q (suc i) rest))
+        (conversion_given C ((runnable_of U).quiet q i) e w.src covered is_one)
+        (conversion_as_value C S net_oracle T e (no_copy T.facts (type_at e) (is_copied e) covered) w (handles K e w start have stands can.0 scalar forms.0)
+        (target.first_passing modes) (takes_reference T.declarations q i) covered mode is_one)
+        start
+        (expression_agrees K e w start have stands can.0 scalar forms.0)
+        (λ v later.
+        passed_agree K q (suc i) passes rest (target.rest_passings modes) v next fit.1 hand_rest.1 quiet later.match
+        (places_later U p f g oracle net_oracle l k c T uses K w v start later have) (stands_later U K w v p f g later stands) can.1 both.1 forms.1 fits.1 keep))
+        (λ none converts.
+        variable_as_index U K p f g oracle net_oracle l k c T uses same_declarations readable q i part w ((runnable_of U).quiet q i) (target.first_passing modes)
+        (takes_reference T.declarations q i) e rest (source.args_of C q (suc i) rest)
+        (target.args_of S net_oracle (target.rest_passings modes) (passed_of T q (suc i) rest)) none goes (quiet i) refl mode passed start have.variables
+        (λ nothing.
+        passed_agree (still K w) q (suc i) passes rest (target.rest_passings modes) w next fit.1 hand_rest.1 quiet start
+        (places_promised U p f g oracle net_oracle l k c T uses K (still K w) w start (still_more K w) have) (stands_still U K w start p f g stands)
+        (passed_in_still U K p l k w (scope_of U.written c g k) T uses readable rest both.1
+        (nothing_changes U T uses readable (nodes_of_passed rest) nothing) can.1)
+        both.1 forms.1 fits.1 keep)) refl)
+        (λ single apart.
+        let addresses : TakesAddresses U q = single in
+        let hand : (hands_argument U.program q i (by_reference e) ≡ true) × (hands_passed U.program q (suc i) rest ≡ true) = (hand_first.0, hand_rest.1) in
         let mode : target.first_passing modes ≡ passing.Reference =
-        takes 0 ∙ ap (λ n. passing_by (takes_reference D q n)) (here i) ∙ ap passing_by taken.1 in
+        as_taken ∙ ap (λ b. passing_by (not b && takes_reference D q i)) single ∙ ap passing_by one.0 in
         by_test (is_variable e) (λ b. is_variable e ≡ b → (b || (is_conversion e || (is_item e || is_group_field e))) ≡ true
         → Agrees U K w (ArgumentsMatch U K q i) (source.args_of C q i (next_passed (by_reference e) rest) w.src)
         (target.args_of S net_oracle modes (passed_of T q i (next_passed (by_reference e) rest)) w.net))
@@ -350,7 +400,7 @@ module _ (U : Upgrade) (p : ℕ) (f : SourceFrame) (g : NetFrame) (oracle : Sour
         reference_agrees U K p f g oracle net_oracle l k c T uses same_declarations readable q i w ((runnable_of U).quiet q i) (target.first_passing modes)
         (takes_reference T.declarations q i) e (source.args_of C q (suc i) rest) (target.args_of S net_oracle (target.rest_passings modes) (passed_of T q (suc i) rest))
         mode is passed fits.0 types.0 hand.0 addresses start have.variables
-        (passed_agree K q (suc i) passes rest (target.rest_passings modes) w next fit.1 hand.1 start have stands can.1 both.1 forms.1 fits.1 keep))
+        (passed_agree K q (suc i) passes rest (target.rest_passings modes) w next fit.1 hand.1 quiet start have stands can.1 both.1 forms.1 fits.1 keep))
         (λ no is h.
         by_test (is_conversion e) (λ b. is_conversion e ≡ b → (b || (is_item e || is_group_field e)) ≡ true
         → Agrees U K w (ArgumentsMatch U K q i) (source.args_of C q i (next_passed (by_reference e) rest) w.src)
@@ -369,7 +419,7 @@ module _ (U : Upgrade) (p : ℕ) (f : SourceFrame) (g : NetFrame) (oracle : Sour
         start
         (expression_agrees K e w start have stands can.0 scalar forms.0)
         (λ v later.
-        passed_agree K q (suc i) passes rest (target.rest_passings modes) v next fit.1 hand.1 later.match (places_later U p f g oracle net_oracle l k c T uses K w v start later have)
+        passed_agree K q (suc i) passes rest (target.rest_passings modes) v next fit.1 hand.1 quiet later.match (places_later U p f g oracle net_oracle l k c T uses K w v start later have)
         (stands_later U K w v p f g later stands) can.1 both.1 forms.1 fits.1 keep))
         (λ other is_none left.
         by_test (is_item e) (λ b. is_item e ≡ b → (b || is_group_field e) ≡ true
@@ -381,25 +431,28 @@ module _ (U : Upgrade) (p : ℕ) (f : SourceFrame) (g : NetFrame) (oracle : Sour
         (source.args_of C q (suc i) rest) (target.args_of S net_oracle (target.rest_passings modes) (passed_of T q (suc i) rest)) mode item (covered_type uses e scalar)
         (λ t o. kept t (one_left (given_by (by_reference e)) (given_types rest) t o)) hand.0 addresses start (item_agrees K e w start have stands can.0 scalar forms.0)
         (λ v later.
-        passed_agree K q (suc i) passes rest (target.rest_passings modes) v next fit.1 hand.1 later.match (places_later U p f g oracle net_oracle l k c T uses K w v start later have)
+        passed_agree K q (suc i) passes rest (target.rest_passings modes) v next fit.1 hand.1 quiet later.match (places_later U p f g oracle net_oracle l k c T uses K w v start later have)
         (stands_later U K w v p f g later stands) can.1 both.1 forms.1 fits.1 keep))
         (λ none no_item is_field.
         field_passed U K p f g oracle net_oracle l k c T uses same_declarations readable q i w start have ((runnable_of U).quiet q i) (target.first_passing modes)
         (takes_reference T.declarations q i) (source.args_of C q (suc i) rest)
         (target.args_of S net_oracle (target.rest_passings modes) (passed_of T q (suc i) rest)) mode addresses
-        (passed_agree K q (suc i) passes rest (target.rest_passings modes) w next fit.1 hand.1 start have stands can.1 both.1 forms.1 fits.1 keep)
-        e is_field passed can.0) refl left) refl h) refl referred.0
-    passed_agree K q i passes (next_passed (by_value e) rest) modes w takes suits hands start have stands can covers formed fits kept =
+        (passed_agree K q (suc i) passes rest (target.rest_passings modes) w next fit.1 hand.1 quiet start have stands can.1 both.1 forms.1 fits.1 keep)
+        e is_field passed can.0) refl left) refl h) refl referred.0) refl
+    passed_agree K q i passes (next_passed (by_value e) rest) modes w takes suits hands quiet start have stands can covers formed fits kept =
         let D = U.program.declarations in
         let both = both_true (covers_expr uses e || covers_group uses e) (covers_passed uses rest) covers in
         let forms = both_true (is_formed e) (passed_are_formed rest) formed in
         let fit = both_true (suits_group D q i e) (suits_passed D q (suc i) rest) suits in
-        let hand = both_true (takes_value_at U.program q i) (hands_passed U.program q (suc i) rest) hands in
+        let index = hands_index U.program q i (by_value e) rest in
+        let first = both_true (takes_value_at U.program q i) (index && hands_passed U.program q (suc i) rest) hands in
+        let hand : (takes_value_at U.program q i ≡ true) × (hands_passed U.program q (suc i) rest ≡ true) =
+        (first.0, (both_true index (hands_passed U.program q (suc i) rest) first.1).1) in
         let keep = λ (t : Ty) (o : IsOne (given_types rest) t). kept t (one_right (given_by (by_value e)) (given_types rest) t o) in
-        let next = λ (n : ℕ). takes (suc n) ∙ ap (λ m. passing_by (takes_reference D q m)) (further i n) in
-        let mode : target.first_passing modes ≡ passing_by (takes_reference D q i) = takes 0 ∙ ap (λ n. passing_by (takes_reference D q n)) (here i) in
+        let next = λ (n : ℕ). takes (suc n) ∙ ap (λ m. passing_by (takes_address D q m)) (further i n) in
+        let mode : target.first_passing modes ≡ passing_by (takes_address D q i) = takes 0 ∙ ap (λ n. passing_by (takes_address D q n)) (here i) in
         let more = λ (v : World) (later : Later U K w v).
-        passed_agree K q (suc i) passes rest (target.rest_passings modes) v next fit.1 hand.1 later.match (places_later U p f g oracle net_oracle l k c T uses K w v start later have)
+        passed_agree K q (suc i) passes rest (target.rest_passings modes) v next fit.1 hand.1 quiet later.match (places_later U p f g oracle net_oracle l k c T uses K w v start later have)
         (stands_later U K w v p f g later stands) can.1 both.1 forms.1 fits.1 keep in
         by_either (covers_expr uses e) (covers_group uses e) both.0
         (λ scalar.
@@ -409,7 +462,8 @@ module _ (U : Upgrade) (p : ℕ) (f : SourceFrame) (g : NetFrame) (oracle : Sour
         (target.reach S net_oracle false (argument_exp T (takes_reference T.declarations q i) (by_value e) (exp_of T e)) w.net))
         (source.args_of C q (suc i) rest) (target.args_of S net_oracle (target.rest_passings modes) (passed_of T q (suc i) rest)) refl
         (value_goes C S net_oracle T e (no_copy T.facts (type_at e) (is_copied e) (covered_type uses e scalar)) w
-        (handles K e w start have stands can.0 scalar forms.0) (takes_reference D q i) (target.first_passing modes) (takes_reference T.declarations q i) mode (ap (λ E. takes_reference E q i) same_declarations))
+        (handles K e w start have stands can.0 scalar forms.0) (takes_address D q i) (target.first_passing modes) (takes_reference T.declarations q i) mode
+        (λ addressed. ap (λ E. takes_reference E q i) same_declarations ∙ (both_true (not (is_property D q)) (takes_reference D q i) addressed).1))
         start (expression_agrees K e w start have stands can.0 scalar forms.0) more)
         (λ of_group.
         let is_group = grouped U T uses readable e of_group in

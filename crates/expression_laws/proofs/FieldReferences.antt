@@ -36,7 +36,7 @@ use Rattle.run_matches.specs.Upgrades.{Upgrade}
 use Rattle.run_statements.specs.Frames.{AllCalled, AreReadable, Demands, context_of, demands, type_shape}
 use Rattle.row_laws.proofs.Composing.{after_nil}
 use Rattle.agreeing_laws.proofs.Agreeing.{agrees_outside}
-use Rattle.expression_laws.specs.Calls.{ArgumentsMatch}
+use Rattle.run_statements.specs.Arguments.{ArgumentsMatch}
 use Rattle.expression_laws.proofs.FieldValues.{scalar_is}
 use Rattle.expression_laws.proofs.Places.{place_is}
 use Rattle.expression_laws.proofs.References.{IsPassed, given_agrees, group_ranked, image_given, or_true, scalar_of_passed}

@@ -32,7 +32,7 @@ use Rattle.run_statements.specs.Frames.{ElementMatch}
 use Rattle.agreeing_laws.proofs.Agreeing.{agrees_gives, agrees_outside, agrees_raises, left_alone, then_agrees}
 use Rattle.agreeing_laws.proofs.Indexes.{as_answer, place_agrees}
 use Rattle.agreeing_laws.proofs.Moves.{address_later}
-use Rattle.expression_laws.specs.Calls.{ArgumentsMatch, next_address}
+use Rattle.run_statements.specs.Arguments.{ArgumentsMatch, next_address}
 use Rattle.expression_laws.proofs.ElementValues.{element_like, sizes_of}
 use Rattle.expression_laws.proofs.LastingImages.{plain_later}
 use Rattle.expression_laws.proofs.References.{or_true, plain_shape}

@@ -40,7 +40,8 @@ use Rattle.row_laws.proofs.Composing.{then_assoc, then_gives}
 use Rattle.agreeing_laws.proofs.Agreeing.{agrees_gives, agrees_outside, left_alone, then_agrees}
 use Rattle.agreeing_laws.proofs.FieldPaths.{property_more}
 use Rattle.agreeing_laws.proofs.Members.{Reaches, behind_reaches, call_leads, path_reaches}
-use Rattle.expression_laws.specs.Calls.{ArgumentsMatch, GivenMatch, Stands, no_arguments, result_shape}
+use Rattle.run_statements.specs.Arguments.{ArgumentsMatch, no_arguments}
+use Rattle.expression_laws.specs.Calls.{GivenMatch, Stands, result_shape}
 use Rattle.expression_laws.proofs.BeforeArguments.{IsBefore, method_before, named_before}
 use Rattle.expression_laws.proofs.Callees.{IsCalled, called_as_written, enters_with, object_parts}
 use Rattle.expression_laws.proofs.CallsGiven.{ArgumentsAgree, call_made}
@@ -160,7 +161,7 @@ module _ (U : Upgrade) (K : Pledge) (p : ℕ) (f : SourceFrame) (g : NetFrame) (
       by_way : IsCalled S T can.way bare q.0 qualified of no_passed
       by_way = called_as_written U S T q.0 qualified of no_passed same_declarations can.way can.is_way giving_one
 
-      no_arguments_agree : (v : World) → Later U K w v → ArgumentsAgree U p f g oracle net_oracle l k c T agree K q no_passed can.number v
+      no_arguments_agree : (v : World) → Later U K w v → ArgumentsAgree U p f g oracle net_oracle l k c T agree K q no_passed can.way can.number v
       no_arguments_agree v later =
           let L : Pledge = giving K (given_types no_passed) in
           agrees_gives U L v (ArgumentsMatch U L q.0 0) [] [] later.match (no_arguments 0 v)

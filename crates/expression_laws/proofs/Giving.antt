@@ -40,17 +40,15 @@ giving_more K ts w = record {
 
 -- ---- the frames
 
-module _ (U : Upgrade) (K : Pledge) (ts : List Ty) (w : World) (start : MemoryMatch U w) where
-  abbrev M : Pledge
-  M = giving K ts
+-- what stands for each other does so under a pledge that promises no less
+module _ (U : Upgrade) (K L : Pledge) (w : World) (start : MemoryMatch U w) (less : Weaker w K L) where
+  bound_promised : (exact : Bool) (a : Address) (b : net.Address) → Bound U K w exact a b → Bound U L w exact a b
+  bound_promised _ _ _ (images exact a b same) = images exact a b (address_promised U K L w w a b less same)
+  bound_promised _ _ _ (mirrored a b m) = mirrored a b (record { holds = λ z l. m.holds z (later_weaker U K L w z start less l) })
 
-  bound_giving : (exact : Bool) (a : Address) (b : net.Address) → Bound U K w exact a b → Bound U (giving K ts) w exact a b
-  bound_giving _ _ _ (images exact a b same) = images exact a b (address_promised U K (giving K ts) w w a b (giving_more K ts w) same)
-  bound_giving _ _ _ (mirrored a b m) = mirrored a b (record { holds = λ z l. m.holds z (later_weaker U K (giving K ts) w z start (giving_more K ts w) l) })
-
-  image_giving : (v : ℕ) (a : Address) (b : net.Address) → IsImage U K w v a b → IsImage U (giving K ts) w v a b
-  image_giving v a b x = record {
-    same = address_promised U K (giving K ts) w w a b (giving_more K ts w) x.same;
+  image_promised : (v : ℕ) (a : Address) (b : net.Address) → IsImage U K w v a b → IsImage U L w v a b
+  image_promised v a b x = record {
+    same = address_promised U K L w w a b less x.same;
     target = x.target;
     plain = x.plain;
     position = x.position;
@@ -59,18 +57,19 @@ module _ (U : Upgrade) (K : Pledge) (ts : List Ty) (w : World) (start : MemoryMa
     ranked = x.ranked;
   }
 
-  pub images_giving : (f : SourceFrame) (S : net_names.Scope) (T : Scope) (uses : Uses) → HaveImages U K w f S T uses → HaveImages U (giving K ts) w f S T uses
-  images_giving f S T uses h v a used is =
+  pub images_promised : (f : SourceFrame) (S : net_names.Scope) (T : Scope) (uses : Uses) → HaveImages U K w f S T uses → HaveImages U L w f S T uses
+  images_promised f S T uses h v a used is =
       let x : HasImage U K w S T (uses.named v) v.0 a = h v a used is in
       record {
         address = x.address;
         found = x.found;
-        bound = bound_giving (not (is_mirrored U v.0)) a x.address x.bound;
+        bound = bound_promised (not (is_mirrored U v.0)) a x.address x.bound;
         of_scalars = x.of_scalars;
         whole = x.whole;
-        image = λ exact. image_giving v.0 a x.address (x.image exact);
+        image = λ exact. image_promised v.0 a x.address (x.image exact);
       }
 
+module _ (U : Upgrade) (K : Pledge) (ts : List Ty) (w : World) (start : MemoryMatch U w) where
   pub stands_giving : (p : ℕ) (f : SourceFrame) (g : NetFrame) → Stands U K w p f g → Stands U (giving K ts) w p f g
   stands_giving p f g h = record {
     me = h.me;
@@ -113,6 +112,7 @@ module _ (U : Upgrade) (K : Pledge) (S : net_names.Scope) (T : Scope) (ts : List
     inside = c.inside;
     ranks = c.ranks;
     passings = c.passings;
+    quiet = c.quiet;
     found = c.found;
     result = c.result;
   }

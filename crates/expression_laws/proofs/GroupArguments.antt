@@ -1,5 +1,5 @@
 -- User types and objects that are given by value.
-use Rattle.std.proofs.Common.{◌≡◌, refl, sym, ap, subst, ◌∙◌, ℕ, suc, Bool, true, false, ◌&&◌, List, [], ◌∷◌, ◌++◌, Some, true≢false}
+use Rattle.std.proofs.Common.{◌≡◌, refl, sym, ap, subst, ◌∙◌, ℕ, suc, Bool, true, false, ◌&&◌, List, [], ◌∷◌, ◌++◌, Some, true≢false, not}
 use Rattle.vb_tree.specs.BoundTree as types
 use Rattle.vb_tree.specs.BoundTree.{Ty}
 use Rattle.bound_tree.specs.Tree.{Expr, typed, variable, field, call, convert, me, new_object}
@@ -20,7 +20,7 @@ use Rattle.net_run.specs.Members.{Code}
 use Rattle.net_run.specs.Names as net_names
 use Rattle.net_run.specs.Store as net
 use Rattle.net_run.specs.Values as net_value
-use Rattle.written_trees.specs.Arguments.{argument_exp, has_address, is_copied, kept, takes_reference}
+use Rattle.written_trees.specs.Arguments.{argument_exp, has_address, is_copied, kept, takes_reference, is_property}
 use Rattle.written_trees.specs.Exprs.{exp_of}
 use Rattle.written_trees.specs.Facts.{Facts, holds_array}
 use Rattle.written_trees.specs.Names.{Scope}
@@ -41,7 +41,7 @@ use Rattle.run_statements.specs.Groups.{ValueMatch}
 use Rattle.agreeing_laws.proofs.UserShapes.{declared_group}
 use Rattle.memory_laws.proofs.Groups.{field_sound}
 use Rattle.memory_laws.proofs.GroupValues.{value_later}
-use Rattle.expression_laws.specs.Calls.{ArgumentsMatch}
+use Rattle.run_statements.specs.Arguments.{ArgumentsMatch}
 use Rattle.expression_laws.specs.Statements.{IsSoundType}
 use Rattle.expression_laws.proofs.Arguments.{no_arrays}
 use Rattle.expression_laws.proofs.Handed.{Lasts, taken_agrees}
@@ -52,6 +52,7 @@ use Rattle.expression_laws.proofs.Nothings.{nothing_converted}
 use Rattle.expression_laws.proofs.Seen.{IsSeen}
 use Rattle.expression_laws.proofs.Temporaries.{value_goes}
 use Rattle.expression_laws.proofs.Types.{both_true, is_group}
+use Rattle.run_matches.specs.Covered.{takes_address}
 
 -- ---- values of user types and objects
 
@@ -147,7 +148,7 @@ module _ (U : Upgrade) (K : Pledge) (p : ℕ) (f : SourceFrame) (g : NetFrame) (
 
   -- a value goes as one, whatever its parameter takes
   pub group_goes : (quiet : Bool) (mode : NetPassing) (e : Expr) (rest : Memory → Outcome Memory (List SourceGiven))
-      (rest' : net.Memory → Outcome net.Memory Arguments) → mode ≡ passing_by (takes_reference U.program.declarations q i) → TakesValue U q i → IsSoundType U (type_at e)
+      (rest' : net.Memory → Outcome net.Memory Arguments) → mode ≡ passing_by (takes_address U.program.declarations q i) → TakesValue U q i → IsSoundType U (type_at e)
       → (has_address T.declarations (kept e) ≡ false
       → Handles (scope_of U.written c g k) (IsSeen (context_of U oracle p f l) (scope_of U.written c g k) net_oracle w e) (exp_of T e))
       → Agrees U K w (ValueMatch U (type_shape U (type_at e))) (source.value_of (context_of U oracle p f l) e w.src)
@@ -161,5 +162,8 @@ module _ (U : Upgrade) (K : Pledge) (p : ℕ) (f : SourceFrame) (g : NetFrame) (
       (target.reach S net_oracle false (argument_exp T (takes_reference T.declarations q i) (tree.by_value e) (exp_of T e)) w.net))
       rest rest' refl
       (value_goes C S net_oracle T e (uncopied U T uses readable ty (is_copied e) of.covers) w handles
-      (takes_reference U.program.declarations q i) mode (takes_reference T.declarations q i) m (ap (λ E. takes_reference E q i) same_declarations))
+      (takes_address U.program.declarations q i) mode (takes_reference T.declarations q i) m
+      (λ addressed.
+      ap (λ E. takes_reference E q i) same_declarations
+      ∙ (both_true (not (is_property U.program.declarations q)) (takes_reference U.program.declarations q i) addressed).1))
       start values more

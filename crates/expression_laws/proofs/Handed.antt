@@ -20,7 +20,7 @@ use Rattle.run_statements.specs.Frames.{ScalarMatch}
 use Rattle.agreeing_laws.specs.Promises.{Yields}
 use Rattle.agreeing_laws.proofs.Agreeing.{agrees_gives, then_agrees}
 use Rattle.agreeing_laws.proofs.Scalars.{scalar_later}
-use Rattle.expression_laws.specs.Calls.{ArgumentsMatch, next_value}
+use Rattle.run_statements.specs.Arguments.{ArgumentsMatch, next_value}
 use Rattle.expression_laws.proofs.Arguments.{no_arrays}
 use Rattle.expression_laws.proofs.Handled.{Handed}
 use Rattle.expression_laws.proofs.NoPlaces.{NoPlace}

@@ -29,7 +29,7 @@ use Rattle.run_matches.specs.Match.{MemoryMatch}
 use Rattle.run_matches.specs.Pledges.{Pledge, Later}
 use Rattle.run_matches.specs.Upgrades.{Upgrade}
 use Rattle.run_statements.specs.Frames.{ElementMatch, IsOne}
-use Rattle.expression_laws.specs.Calls.{ArgumentsMatch}
+use Rattle.run_statements.specs.Arguments.{ArgumentsMatch}
 use Rattle.expression_laws.proofs.References.{first, or_true}
 
 -- an element is written as it stands

@@ -19,6 +19,8 @@ pub mod Arguments
 pub mod Callees
 pub mod Calls
 pub mod References
+pub mod IndexValues
+pub mod IndexReferences
 pub mod GivenElements
 pub mod NoPlaces
 pub mod Handled

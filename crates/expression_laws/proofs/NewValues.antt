@@ -53,8 +53,9 @@ use Rattle.agreeing_laws.proofs.Made.{below_self}
 use Rattle.agreeing_laws.proofs.Moves.{locks_promised}
 use Rattle.agreeing_laws.proofs.Scalars.{scalar_later}
 use Rattle.memory_laws.proofs.Objects.{objects_are_made}
-use Rattle.expression_laws.specs.Calls.{Stands, no_arguments}
-use Rattle.expression_laws.proofs.Arguments.{arguments_ok, loose_in_none, stands_later}
+use Rattle.run_statements.specs.Arguments.{no_arguments}
+use Rattle.expression_laws.specs.Calls.{Stands}
+use Rattle.expression_laws.proofs.Arguments.{arguments_ok, loose_in_none, stands_later, callee_lasts}
 use Rattle.expression_laws.proofs.Checks.{provided_agrees, source_then}
 use Rattle.expression_laws.proofs.Entered.{object_stands}
 use Rattle.expression_laws.proofs.Types.{both_true}
@@ -151,7 +152,7 @@ module _ (U : Upgrade) (K : Pledge) (p : ℕ) (f : SourceFrame) (g : NetFrame) (
         (agree q calls.0.number (Some o) (mark v.src) f.env [] [] v calls.0.passes calls.0.is_number (below_self (mark v.src)) is.is_made
         (object_stands U v q class o calls.0.stands is.is_made is.is_class)
         (locks_promised U K L v v f.env weaker (stands_later U K w v p f g later stands).locks)
-        (arguments_ok U K L v q [] [] weaker (no_arguments 0 v)) later.match)))
+        (arguments_ok U K L v q [] [] weaker (callee_lasts U q v (Some o) [] []) (no_arguments 0 v)) later.match)))
         (λ x r u m behind. agrees_gives U K u AnyUnits tt tt behind.match tt))
 
     created_is : objects.created D oracle f.env class w.src ≡ objects.created_as D oracle f.env class o (variables_from m.file 0 D.vars) w.src

@@ -1,7 +1,7 @@
 -- Calls where their uses are placed: their objects are found before their arguments.
 use Rattle.vb_tree.specs.declared.declared.ProcId.{ProcId}
 use Rattle.run_matches.specs.Keeping.{given_types}
-use Rattle.expression_laws.proofs.Giving.{called_giving_for, giving, stands_giving}
+use Rattle.expression_laws.proofs.Giving.{called_giving_for, giving, giving_more, stands_giving}
 use Rattle.std.proofs.Common.{◌≡◌, ℕ, Bool, true}
 use Rattle.vb_tree.specs.BoundTree.{Ty}
 use Rattle.bound_tree.specs.Tree.{Expr, typed, call, Object, Passed}
@@ -34,7 +34,7 @@ use Rattle.expression_laws.proofs.Arguments.{stands_later}
 use Rattle.expression_laws.proofs.Callees.{IsCalled}
 use Rattle.expression_laws.proofs.CallsGiven.{ArgumentsAgree, call_made}
 use Rattle.expression_laws.proofs.KeptObjects.{receiver_is}
-use Rattle.expression_laws.proofs.Withs.{HavePlaces, places_giving, places_later}
+use Rattle.expression_laws.proofs.Withs.{HavePlaces, places_later, places_promised}
 
 module _ (U : Upgrade) (p : ℕ) (f : SourceFrame) (g : NetFrame) (oracle : SourceCalls) (net_oracle : Jobs)
     (l : SourceLine) (k : NetLine) (c : Code) (T : Scope) (agree : CallsAgree U (Passes U) oracle net_oracle) where
@@ -66,7 +66,7 @@ module _ (U : Upgrade) (p : ℕ) (f : SourceFrame) (g : NetFrame) (oracle : Sour
         → Stands U K w p f g → (can : AllCalled (Asked K) (typed ty (call q qualified of args))) → (bare : Bool)
         → IsCalled S T can.0.way bare q.0 qualified of args → covers_receiver uses of ≡ true
         → ((v : World) → MemoryMatch U v → Have (kept_with K args) v → Stands U (kept_with K args) v p f g
-        → AllCalledFor (Asked (kept_with K args)) args → ArgumentsAgree U p f g oracle net_oracle l k c T agree K q args can.0.number v)
+        → AllCalledFor (Asked (kept_with K args)) args → ArgumentsAgree U p f g oracle net_oracle l k c T agree K q args can.0.way can.0.number v)
         → Agrees U K w (GivenMatch U can.0.number) (source.term_parts C ty (call q qualified of args) w.src)
         (target.address_of S net_oracle (called bare (callee_of T q.0 qualified of) (passed_of T q.0 0 args)) w.net)
     call_placed K ty q qualified of args w start have stands can bare by_way covers given =
@@ -75,5 +75,6 @@ module _ (U : Upgrade) (p : ℕ) (f : SourceFrame) (g : NetFrame) (oracle : Sour
         (receiver_is U K p f g oracle net_oracle l k c T uses same_declarations readable w start have opened agree classes stands of can.2 covers)
         (λ v later.
         given v later.match
-        (places_giving U p f g oracle net_oracle l k c T uses K ts v later.match (places_later U p f g oracle net_oracle l k c T uses K w v start later have))
+        (places_promised U p f g oracle net_oracle l k c T uses K (kept_with K args) v later.match (giving_more K ts v)
+        (places_later U p f g oracle net_oracle l k c T uses K w v start later have))
         (stands_giving U K ts v later.match p f g (stands_later U K w v p f g later stands)) (called_giving_for U K S T ts p l k args can.0.inside can.1))

@@ -49,7 +49,7 @@ use Rattle.run_statements.specs.Frames.{AreReadable, IsGroup, IsKnown, IsReadabl
 use Rattle.row_laws.proofs.Composing.{after_nil}
 use Rattle.agreeing_laws.proofs.Agreeing.{agrees_outside}
 use Rattle.agreeing_laws.proofs.UserShapes.{declared_group}
-use Rattle.expression_laws.specs.Calls.{ArgumentsMatch}
+use Rattle.run_statements.specs.Arguments.{ArgumentsMatch}
 use Rattle.expression_laws.specs.Images.{HasImage, HaveImages, IsImage}
 use Rattle.expression_laws.proofs.Calls.{address_agrees}
 use Rattle.expression_laws.proofs.Elements.{ArrayThere, array_there, sound_array}
@@ -75,7 +75,7 @@ or_true false = refl
 -- ---- the source
 
 -- what a quiet parameter is given is read first
-source_given : (C : Context) (quiet : Bool) (ty : Ty) (v : VarId) (qualified : Bool) (o : Option Address) (m : Option ℕ) → m ≡ None → (w : Memory)
+pub source_given : (C : Context) (quiet : Bool) (ty : Ty) (v : VarId) (qualified : Bool) (o : Option Address) (m : Option ℕ) → m ≡ None → (w : Memory)
     → then (then (some_of o (λ a w. gives [] (at_address a) w) w) (source.made_for C m))
     (source.given_parts C quiet (typed ty (variable v qualified)) (source.goes_by_address (typed ty (variable v qualified))))
     ≡ some_of o (source.given_address quiet) w
@@ -114,7 +114,7 @@ passed_by uses e h = by (either_true (is_passable uses e && covers_expr uses e) 
 pub scalar_of_passed : (uses : Uses) (e : Expr) → (is_passable uses e && covers_expr uses e) ≡ true → covers_expr uses e ≡ true
 scalar_of_passed uses e h = (both_true (is_passable uses e) (covers_expr uses e) h).1
 
-scalar_used : (uses : Uses) (ty : Ty) (v : VarId) (qualified : Bool) → covers_expr uses (typed ty (variable v qualified)) ≡ true
+pub scalar_used : (uses : Uses) (ty : Ty) (v : VarId) (qualified : Bool) → covers_expr uses (typed ty (variable v qualified)) ≡ true
     → (uses.scalar v ≡ true) × (uses.named v qualified ≡ true)
 scalar_used uses ty v qualified h =
     both_true (uses.scalar v) (uses.named v qualified) (both_true (covers_type ty) (uses.scalar v && uses.named v qualified) h).1
@@ -145,7 +145,7 @@ named_by uses ty v qualified (inr (inl h)) = (array_used uses ty v qualified h).
 named_by uses ty v qualified (inr (inr h)) = (both_true (uses.group v ty) (uses.named v qualified) h).1
 
 -- it is no quiet parameter
-passed_exact : (U : Upgrade) (T : Scope) (uses : Uses) → AreReadable U T uses → (ty : Ty) (v : VarId) (qualified : Bool)
+pub passed_exact : (U : Upgrade) (T : Scope) (uses : Uses) → AreReadable U T uses → (ty : Ty) (v : VarId) (qualified : Bool)
     → IsPassed uses (typed ty (variable v qualified)) → is_mirrored U v.0 ≡ false
 passed_exact U T uses readable ty v qualified (inl h) =
     readable.exact v (both_true (uses.exact v) (covers_expr uses (typed ty (variable v qualified))) h).0
@@ -171,6 +171,10 @@ pub scalar_passed : (uses : Uses) (e : Expr) → IsPassed uses e → is_variable
 scalar_passed uses e (inl h) other is = scalar_of_passed uses e h
 scalar_passed uses e (inr (inl h)) other is = absurd (no_array uses e h other)
 scalar_passed uses e (inr (inr h)) other is = absurd (no_place uses e h other is)
+
+pub conversion_passed : (uses : Uses) (e : Expr) → IsPassed uses e → is_conversion e ≡ true → covers_expr uses e ≡ true
+conversion_passed uses (typed ty (convert to e)) passed is = scalar_passed uses (typed ty (convert to e)) passed refl refl
+conversion_passed uses (typed ty _) passed is = absurd (true≢false (sym is))
 
 -- ---- ranks
 
@@ -263,7 +267,7 @@ parameter_declared U K w T uses readable ty v qualified (inr (inr h)) a b x =
 -- ---- the target
 
 -- it is written as it stands
-reference_is : (T : Scope) (referred : Bool) (ty : Ty) (v : VarId) (qualified : Bool) (a : Exp)
+pub reference_is : (T : Scope) (referred : Bool) (ty : Ty) (v : VarId) (qualified : Bool) (a : Exp)
     → argument_exp T referred (by_reference (typed ty (variable v qualified))) a ≡ a
 reference_is T referred ty v qualified a =
     ap (λ b. cond b a (temporary_exp T (typed ty (variable v qualified)) a)) (or_true (is_array_type ty))

@@ -150,19 +150,49 @@ module _ (C : source.Context) (S : Scope) (oracle : Jobs) (T : written_names.Sco
       GoesAsValue (source.value_of C e w.src) (target.given S oracle mode (target.reach S oracle false (argument_exp T referred a (exp_of T e)) w.net))
       (target.value_of S oracle (exp_of T e) w.net)
 
+  -- in parentheses it is the same value
+  by_value_goes : (mode : NetPassing) (b : Bool) → mode ≡ passing.Value
+      → GoesAsValue (source.value_of C e w.src) (target.given S oracle mode (target.reach S oracle false (in_parentheses b (exp_of T e)) w.net))
+      (target.value_of S oracle (exp_of T e) w.net)
+  by_value_goes mode b m =
+      goes_as
+      (value_taken (target.given S oracle mode (target.reach S oracle false (in_parentheses b (exp_of T e)) w.net)) (target.value_of S oracle (exp_of T e) w.net)
+      (given_is S oracle mode (in_parentheses b (exp_of T e)) w.net m ∙ ap (λ r. then r (λ v w. gives [] (by_value v) w)) (alike b)))
+    where
+      alike : (b : Bool) → target.value_of S oracle (in_parentheses b (exp_of T e)) w.net ≡ target.value_of S oracle (exp_of T e) w.net
+      alike true = in_value S oracle (target.address_of S oracle (exp_of T e) w.net)
+      alike false = refl
+
   -- a value goes as one, whatever its parameter takes
-  pub value_goes : (b : Bool) (mode : NetPassing) (referred : Bool) → mode ≡ passing_by b → referred ≡ b → Goes mode (bound.by_value e) referred
+  pub value_goes : (b : Bool) (mode : NetPassing) (referred : Bool) → mode ≡ passing_by b → (b ≡ true → referred ≡ true)
+      → Goes mode (bound.by_value e) referred
   value_goes true mode referred m r =
       subst (λ z. Goes z (bound.by_value e) referred) (sym m)
-      (subst (λ z. Goes passing.Reference (bound.by_value e) z) (sym r) (temporary_goes S oracle C T e uncopied w handles))
-  value_goes false mode referred m r =
+      (subst (λ z. Goes passing.Reference (bound.by_value e) z) (sym (r refl)) (temporary_goes S oracle C T e uncopied w handles))
+  value_goes false mode true m r =
+      subst (λ b. GoesAsValue (source.value_of C e w.src)
+      (target.given S oracle mode
+      (target.reach S oracle false (cond b (copy_by (type_at e) (exp_of T e)) (in_parentheses (has_address T.declarations (kept e)) (exp_of T e))) w.net))
+      (target.value_of S oracle (exp_of T e) w.net)) (sym uncopied) (by_value_goes mode (has_address T.declarations (kept e)) m)
+  value_goes false mode false m r =
       goes_as
-      (value_taken (target.given S oracle mode (target.reach S oracle false (argument_exp T referred (bound.by_value e) (exp_of T e)) w.net))
+      (value_taken (target.given S oracle mode (target.reach S oracle false (argument_exp T false (bound.by_value e) (exp_of T e)) w.net))
       (target.value_of S oracle (exp_of T e) w.net)
-      (ap (λ z. target.given S oracle mode (target.reach S oracle false z w.net)) (argument_is T referred e r uncopied)
+      (ap (λ z. target.given S oracle mode (target.reach S oracle false z w.net)) (argument_is T false e refl uncopied)
       ∙ given_is S oracle mode (exp_of T e) w.net m))
 
-  -- and so does a conversion that is given by reference
+  -- so does a conversion that is given by reference, where a value is taken
+  pub conversion_as_value : (mode : NetPassing) (referred : Bool) → covers_type (type_at e) ≡ true → mode ≡ passing.Value → is_conversion e ≡ true
+      → Goes mode (by_reference e) referred
+  conversion_as_value mode referred covers m is =
+      subst (λ z. GoesAsValue (source.value_of C e w.src) (target.given S oracle mode (target.reach S oracle false z w.net))
+      (target.value_of S oracle (exp_of T e) w.net)) (sym (conversion_written T referred e (exp_of T e) covers is))
+      (subst (λ b. GoesAsValue (source.value_of C e w.src)
+      (target.given S oracle mode
+      (target.reach S oracle false (cond b (copy_by (type_at e) (exp_of T e)) (in_parentheses (has_address T.declarations (kept e)) (exp_of T e))) w.net))
+      (target.value_of S oracle (exp_of T e) w.net)) (sym uncopied) (by_value_goes mode (has_address T.declarations (kept e)) m))
+
+  -- and where a reference is
   pub conversion_goes : (mode : NetPassing) (referred : Bool) → covers_type (type_at e) ≡ true → mode ≡ passing.Reference → is_conversion e ≡ true
       → Goes mode (by_reference e) referred
   conversion_goes mode referred covers m is =

@@ -1,5 +1,5 @@
 -- Places of user types, and what a With keeps: they are found on both sides, and stay so.
-use Rattle.std.proofs.Common.{◌≡◌, ◌∙◌, ◌⊎◌, refl, ap, subst, inl, inr, ℕ, false, List, [], Some}
+use Rattle.std.proofs.Common.{◌≡◌, ◌∙◌, ◌⊎◌, refl, ap, subst, inl, inr, ℕ, false, [], Some}
 use Rattle.vb_tree.specs.BoundTree as types
 use Rattle.vb_tree.specs.BoundTree.{Ty}
 use Rattle.vb_tree.specs.declared.value.Value6.{Value6}
@@ -30,12 +30,13 @@ use Rattle.run_matches.specs.Match.{MemoryMatch}
 use Rattle.run_matches.specs.Pledges.{Later, Pledge}
 use Rattle.run_matches.specs.Upgrades.{Upgrade, class_home}
 use Rattle.run_statements.specs.Frames.{AreReadable, ArePlaced, StandsWithin, context_of}
+use Rattle.agreeing_laws.specs.Promises.{Weaker}
 use Rattle.agreeing_laws.proofs.FieldPlaces.{PlaceAbsent, PlaceFound}
 use Rattle.agreeing_laws.proofs.Moves.{address_later, address_promised}
 use Rattle.agreeing_laws.proofs.Scalars.{scalar_later}
 use Rattle.agreeing_laws.proofs.WithPlaces.{IsWithObject, IsWithPlace, object_found, with_found}
 use Rattle.expression_laws.specs.Images.{HaveImages}
-use Rattle.expression_laws.proofs.Giving.{giving, giving_more, images_giving}
+use Rattle.expression_laws.proofs.Giving.{images_promised}
 use Rattle.expression_laws.proofs.Images.{images_now}
 use Rattle.expression_laws.proofs.LastingImages.{images_later, plain_later}
 use Rattle.expression_laws.proofs.Me.{IsMe, me_later, me_now}
@@ -83,7 +84,7 @@ module _ (U : Upgrade) (p : ℕ) (f : SourceFrame) (g : NetFrame) (oracle : Sour
     pub objects : (class : ℕ) (r : expression.Root) → StandsWithin U p l k (types.class class) r → ObjectKept U C S w class (typed (types.class class) (with_object r))
     pub me : (class : ℕ) → uses.me ≡ Some class → IsMe U f S w class
 
-  -- ---- later, and while arrays are kept
+  -- ---- later, and under another pledge
 
   is_later : (K : Pledge) (w v : World) (ty : Ty) (e : Expr) → Later U K w v → Is K w ty e → Is K v ty e
   is_later K w v ty e later (missing none) = missing none
@@ -104,9 +105,9 @@ module _ (U : Upgrade) (p : ℕ) (f : SourceFrame) (g : NetFrame) (oracle : Sour
         written = x.written;
       })
 
-  is_giving : (K : Pledge) (ts : List Ty) (w : World) (ty : Ty) (e : Expr) → Is K w ty e → Is (giving K ts) w ty e
-  is_giving K ts w ty e (missing none) = missing none
-  is_giving K ts w ty e (placed r plain x) =
+  is_promised : (K L : Pledge) (w : World) (ty : Ty) (e : Expr) → Weaker w K L → Is K w ty e → Is L w ty e
+  is_promised K L w ty e less (missing none) = missing none
+  is_promised K L w ty e less (placed r plain x) =
       placed r plain
       (record {
         position = x.position;
@@ -115,7 +116,7 @@ module _ (U : Upgrade) (p : ℕ) (f : SourceFrame) (g : NetFrame) (oracle : Sour
         found = x.found;
         sound = x.sound;
         covers = x.covers;
-        same = address_promised U K (giving K ts) w w (root (shape_by (user_shapes U.program.declarations) [] ty) x.position) x.address (giving_more K ts w) x.same;
+        same = address_promised U K L w w (root (shape_by (user_shapes U.program.declarations) [] ty) x.position) x.address less x.same;
         target = x.target;
         written = x.written;
       })
@@ -141,10 +142,10 @@ module _ (U : Upgrade) (p : ℕ) (f : SourceFrame) (g : NetFrame) (oracle : Sour
     me = λ class used. me_later U f S class K w v later (have.me class used);
   }
 
-  pub places_giving : (K : Pledge) (ts : List Ty) (w : World) → MemoryMatch U w → HavePlaces K w → HavePlaces (giving K ts) w
-  places_giving K ts w start have = record {
-    variables = images_giving U K ts w start f S T uses have.variables;
-    withs = λ t r x. is_giving K ts w (types.user t) (typed (types.user t) (with_object r)) (have.withs t r x);
+  pub places_promised : (K L : Pledge) (w : World) → MemoryMatch U w → Weaker w K L → HavePlaces K w → HavePlaces L w
+  places_promised K L w start less have = record {
+    variables = images_promised U K L w start less f S T uses have.variables;
+    withs = λ t r x. is_promised K L w (types.user t) (typed (types.user t) (with_object r)) less (have.withs t r x);
     objects = have.objects;
     me = have.me;
   }

@@ -1,8 +1,7 @@
 -- What a call needs of the frames in which it stands, what its arguments are, and what it gives.
-use Rattle.std.specs.Prelude.{◌≡◌, ℕ, suc, Option, option_map, List, [], ◌∷◌}
-use Rattle.run_base.specs.Frames.{by_address, by_value}
+use Rattle.std.specs.Prelude.{◌≡◌, ℕ, Option, option_map, [], ◌∷◌}
 use Rattle.vb6_run.specs.Expressions.{Parts, result_parts}
-use Rattle.vb6_run.specs.Store.{Address, SourceFrame, SourceGiven}
+use Rattle.vb6_run.specs.Store.{SourceFrame}
 use Rattle.vb6_run.specs.Values.{Value}
 use Rattle.net_run.specs.Calls.{result_address, result_shape_of}
 use Rattle.net_run.specs.Lines.{NetFrame}
@@ -10,12 +9,11 @@ use Rattle.net_run.specs.Members.{code_at}
 use Rattle.net_run.specs.Shapes as shape
 use Rattle.net_run.specs.Store as net
 use Rattle.net_run.specs.Values as net_value
-use Rattle.run_matches.specs.Addresses.{AllLocked, IsGivable, IsPlain, IsTarget, Same, GivesWhole, SuitsParameter, TakesValue}
+use Rattle.run_matches.specs.Addresses.{AllLocked}
 use Rattle.run_matches.specs.Agreeing.{ResultMatch}
 use Rattle.run_matches.specs.Frames.{HasOwnObject}
-use Rattle.run_matches.specs.Likeness.{LikeV}
 use Rattle.run_matches.specs.Maps.{Below, World, mark}
-use Rattle.run_matches.specs.Pledges.{NetGiven, Pledge, arrays_in}
+use Rattle.run_matches.specs.Pledges.{Pledge}
 use Rattle.run_matches.specs.Runs.{IsObject}
 use Rattle.run_matches.specs.Upgrades.{Upgrade}
 
@@ -27,14 +25,6 @@ pub record Stands (U : Upgrade) (K : Pledge) (w : World) (p : ℕ) (f : SourceFr
   pub own_object : HasOwnObject U w p f.me
   pub locks : AllLocked U K w f.env
   pub low : Below K.base (mark w.src)
-
--- values without arrays that are given by value, and variables by reference, to a procedure from a place of its parameters on
-pub data ArgumentsMatch (U : Upgrade) (K : Pledge) (q : ℕ) : (place : ℕ) → World → List SourceGiven → List NetGiven → Type 0 where
-  no_arguments : (i : ℕ) (w : World) → ArgumentsMatch U K q i w [] []
-  next_value : (i : ℕ) (w : World) (x : Value) (y : net_value.Value) (xs : List SourceGiven) (ys : List NetGiven) → LikeV U w x y → IsGivable U q i x
-      → TakesValue U q i → arrays_in y ≡ [] → ArgumentsMatch U K q (suc i) w xs ys → ArgumentsMatch U K q i w (by_value x ∷ xs) (by_value y ∷ ys)
-  next_address : (i : ℕ) (w : World) (a : Address) (b : net.Address) (xs : List SourceGiven) (ys : List NetGiven) → Same U K w a b → IsTarget U a
-      → GivesWhole U q i a → IsPlain U w a → SuitsParameter U q i a b → ArgumentsMatch U K q (suc i) w xs ys → ArgumentsMatch U K q i w (by_address a ∷ xs) (by_address b ∷ ys)
 
 -- the shape with which a procedure that is written gives its result
 abbrev pub result_shape : Upgrade → (number : ℕ) → shape.Shape

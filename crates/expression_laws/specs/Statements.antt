@@ -1,30 +1,26 @@
 -- The statements: expressions that are covered and well formed do the same as what is written for them.
 use Rattle.std.specs.Prelude.{◌≡◌, ◌⊎◌, ℕ, Bool, true, false, [], ◌∷◌, slice_get}
 use Rattle.vb_tree.specs.BoundTree.{Ty, array, class}
-use Rattle.vb_tree.specs.declared.declared.ProcId.{ProcId}
 use Rattle.vb_tree.specs.declared.declared.VarId.{VarId}
-use Rattle.bound_tree.specs.Tree.{Expr, typed, variable, element, field, call, Exprs, Term, Object, no_passed}
+use Rattle.bound_tree.specs.Tree.{Expr, typed, variable, element, field, Exprs, Term}
 use Rattle.bound_facts.specs.Effects.{params_at}
 use Rattle.bound_facts.specs.Node.{type_at}
-use Rattle.run_base.specs.Frames.{by_value}
 use Rattle.run_base.specs.Outcomes.{gives, then}
 use Rattle.vb6_run.specs.Expressions as source
-use Rattle.vb6_run.specs.Expressions.{Receiver, lows_at}
+use Rattle.vb6_run.specs.Expressions.{lows_at}
 use Rattle.vb6_run.specs.Forms.{SourceLine}
 use Rattle.vb6_run.specs.Store.{SourceCalls, SourceFrame}
-use Rattle.vb6_run.specs.Values.{Value}
 use Rattle.net_run.specs.Expressions as target
-use Rattle.net_run.specs.Lines.{NetFrame, NetLine, assigned, scope_of}
+use Rattle.net_run.specs.Lines.{NetFrame, NetLine, scope_of}
 use Rattle.net_run.specs.Making.{Jobs}
 use Rattle.net_run.specs.Members.{Code}
-use Rattle.net_run.specs.Names.{Reached}
 use Rattle.net_run.specs.Values as net_value
 use Rattle.written_trees.specs.Exprs.{exp_of, target_exp}
 use Rattle.written_trees.specs.Names.{Scope}
 use Rattle.run_matches.specs.Agreeing.{Agrees}
-use Rattle.run_matches.specs.CoveredExprs.{Uses, covers_array, covers_expr, covers_exprs, covers_group, covers_object, covers_place, covers_receiver, is_giving, is_taking}
+use Rattle.run_matches.specs.CoveredExprs.{Uses, covers_array, covers_expr, covers_exprs, covers_group, covers_object, covers_place}
 use Rattle.run_matches.specs.Covered.{is_type_at}
-use Rattle.run_matches.specs.CoveredVariables.{covers_group_type, covers_type}
+use Rattle.run_matches.specs.CoveredVariables.{covers_group_type}
 use Rattle.run_matches.specs.SoundShapes.{IsSoundShape}
 use Rattle.run_matches.specs.UserTypes.{is_group_type}
 use Rattle.run_matches.specs.Frames.{FrameMatch}
@@ -37,12 +33,10 @@ use Rattle.run_statements.specs.Elements.{IndexedMatch}
 use Rattle.run_statements.specs.Fitting.{rank_of}
 use Rattle.run_statements.specs.Groups.{PlaceMatch, ValueMatch}
 use Rattle.run_statements.specs.Members.{ObjectMatch, ReachedMember}
-use Rattle.run_statements.specs.Properties.{SetterMatch}
-use Rattle.run_statements.specs.Frames.{AnyUnits, ArrayMatch, CanCall, ElementMatch, IsMember, ScalarMatch, PlainMatch, IsOpen, context_of, ArePlaced, AreReadable, AllCalled, AllCalledOf, demands, type_shape}
+use Rattle.run_statements.specs.Frames.{ArrayMatch, ElementMatch, IsMember, ScalarMatch, PlainMatch, IsOpen, context_of, ArePlaced, AreReadable, AllCalled, demands, type_shape}
 use Rattle.run_matches.specs.Runs.{CallsAgree}
 use Rattle.run_statements.specs.Written.{Passes}
 use Rattle.run_matches.specs.Formed.{is_formed}
-use Rattle.run_matches.specs.Addresses.{TakesValue}
 
 -- ---- what is handed in
 
@@ -173,33 +167,6 @@ ObjectsAgreeBy U K =
     → Agrees U K w (ObjectMatch U of_class)
     (source.value_of (context_of U oracle p f l) (typed (class of_class) tm) w.src)
     (target.address_of (scope_of U.written c g k) net_oracle (exp_of T (typed (class of_class) tm)) w.net)
-
--- the object of a property that takes a value, which needn't be called under the promise
-abbrev pub SettersAgreeBy : Upgrade → (promised called : Pledge) → Type 0
-SettersAgreeBy U K L =
-    (w : World) (p : ℕ) (f : SourceFrame) (g : NetFrame) (oracle : SourceCalls) (net_oracle : Jobs) (l : SourceLine) (k : NetLine) (c : Code)
-    (T : Scope) (uses : Uses) (ty : Ty) (q : ProcId) (qualified : Bool) (of : Object) → MemoryMatch U w → FrameMatch U K w p f g
-    → T.declarations ≡ U.program.declarations → IsOpen (scope_of U.written c g k) → AreReadable U T uses
-    → ArePlaced U p f (scope_of U.written c g k) T uses → CallsAgree U (Passes U) oracle net_oracle
-    → (can : CanCall U L (scope_of U.written c g k) T p q.0 qualified of no_passed) → AllCalledOf (demands U K p l k (scope_of U.written c g k) T) of
-    → is_giving (slice_get U.program.declarations.procs q.0) ≡ false → covers_receiver uses of ≡ true
-    → Agrees U K w (SetterMatch U can.way can.number of)
-    (source.receiver_of (context_of U oracle p f l) of w.src)
-    (target.reach (scope_of U.written c g k) net_oracle false (exp_of T (typed ty (call q qualified of no_passed))) w.net)
-
--- the value goes to it
-abbrev pub PropertiesAreSetBy : Upgrade → Pledge → Type 0
-PropertiesAreSetBy U K =
-    (w : World) (p : ℕ) (f : SourceFrame) (g : NetFrame) (oracle : SourceCalls) (net_oracle : Jobs) (l : SourceLine) (k : NetLine) (c : Code)
-    (T : Scope) (ty : Ty) (q : ℕ) (qualified : Bool) (of : Object) (r : Receiver) (reached : Reached) (x : Value) (y : net_value.Value) → MemoryMatch U w
-    → FrameMatch U K w p f g → CallsAgree U (Passes U) oracle net_oracle
-    → (can : CanCall U K (scope_of U.written c g k) T p q qualified of no_passed) → is_giving (slice_get U.program.declarations.procs q) ≡ false
-    → SetterMatch U can.way can.number of w r reached → is_taking U.program.declarations ty (slice_get U.program.declarations.procs q) ≡ true
-    → TakesValue U q 0
-    → (covers_type ty ≡ true) ⊎ (covers_group_type U.program.declarations ty ≡ true) → ValueMatch U (type_shape U ty) w x y
-    → Agrees U K w AnyUnits
-    (then (source.entered (context_of U oracle p f l) q r (by_value x ∷ []) w.src) (λ z w. gives [] tt w))
-    (assigned (scope_of U.written c g k) net_oracle reached y w.net)
 
 -- ---- under any pledge
 

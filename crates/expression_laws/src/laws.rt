@@ -5,7 +5,8 @@ ghost use Rattle.run_matches.specs.Frames.{frame_pledge};
 ghost use Rattle.run_matches.specs.Maps.{World};
 ghost use Rattle.run_matches.specs.Upgrades.{Upgrade};
 ghost use Rattle.run_statements.specs.Objects.{ClassesAreWritten};
-ghost use Rattle.expression_laws.specs.Statements.{ArraysAgreeBy, AutosAreReachedBy, ElementsAgreeBy, FormedExpressionsAgreeBy, FormedScalarsAgreeBy, GroupsAgreeBy, IndexesAgreeBy, MembersAgreeBy, ObjectsAgreeBy, ParametersAreSound, PlacesAgreeBy, PropertiesAreSetBy, SettersAgreeBy};
+ghost use Rattle.run_statements.specs.Properties.{PropertiesAreSetBy, SettersAgreeBy};
+ghost use Rattle.expression_laws.specs.Statements.{ArraysAgreeBy, AutosAreReachedBy, ElementsAgreeBy, FormedExpressionsAgreeBy, FormedScalarsAgreeBy, GroupsAgreeBy, IndexesAgreeBy, MembersAgreeBy, ObjectsAgreeBy, ParametersAreSound, PlacesAgreeBy};
 
 /// A law: under the pledge of a frame, an expression that is covered and well formed gives a value that matches what is written
 /// for it.
@@ -67,14 +68,15 @@ pub fn groups_agree()
         → GroupsAgreeBy U (frame_pledge U p w f) }
 {}
 
-/// A law: a property that takes a value is reached with its object, where it isn't seen yet whether there is one. It needn't be called under
-/// the promise of that.
+/// A law: a property that takes a value is reached with its object and its indexes, where it isn't seen yet whether there is an object. It
+/// needn't be called under the promise of that.
 pub fn setters_agree()
-    ensures { (U : Upgrade) (classes : ClassesAreWritten U) (p q : ℕ) (w u : World) (f g : SourceFrame)
+    ensures { (U : Upgrade) (sound : ParametersAreSound U) (classes : ClassesAreWritten U) (p q : ℕ) (w u : World) (f g : SourceFrame)
         → SettersAgreeBy U (frame_pledge U p w f) (frame_pledge U q u g) }
 {}
 
-/// A law: its Let or Set is then called with the value, for an object where there is one; without one both sides raise 91.
+/// A law: its Let or Set is then called with them and the value, for an object where there is one; without one both sides raise 91. Where
+/// there are indexes, the value was evaluated behind them and changed nothing.
 pub fn properties_are_set()
     ensures { (U : Upgrade) (sound : ParametersAreSound U) (p : ℕ) (w : World) (f : SourceFrame)
         → PropertiesAreSetBy U (frame_pledge U p w f) }

@@ -157,5 +157,5 @@ module _ (U : Upgrade) (expressions : ExpressionsAgree U) (scalars : ScalarsAreW
         ⊎_elim (λ x. place_stored to e can_to can x to_formed formed own assigns puts)
         (λ x.
         property_assigned U expressions groups setters sets K p f g l k c T declared oracle net_oracle is_open uses readable placed agree w h G owns P to e can_to can
-        x formed assigns)
+        x to_formed formed assigns)
         (either_true (covers_stored uses to e) (covers_property uses to e) covers)

@@ -53,7 +53,7 @@ use Rattle.agreeing_laws.proofs.UserShapes.{class_written}
 use Rattle.line_laws.proofs.Flat.{object_stands}
 use Rattle.line_laws.proofs.MemberSets.{object_value}
 use Rattle.line_laws.proofs.Placed.{FlatImages, IsDeclared, IsFlatAs, PlacedVariable, placed_declared}
-use Rattle.line_laws.proofs.PlainUses.{auto_is}
+use Rattle.agreeing_laws.proofs.PlainUses.{auto_is}
 use Rattle.line_laws.proofs.Standing.{same_matched}
 use Rattle.line_laws.proofs.Uses.{variable_reached}
 

@@ -13,7 +13,7 @@ use Rattle.run_base.specs.Outcomes.{after, gives, outside, then}
 use Rattle.run_base.specs.Positions.{Position}
 use Rattle.written_trees.specs.Names.{Scope}
 use Rattle.vb6_run.specs.Expressions as source
-use Rattle.vb6_run.specs.Expressions.{at_address, value_in}
+use Rattle.vb6_run.specs.Expressions.{value_in}
 use Rattle.vb6_run.specs.Forms.{SourceLine}
 use Rattle.vb6_run.specs.Shapes.{simple}
 use Rattle.vb6_run.specs.Store.{Address, root, single, Memory, SourceCalls, SourceFrame, provided}
@@ -35,7 +35,7 @@ use Rattle.line_laws.proofs.Calm.{Gives, IsFit, fit_of_like, typed_read}
 use Rattle.line_laws.proofs.Me.{has_object, me_gives, numbered, same_class}
 use Rattle.line_laws.proofs.Places.{Place, variable_place}
 use Rattle.line_laws.proofs.Standing.{Stable, held_fit, not_blank, read_single, same_matched}
-use Rattle.line_laws.proofs.PlainUses.{object_variable}
+use Rattle.agreeing_laws.proofs.PlainUses.{object_variable}
 use Rattle.line_laws.proofs.Uses.{not_true}
 use Rattle.bound_facts.proofs.Chains.{both_true}
 

@@ -46,7 +46,7 @@ use Rattle.run_matches.specs.Frames.{FrameMatch, IsOwnAddress, OwnsAll}
 use Rattle.run_matches.specs.Likeness.{LikeV, SameShape, same_class, same_scalar, scalar_word}
 use Rattle.run_matches.specs.Maps.{Map, World, is_auto_root}
 use Rattle.run_matches.specs.Match.{MemoryMatch}
-use Rattle.run_matches.specs.Pledges.{IsOld, Later, Pledge}
+use Rattle.run_matches.specs.Pledges.{IsOld, Later, Pledge, still}
 use Rattle.run_matches.specs.Runs.{CallsAgree}
 use Rattle.run_matches.specs.Upgrades.{Upgrade}
 use Rattle.run_statements.specs.Frames.{AllCalled, AnyUnits, AreReadable, ArePlaced, ElementMatch, ElementsAgree, ExpressionsAgree, IsKnown, IsOpen, IsPlaced, ScalarMatch, context_of, demands}
@@ -64,9 +64,9 @@ use Rattle.line_laws.proofs.Elements.{ArrayVariable, IsElementIn, array_variable
 use Rattle.line_laws.proofs.Calm.{IsConstant, calm_still, literal_is_constant, literal_still, scalar_part}
 use Rattle.line_laws.proofs.Orders.{element_stays, indexed_stays, stable_behind, stable_later}
 use Rattle.line_laws.proofs.Standing.{Stable, calm_known, indexes_known, longs_are, known_plain, known_there}
-use Rattle.line_laws.proofs.Still.{frame_still, still}
-use Rattle.line_laws.proofs.StillCalls.{called_in_still, called_in_still_all}
-use Rattle.line_laws.proofs.PlainUses.{no_auto_use}
+use Rattle.line_laws.proofs.Still.{frame_still}
+use Rattle.agreeing_laws.proofs.StillCalls.{called_in_still, called_in_still_all}
+use Rattle.agreeing_laws.proofs.PlainUses.{no_auto_use}
 use Rattle.line_laws.proofs.Puts.{PutOf, put_is, put_stores}
 use Rattle.line_laws.proofs.OwnTargets.{IsOwnTarget, target_changes}
 use Rattle.line_laws.proofs.Prints.{AnyAddress}

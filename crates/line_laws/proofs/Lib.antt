@@ -8,7 +8,6 @@ pub mod Owning
 pub mod Uses
 pub mod Flat
 pub mod Elements
-pub mod PlainUses
 pub mod Placed
 pub mod OwnTargets
 pub mod Targets
@@ -25,7 +24,6 @@ pub mod Boxes
 pub mod Errors
 pub mod Behind
 pub mod Still
-pub mod StillCalls
 pub mod Calm
 pub mod Standing
 pub mod Puts
@@ -43,7 +41,9 @@ pub mod MemberStores
 pub mod MemberOrders
 pub mod MemberLines
 pub mod PropertyStores
+pub mod CalmProperties
 pub mod TakenTypes
+pub mod CalmArguments
 pub mod MemberSets
 pub mod FieldStores
 pub mod Copies

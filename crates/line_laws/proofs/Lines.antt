@@ -238,7 +238,8 @@ module _ (U : Upgrade) (classes : ClassesAreWritten U) (expressions : Expression
       goes AnyUnits (then (source.value_of C y w.src) (set_to C x)) (assignment S net_oracle (target_exp T x) (exp_of T y) w.net)
       (set_agrees U expressions groups writes_groups members finds setters sets autos K p f g l k c T declared oracle net_oracle is_open uses readable placed
       agree w h F owns x y
-      can.0 can.1.0 covers (both_true (is_formed y) true (both_true (is_formed x) (list_all is_formed (y ∷ [])) formed).1).0 (may.own x (Contains-push [] x)))
+      can.0 can.1.0 covers (both_true (is_formed x) (list_all is_formed (y ∷ [])) formed).0
+      (both_true (is_formed y) true (both_true (is_formed x) (list_all is_formed (y ∷ [])) formed).1).0 (may.own x (Contains-push [] x)))
   form_agrees ls (source_form.set to value) (x ∷ y ∷ z ∷ es) can covers formed found may keep stands ways = absurd (true≢false (sym covers))
   form_agrees ls (source_form.debug_print items ended) es can covers formed found may keep stands ways =
       goes AnyUnits (then (items_text C es w.src) (print ended))

@@ -32,7 +32,7 @@ use Rattle.run_matches.specs.Frames.{OwnsAll}
 use Rattle.run_matches.specs.Likeness.{LikeV}
 use Rattle.run_matches.specs.Maps.{World}
 use Rattle.run_matches.specs.Match.{MemoryMatch}
-use Rattle.run_matches.specs.Pledges.{Later, Pledge}
+use Rattle.run_matches.specs.Pledges.{Later, Pledge, still}
 use Rattle.run_matches.specs.Runs.{CallsAgree}
 use Rattle.run_matches.specs.Upgrades.{Upgrade}
 use Rattle.run_statements.specs.Frames.{AllCalled, AnyUnits, AreReadable, ArePlaced, ExpressionsAgree, IsMember, IsOpen, ScalarMatch, ScalarsAreWritten, context_of, demands}
@@ -45,8 +45,8 @@ use Rattle.line_laws.proofs.MemberStores.{calm_stored, constant_stored, object_s
 use Rattle.line_laws.proofs.MyMembers.{IsMyAddress, member_change}
 use Rattle.line_laws.proofs.OwnTargets.{IsOwnTarget}
 use Rattle.line_laws.proofs.Standing.{calm_known}
-use Rattle.line_laws.proofs.Still.{frame_still, still}
-use Rattle.line_laws.proofs.StillCalls.{called_in_still}
+use Rattle.line_laws.proofs.Still.{frame_still}
+use Rattle.agreeing_laws.proofs.StillCalls.{called_in_still}
 use Rattle.line_laws.proofs.Stores.{scalar_written}
 use Rattle.line_laws.proofs.Targets.{SameStore}
 use Rattle.line_laws.proofs.Uses.{good_parts, is_good, simple_type, type_covered}

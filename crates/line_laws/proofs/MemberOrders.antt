@@ -19,7 +19,7 @@ use Rattle.run_matches.specs.Upgrades.{Upgrade}
 use Rattle.run_statements.specs.Frames.{AreReadable}
 use Rattle.line_laws.proofs.Elements.{known_auto}
 use Rattle.line_laws.proofs.Uses.{no_auto, not_true}
-use Rattle.line_laws.proofs.PlainUses.{object_variable}
+use Rattle.agreeing_laws.proofs.PlainUses.{object_variable}
 
 -- a conversion to a wider type raises nothing
 widens_safely : (from to : Ty) → widens from to ≡ true → is_safe from to ≡ true

@@ -39,7 +39,7 @@ use Rattle.run_matches.specs.Frames.{OwnsAll}
 use Rattle.run_matches.specs.Likeness.{LikeV, SameShape}
 use Rattle.run_matches.specs.Maps.{World}
 use Rattle.run_matches.specs.Match.{MemoryMatch}
-use Rattle.run_matches.specs.Pledges.{Later, Pledge}
+use Rattle.run_matches.specs.Pledges.{Later, Pledge, still}
 use Rattle.run_matches.specs.Runs.{CallsAgree}
 use Rattle.run_matches.specs.Upgrades.{Upgrade}
 use Rattle.run_matches.specs.UserTypes.{is_class_type}
@@ -59,9 +59,9 @@ use Rattle.line_laws.proofs.MemberParts.{member_set, member_target}
 use Rattle.line_laws.proofs.MemberStores.{constant_stored, object_stored}
 use Rattle.line_laws.proofs.MyMembers.{IsMyAddress, member_change}
 use Rattle.line_laws.proofs.OwnTargets.{IsOwnTarget}
-use Rattle.line_laws.proofs.Still.{frame_still, still}
-use Rattle.line_laws.proofs.StillCalls.{group_in_still}
-use Rattle.line_laws.proofs.PlainUses.{no_auto_use}
+use Rattle.line_laws.proofs.Still.{frame_still}
+use Rattle.agreeing_laws.proofs.StillCalls.{group_in_still}
+use Rattle.agreeing_laws.proofs.PlainUses.{no_auto_use}
 use Rattle.line_laws.proofs.Targets.{SameStore}
 use Rattle.line_laws.proofs.Uses.{scalar_type}
 

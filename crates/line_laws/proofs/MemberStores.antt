@@ -31,7 +31,7 @@ use Rattle.run_matches.specs.Frames.{FrameMatch, OwnsAll}
 use Rattle.run_matches.specs.Likeness.{LikeV}
 use Rattle.run_matches.specs.Maps.{World}
 use Rattle.run_matches.specs.Match.{MemoryMatch}
-use Rattle.run_matches.specs.Pledges.{Later, Pledge}
+use Rattle.run_matches.specs.Pledges.{Later, Pledge, still}
 use Rattle.run_matches.specs.Upgrades.{Upgrade}
 use Rattle.run_matches.specs.UserTypes.{is_class_type}
 use Rattle.run_statements.specs.Frames.{AllCalled, AnyUnits, AreReadable, ArePlaced, IsMember, ScalarMatch, context_of, demands, IsOpen}
@@ -47,12 +47,12 @@ use Rattle.line_laws.proofs.MemberParts.{member_later, member_let, member_none, 
 use Rattle.line_laws.proofs.MyMembers.{HasMyParts, IsMyAddress, my_address, my_parts}
 use Rattle.line_laws.proofs.Orders.{stable_behind, stable_later}
 use Rattle.line_laws.proofs.Standing.{Stable}
-use Rattle.line_laws.proofs.Still.{frame_still, still}
+use Rattle.line_laws.proofs.Still.{frame_still}
 use Rattle.line_laws.proofs.Targets.{outside_stored}
 use Rattle.run_matches.specs.Runs.{CallsAgree}
 use Rattle.run_statements.specs.Written.{Passes}
 use Rattle.bound_facts.specs.Nodes.{nodes}
-use Rattle.line_laws.proofs.StillCalls.{object_in_still}
+use Rattle.agreeing_laws.proofs.StillCalls.{object_in_still}
 
 module _ (U : Upgrade) (members : MembersAgree U) (finds : MembersAreFound U) (K : Pledge) (p : ℕ) (f : SourceFrame) (g : NetFrame) (l : SourceLine)
     (k : NetLine) (c : Code) (T : Scope) (declared : T.declarations ≡ U.program.declarations) (oracle : SourceCalls) (net_oracle : Jobs)

@@ -13,13 +13,13 @@ use Rattle.net_run.specs.Store as net
 use Rattle.run_matches.specs.Agreeing.{world_of}
 use Rattle.run_matches.specs.Maps.{Map, World, IsMatched, is_auto_root, is_auto_variable, moved_at}
 use Rattle.run_matches.specs.Match.{HasArray}
-use Rattle.run_matches.specs.Pledges.{IsLasting, Later, Pledge, lasting}
+use Rattle.run_matches.specs.Pledges.{IsLasting, Later, Pledge, lasting, still}
 use Rattle.run_matches.specs.Upgrades.{Upgrade}
 use Rattle.run_statements.specs.Elements.{IndexedMatch}
 use Rattle.run_statements.specs.Frames.{ElementMatch}
 use Rattle.agreeing_laws.proofs.Made.{matched_later, same_variable}
 use Rattle.line_laws.proofs.Standing.{Stable}
-use Rattle.line_laws.proofs.Still.{stays_still, still}
+use Rattle.agreeing_laws.proofs.Still.{stays_still}
 
 pub held_array : (h : Held) (e : Shape) (dims : List Dimension) (xs : Values) → h ≡ table e dims xs → h ≡ blank → ⊥
 held_array h e dims xs a b = cc

@@ -50,7 +50,7 @@ use Rattle.line_laws.proofs.Settled.{known_path}
 use Rattle.run_statements.specs.Autos.{AutosAreSet}
 use Rattle.line_laws.proofs.AutoSets.{auto_set_agrees}
 use Rattle.line_laws.proofs.Called.{TargetCalled}
-use Rattle.line_laws.proofs.PlainUses.{plain_makes}
+use Rattle.agreeing_laws.proofs.PlainUses.{plain_makes}
 
 -- where no object is made, the target of a Set is found as that of an assignment
 found_alone : (o : Option Address) (s : Memory) → then (some_of o (λ a w. gives [] (at_address a) w) s) finished ≡ some_of o (λ a w. gives [] a w) s
@@ -147,16 +147,17 @@ module _ (U : Upgrade) (expressions : ExpressionsAgree U) (groups : GroupsAgree 
       (or_cases (covers_set_variable uses d e) (covers_set_member uses d e) covers)
   place_set _ to e can_to can covers formed own = absurd (true≢false (sym covers))
 
-  property_set : (ty : Ty) (to : Term) (e : Expr) → CanSet (typed ty to) → Can e → covers_property_term uses to e ≡ true → is_formed e ≡ true
-      → SameSet (typed ty to) e
-  property_set ty (call q qualified of args) e can_to can covers formed =
+  property_set : (ty : Ty) (to : Term) (e : Expr) → CanSet (typed ty to) → Can e → covers_property_term uses to e ≡ true → is_formed (typed ty to) ≡ true
+      → is_formed e ≡ true → SameSet (typed ty to) e
+  property_set ty (call q qualified of args) e can_to can covers formed_to formed =
       property_stored U expressions groups setters sets K p f g l k c T declared oracle net_oracle is_open uses readable placed agree w h G owns ty
-      (call q qualified of args) e can_to can covers formed
-  property_set ty _ e can_to can covers formed = absurd (true≢false (sym covers))
+      (call q qualified of args) e can_to can covers formed_to formed
+  property_set ty _ e can_to can covers formed_to formed = absurd (true≢false (sym covers))
 
-  pub set_agrees : (to e : Expr) → CanSet to → Can e → covers_set uses (to ∷ e ∷ []) ≡ true → is_formed e ≡ true → IsOwnTarget U K p f to → SameSet to e
-  set_agrees (typed ty to) e can_to can covers formed own =
+  pub set_agrees : (to e : Expr) → CanSet to → Can e → covers_set uses (to ∷ e ∷ []) ≡ true → is_formed to ≡ true → is_formed e ≡ true
+      → IsOwnTarget U K p f to → SameSet to e
+  set_agrees (typed ty to) e can_to can covers formed_to formed own =
       let d : Expr = typed ty to in
       ⊎_elim (λ x. place_set ty to e can_to can x formed own)
-      (λ x. property_set ty to e can_to can (both_true (is_same_type ty (type_at e)) (covers_property_term uses to e) x).1 formed)
+      (λ x. property_set ty to e can_to can (both_true (is_same_type ty (type_at e)) (covers_property_term uses to e) x).1 formed_to formed)
       (or_cases (is_class_type ty && (covers_set_variable uses d e || covers_set_member uses d e)) (covers_property uses d e) covers)

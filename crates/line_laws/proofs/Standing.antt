@@ -169,7 +169,7 @@ module _ (U : Upgrade) (expressions : ExpressionsAgree U) (K : Pledge) (p : ℕ)
 
   -- ---- variables
 
-  parts_found : (ty : Ty) (v : VarId) (qualified : Bool) (r : IsReadable U v.0) (a : Address) (s : Memory)
+  pub parts_found : (ty : Ty) (v : VarId) (qualified : Bool) (r : IsReadable U v.0) (a : Address) (s : Memory)
       → variable_address U.program.declarations f v.0 ≡ Some a → source.parts_of C (typed ty (variable v qualified)) s ≡ gives [] (at_address a) s
   parts_found ty v qualified r a s is =
       ap (λ o. then (some_of o (λ a w. gives [] (at_address a) w) s) (source.as_new C (variable v qualified))) is

@@ -1,9 +1,7 @@
--- What is still changes nothing that was there: the promise of it, in frames.
-use Rattle.std.proofs.Common.{◌≡◌, refl, ℕ, Bool, false, not, None}
-use Rattle.bound_tree.specs.Tree.{field}
+-- Frames that match do so under the promise that nothing changes.
+use Rattle.std.proofs.Common.{ℕ, Bool, not}
 use Rattle.run_base.specs.Frames.{Kept}
 use Rattle.run_base.specs.Machines.{nth_line}
-use Rattle.run_base.specs.Positions.{Root, shared, made, field, Position}
 use Rattle.vb6_run.specs.Store.{Address, SourceFrame}
 use Rattle.vb6_run.specs.Values.{Value}
 use Rattle.net_run.specs.Lines.{NetFrame}
@@ -11,43 +9,15 @@ use Rattle.net_run.specs.Store as net
 use Rattle.net_run.specs.Values as net_value
 use Rattle.run_matches.specs.Addresses.{Bound, images, mirrored, KeptMatch, both_nothing, both_limits, both_choices, both_objects, both_arrays, both_addresses}
 use Rattle.run_matches.specs.Frames.{FrameMatch, is_exact_head, lines_of, is_mirrored}
-use Rattle.run_matches.specs.Maps.{World, IsMade, is_auto_root, mark}
+use Rattle.run_matches.specs.Maps.{World, mark}
 use Rattle.run_matches.specs.Match.{MemoryMatch}
-use Rattle.run_matches.specs.Pledges.{IsLasting, Own, Pledge, is_own, no_places}
+use Rattle.run_matches.specs.Pledges.{Pledge, still}
 use Rattle.run_matches.specs.Upgrades.{Upgrade}
-use Rattle.agreeing_laws.specs.Promises.{Weaker}
 use Rattle.agreeing_laws.proofs.Lasting.{later_weaker}
 use Rattle.agreeing_laws.proofs.Made.{below_self}
 use Rattle.agreeing_laws.proofs.Moves.{address_promised, locks_promised}
+use Rattle.agreeing_laws.proofs.Still.{still_more}
 use Rattle.line_laws.proofs.KeptPlaces.{place_kept_promised}
-
--- ---- the promise
-
-abbrev pub owns_nothing : Own
-owns_nothing = record { places = no_places; object = None }
-
--- nothing that is there changes
-abbrev pub still : Pledge → World → Pledge
-still K w = record { keeps = K.keeps; steady = Unit {0}; base = mark w.src; own = owns_nothing; takes = K.takes }
-
-foreign : (r : Root) → is_own owns_nothing r ≡ false
-foreign (shared k) = refl
-foreign (made m) = refl
-foreign (field o k) = refl
-
-pub stays_still : (U : Upgrade) (K : Pledge) (w : World) (q : Position) → IsMade (mark w.src) q.root → is_auto_root U w.map q.root ≡ false
-    → IsLasting U (still K w) w q
-stays_still U K w q m plain = record { steady = tt; old = record { is_made = m; foreign = foreign q.root }; plain = plain }
-
-pub still_more : (K : Pledge) (w : World) → Weaker w K (still K w)
-still_more K w = record {
-  keeps = λ ty x. x;
-  steady = λ x. tt;
-  old = λ r m s x. record { is_made = m; foreign = foreign r };
-  takes = λ k lt x. x;
-}
-
--- ---- frames
 
 module _ (U : Upgrade) (K : Pledge) (w : World) (h : MemoryMatch U w) where
   bound_still : (exact : Bool) (a : Address) (b : net.Address) → Bound U K w exact a b → Bound U (still K w) w exact a b

@@ -1,11 +1,12 @@
 -- Assignments to elements, to variables of objects and to properties that are covered, and some that aren't.
 use Rattle.std.proofs.Common.{◌≡◌, refl, ℕ, pos, true, false, not, ◌&&◌, nat_eq, None, Some}
+use Rattle.std.specs.Prelude.{nat_lt}
 use Rattle.vb_tree.specs.BoundTree as types
 use Rattle.vb_tree.specs.BoundTree.{Ty}
 use Rattle.vb_tree.specs.declared.expression.BinOp.TheVariants as b
 use Rattle.vb_tree.specs.declared.value.Value6.TheVariants as v
 use Rattle.bound_tree.specs.declared.expression.Origin.TheVariants.{Literal}
-use Rattle.bound_tree.specs.Tree.{Expr, typed, constant, variable, field, element, call, binary, convert, me, Object, no_object, of_object, no_passed, no_exprs, next_expr}
+use Rattle.bound_tree.specs.Tree.{Expr, typed, constant, variable, field, element, call, binary, convert, me, Object, no_object, of_object, Argument, by_value, by_reference, no_passed, next_passed, no_exprs, next_expr}
 use Rattle.bound_facts.specs.Locks.{is_same_type}
 use Rattle.run_matches.specs.CoveredExprs.{Uses}
 use Rattle.run_matches.specs.CoveredLines.{covers_property, is_member_ordered, is_ordered}
@@ -26,7 +27,7 @@ uses = record {
   given = λ ty. false;
   is_of = λ w ty. is_same_type ty types.long;
   gives = λ q. not (nat_eq q 2);
-  takes = λ q ty. nat_eq q 2 && is_same_type ty types.long;
+  takes = λ q n ty. nat_eq q 2 && (nat_lt n 2 && is_same_type ty types.long);
   results = λ q ty. false;
   inward = λ q. nat_eq q 0;
   exact = λ w. not (nat_eq w.0 8);
@@ -167,6 +168,35 @@ for_calm_object = refl
 -- o.Total = g(), which could set o
 outward_for_object : covers_property uses (total (of_object (object 0))) (call_of 1) ≡ false
 outward_for_object = refl
+
+-- ---- properties with an index
+
+abbrev total_at : Object → Argument → Expr
+total_at of a = typed types.long (call (record { 0 = 2 }) false of (next_passed a no_passed))
+
+-- o.Total(i) = x + 1
+for_calm_index : covers_property uses (total_at (of_object (object 0)) (by_reference (long_variable 0))) (plus_one (long_variable 1)) ≡ true
+for_calm_index = refl
+
+-- Total(i + 1) = 1
+for_constant : covers_property uses (total_at no_object (by_value (plus_one (long_variable 0)))) one ≡ true
+for_constant = refl
+
+-- o.Total(f()) = x, where f is inward
+for_still_index : covers_property uses (total_at (of_object (object 0)) (by_value (call_of 0))) (long_variable 1) ≡ true
+for_still_index = refl
+
+-- o.Total(g()) = x, where g could change x
+outward_in_index : covers_property uses (total_at (of_object (object 0)) (by_value (call_of 1))) (long_variable 1) ≡ false
+outward_in_index = refl
+
+-- Total(i) = g(), which could change i
+outward_behind_index : covers_property uses (total_at no_object (by_value (long_variable 0))) (call_of 1) ≡ false
+outward_behind_index = refl
+
+-- Total(i + 1) = x + 1: both can raise
+both_raise_behind_index : covers_property uses (total_at no_object (by_value (plus_one (long_variable 0)))) (plus_one (long_variable 1)) ≡ false
+both_raise_behind_index = refl
 
 -- no property has another type than its value, which is written in the form of that type
 in_another_form : covers_property uses (property (types.fixed 3) no_object) one ≡ false

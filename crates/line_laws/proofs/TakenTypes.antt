@@ -1,5 +1,5 @@
 -- What passes takes values of covered types alone: a part of a property takes no user type and no object that isn't.
-use Rattle.std.proofs.Common.{◌≡◌, ◌∙◌, refl, sym, ap, subst, ⊎_elim, ℕ, zero, suc, Bool, true, false, cond, not, ◌&&◌, ◌||◌, Option, Some, None, List, [], ◌∷◌, slice_get, true≢false}
+use Rattle.std.proofs.Common.{◌≡◌, ◌∙◌, refl, sym, ap, subst, ⊎_elim, ℕ, zero, suc, Bool, true, false, cond, not, ◌&&◌, ◌||◌, nat_eq, length, Option, Some, None, List, [], ◌∷◌, slice_get, true≢false}
 use Rattle.std.proofs.lemmas.Bool.{or_cases}
 use Rattle.std.specs.List.{list_all}
 use Rattle.reach_table.specs.Chains.{empty}
@@ -11,6 +11,7 @@ use Rattle.vb_tree.specs.declared.declared.VarId.{VarId}
 use Rattle.bound_tree.specs.Tree.{Declarations, Procedure, Program, Variable}
 use Rattle.bound_facts.proofs.Chains.{both_true}
 use Rattle.bound_facts.specs.Locks.{is_same_type}
+use Rattle.written_trees.specs.Heads.{index_params}
 use Rattle.written_trees.specs.Puts.{last_of}
 use Rattle.written_trees.specs.Types.{element_type}
 use Rattle.run_matches.specs.Covered.{covers_all_calls, covers_body, covers_head, covers_joined, covers_names, covers_parameter, covers_procedure, covers_result, covers_site, covers_variables, is_parameter_of, is_parameter_in}
@@ -21,7 +22,6 @@ use Rattle.run_matches.specs.Upgrades.{Upgrade}
 use Rattle.run_matches.specs.UserTypes.{is_group_type, is_class_type}
 use Rattle.run_statements.specs.Written.{Passes}
 use Rattle.agreeing_laws.proofs.WithPlaces.{class_is, same_user}
-use Rattle.run_matches.specs.JoinedProperties.{has_no_index}
 
 -- ---- lists
 
@@ -46,11 +46,12 @@ pub record TakesTo (D : Declarations) (ty : Ty) (o : Option Procedure) : Type 0 
   pub is_variable : slice_get D.vars last.0 ≡ Some variable
   pub of_type : is_same_type ty variable.ty ≡ true
 
-takes_to : (D : Declarations) (ty : Ty) (o : Option Procedure) → is_taking D ty o ≡ true → TakesTo D ty o
-takes_to D ty None h = absurd (true≢false (sym h))
-takes_to D ty (Some x) h =
+takes_to : (D : Declarations) (n : ℕ) (ty : Ty) (o : Option Procedure) → is_taking D n ty o ≡ true → TakesTo D ty o
+takes_to D n ty None h = absurd (true≢false (sym h))
+takes_to D n ty (Some x) h =
     let typed = is_typed_variable D ty (last_of x.params) in
-    by_last (last_of x.params) refl (both_true (has_no_index x) typed (both_true (takes_value x.kind) (has_no_index x && typed) h).1).1
+    let counted = nat_eq n (length (index_params x)) in
+    by_last (last_of x.params) refl (both_true counted typed (both_true (takes_value x.kind) (counted && typed) h).1).1
   where
     by_variable : (v : VarId) → last_of x.params ≡ Some v → (o : Option Variable) → slice_get D.vars v.0 ≡ o → is_declared_as ty o ≡ true
         → TakesTo D ty (Some x)
@@ -126,9 +127,9 @@ module _ (P : Program) (p : ℕ) (ty : Ty) (group : is_group_type ty ≡ true) (
       let c = both_true at (covers_variables P p && body) b.1 in
       (b.0, (both_true (covers_variables P p) body c.1).0)
 
-  taken_type : is_taking D ty (slice_get D.procs p) ≡ true → covers_group_type D ty ≡ true
-  taken_type takes =
-      let t : TakesTo D ty (slice_get D.procs p) = takes_to D ty (slice_get D.procs p) takes in
+  taken_type : (n : ℕ) → is_taking D n ty (slice_get D.procs p) ≡ true → covers_group_type D ty ≡ true
+  taken_type n takes =
+      let t : TakesTo D ty (slice_get D.procs p) = takes_to D n ty (slice_get D.procs p) takes in
       let y : Variable = t.variable in
       let params : Bool = list_all (covers_parameter P p) t.procedure.params in
       let heads = both_true (covers_joined D p t.procedure) (params && covers_result D p t.procedure) (sym (ap (covers_head P p) t.is_procedure) ∙ parts.0) in
@@ -148,6 +149,6 @@ module _ (P : Program) (p : ℕ) (ty : Ty) (group : is_group_type ty ≡ true) (
       same_group (types.class n) t h e = class_is n t e
       same_group _ t h e = absurd (true≢false (sym h))
 
-pub group_taken : (U : Upgrade) (q : ℕ) (ty : Ty) → Passes U q → is_taking U.program.declarations ty (slice_get U.program.declarations.procs q) ≡ true
+pub group_taken : (U : Upgrade) (q n : ℕ) (ty : Ty) → Passes U q → is_taking U.program.declarations n ty (slice_get U.program.declarations.procs q) ≡ true
     → is_group_type ty ≡ true → covers_group_type U.program.declarations ty ≡ true
-group_taken U q ty passes takes group = taken_type U.program q ty group (passes.1 q (empty q)) takes
+group_taken U q n ty passes takes group = taken_type U.program q ty group (passes.1 q (empty q)) n takes

@@ -20,7 +20,7 @@ module _ (U : Upgrade) (N M : Numbers) (same : (i j : ℕ) → N.same i j ≡ tr
 
   mutual
     -- values without arrays in them go on to match
-    flat_value : (x : Value) (y : net_value.Value) → is_flat y ≡ true → ValueLike U N x y → ValueLike U M x y
+    pub flat_value : (x : Value) (y : net_value.Value) → is_flat y ≡ true → ValueLike U N x y → ValueLike U M x y
     flat_value _ _ f (like_scalar ty x y m) = like_scalar ty x y (matches_more N.same M.same same ty x y m)
     flat_value _ _ f (like_fields t xs ys h) = like_fields t xs ys (flat_fields t 0 xs ys f h)
     flat_value _ _ f (like_elements e dims xs k a) = absurd (true≢false (sym f))

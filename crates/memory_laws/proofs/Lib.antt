@@ -2,7 +2,7 @@ pub mod Positions
 pub mod Moved
 mod Suited
 pub mod Changes
-mod Flat
+pub mod Flat
 pub mod Rearranged
 mod Tables
 mod Sizes

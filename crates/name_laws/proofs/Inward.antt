@@ -1,14 +1,20 @@
 -- A procedure that is seen to be inward is so: no chain of calls leads from it to an outward one.
-use Rattle.std.proofs.Common.{◌≡◌, refl, sym, ℕ, zero, suc, Bool, true, false, cond, not, ◌&&◌, ◌||◌, nat_eq, List, [], ◌∷◌, true≢false}
-use Rattle.std.specs.Prelude.{nat_lt}
-use Rattle.bound_tree.specs.Tree.{Program}
+use Rattle.std.proofs.Common.{◌≡◌, ◌∙◌, refl, sym, ap, ℕ, zero, suc, Bool, true, false, cond, not, ◌&&◌, ◌||◌, nat_eq, Option, Some, None, List, [], ◌∷◌, true≢false}
+use Rattle.std.specs.Prelude.{nat_lt, slice_get}
+use Rattle.vb_tree.specs.declared.declared.Owner.{Owner}
+use Rattle.vb_tree.specs.declared.declared.Owner.TheVariants as owner
+use Rattle.vb_tree.specs.declared.declared.VarId.{VarId}
+use Rattle.bound_tree.specs.Tree.{Program, Variable}
 use Rattle.bound_facts.proofs.Chains.{both_true}
 use Rattle.bound_facts.specs.Calls.{calls, count_procedures}
 use Rattle.bound_facts.specs.Effects.{outward}
-use Rattle.bound_facts.specs.Facts.{AreFacts, Known, ReachesOutward}
+use Rattle.bound_facts.specs.Facts.{AreFacts, Known, ReachesOutward, is_quiet_owner, is_quiet_variable}
 use Rattle.bound_facts.specs.Leading.{is_in, within}
 use Rattle.reach_table.specs.Chains.{Chain, empty, longer}
+use Rattle.run_matches.specs.CoveredVariables.{is_touched}
+use Rattle.run_matches.specs.IndexArguments.{is_seen_quiet_id, is_seen_quiet_owner, is_seen_quiet_some}
 use Rattle.run_matches.specs.Inward.{grown, is_closed, is_inward_in, led_in}
+use Rattle.run_matches.specs.Upgrades.{is_quiet_id}
 use Rattle.name_laws.proofs.Lists.{all_among, among}
 
 -- ---- what is in a list
@@ -62,3 +68,21 @@ tell false f = refl
 
 pub seen_inward : (P : Program) (F : Known) → AreFacts P F → (q : ℕ) → is_inward_in P q ≡ true → not (F.outward q) ≡ true
 seen_inward P F facts q h = tell (F.outward q) (λ e. apart P q h ((facts.outward_are q).0 e))
+
+-- ---- quiet parameters
+
+quiet_owner : (P : Program) (F : Known) → AreFacts P F → (v : ℕ) (o : Owner) → is_seen_quiet_owner P v o ≡ true → (is_quiet_owner F o && not (F.touched v)) ≡ true
+quiet_owner P F facts v (owner.Reference p) h =
+    let both = both_true (is_inward_in P p.0) (not (is_touched P v)) h in
+    ap (λ b. b && not (F.touched v)) (seen_inward P F facts p.0 both.0) ∙ ap not (facts.touched_are v) ∙ both.1
+quiet_owner P F facts v _ h = absurd (true≢false (sym h))
+
+quiet_some : (P : Program) (F : Known) → AreFacts P F → (v : ℕ) (o : Option Variable) → is_seen_quiet_some P v o ≡ true
+    → (is_quiet_variable F o && not (F.touched v)) ≡ true
+quiet_some P F facts v None h = absurd (true≢false (sym h))
+quiet_some P F facts v (Some x) h = quiet_owner P F facts v x.owner h
+
+-- a parameter that is seen to be quiet is so
+pub quiet_seen : (P : Program) (F : Known) → AreFacts P F → (o : Option VarId) → is_seen_quiet_id P o ≡ true → is_quiet_id P.declarations F o ≡ true
+quiet_seen P F facts None h = absurd (true≢false (sym h))
+quiet_seen P F facts (Some v) h = quiet_some P F facts v.0 (slice_get P.declarations.vars v.0) h

@@ -162,7 +162,7 @@ lines_same : (o : Option (List Line)) (ls : List Line) → o ≡ Some ls → or_
 lines_same o ls e = ap or_none e
 
 pub clean_line_is_unreplaced : (U : Upgrade) → IsWritten U → (p : ℕ) (s : Site) (k : ℕ) → site_of U.program.declarations p ≡ Some s
-    → IsCleanLine U.program U.facts.marks p (suc k) → IsCoveredLine U.program p (suc k) → IsUnreplaced U p s k
+    → IsCleanLine U.program U.facts.marks p (suc k) → IsCoveredLine U.program U.facts.marks p (suc k) → IsUnreplaced U p s k
 clean_line_is_unreplaced U I p s k e clean L rules r =
     let D = U.program.declarations in
     let S = inside_procedure (site_scope U s) p in

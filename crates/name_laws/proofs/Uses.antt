@@ -247,10 +247,11 @@ module _ (U : Upgrade) (I : IsWritten U) (p : ℕ) (mentions : List Mention)
     facts = same;
     types = λ v ty h. h;
     gives = λ q h. h;
-    takes = λ q ty h.
-        both_true (is_taking U.program.declarations ty (slice_get U.program.declarations.procs q)) (takes_value_at U.program q 0) h;
+    takes = λ q n ty h.
+        both_true (is_taking U.program.declarations n ty (slice_get U.program.declarations.procs q)) (takes_value_at U.program q n) h;
     results = λ q ty h. h;
     inward = λ q h. seen_inward U.program U.known I.known q h;
+    sees_inward = λ q h. h;
     relied = λ v h. h;
   }
 

@@ -39,7 +39,7 @@ pub fn clean_lines_are_unreplaced()
 /// A law: nor a covered line that is clean by itself.
 pub fn clean_line_is_unreplaced()
     ensures { (U : Upgrade) → IsWritten U → (p : ℕ) (s : Site) (k : ℕ) → site_of U.program.declarations p ≡ Some s
-        → IsCleanLine U.program U.facts.marks p (suc k) → IsCoveredLine U.program p (suc k) → IsUnreplaced U p s k }
+        → IsCleanLine U.program U.facts.marks p (suc k) → IsCoveredLine U.program U.facts.marks p (suc k) → IsUnreplaced U p s k }
 {}
 
 /// A law: the variables that the lines of a clean procedure use can be read.

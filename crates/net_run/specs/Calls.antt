@@ -16,7 +16,7 @@ use Rattle.net_run.specs.Store.{Does, Address, constant, nowhere, as_constant, s
 use Rattle.net_run.specs.Members.{Code, code_at, params_of, result_of}
 use Rattle.net_run.specs.Names.{Scope, Callee, to_procedure, to_property, to_support, to_library, to_clone}
 use Rattle.net_run.specs.Structures as structures
-use Rattle.net_run.specs.Structures.{structure_made, shape_given, begins_with}
+use Rattle.net_run.specs.Structures.{structure_made, shape_given}
 use Rattle.net_run.specs.Making.{Jobs, created}
 use Rattle.net_run.specs.Functions.{Function, of_one, of_two, of_two_or_three, puts_out, asks, upper_bound, lower_bound, gives_err, raises_from, clears_err, puts, makes_structure, copies_structure, makes_object, high_of, low_of, raised_from, support_function, library_function, passing_of_some}
 
@@ -210,18 +210,14 @@ abbrev pub passings_of_code : Option Code → List NetPassing
 passings_of_code None = []
 passings_of_code (Some c) = passings (params_of c)
 
-abbrev pub or_part : Option ℕ → Option ℕ → Option ℕ
-or_part None other = other
-or_part (Some p) other = Some p
-
 abbrev pub passings_at : Project → Option ℕ → List NetPassing
 passings_at N None = []
 passings_at N (Some p) = passings_of_code (code_at N p)
 
--- the index parameters of a property are those of each part
+-- the parts of a property take values alone
 abbrev pub passings_of : Project → Callee → List NetPassing
 passings_of N (to_procedure object p) = passings_at N (Some p)
-passings_of N (to_property object get set) = passings_at N (or_part get set)
+passings_of N (to_property object get set) = []
 passings_of N (to_support name) = passing_of_some (support_function name)
 passings_of N (to_library names) = passing_of_some (library_function names)
 passings_of N (to_clone shape v) = []

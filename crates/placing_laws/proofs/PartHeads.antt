@@ -22,7 +22,7 @@ use Rattle.written_trees.specs.Puts.{last_of}
 use Rattle.written_trees.specs.Types.{type_with, variable_type}
 use Rattle.net_run.specs.Members as members
 use Rattle.run_matches.specs.CoveredVariables.{covers_type}
-use Rattle.run_matches.specs.JoinedProperties.{are_like_params, is_by_value, is_like_param, variable_at}
+use Rattle.run_matches.specs.JoinedProperties.{are_like_params, is_like_param, variable_at}
 use Rattle.run_statements.specs.Written.{first_type, written_result}
 
 -- the value that is taken is the last parameter
@@ -74,14 +74,12 @@ same_param : (S : Scope) (v w : ℕ) (x y : Option Variable) → is_like_param x
 same_param S v w None y h = absurd (cc h)
 same_param S v w (Some x) None h = absurd (cc h)
 same_param S v w (Some x) (Some y) h =
-    let like = both_true (is_by_value x.owner && covers_type x.ty) (is_same_type x.ty y.ty && pointwise nat_eq x.name y.name) h in
-    let word = variable_type S.declarations S.facts S.file v x in
+    let like = both_true (covers_type x.ty) (is_same_type x.ty y.ty && pointwise nat_eq x.name y.name) h in
     let names = both_true (is_same_type x.ty y.ty) (pointwise nat_eq x.name y.name) like.1 in
     let param : List ℕ → TypeName → List net.Param = λ n t. record { passing = passing.Value; name = n; ty = t } ∷ [] in
     ap (λ n. param n (variable_type S.declarations S.facts S.file w y)) (sym ((bytes_decides x.name y.name).0 names.1))
     ∙ ap (param x.name)
-    (same_word S.declarations S.file x.qualified y.qualified (S.facts.rank v) (S.facts.rank w) x.ty y.ty
-    (both_true (is_by_value x.owner) (covers_type x.ty) like.0).1 names.0)
+    (same_word S.declarations S.file x.qualified y.qualified (S.facts.rank v) (S.facts.rank w) x.ty y.ty like.0 names.0)
 
 pub same_params : (S : Scope) (vs ws : List VarId) → are_like_params S.declarations vs ws ≡ true → params_of S true ws ≡ params_of S true vs
 same_params S [] [] h = refl

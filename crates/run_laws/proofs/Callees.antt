@@ -1,9 +1,11 @@
 -- A procedure that passes can be called from the lines of another.
 use Rattle.vb_tree.specs.BoundTree.{Ty}
+use Rattle.bound_facts.specs.Effects.{params_at}
+use Rattle.name_laws.proofs.Inward.{quiet_seen, seen_inward}
 use Rattle.name_laws.proofs.Keeping.{seen_to_keep}
 use Rattle.bound_facts.specs.Nodes.{nodes_of_passed}
 use Rattle.run_matches.specs.Keeping.{given_types, keeps_callee, keeps_each, keeps_entered, keeps_given, keeps_seen}
-use Rattle.std.proofs.Common.{◌≡◌, sym, ap, subst, ◌∙◌, ℕ, Bool, true, Option, Some, ◌++◌, map, ◌&&◌, None, List, [], ◌∷◌, inl, inr}
+use Rattle.std.proofs.Common.{◌≡◌, sym, ap, subst, ◌∙◌, ℕ, Bool, true, Option, Some, ◌++◌, map, ◌&&◌, None, List, [], ◌∷◌, inl, inr, not}
 use Rattle.std.specs.Prelude.{nat_lt, slice_get}
 use Rattle.std.specs.List.{Contains, list_all}
 use Rattle.up_base.proofs.Tests.{both_true}
@@ -18,23 +20,27 @@ use Rattle.bound_facts.specs.Parts.{line_uses}
 use Rattle.run_base.specs.Machines.{nth_line}
 use Rattle.net_run.specs.Calls.{passings, passings_of_code}
 use Rattle.net_run.specs.Lines.{scope_of}
-use Rattle.written_trees.specs.Arguments.{parameter_in, takes_reference_of}
+use Rattle.written_trees.specs.Arguments.{parameter_in, takes_reference, takes_reference_of, is_property_at, is_property_kind}
 use Rattle.written_trees.specs.Bodies.{inside_procedure}
+use Rattle.written_trees.specs.Heads.{params_of}
 use Rattle.run_matches.specs.CleanLines.{IsCleanLine, line_points, lines_at, result_points}
-use Rattle.run_matches.specs.Covered.{covers_called_for, covers_calls, covers_node, covers_use_of, suits, suits_callee, suits_passed, hands, hands_callee, hands_passed}
-use Rattle.run_matches.specs.CoveredExprs.{is_giving}
+use Rattle.run_matches.specs.Covered.{takes_address, covers_called_for, covers_calls, covers_node, covers_use_of, suits, suits_callee, suits_passed, hands, hands_callee, hands_passed}
+use Rattle.run_matches.specs.Inward.{is_inward_in}
+use Rattle.run_matches.specs.IndexArguments.{is_seen_quiet, is_seen_quiet_id}
+use Rattle.run_matches.specs.Pledges.{is_inward}
 use Rattle.run_matches.specs.Sites.{Site, site_of}
-use Rattle.run_matches.specs.Upgrades.{Upgrade}
+use Rattle.run_matches.specs.Upgrades.{Upgrade, runnable_of}
 use Rattle.run_statements.specs.Fitting.{FitsNode, FitsPassed}
 use Rattle.run_statements.specs.Frames.{passing_at, passing_by, KeepsEach, NodesKeep}
 use Rattle.run_statements.specs.Kept.{CalleesAreFound, CanCallFrom, MethodsAreFound, qualified_at, receiver_at}
+use Rattle.run_statements.specs.Ways.{SuitsKind, Way, as_get, as_procedure, as_set, passings_by}
 use Rattle.run_statements.specs.Written.{Passes, ProceduresAreWritten, WrittenProcedure, site_scope}
 use Rattle.name_laws.proofs.Lists.{Among, all_among, among, among_left, among_right, contains, map_among}
 use Rattle.name_laws.proofs.Uses.{clean_line_is}
 use Rattle.run_laws.specs.Premises.{ResultsAreWritten}
 use Rattle.run_laws.proofs.Covered.{CoveredProcedure, covered_parts, not_none, some_is}
-use Rattle.run_laws.proofs.Parts.{clean_unparted}
-use Rattle.run_laws.proofs.Heads.{params_given}
+use Rattle.run_laws.proofs.Parts.{clean_unparted, taking_part}
+use Rattle.run_laws.proofs.Heads.{none_at, params_pass}
 use Rattle.run_laws.proofs.Names.{names_in_code}
 use Rattle.run_laws.proofs.Receiving.{called_within, is_found_by, node_test, receives}
 use Rattle.run_laws.proofs.Ways.{FoundFrom, way_is}
@@ -118,11 +124,25 @@ module _ (U : Upgrade) (known : AreFacts U.program U.known) (procedures : Proced
   within : nat_lt q (count_procedures U.program) ≡ true
   within = called_within U.program p q (site_of D p) qualified of test
 
-  passings_are : is_giving (slice_get D.procs q) ≡ true → (i : ℕ)
-      → passing_at (passings_of_code (Some V.code)) i ≡ passing_by (takes_reference_of D (slice_get c.procedure.params i))
-  passings_are gives i =
-      ap (λ ps. passing_at (passings ps) i) V.params
-      ∙ params_given U c.site q c.procedure c.is_procedure c.joined c.params (sym (ap is_giving c.is_procedure) ∙ gives) i
+  -- a part of a property takes values alone
+  passings_are : (way : Way) → SuitsKind way c.procedure.kind → (i : ℕ)
+      → passing_at (passings_by U.written way V.number) i ≡ passing_by (takes_address D q i)
+  passings_are as_procedure plain i =
+      ap (λ o. passing_at (passings_of_code o) i) V.is_code
+      ∙ ap (λ ps. passing_at (passings ps) i) (V.params ∙ ap (λ b. params_of (site_scope U c.site) b c.procedure.params) plain)
+      ∙ params_pass U c.site q c.procedure.params c.params i
+      ∙ sym (ap (λ b. passing_by (not b && takes_reference D q i)) (ap is_property_at c.is_procedure ∙ plain)
+      ∙ ap (λ o. passing_by (takes_reference_of D (parameter_in o i))) c.is_procedure)
+  passings_are (as_get set) is i = none_at i ∙ sym (ap (λ b. passing_by (not b && takes_reference D q i)) (ap is_property_at c.is_procedure ∙ ap is_property_kind is))
+  passings_are (as_set get) is i =
+      none_at i ∙ sym (ap (λ b. passing_by (not b && takes_reference D q i)) (ap is_property_at c.is_procedure ∙ taking_part c.procedure.kind is))
+
+  -- what is seen to be quiet is so
+  quiet_is : (i : ℕ) → is_seen_quiet U.program q i ≡ true → ((runnable_of U).quiet q i ≡ true) × (is_inward U q ≡ true)
+  quiet_is i h =
+      let id = slice_get (params_at (slice_get D.procs q)) i in
+      let both = both_true (is_inward_in U.program q) (is_seen_quiet_id U.program id) h in
+      (quiet_seen U.program U.known known id both.1, seen_inward U.program U.known known q both.0)
 
   pub can_call : (args : Passed) → covers_use_of U.program.declarations p q qualified of args ≡ true
       → suits_passed U.program.declarations q 0 args ≡ true → hands_callee U.program (Some q) args ≡ true → FitsPassed U q 0 args
@@ -148,9 +168,8 @@ module _ (U : Upgrade) (known : AreFacts U.program U.known) (procedures : Proced
         given = seen_each U q ts keeping.0;
         inside = seen_inside U ts (nodes_of_passed args) keeping.1;
         ranks = ranks;
-        passings = λ gives i.
-            ap (λ o. passing_at (passings_of_code o) i) V.is_code ∙ passings_are gives i
-            ∙ sym (ap (λ o. passing_by (takes_reference_of D (parameter_in o i))) c.is_procedure);
+        passings = passings_are F.way F.suits;
+        quiet = quiet_is;
         found = F.found;
         result = λ class gives. results q V.number pass V.is_number class gives;
       }

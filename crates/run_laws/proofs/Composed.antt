@@ -79,7 +79,7 @@ lines_do U w =
     let classes : ClassesAreWritten U = fields_are_written U w in
     lines_agree U classes (expressions_agree U sound classes) (calls_are_made U sound classes) (scalars_are_read U) (scalars_are_written U)
     (elements_agree U sound classes) (indexes_agree_all U sound classes) (elements_are_written U) (groups_agree U sound classes) (groups_are_written U)
-    (members_agree U classes) (members_are_found U) (objects_agree U classes) (setters_agree U classes) (properties_are_set U sound) (autos_are_set U)
+    (members_agree U classes) (members_are_found U) (objects_agree U classes) (setters_agree U sound classes) (properties_are_set U sound) (autos_are_set U)
     (arrays_agree U) (arrays_are_resized U) (arrays_are_erased U)
 
 -- the name of a user type leads to its structure, and that of a class to the class

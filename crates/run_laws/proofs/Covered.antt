@@ -8,7 +8,6 @@ use Rattle.up_base.proofs.Tests.{both_true}
 use Rattle.up_base.specs.Names.{is_same_name, lower_case}
 use Rattle.vb_tree.specs.BoundTree as types
 use Rattle.vb_tree.specs.BoundTree.{Ty}
-use Rattle.vb_tree.specs.declared.declared.ProcKind.{ProcKind}
 use Rattle.vb_tree.specs.declared.declared.ProcKind.TheVariants as kind
 use Rattle.vb_tree.specs.declared.declared.VarId.{VarId}
 use Rattle.vb_tree.specs.declared.form_parts.Label6.{Label6}
@@ -20,7 +19,6 @@ use Rattle.bound_tree.specs.Tree.{Expr, Line, Procedure, Program, Variable, Decl
 use Rattle.vb6_run.specs.Forms.{SourceLine, body_of, tests_in, with_aims}
 use Rattle.vb6_run.specs.Lines.{source_lines}
 use Rattle.vb6_run.specs.Programs.{answer_in, is_static_of, is_local_of, owned_from}
-use Rattle.written_trees.specs.Arguments.{is_property_kind}
 use Rattle.written_trees.specs.Types.{element_type}
 use Rattle.run_matches.specs.Formed.{is_formed}
 use Rattle.run_matches.specs.CoveredVariables.{belongs_to, covers_array_owner, covers_auto_owner, covers_bounds, covers_declared, covers_group_type, has_extents, is_array_of, are_different, covers_owner, covers_type}
@@ -28,7 +26,7 @@ use Rattle.run_matches.specs.CoveredExprs.{Uses, uses_in}
 use Rattle.run_matches.specs.UserTypes.{is_class_type}
 use Rattle.run_matches.specs.CoveredLines.{covers_form, covers_in_block, covers_label, covers_line, has_sound_label, has_sound_label_in, jump_of}
 use Rattle.net_run.specs.Members.{is_same_flag}
-use Rattle.run_matches.specs.Covered.{covers_body, covers_head, covers_joined, covers_names, covers_owns, covers_procedure, covers_site, covers_variables, is_plain, is_plain_kind, keeps_blocks, keeps_blocks_in, covers_own, covers_all_calls, covers_calls, covers_parameter, covers_result, has_no_static, has_result, is_answer_of, is_parameter_of, is_class_number}
+use Rattle.run_matches.specs.Covered.{covers_body, covers_head, covers_joined, covers_names, covers_owns, covers_procedure, covers_site, covers_variables, keeps_blocks, keeps_blocks_in, covers_own, covers_all_calls, covers_calls, covers_parameter, covers_result, has_no_static, has_result, is_answer_of, is_parameter_of, is_class_number}
 use Rattle.run_matches.specs.Callees.{frame_owns}
 use Rattle.run_matches.specs.Sites.{Site, own_name, owns_of, site_of, local_numbers, static_numbers}
 use Rattle.run_laws.proofs.StaticPlaces.{IsPlacedAlike, placed_alike}
@@ -200,22 +198,6 @@ covered_parts P p h =
       in_blocks = y.in_blocks;
       calls = called_all P p (slice_get P.bodies p) y.lines whole.0 y.are_lines;
     }
-
-plain_kind : (k : ProcKind) → is_plain_kind k ≡ true → is_property_kind k ≡ false
-plain_kind kind.Sub h = refl
-plain_kind kind.Function h = refl
-plain_kind kind.Get h = absurd (true≢false (sym h))
-plain_kind kind.Let h = absurd (true≢false (sym h))
-plain_kind kind.Set h = absurd (true≢false (sym h))
-
-pub record PlainProcedure (o : Option Procedure) : Type 0 where
-  pub procedure : Procedure
-  pub is_procedure : o ≡ Some procedure
-  pub kind : is_property_kind procedure.kind ≡ false
-
-pub plain_parts : (o : Option Procedure) → is_plain o ≡ true → PlainProcedure o
-plain_parts None h = absurd (true≢false (sym h))
-plain_parts (Some x) h = record { procedure = x; is_procedure = refl; kind = plain_kind x.kind h }
 
 abbrev own_covered : Declarations → (p : ℕ) → Variable → Bool
 own_covered D p x = cond (belongs_to p x.owner) (covers_declared D x) true

@@ -1,10 +1,10 @@
 -- What is written for the head of a covered procedure: its parameters, and the result variable of a Function or a Get.
-use Rattle.std.proofs.Common.{◌≡◌, ◌⊎◌, inl, inr, refl, sym, ap, ◌∙◌, ℕ, zero, suc, Bool, true, false, not, ◌&&◌, nat_eq, true≢false, Option, Some, None, List, [], ◌∷◌, ◌++◌, map}
+use Rattle.std.proofs.Common.{◌≡◌, ◌⊎◌, inl, inr, refl, sym, ap, ◌∙◌, ℕ, zero, suc, true, false, not, ◌&&◌, nat_eq, true≢false, Option, Some, None, List, [], ◌∷◌, ◌++◌, map}
 use Rattle.std.specs.Prelude.{is_some, slice_get}
 use Rattle.std.specs.Cmp.Lexicographic.{pointwise}
 use Rattle.std.specs.List.{list_all}
 use Rattle.up_base.proofs.Lists.{all_first, all_rest}
-use Rattle.up_base.proofs.Tests.{both_true, not_true}
+use Rattle.up_base.proofs.Tests.{both_true}
 use Rattle.vb_tree.specs.declared.declared.Owner.{Owner}
 use Rattle.vb_tree.specs.declared.declared.Owner.TheVariants as owner
 use Rattle.vb_tree.specs.declared.declared.ProcId.{ProcId}
@@ -17,21 +17,19 @@ use Rattle.net_tree.specs.declared.declaration.NetPassing.TheVariants as passing
 use Rattle.net_tree.specs.Types.{TypeName}
 use Rattle.net_run.specs.Calls.{passings}
 use Rattle.net_run.specs.Members.{result_of}
-use Rattle.written_trees.specs.Arguments.{is_property_kind, is_reference_owner, takes_reference_at, takes_reference_of}
+use Rattle.written_trees.specs.Arguments.{is_reference_owner, takes_reference_at, takes_reference_of}
 use Rattle.written_trees.specs.Heads as heads
 use Rattle.written_trees.specs.Heads.{is_function}
 use Rattle.written_trees.specs.Names.{Scope}
 use Rattle.run_matches.specs.Callees.{answer_owns, own_of_some}
 use Rattle.run_matches.specs.CoveredVariables.{belongs_to, covers_auto_owner}
-use Rattle.run_matches.specs.CoveredExprs.{takes_value}
-use Rattle.run_matches.specs.Covered.{covers_joined, covers_parameter, has_answer, has_result, is_answer_of, is_result_in, is_parameter_of, is_parameter_in}
+use Rattle.run_matches.specs.Covered.{covers_parameter, has_answer, has_result, is_answer_of, is_result_in, is_parameter_of, is_parameter_in}
 use Rattle.run_matches.specs.Frames.{result_names}
 use Rattle.run_matches.specs.Sites.{Site, own_name}
 use Rattle.run_matches.specs.Upgrades.{Upgrade}
 use Rattle.run_statements.specs.Frames.{passing_at, passing_by}
 use Rattle.run_statements.specs.Written.{WrittenProcedure, first_type, site_scope, written_result}
 use Rattle.run_laws.proofs.Covered.{same_numbers}
-use Rattle.run_laws.proofs.Parts.{JoinedPart, get_takes_values, giving_part, joined_part, part_joined}
 
 -- ---- parameters
 
@@ -154,7 +152,7 @@ passing_is : (o : Owner) → heads.passing_of o ≡ passing_by (is_reference_own
 passing_is (owner.Reference q) = refl
 passing_is _ = refl
 
-none_at : (i : ℕ) → passing_at [] i ≡ passing.Value
+pub none_at : (i : ℕ) → passing_at [] i ≡ passing.Value
 none_at zero = refl
 none_at (suc i) = none_at i
 
@@ -175,32 +173,6 @@ params_pass U s q (v ∷ vs) h i =
         ∙ passing_is y.owner ∙ ap (λ o. passing_by (takes_reference_at o)) (sym e)
     by y e (suc n) more =
         ap (λ o. passing_at (passings (heads.param_by (site_scope U s) false v.0 o ++ heads.params_of (site_scope U s) false vs)) (suc n)) e ∙ more n
-
--- all that is written for the parameters of a part of a property takes values
-values_pass : (S : Scope) (vs : List VarId) (i : ℕ) → passing_at (passings (heads.params_of S true vs)) i ≡ passing.Value
-values_pass S [] i = none_at i
-values_pass S (v ∷ vs) i = by (slice_get S.declarations.vars v.0) i (λ n. values_pass S vs n)
-  where
-    by : (o : Option Variable) (n : ℕ) → ((m : ℕ) → passing_at (passings (heads.params_of S true vs)) m ≡ passing.Value)
-        → passing_at (passings (heads.param_by S true v.0 o ++ heads.params_of S true vs)) n ≡ passing.Value
-    by None n more = more n
-    by (Some y) zero more = refl
-    by (Some y) (suc n) more = more n
-
--- so are those of what gives a result: a Get takes values
-pub params_given : (U : Upgrade) (s : Site) (q : ℕ) (x : Procedure) → slice_get U.program.declarations.procs q ≡ Some x
-    → covers_joined U.program.declarations q x ≡ true → list_all (covers_parameter U.program q) x.params ≡ true → not (takes_value x.kind) ≡ true → (i : ℕ)
-    → passing_at (passings (heads.params_of (site_scope U s) (is_property_kind x.kind) x.params)) i
-    ≡ passing_by (takes_reference_of U.program.declarations (slice_get x.params i))
-params_given U s q x is joined h gives i = by (is_property_kind x.kind) refl
-  where
-    by : (b : Bool) → is_property_kind x.kind ≡ b
-        → passing_at (passings (heads.params_of (site_scope U s) b x.params)) i ≡ passing_by (takes_reference_of U.program.declarations (slice_get x.params i))
-    by false e = params_pass U s q x.params h i
-    by true e =
-        let part : JoinedPart U.program.declarations q x = joined_part U.program.declarations q x (part_joined U.program.declarations q x joined e) in
-        values_pass (site_scope U s) x.params i
-        ∙ sym (ap passing_by (get_takes_values U.program.declarations q x part (giving_part x.kind (not_true (takes_value x.kind) gives) e) i))
 
 -- ---- names
 

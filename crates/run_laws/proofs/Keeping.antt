@@ -10,7 +10,7 @@ use Rattle.bound_tree.specs.Targets.{exit_to}
 use Rattle.bound_tree.specs.Tree.{Expr}
 use Rattle.run_base.specs.Frames.{Handler, none, next_line, at_line, to_line, resumed_at, Kept, keeps_nothing, keeps_limit, keeps_value, keeps_address}
 use Rattle.run_base.specs.Machines.{behind_error, caught, go, handled, if_active, line_at, resume_at, stepped}
-use Rattle.run_base.specs.Outcomes.{Output, Outcome, gives, raises, spent, outside, after, then, answered, some_of}
+use Rattle.run_base.specs.Outcomes.{Output, Outcome, gives, raises, spent, outside, then, answered, some_of}
 use Rattle.vb6_run.specs.Expressions.{Context, address_of, scalar_of, scalar_value, value_of, parts_of, type_shape, declared}
 use Rattle.vb6_run.specs.Forms.{SourceLine, form_does, idle_machine}
 use Rattle.vb6_run.specs.Lines.{branch, case_of, chosen, condition, counted, exit_does, for_does, for_from, goes_if, goes_on, handles_by, has_passed, items_text, keeping_limit, keeps_at, let_to, line_of_label, next_of, print, redim_does, set_to, some_fits, step_of, sum_of, when_done, with_one, with_address, with_does}
@@ -21,23 +21,12 @@ use Rattle.vb6_run.specs.Runnables.{Runnable}
 use Rattle.vb6_run.specs.Store.{Address, Memory, SourceFrame, read, set_err, write, root, item, constant, make_with}
 use Rattle.vb6_run.specs.Values.{Value}
 use Rattle.agreeing_laws.specs.Promises.{Yields}
+use Rattle.agreeing_laws.proofs.Outputs.{yields_then}
 use Rattle.run_matches.specs.CoveredExprs.{Uses}
 use Rattle.run_matches.specs.CoveredLines.{covers_condition, covers_form, covers_call}
 use Rattle.run_matches.specs.Runs.{line_result}
 use Rattle.vb_tree.specs.BoundTree.{Ty, user}
 use Rattle.bound_facts.specs.Node.{type_at}
-
-pub yields_after : {M A : Type 0} (Q : A → M → Type 0) (o : List Output) (r : Outcome M A) → Yields Q r → Yields Q (after o r)
-yields_after Q o (gives p a w) h = h
-yields_after Q o (raises p e w) h = tt
-yields_after Q o (spent p w) h = tt
-yields_after Q o (outside p) h = tt
-
-pub yields_then : {M A B : Type 0} (Q : B → M → Type 0) (r : Outcome M A) (k : A → M → Outcome M B) → ((a : A) (w : M) → Yields Q (k a w)) → Yields Q (then r k)
-yields_then Q (gives o a w) k h = yields_after Q o (k a w) (h a w)
-yields_then Q (raises o e w) k h = tt
-yields_then Q (spent o w) k h = tt
-yields_then Q (outside o) k h = tt
 
 -- a frame with the variables of another
 abbrev pub HasVars : SourceFrame → SourceFrame → Memory → Type 0

@@ -26,12 +26,11 @@ use Rattle.run_statements.specs.Frames.{AreReadable, IsOpen}
 use Rattle.run_statements.specs.Kept.{IsUnreplaced, LineStands, LinesAgree, LinesAreWritten, NamesAreOpen, StoresAreOwn, UsesArePlaced, CanCallFrom, CanMakeAtFrom, CanMakeFrom, SameLineIn, made_at, qualified_at, receiver_at, used_at}
 use Rattle.run_statements.specs.Written.{SameLines, WrittenLine, WrittenProcedure, Passes, site_scope}
 use Rattle.run_laws.specs.Premises.{LinePremises}
-use Rattle.run_laws.proofs.Covered.{PlainProcedure, bound_line, not_none, plain_parts, some_is}
+use Rattle.run_laws.proofs.Covered.{bound_line, not_none, some_is}
 use Rattle.line_laws.proofs.Called.{use_calls, use_makes}
 use Rattle.run_laws.proofs.Callees.{call_fits, call_suits, callee_covered, called_clean, can_call, call_hands}
 use Rattle.run_laws.proofs.Making.{can_make, can_make_at, made_covered, use_of_auto_calls, used_covered}
 use Rattle.run_laws.proofs.Names.{code_is, is_below}
-use Rattle.run_laws.proofs.Parts.{plain_joined, plain_unparted}
 
 -- the bound lines of a procedure, as its lines
 pub body_is : (U : Upgrade) (p : ℕ) (lines : List Line) → slice_get U.program.bodies p ≡ Some lines
@@ -79,24 +78,24 @@ module _ (U : Upgrade) (lines_written : LinesAreWritten U) (names_open : NamesAr
 
 module _ (U : Upgrade) (h : LinePremises U) where
   -- what the line calls passes
-  can_call_from : (p k : ℕ) (clean : IsCleanLine U.program U.facts.marks p (suc k)) (c : IsCoveredLine U.program p (suc k))
-      (x : PlainProcedure (slice_get U.program.declarations.procs p)) (W : WrittenProcedure U p c.site x.procedure) (d : Expr) (q : ℕ)
+  can_call_from : (p k : ℕ) (clean : IsCleanLine U.program U.facts.marks p (suc k)) (c : IsCoveredLine U.program U.facts.marks p (suc k))
+      (W : WrittenProcedure U p c.site c.procedure) (d : Expr) (q : ℕ)
       → Contains (line_uses c.line) d → called d ≡ Some q → CanCallFrom U p c.site W.code q (qualified_at d) (receiver_at d) (args_at d)
-  can_call_from p k clean c x W d q m e =
+  can_call_from p k clean c W d q m e =
       let call : Contains (line_calls U.program.declarations p c.line) (p, q) = use_calls U.program.declarations p q c.line d m e in
       let tests = callee_covered U p q c.line d c.calls m e in
-      can_call U h.known h.procedures h.found h.methods h.results p q c.site x.procedure c.is_site x.is_procedure W c.line
+      can_call U h.known h.procedures h.found h.methods h.results p q c.site c.procedure c.is_site c.is_procedure W c.line
       (record { lines = c.lines; are_lines = c.are_lines; place = k; stands = c.is_line }) call (qualified_at d) (receiver_at d) tests.0
       (called_clean U p (suc k) c.line clean (ap (λ o. nth_line (or_none o) (suc k)) c.are_lines ∙ c.is_line) q call, c.entered q call)
       (args_at d) tests.1 (call_suits U p q c.line d c.calls m e) (call_hands U p q c.line d c.calls m e)
       (call_fits U q d (h.fits p k c.line clean (ap (λ o. nth_line (or_none o) (suc k)) c.are_lines ∙ c.is_line) d m) e)
 
   -- and new objects can be made
-  can_make_from : (p k : ℕ) (clean : IsCleanLine U.program U.facts.marks p (suc k)) (c : IsCoveredLine U.program p (suc k))
-      (x : PlainProcedure (slice_get U.program.declarations.procs p)) (W : WrittenProcedure U p c.site x.procedure) (d : Expr) (class : ℕ)
+  can_make_from : (p k : ℕ) (clean : IsCleanLine U.program U.facts.marks p (suc k)) (c : IsCoveredLine U.program U.facts.marks p (suc k))
+      (W : WrittenProcedure U p c.site c.procedure) (d : Expr) (class : ℕ)
       → Contains (line_uses c.line) d → made_at d ≡ Some class → CanMakeFrom U p c.site W.code class
-  can_make_from p k clean c x W d class m is =
-      can_make U h.known h.procedures h.objects p c.site x.procedure x.is_procedure W c.line
+  can_make_from p k clean c W d class m is =
+      can_make U h.known h.procedures h.objects p c.site c.procedure c.is_procedure W c.line
       (record { lines = c.lines; are_lines = c.are_lines; place = k; stands = c.is_line }) class (made_covered U p class c.line d c.calls m is)
       (λ q e. use_makes U.program.declarations p q class c.line d m is e)
       (λ q within call. (
@@ -105,11 +104,11 @@ module _ (U : Upgrade) (h : LinePremises U) where
       ))
 
   -- also by uses of As New variables
-  can_make_at_from : (p k : ℕ) (clean : IsCleanLine U.program U.facts.marks p (suc k)) (c : IsCoveredLine U.program p (suc k))
-      (x : PlainProcedure (slice_get U.program.declarations.procs p)) (W : WrittenProcedure U p c.site x.procedure) (d : Expr) (v : ℕ)
+  can_make_at_from : (p k : ℕ) (clean : IsCleanLine U.program U.facts.marks p (suc k)) (c : IsCoveredLine U.program U.facts.marks p (suc k))
+      (W : WrittenProcedure U p c.site c.procedure) (d : Expr) (v : ℕ)
       → Contains (line_uses c.line) d → used_at d ≡ Some v → CanMakeAtFrom U p c.site W.code v
-  can_make_at_from p k clean c x W d v m e w f g n names class is made =
-      can_make_at U h.known h.procedures h.objects p c.site x.procedure x.is_procedure W c.line
+  can_make_at_from p k clean c W d v m e w f g n names class is made =
+      can_make_at U h.known h.procedures h.objects p c.site c.procedure c.is_procedure W c.line
       (record { lines = c.lines; are_lines = c.are_lines; place = k; stands = c.is_line }) class (used_covered U p v class c.line d c.calls m e is)
       (λ q begins. use_of_auto_calls U.program.declarations p q v class c.line d m e is begins)
       (λ q within call. (
@@ -117,12 +116,9 @@ module _ (U : Upgrade) (h : LinePremises U) where
         c.entered q call,
       )) made w f g n names
 
-  one_line : (p k : ℕ) → IsCleanLine U.program U.facts.marks p (suc k) → IsCoveredLine U.program p (suc k) → LineDoesTheSame U p (suc k)
+  one_line : (p k : ℕ) → IsCleanLine U.program U.facts.marks p (suc k) → IsCoveredLine U.program U.facts.marks p (suc k) → LineDoesTheSame U p (suc k)
   one_line p k clean c =
-      let x : PlainProcedure (slice_get U.program.declarations.procs p) = plain_parts (slice_get U.program.declarations.procs p) c.plain in
-      let W : WrittenProcedure U p c.site x.procedure =
-      h.procedures p c.site x.procedure c.is_site x.is_procedure (plain_joined U.program.declarations p x.procedure x.kind)
-      (plain_unparted U p x.procedure x.kind) in
+      let W : WrittenProcedure U p c.site c.procedure = h.procedures p c.site c.procedure c.is_site c.is_procedure c.joined c.unparted in
       let found = bound_line c.lines k c.line c.is_line in
       let l : SourceLine = found.0 in
       let lines_are : lines_of U p ≡ c.lines = ap or_none c.are_lines in
@@ -135,15 +131,15 @@ module _ (U : Upgrade) (h : LinePremises U) where
       let here : nth_line (lines_at U.program p) (suc k) ≡ Some l.form =
       ap (λ o. nth_line (or_none o) (suc k)) c.are_lines ∙ c.is_line ∙ ap {B = Option Line} (λ m. Some m) (sym form) in
       let z : LineSame U p W.number (suc k) l =
-      line_same U h.lines h.names h.agree p c.site x.procedure c.is_site W c.lines c.are_lines k l is c.blocks
+      line_same U h.lines h.names h.agree p c.site c.procedure c.is_site W c.lines c.are_lines k l is c.blocks
       (h.unreplaced p k c.site c.is_site clean c) c.names covers readable
-      (h.placed p c.site x.procedure c.is_site x.is_procedure W l.form readable) (h.stores p x.procedure x.is_procedure k l.form here covers)
-      (λ d q m e. can_call_from p k clean c x W d q (subst (λ (n : Line). Contains (line_uses n) d) form m) e)
-      (λ d class m e. can_make_from p k clean c x W d class (subst (λ (n : Line). Contains (line_uses n) d) form m) e)
-      (λ d v m e. can_make_at_from p k clean c x W d v (subst (λ (n : Line). Contains (line_uses n) d) form m) e) (h.fits p k l.form clean here)
+      (h.placed p c.site c.procedure c.is_site c.is_procedure W l.form readable) (h.stores p c.procedure c.is_procedure k l.form here covers)
+      (λ d q m e. can_call_from p k clean c W d q (subst (λ (n : Line). Contains (line_uses n) d) form m) e)
+      (λ d class m e. can_make_from p k clean c W d class (subst (λ (n : Line). Contains (line_uses n) d) form m) e)
+      (λ d v m e. can_make_at_from p k clean c W d v (subst (λ (n : Line). Contains (line_uses n) d) form m) e) (h.fits p k l.form clean here)
       (h.resizes p k l.form clean here)
       (record {
-        is_procedure = is_below U.program.declarations.procs p x.procedure x.is_procedure;
+        is_procedure = is_below U.program.declarations.procs p c.procedure c.is_procedure;
         is_there = here;
         in_block = subst (λ ls. covers_in_block U.program p ls l ≡ true) (sym lines_are) (c.stands l found.1);
         label = λ a e. absurd (not_none (sym (ap (λ (m : Line). jump_of m.source.form) form ∙ c.stays) ∙ e));

@@ -27,7 +27,7 @@ use Rattle.agreeing_laws.specs.Promises.{Yields}
 use Rattle.agreeing_laws.proofs.Agreeing.{agrees_weaker, agrees_yields, agrees_outside}
 use Rattle.run_laws.specs.Entered.{LocalMatch}
 use Rattle.run_laws.specs.Premises.{MakesAlike}
-use Rattle.run_laws.proofs.Keeping.{yields_after, yields_then}
+use Rattle.agreeing_laws.proofs.Outputs.{yields_after, yields_then}
 use Rattle.run_laws.proofs.Locals.{new_place}
 use Rattle.run_laws.proofs.LocalsMade.{makes_next}
 use Rattle.run_laws.proofs.GroupDims.{group_unranked}

@@ -1,5 +1,5 @@
 -- Parts of properties that are written as one: their heads carry no rule, and their values have the type of the first part.
-use Rattle.std.proofs.Common.{◌≡◌, refl, sym, ap, subst, ◌∙◌, ℕ, Bool, true, false, cond, ◌&&◌, true≢false, zero, suc, Option, Some, None, List, [], ◌∷◌, nat_eq, eq-eqb, eqb-true}
+use Rattle.std.proofs.Common.{◌≡◌, refl, sym, ap, subst, ◌∙◌, ℕ, Bool, true, false, cond, ◌&&◌, true≢false, Some, List, [], ◌∷◌, nat_eq, eq-eqb, eqb-true}
 use Rattle.std.specs.Prelude.{◌||◌, is_some, slice_get}
 use Rattle.std.specs.Cmp.Lexicographic.{pointwise}
 use Rattle.std.specs.List.{list_any}
@@ -8,25 +8,20 @@ use Rattle.vb_tree.specs.declared.declared.ProcKind.{ProcKind}
 use Rattle.vb_tree.specs.declared.declared.ProcKind.TheVariants as kind
 use Rattle.bound_tree.specs.declared.marks.Marks.{Marks}
 use Rattle.bound_tree.specs.RuleSets.{first, has, rule_numbers}
-use Rattle.bound_tree.specs.Tree.{Declarations, Procedure, Program, Variable}
+use Rattle.bound_tree.specs.Tree.{Declarations, Procedure, Program}
 use Rattle.bound_facts.specs.Clean.{IsClean, procedure, set_broken, sets_broken, stays}
-use Rattle.written_trees.specs.Arguments.{is_property_kind, is_reference_owner, takes_reference_at, takes_reference_of}
+use Rattle.written_trees.specs.Arguments.{is_property_kind}
 use Rattle.written_trees.specs.Facts.{head_set}
-use Rattle.written_trees.specs.Heads.{is_function, without_last, index_params}
 use Rattle.written_trees.specs.Names.{procedure_name}
 use Rattle.run_matches.specs.Covered.{covers_joined}
 use Rattle.run_matches.specs.CoveredExprs.{takes_value}
-use Rattle.run_matches.specs.JoinedProperties.{is_joined, is_like_first, is_placed_part, are_like_params, are_parts, have_same_type, is_by_value, is_like_param, part_value, variable_at}
+use Rattle.run_matches.specs.JoinedProperties.{is_joined, is_like_first, is_placed_part, are_parts}
 use Rattle.run_matches.specs.Upgrades.{Upgrade}
 use Rattle.run_statements.specs.Written.{IsUnparted}
 use Rattle.name_laws.proofs.Lists.{neither}
 use Rattle.name_laws.proofs.Sets.{unbroken_set}
 use Rattle.run_laws.proofs.Covered.{all_at, same_numbers}
-use Rattle.vb_tree.specs.declared.declared.Owner.{Owner}
 use Rattle.vb_tree.specs.declared.declared.Owner.TheVariants as owner
-use Rattle.vb_tree.specs.declared.declared.VarId.{VarId}
-use Rattle.run_matches.specs.CoveredVariables.{covers_type}
-use Rattle.bound_facts.specs.Locks.{is_same_type}
 
 -- ---- heads that carry no rule
 
@@ -56,13 +51,6 @@ clean_unparted U p x clean property =
     no_rule (has (head_set U.facts p)) rule_numbers 7 refl (unbroken_set U.facts.marks.heads p (head_unbroken U.program U.facts.marks p clean))
 
 -- ---- kinds
-
--- what is no part of a property is covered by its kind alone
-pub plain_joined : (D : Declarations) (p : ℕ) (x : Procedure) → is_property_kind x.kind ≡ false → covers_joined D p x ≡ true
-plain_joined D p x h = ap (λ b. cond b (is_joined D p x) true) h
-
-pub plain_unparted : (U : Upgrade) (p : ℕ) (x : Procedure) → is_property_kind x.kind ≡ false → IsUnparted U p x
-plain_unparted U p x h e = absurd (true≢false (sym e ∙ h))
 
 pub part_joined : (D : Declarations) (p : ℕ) (x : Procedure) → covers_joined D p x ≡ true → is_property_kind x.kind ≡ true → is_joined D p x ≡ true
 part_joined D p x h e = subst (λ b. cond b (is_joined D p x) true ≡ true) e h
@@ -106,42 +94,3 @@ pub part_kind : (D : Declarations) (first p : ℕ) (x : Procedure) → are_parts
     → is_property_kind x.kind ≡ true
 part_kind D first p x h e of =
     subst (λ b. cond b (is_property_kind x.kind) true ≡ true) (eq-eqb x.first.0 first of) (all_at (is_part_of first) D.procs p x h e)
-
--- its index parameters are like those of the first part
-pub indexes_like : (D : Declarations) (x : Procedure) (o : Option Procedure) → is_like_first D x o ≡ true
-    → (f : Procedure) × (o ≡ Some f) × (are_like_params D (index_params x) (index_params f) ≡ true)
-indexes_like D x None h = absurd (true≢false (sym h))
-indexes_like D x (Some f) h = (
-  f,
-  refl,
-  (both_true (have_same_type (variable_at D (part_value x)) (variable_at D (part_value f))) (are_like_params D (index_params x) (index_params f)) h).1,
-)
-
--- they go by value
-pub values_taken : (D : Declarations) (vs ws : List VarId) → are_like_params D vs ws ≡ true → (i : ℕ) → takes_reference_of D (slice_get vs i) ≡ false
-values_taken D [] ws h i = refl
-values_taken D (v ∷ vs) [] h i = absurd (true≢false (sym h))
-values_taken D (v ∷ vs) (w ∷ ws) h zero =
-    one (slice_get D.vars v.0) (slice_get D.vars w.0)
-    (both_true (is_like_param (slice_get D.vars v.0) (slice_get D.vars w.0)) (are_like_params D vs ws) h).0
-  where
-    by : (o : Owner) → is_by_value o ≡ true → is_reference_owner o ≡ false
-    by (owner.Value p) k = refl
-    by _ k = absurd (true≢false (sym k))
-
-    one : (x y : Option Variable) → is_like_param x y ≡ true → takes_reference_at x ≡ false
-    one None y k = absurd (true≢false (sym k))
-    one (Some x) None k = absurd (true≢false (sym k))
-    one (Some x) (Some y) k =
-        let like = is_same_type x.ty y.ty && pointwise nat_eq x.name y.name in
-        by x.owner (both_true (is_by_value x.owner) (covers_type x.ty) (both_true (is_by_value x.owner && covers_type x.ty) like k).0).0
-values_taken D (v ∷ vs) (w ∷ ws) h (suc i) =
-    values_taken D vs ws (both_true (is_like_param (slice_get D.vars v.0) (slice_get D.vars w.0)) (are_like_params D vs ws) h).1 i
-
--- so do the parameters of a Get
-pub get_takes_values : (D : Declarations) (p : ℕ) (x : Procedure) → JoinedPart D p x → x.kind ≡ kind.Get → (i : ℕ)
-    → takes_reference_of D (slice_get x.params i) ≡ false
-get_takes_values D p x part is i =
-    let l = indexes_like D x (slice_get D.procs x.first.0) part.like in
-    subst (λ b. takes_reference_of D (slice_get (cond b x.params (without_last x.params)) i) ≡ false) (ap is_function is)
-    (values_taken D (index_params x) (index_params l.0) l.2 i)

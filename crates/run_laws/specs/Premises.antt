@@ -208,12 +208,12 @@ GetsAreFirst U =
 
 abbrev pub CleanLinesAreUnreplaced : Upgrade → Type 0
 CleanLinesAreUnreplaced U =
-    (p k : ℕ) (s : Site) → site_of U.program.declarations p ≡ Some s → IsCleanLine U.program U.facts.marks p (suc k) → IsCoveredLine U.program p (suc k)
-    → IsUnreplaced U p s k
+    (p k : ℕ) (s : Site) → site_of U.program.declarations p ≡ Some s → IsCleanLine U.program U.facts.marks p (suc k)
+    → IsCoveredLine U.program U.facts.marks p (suc k) → IsUnreplaced U p s k
 
 abbrev pub LineUsesAreReadable : Upgrade → Type 0
 LineUsesAreReadable U =
-    (p k : ℕ) → IsCleanLine U.program U.facts.marks p (suc k) → (covered : IsCoveredLine U.program p (suc k))
+    (p k : ℕ) → IsCleanLine U.program U.facts.marks p (suc k) → (covered : IsCoveredLine U.program U.facts.marks p (suc k))
     → AreReadable U (inside_procedure (site_scope U covered.site) p) (uses_in U.program p covered.line.bindings.mentions)
 
 abbrev pub LineUsesFit : Upgrade → Type 0

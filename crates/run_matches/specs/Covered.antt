@@ -14,6 +14,8 @@ use Rattle.vb_tree.specs.ProjectLines.{is_reserved}
 use Rattle.vb_tree.specs.Tree.{Form, Module}
 use Rattle.vb_tree.specs.Tree as source
 use Rattle.bound_tree.specs.declared.body.Mention.{Mention}
+use Rattle.bound_tree.specs.declared.marks.Marks.{Marks}
+use Rattle.bound_tree.specs.RuleSets.{has}
 use Rattle.bound_tree.specs.Tree.{Variable, Constant, Procedure, Declarations, Program, Expr, typed, Term, variable, element, Argument, by_value, by_reference, Passed, no_passed, next_passed, field, call, convert, new_object, Object, no_object, of_object}
 use Rattle.bound_tree.specs.Tree as tree
 use Rattle.bound_facts.specs.Calls.{Reaches, line_calls, count_procedures}
@@ -26,6 +28,7 @@ use Rattle.run_base.specs.Machines.{nth_line}
 use Rattle.up_base.specs.Names.{is_same_name}
 use Rattle.written_trees.specs.Arguments.{is_conversion, is_property, is_property_kind, takes_reference}
 use Rattle.written_trees.specs.Exprs.{has_none}
+use Rattle.written_trees.specs.Facts.{set_at}
 use Rattle.written_trees.specs.Heads.{is_function}
 use Rattle.written_trees.specs.Prologues.{variables_of, constants_of, is_static}
 use Rattle.vb6_run.specs.Forms.{SourceLine, body_of}
@@ -34,6 +37,7 @@ use Rattle.vb6_run.specs.Runnables.{is_class_file}
 use Rattle.net_run.specs.Members.{is_same_flag}
 use Rattle.written_trees.specs.Names.{first_name}
 use Rattle.run_matches.specs.Callees.{frame_owns, is_found, is_once, names_in}
+use Rattle.run_matches.specs.IndexArguments.{hands_index}
 use Rattle.run_matches.specs.JoinedProperties.{is_empty, is_joined}
 use Rattle.run_matches.specs.Shared.{others_differ}
 use Rattle.run_matches.specs.Upgrades.{takes_array}
@@ -45,7 +49,7 @@ use Rattle.run_matches.specs.CoveredLines.{covers_line, covers_in_block, jump_of
 
 -- ---- procedures
 
--- Subs and Functions, and parts of properties that are written as one, with index parameters by value
+-- Subs and Functions, and parts of properties that are written as one
 abbrev pub covers_joined : Declarations → (procedure : ℕ) → Procedure → Bool
 covers_joined D p x = cond (is_property_kind x.kind) (is_joined D p x) true
 
@@ -267,14 +271,14 @@ is_type_at D ty (Some v) = is_parameter_type ty (slice_get D.vars v.0)
 abbrev pub suits_group : Declarations → (procedure place : ℕ) → Expr → Bool
 suits_group D q i e = not (is_group_type (type_at e)) || is_type_at D (type_at e) (slice_get (params_at (slice_get D.procs q)) i)
 
--- a parameter that takes a reference is none of a part of a property
+-- what is written for it takes a reference too, but for a part of a property
 abbrev pub takes_address : Declarations → (procedure place : ℕ) → Bool
 takes_address D q i = not (is_property D q) && takes_reference D q i
 
 -- a reference goes to a parameter that takes one
 abbrev pub suits_argument : Declarations → (procedure place : ℕ) → Argument → Bool
 suits_argument D q i (by_value e) = suits_group D q i e
-suits_argument D q i (by_reference e) = takes_address D q i && (is_referred e && (suits_array D q i e && suits_group D q i e))
+suits_argument D q i (by_reference e) = takes_reference D q i && (is_referred e && (suits_array D q i e && suits_group D q i e))
 
 abbrev pub suits_passed : Declarations → (procedure place : ℕ) → Passed → Bool
 suits_passed D q i no_passed = true
@@ -308,7 +312,7 @@ hands_argument P q i (by_reference (typed ty t)) = hands_term P q i t
 
 abbrev pub hands_passed : Program → (procedure place : ℕ) → Passed → Bool
 hands_passed P q i no_passed = true
-hands_passed P q i (next_passed a rest) = hands_argument P q i a && hands_passed P q (suc i) rest
+hands_passed P q i (next_passed a rest) = hands_argument P q i a && (hands_index P q i a rest && hands_passed P q (suc i) rest)
 
 abbrev pub hands_callee : Program → Option ℕ → Passed → Bool
 hands_callee P None args = true
@@ -367,8 +371,12 @@ covers_statement D file None mentions = false
 covers_statement D file (Some n) mentions = list_all (is_mentioned mentions) (variables_of D file n) && is_empty (constants_of D file n)
 
 -- the line of a number, counted from 1, and all that it enters
-pub record IsCoveredLine (P : Program) (p number : ℕ) : Type 0 where
-  pub plain : is_plain (slice_get P.declarations.procs p) ≡ true
+pub record IsCoveredLine (P : Program) (M : Marks) (p number : ℕ) : Type 0 where
+  pub procedure : Procedure
+  pub is_procedure : slice_get P.declarations.procs p ≡ Some procedure
+  -- a part of a property is written as one with the others
+  pub joined : covers_joined P.declarations p procedure ≡ true
+  pub unparted : is_property_kind procedure.kind ≡ true → has (set_at M.heads p) 7 ≡ false
   pub lines : List tree.Line
   pub are_lines : slice_get P.bodies p ≡ Some lines
   pub line : tree.Line

@@ -1,5 +1,5 @@
 -- Which expressions are covered, and what of them may be stored.
-use Rattle.std.specs.Prelude.{◌≡◌, ◌⊎◌, ℕ, Bool, true, false, cond, not, ◌&&◌, ◌||◌, Option, Some, None, List, [], ◌∷◌, slice_get, position, nat_eq}
+use Rattle.std.specs.Prelude.{◌≡◌, ◌⊎◌, ℕ, Bool, true, false, cond, not, ◌&&◌, ◌||◌, Option, Some, None, List, [], ◌∷◌, ◌++◌, length, suc, slice_get, position, nat_eq}
 use Rattle.std.specs.List.{list_all, list_any, flat_map}
 use Rattle.vb_tree.specs.BoundTree as types
 use Rattle.vb_tree.specs.BoundTree.{Ty}
@@ -18,16 +18,18 @@ use Rattle.bound_tree.specs.Tree.{Variable, Procedure, Program, Expr, typed, Ter
 use Rattle.bound_tree.specs.Tree as tree
 use Rattle.bound_facts.specs.CanRaise.{raises_by}
 use Rattle.bound_facts.specs.Calls.{count_variables}
-use Rattle.bound_facts.specs.Effects.{passes}
+use Rattle.bound_facts.specs.Effects.{passed_roots, passes}
 use Rattle.bound_facts.specs.Items.{project_items}
 use Rattle.bound_facts.specs.Leading.{within}
 use Rattle.bound_facts.specs.Locks.{is_same_type}
-use Rattle.bound_facts.specs.Node.{type_at, called}
+use Rattle.bound_facts.specs.Node.{type_at, args_at, called}
 use Rattle.bound_facts.specs.Nodes.{nodes, nodes_of_all}
 use Rattle.vb6_meaning.specs.Answers.{Answer}
 use Rattle.vb6_meaning.specs.Answers as answer
 use Rattle.vb6_meaning.specs.Values.{coerce}
-use Rattle.written_trees.specs.Heads.{is_function}
+use Rattle.bound_facts.specs.Parts.{line_uses}
+use Rattle.written_trees.specs.Arguments.{is_property}
+use Rattle.written_trees.specs.Heads.{index_params, is_function}
 use Rattle.written_trees.specs.Puts.{last_of}
 use Rattle.vb6_run.specs.Values.{is_typed}
 use Rattle.bound_facts.specs.Members.{class_files}
@@ -36,7 +38,6 @@ use Rattle.run_matches.specs.Sites.{Site, site_of}
 use Rattle.run_matches.specs.UserTypes.{is_class_type, is_user, is_user_of}
 use Rattle.run_matches.specs.Inward.{grown, is_apart, is_inward_in}
 use Rattle.run_matches.specs.CoveredVariables.{takes_value_at, covers_use, covers_array_use, covers_auto_use, covers_group_use, covers_group_type, covers_made, is_named_so, field_type_in, member_type_in, is_loud, covers_type}
-use Rattle.run_matches.specs.JoinedProperties.{has_no_index}
 
 -- ---- operators and the library
 
@@ -114,9 +115,9 @@ pub record Uses : Type 0 where
   pub given : Ty → Bool
   -- variables that are declared with a type
   pub is_of : VarId → Ty → Bool
-  -- procedures that are no Let and no Set of a property, and those that take a value of a type as a Let or a Set
+  -- procedures that are no Let and no Set of a property, and those that take a value of a type as a Let or a Set, behind so many indexes
   pub gives : (procedure : ℕ) → Bool
-  pub takes : (procedure : ℕ) → Ty → Bool
+  pub takes : (procedure count : ℕ) → Ty → Bool
   -- Functions and Gets whose result is of a type
   pub results : (procedure : ℕ) → Ty → Bool
   -- procedures that are seen to be inward
@@ -150,15 +151,23 @@ abbrev pub mentioned_variable : Mention → List ℕ
 mentioned_variable (mention.Var u) = u.0 ∷ []
 mentioned_variable m = []
 
-abbrev pub relied_items : (procedure : ℕ) → tree.Line → List ℕ
-relied_items i l = cond (stores_element l.bindings.exprs) (flat_map mentioned_variable l.bindings.mentions) []
+abbrev pub is_property_called : Declarations → Option ℕ → Bool
+is_property_called D None = false
+is_property_called D (Some q) = is_property D q
 
--- those that lines mention that store an element
+-- variables that are given by reference to the parts of properties
+abbrev pub index_roots : Declarations → Expr → List ℕ
+index_roots D e = cond (is_property_called D (called e)) (passed_roots (args_at e)) []
+
+abbrev pub relied_items : Declarations → (procedure : ℕ) → tree.Line → List ℕ
+relied_items D i l = cond (stores_element l.bindings.exprs) (flat_map mentioned_variable l.bindings.mentions) [] ++ flat_map (index_roots D) (line_uses l)
+
+-- those that lines mention that store an element, and those that are given to index parameters
 abbrev pub relied : Program → List ℕ
-relied P = project_items relied_items P.bodies
+relied P = project_items (relied_items P.declarations) P.bodies
 
--- A line that stores an element mentions the variable, or a parameter to which it is passed on: indexes or value may have to be what it holds,
--- whatever is evaluated before. So it is bound to no element, which the source may not find.
+-- A line that stores an element mentions the variable, or it is given to an index parameter, or so is a parameter to which it is passed on:
+-- indexes or value may have to be what it holds, whatever is evaluated before. So it is bound to no element, which the source may not find.
 abbrev pub is_relied_on : Program → (variable : ℕ) → Bool
 is_relied_on P v =
     not (is_apart (within (count_variables P) (passes P)) (grown (count_variables P) (within (count_variables P) (passes P)) (relied P)) v)
@@ -192,10 +201,14 @@ abbrev pub has_result_type : Ty → Option Procedure → Bool
 has_result_type ty None = false
 has_result_type ty (Some q) = is_function q.kind && is_same_type ty q.result
 
--- the only parameter of a Let or a Set takes the value
-abbrev pub is_taking : Declarations → Ty → Option Procedure → Bool
-is_taking D ty None = false
-is_taking D ty (Some q) = takes_value q.kind && (has_no_index q && is_typed_variable D ty (last_of q.params))
+-- a Let or a Set with so many index parameters, whose last parameter takes the value
+abbrev pub is_taking : Declarations → (count : ℕ) → Ty → Option Procedure → Bool
+is_taking D n ty None = false
+is_taking D n ty (Some q) = takes_value q.kind && (nat_eq n (length (index_params q)) && is_typed_variable D ty (last_of q.params))
+
+abbrev pub count_passed : Passed → ℕ
+count_passed no_passed = 0
+count_passed (next_passed a rest) = suc (count_passed rest)
 
 -- those that a line of a procedure uses and mentions
 abbrev pub uses_in : Program → (procedure : ℕ) → List Mention → Uses
@@ -212,7 +225,7 @@ uses_in P p mentions = record {
   given = covers_group_type P.declarations;
   is_of = λ v ty. is_declared_as ty (slice_get P.declarations.vars v.0);
   gives = λ q. is_giving (slice_get P.declarations.procs q);
-  takes = λ q ty. is_taking P.declarations ty (slice_get P.declarations.procs q) && takes_value_at P q 0;
+  takes = λ q n ty. is_taking P.declarations n ty (slice_get P.declarations.procs q) && takes_value_at P q n;
   results = λ q ty. has_result_type ty (slice_get P.declarations.procs q);
   inward = is_inward_in P;
   exact = λ v. is_loud P v.0 (slice_get P.declarations.vars v.0);

@@ -1,5 +1,5 @@
 -- Which lines are covered, by themselves and in their blocks.
-use Rattle.std.specs.Prelude.{ℕ, pos, negsuc, Bool, true, false, not, ◌&&◌, ◌||◌, nat_eq, Option, Some, None, is_some, List, [], ◌∷◌, length, slice_get}
+use Rattle.std.specs.Prelude.{ℕ, pos, negsuc, Bool, true, false, not, ◌&&◌, ◌||◌, nat_eq, Option, Some, None, is_some, List, [], ◌∷◌, ◌++◌, length, slice_get}
 use Rattle.std.specs.List.{list_all}
 use Rattle.vb_tree.specs.BoundTree as types
 use Rattle.vb_tree.specs.BoundTree.{Ty}
@@ -14,21 +14,21 @@ use Rattle.vb_tree.specs.Tree.{CaseItem, Form}
 use Rattle.vb_tree.specs.Tree as source
 use Rattle.bound_tree.specs.Labels.{Label, label_of}
 use Rattle.bound_tree.specs.Labels as mark
-use Rattle.bound_tree.specs.Tree.{Variable, Program, Expr, typed, Term, variable, field, element, call, library, err_raise, err_clear, with_object, Object, no_object, of_object}
+use Rattle.bound_tree.specs.Tree.{Variable, Program, Expr, typed, Term, variable, field, element, call, library, err_raise, err_clear, with_object, Object, no_object, of_object, Argument, by_value, by_reference, Passed, no_passed, next_passed}
 use Rattle.bound_tree.specs.Tree as tree
 use Rattle.bound_tree.specs.declared.expression.Root.{Root}
 use Rattle.bound_tree.specs.declared.expression.Root.TheVariants as at
 use Rattle.bound_facts.specs.Folded.{folded}
 use Rattle.bound_facts.specs.Locks.{is_same_type}
 use Rattle.bound_facts.specs.Node.{type_at, root}
+use Rattle.bound_facts.specs.Nodes.{nodes, nodes_of_object, nodes_of_passed}
 use Rattle.bound_facts.specs.Parts.{Extent, Resize, resizes, line_uses}
-use Rattle.written_trees.specs.Exprs.{has_none}
 use Rattle.run_base.specs.Machines.{nth_line}
 use Rattle.vb6_run.specs.Forms.{SourceLine}
 use Rattle.vb6_run.specs.Programs.{is_local_of}
 use Rattle.run_matches.specs.Formed.{is_formed}
-use Rattle.run_matches.specs.CoveredExprs.{Uses, is_auto_use, is_new, keeps_object, keeps_order, is_changeable, covers_place, covers_expr, is_variable, covers_value, covers_term, covers_receiver, covers_passed, covers_array, uses_in, covers_group, covers_object}
-use Rattle.run_matches.specs.CoveredVariables.{covers_group_type}
+use Rattle.run_matches.specs.CoveredExprs.{Uses, are_still, count_passed, is_calm, is_calm_object, is_literal_value, is_auto_use, is_new, keeps_object, keeps_order, is_changeable, covers_place, covers_expr, is_variable, covers_value, covers_term, covers_receiver, covers_passed, covers_array, uses_in, covers_group, covers_object}
+use Rattle.run_matches.specs.CoveredVariables.{covers_group_type, covers_type}
 use Rattle.run_matches.specs.UserTypes.{is_class_type, is_user}
 use Rattle.bound_tree.specs.Targets.{with_round}
 
@@ -59,13 +59,47 @@ abbrev pub is_receiver_ordered : Uses → Object → (value : Expr) → Bool
 is_receiver_ordered uses no_object e = true
 is_receiver_ordered uses (of_object d) e = is_class_type (type_at d) && keeps_object uses d e
 
+abbrev pub is_with_term : Term → Bool
+is_with_term (with_object r) = true
+is_with_term t = false
+
+abbrev pub is_object : Object → Bool
+is_object no_object = true
+is_object (of_object d) = is_class_type (type_at d)
+
+-- an object that is the same whatever still expression is evaluated, and that no With keeps, or none
+abbrev pub is_calm_receiver : Uses → Object → Bool
+is_calm_receiver uses no_object = true
+is_calm_receiver uses (of_object (typed ty t)) = is_calm_object uses (typed ty t) && not (is_with_term t)
+
+-- constants, variables and conversions, of which variables alone go by reference
+abbrev pub is_calm_argument : Uses → Argument → Bool
+is_calm_argument uses (by_value e) = covers_type (type_at e) && is_calm uses e
+is_calm_argument uses (by_reference e) = covers_type (type_at e) && (is_variable e && is_calm uses e)
+
+abbrev pub are_calm_passed : Uses → Passed → Bool
+are_calm_passed uses no_passed = true
+are_calm_passed uses (next_passed a rest) = is_calm_argument uses a && are_calm_passed uses rest
+
+-- The value changes nothing. It is constant, or the object and the indexes are known before it, or it is calm, and they change nothing.
+abbrev pub are_parts_ordered : Uses → Object → Passed → (value : Expr) → Bool
+are_parts_ordered uses of args e =
+    (is_object of && are_still uses (nodes e))
+    && (is_literal_value e
+    || ((is_calm_receiver uses of && are_calm_passed uses args) || (is_calm uses e && are_still uses (nodes_of_object of ++ nodes_of_passed args))))
+
+-- without indexes the value may do more, where there is no object
+abbrev pub is_property_ordered : Uses → Object → Passed → (value : Expr) → Bool
+is_property_ordered uses of no_passed e = is_receiver_ordered uses of e
+is_property_ordered uses of (next_passed a rest) e = are_parts_ordered uses of (next_passed a rest) e
+
 abbrev pub covers_property_term : Uses → (target : Term) → (value : Expr) → Bool
 covers_property_term uses (call p qualified of args) e =
-    (uses.takes p.0 (type_at e) && has_none args)
-    && (is_receiver_ordered uses of e && (covers_receiver uses of && (covers_expr uses e || covers_group uses e)))
+    (uses.takes p.0 (count_passed args) (type_at e) && is_property_ordered uses of args e)
+    && (covers_receiver uses of && (covers_passed uses args && (covers_expr uses e || covers_group uses e)))
 covers_property_term uses t e = false
 
--- a property takes a value of its type; its object may be known before the value
+-- a property takes a value of its type; its object and its indexes may be known before the value
 abbrev pub covers_property : Uses → (target value : Expr) → Bool
 covers_property uses (typed ty t) e = is_same_type ty (type_at e) && covers_property_term uses t e
 

@@ -1,4 +1,4 @@
--- Properties whose parts are written as one, with index parameters by value.
+-- Properties whose parts are written as one.
 use Rattle.std.specs.Prelude.{ℕ, Bool, true, false, cond, not, ◌&&◌, ◌||◌, nat_eq, Option, Some, None, is_some, List, [], ◌∷◌, slice_get}
 use Rattle.std.specs.Cmp.Lexicographic.{pointwise}
 use Rattle.std.specs.List.{list_all}
@@ -11,8 +11,6 @@ use Rattle.written_trees.specs.Heads.{index_params, is_function}
 use Rattle.written_trees.specs.Names.{procedure_name}
 use Rattle.written_trees.specs.Properties.{is_counted, is_kind, part_number}
 use Rattle.written_trees.specs.Puts.{last_of}
-use Rattle.vb_tree.specs.declared.declared.Owner.{Owner}
-use Rattle.vb_tree.specs.declared.declared.Owner.TheVariants as owner
 use Rattle.run_matches.specs.CoveredVariables.{covers_type}
 
 abbrev pub is_empty : {A : Type 0} → List A → Bool
@@ -26,15 +24,11 @@ has_no_index q = is_empty (index_params q)
 abbrev pub are_parts : Declarations → (first : ℕ) → Bool
 are_parts D first = list_all (λ (q : Procedure). cond (nat_eq q.first.0 first) (is_property_kind q.kind) true) D.procs
 
-abbrev pub is_by_value : Owner → Bool
-is_by_value (owner.Value p) = true
-is_by_value _ = false
-
--- an index parameter is a scalar by value, and the first part has one of its name and type in its place
+-- an index parameter is a scalar, and the first part has one of its name and type in its place
 abbrev pub is_like_param : Option Variable → Option Variable → Bool
 is_like_param None y = false
 is_like_param (Some x) None = false
-is_like_param (Some x) (Some y) = (is_by_value x.owner && covers_type x.ty) && (is_same_type x.ty y.ty && pointwise nat_eq x.name y.name)
+is_like_param (Some x) (Some y) = covers_type x.ty && (is_same_type x.ty y.ty && pointwise nat_eq x.name y.name)
 
 abbrev pub are_like_params : Declarations → List VarId → List VarId → Bool
 are_like_params D [] [] = true

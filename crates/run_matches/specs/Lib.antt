@@ -20,6 +20,7 @@ pub mod Inward
 pub mod Keeping
 pub mod CoveredVariables
 pub mod CoveredExprs
+pub mod IndexArguments
 pub mod JoinedProperties
 pub mod CoveredLines
 pub mod Covered

@@ -91,6 +91,15 @@ pledge U p base own takes = record {
   takes = takes;
 }
 
+-- ---- what is still
+
+abbrev pub owns_nothing : Own
+owns_nothing = record { places = no_places; object = None }
+
+-- nothing that is there changes
+abbrev pub still : Pledge → World → Pledge
+still K w = record { keeps = K.keeps; steady = Unit {0}; base = mark w.src; own = owns_nothing; takes = K.takes }
+
 -- ---- arrays in values
 
 abbrev mutual

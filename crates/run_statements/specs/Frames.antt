@@ -5,7 +5,7 @@ use Rattle.run_matches.specs.Keeping.{given_types}
 use Rattle.std.specs.List.{list_all}
 use Rattle.std.specs.Prelude.{◌≡◌, ◌⊎◌, ◌<◌, ◌||◌, ℕ, ℤ, Bool, true, false, Some, [], ◌∷◌, slice_get, None, zero, suc, nat_eq, List, length, Option}
 use Rattle.vb_tree.specs.BoundTree as types
-use Rattle.vb_tree.specs.BoundTree.{Ty, array, user}
+use Rattle.vb_tree.specs.BoundTree.{Ty, array}
 use Rattle.vb_tree.specs.declared.declared.Owner.TheVariants as owner
 use Rattle.std.specs.Map.{lookup}
 use Rattle.vb_tree.specs.declared.bound.LibCall.{LibCall}
@@ -33,7 +33,7 @@ use Rattle.vb6_run.specs.Shapes.{Shape, shape_by, simple, user_shapes, variable_
 use Rattle.vb6_run.specs.Store.{Address, root, Locked, SourceCalls, SourceFrame, make, read, write, make_with}
 use Rattle.vb6_run.specs.Values.{Value, scalar}
 use Rattle.net_run.specs.Calls as net_calls
-use Rattle.net_run.specs.Calls.{passings_at, result_shape_of}
+use Rattle.net_run.specs.Calls.{result_shape_of}
 use Rattle.net_run.specs.Expressions as target
 use Rattle.net_run.specs.Lines.{NetFrame, NetLine, scope_of}
 use Rattle.net_run.specs.Making as making
@@ -47,12 +47,13 @@ use Rattle.net_meaning.specs.declared.value.ValueN.TheVariants as n
 use Rattle.written_trees.specs.Exprs.{callee_of, exp_of, passed_of}
 use Rattle.written_trees.specs.Names.{Scope, auto_name, class_path, variable_path, procedure_name, procedure_path}
 use Rattle.run_matches.specs.Addresses.{Same, IsPlain, IsScalarAt, IsTarget, SameIndexes, TakesValue}
-use Rattle.written_trees.specs.Arguments.{takes_reference}
 use Rattle.run_matches.specs.Agreeing.{Agrees}
 use Rattle.run_matches.specs.Formed.{passed_are_formed, is_formed}
 use Rattle.run_matches.specs.CoveredVariables.{covers_auto_owner, covers_type, covers_group_type, covers_made, covers_variable, is_in_order, is_named_so, covers_user}
 use Rattle.run_matches.specs.CoveredExprs.{Uses, IsUsed, covers_array, covers_expr, covers_exprs, covers_passed, covers_receiver, has_result_type, is_declared_as, is_giving, is_relied_on, is_taking}
-use Rattle.run_matches.specs.Covered.{hands_passed, suits_passed}
+use Rattle.run_matches.specs.Covered.{hands_passed, suits_passed, takes_address}
+use Rattle.run_matches.specs.IndexArguments.{is_seen_quiet}
+use Rattle.run_matches.specs.Inward.{is_inward_in}
 use Rattle.run_matches.specs.SoundShapes.{IsField, IsSoundShape}
 use Rattle.run_matches.specs.Frames.{FrameMatch, GivenAddress, HasPlace, IsOwnAddress, is_mirrored, is_own_of, is_reference_of, lines_of}
 use Rattle.run_matches.specs.Likeness.{LikeV, SameShape, scalar_word}
@@ -63,7 +64,7 @@ use Rattle.run_matches.specs.Upgrades.{Upgrade, class_home, runnable_of, is_flag
 use Rattle.row_laws.specs.Uncaptured.{IsUncaptured, IsTextUncaptured, IsMathUncaptured}
 use Rattle.run_matches.specs.Runs.{CallsAgree}
 use Rattle.run_statements.specs.Fitting.{FitsBounds, FitsRank, rank_of, FitsPassed}
-use Rattle.run_statements.specs.Ways.{IsWay, Way, callee_by}
+use Rattle.run_statements.specs.Ways.{IsWay, Way, callee_by, passings_by}
 use Rattle.run_statements.specs.Written.{Passes}
 use Rattle.bound_tree.specs.Targets.{with_round}
 use Rattle.run_base.specs.Machines.{nth_line, enters}
@@ -167,10 +168,11 @@ pub record AreReadable (U : Upgrade) (T : Scope) (uses : Uses) : Type 0 where
   pub types : (v : VarId) (ty : Ty) → uses.is_of v ty ≡ true → is_declared_as ty (slice_get U.program.declarations.vars v.0) ≡ true
   pub gives : (q : ℕ) → uses.gives q ≡ true → is_giving (slice_get U.program.declarations.procs q) ≡ true
   pub takes :
-      (q : ℕ) (ty : Ty) → uses.takes q ty ≡ true
-      → (is_taking U.program.declarations ty (slice_get U.program.declarations.procs q) ≡ true) × TakesValue U q 0
+      (q n : ℕ) (ty : Ty) → uses.takes q n ty ≡ true
+      → (is_taking U.program.declarations n ty (slice_get U.program.declarations.procs q) ≡ true) × TakesValue U q n
   pub results : (q : ℕ) (ty : Ty) → uses.results q ty ≡ true → has_result_type ty (slice_get U.program.declarations.procs q) ≡ true
   pub inward : (q : ℕ) → uses.inward q ≡ true → is_inward U q ≡ true
+  pub sees_inward : (q : ℕ) → is_inward_in U.program q ≡ true → uses.inward q ≡ true
   pub relied : (v : VarId) → uses.relied v ≡ true → is_relied_on U.program v.0 ≡ true
 
 -- an array has the rank of its declaration
@@ -438,10 +440,10 @@ pub record CanCall (U : Upgrade) (K : Pledge) (S : net_names.Scope) (T : Scope) 
   pub given : KeepsEach U q (given_types args)
   pub inside : NodesKeep U (given_types args) (nodes_of_passed args)
   pub ranks : FitsPassed U q 0 args
-  -- the value that a Let or Set takes goes by value
-  pub passings :
-      is_giving (slice_get U.program.declarations.procs q) ≡ true → (i : ℕ)
-      → passing_at (passings_at U.written (Some number)) i ≡ passing_by (takes_reference U.program.declarations q i)
+  -- all that goes to a part of a property goes by value
+  pub passings : (i : ℕ) → passing_at (passings_by U.written way number) i ≡ passing_by (takes_address U.program.declarations q i)
+  -- a parameter that is seen to be quiet is so, and its procedure is inward
+  pub quiet : (i : ℕ) → is_seen_quiet U.program q i ≡ true → ((runnable_of U).quiet q i ≡ true) × (is_inward U q ≡ true)
   pub found : IsFound U S T way q number qualified of
   -- what gives objects of a class is written with that class
   pub result :

@@ -1,5 +1,6 @@
 pub mod Fitting
 pub mod Written
+pub mod Arguments
 pub mod Ways
 pub mod Frames
 pub mod Groups

@@ -1,11 +1,14 @@
 -- How what is written for a procedure is called: as a procedure, or as a part of a property.
-use Rattle.std.specs.Prelude.{◌≡◌, ℕ, Bool, true, false, Option, Some, slice_get}
+use Rattle.std.specs.Prelude.{◌≡◌, ℕ, Bool, true, false, List, [], Option, Some, slice_get}
 use Rattle.vb_tree.specs.declared.declared.ProcKind.{ProcKind}
 use Rattle.vb_tree.specs.declared.declared.ProcKind.TheVariants as kind
 use Rattle.bound_tree.specs.Tree.{Object, no_object, of_object, Passed, Declarations}
 use Rattle.written_trees.specs.Arguments.{is_property, is_property_kind}
 use Rattle.written_trees.specs.Exprs.{is_bare, has_none}
 use Rattle.written_trees.specs.Names.{Scope, procedure_path}
+use Rattle.net_tree.specs.declared.declaration.NetPassing.{NetPassing}
+use Rattle.net_tree.specs.Tree.{Project}
+use Rattle.net_run.specs.Calls.{passings_at}
 use Rattle.net_run.specs.Names as net_names
 use Rattle.net_run.specs.Names.{Callee, to_procedure, to_property}
 use Rattle.net_run.specs.Values.{Value}
@@ -23,6 +26,12 @@ abbrev pub callee_by : Way → (object : Option Value) → (number : ℕ) → Ca
 callee_by as_procedure object n = to_procedure object n
 callee_by (as_get set) object n = to_property object (Some n) set
 callee_by (as_set get) object n = to_property object get (Some n)
+
+-- how its arguments are taken: by a part of a property as values
+abbrev pub passings_by : Project → Way → (number : ℕ) → List NetPassing
+passings_by N as_procedure n = passings_at N (Some n)
+passings_by N (as_get set) n = []
+passings_by N (as_set get) n = []
 
 abbrev pub SuitsKind : Way → ProcKind → Type 0
 SuitsKind as_procedure k = is_property_kind k ≡ false

@@ -188,4 +188,4 @@ SameRuns U M = (p : ℕ) → IsClean U.program M p → IsCovered U.program p →
 
 -- lines that are clean by themselves and covered do the same
 abbrev pub SameLines : Upgrade → Marks → Type 0
-SameLines U M = (p number : ℕ) → IsCleanLine U.program M p number → IsCoveredLine U.program p number → LineDoesTheSame U p number
+SameLines U M = (p number : ℕ) → IsCleanLine U.program M p number → IsCoveredLine U.program M p number → LineDoesTheSame U p number

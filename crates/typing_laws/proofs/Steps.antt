@@ -1,5 +1,5 @@
 -- The steps of the induction over expressions: calls of the library, elements, and arguments, by what is known of their parts.
-use Rattle.std.proofs.Common.{false, ◌≡◌, refl, sym, ap, ◌∙◌, subst, ℕ, suc, ◌+◌, ℤ, arith, Bool, true, not, ◌&&◌, true≢false, List, [], ◌∷◌, Some, ◌⊎◌, inl, inr}
+use Rattle.std.proofs.Common.{false, ◌≡◌, refl, sym, ap, ◌∙◌, subst, ℕ, suc, ◌+◌, ℤ, arith, Bool, true, ◌&&◌, true≢false, List, [], ◌∷◌, Some, ◌⊎◌, inl, inr}
 use Rattle.std.specs.Prelude.{slice_get}
 use Rattle.std.specs.List.{list_all}
 use Rattle.up_base.proofs.Tests.{and_true, both_true, either}
@@ -9,18 +9,18 @@ use Rattle.vb_tree.specs.declared.bound.LibCall.{LibCall}
 use Rattle.vb_tree.specs.declared.bound.LibCall.TheVariants as lib
 use Rattle.vb_tree.specs.declared.declared.VarId.{VarId}
 use Rattle.bound_tree.specs.declared.body.Mention.{Mention}
-use Rattle.bound_tree.specs.Tree.{Declarations, Procedure, Program, Variable, Expr, typed, Term, constant, variable, field, element, call, library, unary, binary, convert, new_object, me, with_object, err_number, err_raise, err_clear, is_same, loose, Object, no_object, of_object, Exprs, no_exprs, next_expr, Argument, Passed, no_passed, next_passed}
+use Rattle.bound_tree.specs.Tree.{Declarations, Procedure, Expr, typed, variable, element, library, Exprs, no_exprs, next_expr, Argument, Passed}
 use Rattle.bound_tree.specs.Tree as tree
 use Rattle.bound_facts.specs.Locks.{is_same_type}
 use Rattle.bound_facts.specs.Node.{type_at}
 use Rattle.row_laws.proofs.Composing.{then_assoc}
 use Rattle.run_base.specs.Outcomes.{Outcome, then}
-use Rattle.written_trees.specs.Arguments.{is_property, is_reference_owner, takes_reference}
+use Rattle.written_trees.specs.Arguments.{is_reference_owner, takes_reference}
 use Rattle.vb6_run.specs.Expressions.{Context, declared, value_of, scalar_value, scalar_in, long_in, whole_number, parts_of, indexes_of, argument_of, library_call, values_of}
 use Rattle.vb6_run.specs.Store.{Memory}
 use Rattle.run_matches.specs.CoveredVariables.{covers_type}
 use Rattle.run_matches.specs.CoveredExprs.{Uses, covers_argument, covers_array, covers_dimension, covers_expr, covers_exprs, covers_library, covers_place, covers_term, is_bound}
-use Rattle.run_matches.specs.Covered.{is_referred, suits_argument, suits_array, suits_group, takes_address}
+use Rattle.run_matches.specs.Covered.{is_referred, suits_argument, suits_array, suits_group}
 use Rattle.run_matches.specs.Formed.{are_longs, has_elements, is_row_of_call, types_of}
 use Rattle.typing_laws.specs.Flat.{has_flat_variables, flat_uses, outer_uses}
 use Rattle.run_matches.specs.UserTypes.{is_user}
@@ -247,11 +247,11 @@ module _ (C : Context) (F : Footprint) (X : SourceJob → Memory → Type 0) (ca
           let user = place_user all_uses e c in
           place_by_value C F mentions (Leaves C X e w) w fits y.variable e (C.runnable.quiet q i) c user (user_parameter q p y (type_at e) user fit)
   given_ends q i k p y at (tree.by_reference e) covers typing fit suit w fits h =
-      let b = both_true (takes_address D q i) (is_referred e && (suits_array D q i e && suits_group D q i e)) suit in
+      let b = both_true (takes_reference D q i) (is_referred e && (suits_array D q i e && suits_group D q i e)) suit in
       let r = both_true (is_referred e) (suits_array D q i e && suits_group D q i e) b.1 in
       subst (λ o. Ends K (λ v g. IsGiven K v o g) (Leaves C X e w) w (argument_of C (C.runnable.quiet q i) (tree.by_reference e) w)) (sym y.is_variable)
       (by (reference_covered all_uses e covers) r.0 (sym (ap (λ o. fits_parameter (tree.by_reference e) o) y.is_variable) ∙ fit)
-      (reference_at D q i k.procedure p y.variable k.is_procedure at y.is_variable (both_true (not (is_property D q)) (takes_reference D q i) b.0).1) h)
+      (reference_at D q i k.procedure p y.variable k.is_procedure at y.is_variable b.0) h)
     where
       by : ReferenceKind all_uses e → is_referred e ≡ true → fits_type y.variable.ty (type_at e) ≡ true → is_reference_owner y.variable.owner ≡ true
           → (covers_expr uses e ≡ true → Right e w)

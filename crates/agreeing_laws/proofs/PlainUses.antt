@@ -1,25 +1,33 @@
 -- A use of a variable that is no As New one makes no object.
-use Rattle.std.proofs.Common.{◌≡◌, ◌∙◌, ◌⊎◌, inl, inr, ⊎_elim, refl, sym, ap, ℕ, Bool, true, false, cond, not, ◌&&◌, ◌||◌, Some, None, slice_get, true≢false}
+use Rattle.std.proofs.Common.{◌≡◌, ◌∙◌, ◌⊎◌, inl, inr, ⊎_elim, refl, sym, ap, ℕ, Bool, true, false, cond, not, ◌&&◌, ◌||◌, Some, None, List, slice_get, true≢false}
 use Rattle.std.proofs.lemmas.Bool.{or_cases}
 use Rattle.vb_tree.specs.BoundTree.{Ty}
 use Rattle.vb_tree.specs.declared.declared.VarId.{VarId}
-use Rattle.bound_tree.specs.Tree.{typed, variable}
+use Rattle.up_base.proofs.Tests.{not_true}
+use Rattle.bound_tree.specs.Tree.{Variable, typed, variable}
 use Rattle.bound_facts.proofs.Chains.{both_true}
 use Rattle.bound_facts.specs.Node.{auto_class, class_in}
 use Rattle.bound_facts.specs.Nodes.{nodes}
 use Rattle.written_trees.specs.Names.{Scope}
 use Rattle.net_run.specs.Names as net_names
 use Rattle.run_matches.specs.CoveredExprs.{Uses, are_still, covers_object_term, covers_place}
+use Rattle.run_matches.specs.CoveredVariables.{covers_owner, covers_type, covers_variable}
 use Rattle.run_matches.specs.Pledges.{Pledge}
 use Rattle.run_matches.specs.Upgrades.{Upgrade}
 use Rattle.run_matches.specs.UserTypes.{is_class_type}
-use Rattle.run_statements.specs.Frames.{AreReadable, CanMakeAt, IsAutoOf}
-use Rattle.line_laws.proofs.Elements.{known_auto}
-use Rattle.line_laws.proofs.Uses.{no_auto}
+use Rattle.run_statements.specs.Frames.{AreReadable, CanMakeAt, IsAutoOf, IsKnown, IsReadable}
 
 -- an As New variable is of the class that it makes objects of
 pub auto_is : (U : Upgrade) (v class : ℕ) → IsAutoOf U v class → auto_class (slice_get U.program.declarations.vars v) ≡ Some class
 auto_is U v class r = ap auto_class r.is_variable ∙ (ap (λ b. cond b (class_in r.variable.ty) None) r.is_auto ∙ ap class_in r.is_type)
+
+known_none : (vars : List Variable) (v : ℕ) (x : Variable) → slice_get vars v ≡ Some x → x.auto ≡ false → auto_class (slice_get vars v) ≡ None
+known_none vars v x is plain = ap auto_class is ∙ ap (λ b. cond b (class_in x.ty) None) plain
+
+scalar_plain : (x : Variable) → covers_variable x ≡ true → x.auto ≡ false
+scalar_plain x h =
+    not_true x.auto
+    (both_true (covers_type x.ty) (not x.auto) (both_true (covers_owner x.owner) (covers_type x.ty && not x.auto) h).1).1
 
 -- the use of a scalar, an array, or a user type or an object
 abbrev pub IsPlainUse : Uses → VarId → Type 0
@@ -52,10 +60,15 @@ still_variable uses ty v qualified s = by (uses.auto v ty) s
     by false e = refl
 
 module _ (U : Upgrade) (T : Scope) (uses : Uses) (readable : AreReadable U T uses) where
+  none_known : (v : ℕ) → IsKnown U v → auto_class (slice_get U.program.declarations.vars v) ≡ None
+  none_known v k = known_none U.program.declarations.vars v k.variable k.is_variable k.plain
+
   pub plain_use : (v : VarId) → IsPlainUse uses v → auto_class (slice_get U.program.declarations.vars v.0) ≡ None
-  plain_use v (inl scalar) = no_auto U v.0 (readable.scalars v scalar)
-  plain_use v (inr (inl (element, array))) = known_auto U v.0 (readable.arrays v element array).known
-  plain_use v (inr (inr (ty, group))) = known_auto U v.0 (readable.groups v ty group).known
+  plain_use v (inl scalar) =
+      let r : IsReadable U v.0 = readable.scalars v scalar in
+      known_none U.program.declarations.vars v.0 r.variable r.is_variable (scalar_plain r.variable r.covers)
+  plain_use v (inr (inl (element, array))) = none_known v.0 (readable.arrays v element array).known
+  plain_use v (inr (inr (ty, group))) = none_known v.0 (readable.groups v ty group).known
 
   pub no_auto_use : (v : VarId) (ty : Ty) → IsPlainUse uses v → uses.auto v ty ≡ false
   no_auto_use v ty plain = never (uses.auto v ty) (λ auto.

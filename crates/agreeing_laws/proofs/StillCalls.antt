@@ -19,20 +19,19 @@ use Rattle.net_run.specs.Names as net_names
 use Rattle.run_matches.specs.CoveredExprs.{Uses, are_still, covers_array, covers_base, covers_bounded, covers_dimension, covers_expr, covers_exprs, covers_group, covers_group_term, covers_library, covers_object, covers_object_term, covers_operand, covers_operator, covers_passed, covers_place, covers_place_term, covers_receiver, covers_term, has_inner, has_member, has_scalar, is_auto_use, is_bound, is_kept, is_new, is_nothing_in, is_passable, is_seen_inward}
 use Rattle.run_matches.specs.CoveredVariables.{covers_type}
 use Rattle.run_matches.specs.Maps.{World}
-use Rattle.run_matches.specs.Pledges.{Pledge, is_inward}
+use Rattle.run_matches.specs.Pledges.{Pledge, is_inward, still}
 use Rattle.run_matches.specs.Upgrades.{Upgrade}
 use Rattle.run_matches.specs.UserTypes.{is_class_type}
 use Rattle.run_statements.specs.Frames.{AllCalled, AllCalledIn, AllCalledOf, AllCalledAll, AllCalledFor, AreReadable, CanCall, Demands, demands}
-use Rattle.line_laws.proofs.PlainUses.{IsPlainUse, plain_makes}
-use Rattle.line_laws.proofs.Still.{still}
+use Rattle.agreeing_laws.proofs.PlainUses.{IsPlainUse, plain_makes}
 
-all_left : {A : Type 0} (t : A → Bool) (xs ys : List A) → list_all t (xs ++ ys) ≡ true → list_all t xs ≡ true
+pub all_left : {A : Type 0} (t : A → Bool) (xs ys : List A) → list_all t (xs ++ ys) ≡ true → list_all t xs ≡ true
 all_left t [] ys h = refl
 all_left t (x ∷ xs) ys h =
     let both = both_true (t x) (list_all t (xs ++ ys)) h in
     ap (λ b. b && list_all t xs) both.0 ∙ all_left t xs ys both.1
 
-all_right : {A : Type 0} (t : A → Bool) (xs ys : List A) → list_all t (xs ++ ys) ≡ true → list_all t ys ≡ true
+pub all_right : {A : Type 0} (t : A → Bool) (xs ys : List A) → list_all t (xs ++ ys) ≡ true → list_all t ys ≡ true
 all_right t [] ys h = h
 all_right t (x ∷ xs) ys h = all_right t xs ys (both_true (t x) (list_all t (xs ++ ys)) h).1
 
@@ -253,6 +252,7 @@ can_call_still U K w S T p q qualified of args inward c = record {
   inside = c.inside;
   ranks = c.ranks;
   passings = c.passings;
+  quiet = c.quiet;
   found = c.found;
   result = c.result;
 }
@@ -284,6 +284,11 @@ module _ (U : Upgrade) (K : Pledge) (p : ℕ) (l : SourceLine) (k : NetLine) (w 
   pub object_in_still : (e : Expr) → covers_object uses e ≡ true → are_still uses (nodes e) ≡ true → AllCalled Now e → AllCalled Quiet e
   object_in_still e covers s h =
       still_object uses Now Quiet (λ a indexes x. x) (λ f args x. x) (λ ty r x. x) calls_still (plain_makes U (still K w) S T uses readable) e covers s h
+
+  pub passed_in_still : (args : Passed) → covers_passed uses args ≡ true → are_still uses (nodes_of_passed args) ≡ true → AllCalledFor Now args
+      → AllCalledFor Quiet args
+  passed_in_still args covers s h =
+      still_passed uses Now Quiet (λ a indexes x. x) (λ f args x. x) (λ ty r x. x) calls_still (plain_makes U (still K w) S T uses readable) args covers s h
 
   pub receiver_in_still : (of : Object) → covers_receiver uses of ≡ true → are_still uses (nodes_of_object of) ≡ true → AllCalledOf Now of → AllCalledOf Quiet of
   receiver_in_still of covers s h =
